@@ -1,0 +1,51 @@
+-- A hand is the list of 52 truth values "this card is the seat's".
+use Rattle.std.specs.Prelude.{ℕ, zero, suc, ◌+◌, ◌*◌, ◌%◌, ◌==◌, ◌&&◌, ◌||◌, Bool, false, cond, List, [], ◌∷◌, ◌++◌, map, count_by, slice_index_or}
+use Rattle.std.specs.List.{list_all, range_with_len, sum_by}
+use Rattle.cards.specs.declared.seat.Seat.{Seat}
+use Rattle.cards.specs.declared.suit.Suit.{Suit}
+use Rattle.cards.specs.declared.suit.Suit.TheVariants.{Spades, Hearts, Diamonds, Clubs}
+use Rattle.cards.specs.Pack.{seat_number, suit_number, is_in_suit, rank_of}
+use Rattle.cards.specs.Shuffle.{pack}
+
+-- the cards of a seat
+abbrev pub hand_of : List Seat → Seat → List Bool
+hand_of deal seat = map (λ holder. seat_number holder == seat_number seat) deal
+
+abbrev pub holds_card : List Bool → ℕ → Bool
+holds_card hand c = slice_index_or hand c false
+
+-- ace 4, king 3, queen 2, jack 1
+abbrev pub points_of_rank : ℕ → ℕ
+points_of_rank zero = 4
+points_of_rank (suc zero) = 3
+points_of_rank (suc (suc zero)) = 2
+points_of_rank (suc (suc (suc zero))) = 1
+points_of_rank _ = 0
+
+-- the high card points of the hand, and those of one suit
+abbrev pub points_of : List Bool → ℕ
+points_of hand = sum_by (λ c. cond (holds_card hand c) (points_of_rank (rank_of c)) 0) pack
+
+abbrev pub points_in : List Bool → Suit → ℕ
+points_in hand suit = sum_by (λ c. cond (is_in_suit suit c && holds_card hand c) (points_of_rank (rank_of c)) 0) pack
+
+-- how many cards of the suit the hand has
+abbrev pub length_of : List Bool → Suit → ℕ
+length_of hand suit = count_by (λ c. is_in_suit suit c && holds_card hand c) pack
+
+-- the four lengths in the order of the suits
+abbrev pub shape_of : List Bool → List ℕ
+shape_of hand = length_of hand Spades ∷ length_of hand Hearts ∷ length_of hand Diamonds ∷ length_of hand Clubs ∷ []
+
+-- the same numbers in some order, each as often as it stands there
+abbrev pub is_rearrangement : List ℕ → List ℕ → Bool
+is_rearrangement xs ys = list_all (λ x. count_by (λ y. y == x) xs == count_by (λ y. y == x) ys) (xs ++ ys)
+
+-- in some order 4-3-3-3, 4-4-3-2 or 5-3-3-2
+abbrev pub is_balanced : List ℕ → Bool
+is_balanced shape =
+    is_rearrangement shape (4 ∷ 3 ∷ 3 ∷ 3 ∷ []) || is_rearrangement shape (4 ∷ 4 ∷ 3 ∷ 2 ∷ []) || is_rearrangement shape (5 ∷ 3 ∷ 3 ∷ 2 ∷ [])
+
+-- which of the suit's thirteen ranks the hand has, the ace first
+abbrev pub ranks_of : List Bool → Suit → List Bool
+ranks_of hand suit = map (λ rank. holds_card hand (13 * suit_number suit + rank)) (range_with_len 0 13)

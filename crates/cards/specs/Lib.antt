@@ -1,0 +1,5 @@
+pub mod Pack
+pub mod Shuffle
+pub mod Deals
+pub mod Hands
+pub mod Candidates

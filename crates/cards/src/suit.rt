@@ -1,0 +1,10 @@
+//! The four suits.
+
+/// A suit, in the order in which cards are numbered and hands are written.
+#[derive(Clone, Copy, PartialEq, Eq, Debug)]
+pub enum Suit {
+    Spades,
+    Hearts,
+    Diamonds,
+    Clubs,
+}
