@@ -1,0 +1,3 @@
+pub mod SinkLemmas
+pub mod Ranges
+pub mod ValueLemmas

@@ -1,0 +1,32 @@
+-- What a call adds to a sink. The bytes of a sink are `Some` of the list taken so far, or `None` of a sink
+-- that doesn't tell them; appending to an untold list leaves it untold.
+use Rattle.std.specs.Prelude.{◌≡◌, ◌<◌, ◌≤◌, ◌+◌, ◌++◌, ℕ, List, length, take, Option, Result, MatchResult}
+pub use Rattle.std.specs.Io.KnownBytes.{append_known}
+
+-- the whole text was appended
+abbrev pub AppendsAll : Option (List ℕ) → Option (List ℕ) → List ℕ → Type 0
+AppendsAll old new text = new ≡ append_known old text
+
+-- a proper prefix of the text was appended
+pub record AppendsPart (old new : Option (List ℕ)) (text : List ℕ) : Type 0 where
+  pub front : List ℕ
+  pub rest : List ℕ
+  pub is_text : front ++ rest ≡ text
+  pub is_proper : 0 < length rest
+  pub appended : new ≡ append_known old front
+
+-- the whole text at Ok, and a proper prefix of it at Err
+abbrev pub Puts : {T E : Type 0} → Option (List ℕ) → Option (List ℕ) → Result T E → List ℕ → Type 0
+Puts old new r text = MatchResult r (λ _. AppendsAll old new text) (λ _. AppendsPart old new text)
+
+-- one write: the first n bytes of the piece at Ok(n), and none at Err
+abbrev pub Writes : {E : Type 0} → Option (List ℕ) → Option (List ℕ) → Result ℕ E → List ℕ → Type 0
+Writes old new r piece = MatchResult r (λ n. new ≡ append_known old (take n piece)) (λ _. new ≡ old)
+
+-- n bytes of the piece, and some unless it has none
+abbrev pub IsTaken : ℕ → List ℕ → Type 0
+IsTaken n piece = (n ≤ length piece) × (0 < length piece → 0 < n)
+
+-- the faults rose by one exactly at Err
+abbrev pub Counts : {T E : Type 0} → ℕ → ℕ → Result T E → Type 0
+Counts old new r = MatchResult r (λ _. new ≡ old) (λ _. new ≡ old + 1)

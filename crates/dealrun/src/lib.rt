@@ -1,0 +1,15 @@
+//! Sinks for bytes, and what is written to them: the stream of values.
+#![tactic(auto)]
+
+mod fuse;
+mod memory_sink;
+mod piped;
+mod sink;
+mod values;
+
+pub use fuse::Fuse;
+pub use memory_sink::MemSink;
+pub use piped::Piped;
+pub use sink::{Sink, SinkFault, put_all};
+pub use values::stream;
+

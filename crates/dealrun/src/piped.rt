@@ -1,0 +1,52 @@
+//! A sink over a writer.
+
+ghost use Rattle.std.specs.Prelude.{◌≡◌, None};
+
+use crate::sink::{Sink, SinkFault};
+use std::io::Write;
+
+/// A sink over a writer of std. It doesn't tell its bytes.
+///
+/// Any error of the writer is a fault, and so is an answer of 0 for a piece that isn't empty. Each piece is
+/// handed on at once: wrap the writer in a buffer where that matters.
+#[derive(Drop)]
+pub struct Piped<W> {
+    writer: W,
+    faults: u64,
+}
+
+impl<W: Write> Piped<W> {
+    /// A sink over `writer`, with no fault so far.
+    pub fn new(writer: W) -> Piped<W>
+        ensures bytes { ⟦<Piped<W> as Sink>⟧.bytes result ≡ None }
+        ensures faults { ⟦<Piped<W> as Sink>⟧.faults result ≡ 0 }
+    {
+        Piped { writer, faults: 0 }
+    }
+}
+
+impl<W: Write> Sink for Piped<W> {
+    ghost bytes = { λ _. None };
+
+    ghost faults = { λ s. s.faults };
+
+    fn write(&mut self, piece: &[u8]) -> Result<usize, SinkFault> {
+        match self.writer.write(piece) {
+            Ok(taken) if taken > 0 || piece.is_empty() => Ok(taken),
+            _ => {
+                self.faults += 1;
+                Err(SinkFault)
+            }
+        }
+    }
+
+    fn flush(&mut self) -> Result<(), SinkFault> {
+        match self.writer.flush() {
+            Ok(()) => Ok(()),
+            Err(_) => {
+                self.faults += 1;
+                Err(SinkFault)
+            }
+        }
+    }
+}
