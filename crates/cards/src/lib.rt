@@ -1,14 +1,22 @@
-//! The pack, Algorithm P and bridge deals.
+//! The pack, the shuffle of Knuth's Algorithm P, bridge deals and hands.
+//!
+//! Cards are numbered 0 to 51. A `Places` holds the draws of one shuffle, a `Deal` says who has each
+//! card, and a `Hand` counts what one seat has.
 #![tactic(auto)]
 
 mod card;
 mod deal;
+mod hand;
+pub mod laws;
+mod masks;
 mod places;
 mod seat;
+mod shuffle;
 mod suit;
 
 pub use card::Card;
 pub use deal::Deal;
+pub use hand::Hand;
 pub use places::Places;
 pub use seat::Seat;
 pub use suit::Suit;

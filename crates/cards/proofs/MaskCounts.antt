@@ -1,0 +1,225 @@
+-- Counts of bits under fixed masks are counts over the cards.
+use Rattle.std.proofs.Common.{◌≡◌, ℕ, zero, suc, ◌+◌, ◌*◌, ◌/◌, ◌%◌, ◌^◌, ◌<◌, ◌≤◌, ◌≢◌, ◌==◌, ◌&&◌, min, Bool, true, false, cond, List, [], ◌∷◌, length, get_or, set, map, below_more, refl, sym, ◌∙◌, ap, arith, inl, inr}
+use Rattle.std.specs.Int.{bit_at}
+use Rattle.std.specs.Int.RustNames.{bit_and, count_ones}
+use Rattle.std.specs.List.{count_by, sum_by, range_with_len}
+use Rattle.std.proofs.lemmas.Bool.{cases_lt}
+use Rattle.std.proofs.lemmas.Bool.Decides.{nat_tests}
+use Rattle.std.proofs.lemmas.List.{get_or_past, get_or-set_same, get_or-set_other}
+use Rattle.std.proofs.lemmas.List.Sums.{sum_by-cons}
+use Rattle.std.proofs.lemmas.List.FromFn.{get_or-map-range_with_len, length-map-range_with_len}
+use Rattle.std.proofs.lemmas.Nat.Bits.{bit_at_above, bit_at-lt, bit_at_and, shr_and_one}
+use Rattle.std.proofs.lemmas.Nat.{and_le_l}
+use Rattle.std.proofs.lemmas.Simd.{ones-mask_l}
+use lib.Lanes.{mask_l}
+use Rattle.cards.specs.declared.suit.Suit.{Suit}
+use Rattle.cards.specs.declared.suit.Suit.TheVariants.{Spades, Hearts, Diamonds, Clubs}
+use Rattle.cards.specs.Pack.{is_in_suit, rank_of}
+use Rattle.cards.specs.Shuffle.{pack}
+use Rattle.cards.specs.Hands.{holds_card, points_of_rank, points_of, points_in, length_of}
+use Rattle.cards.specs.Masks.{cards_of_mask, mask_of_suit}
+use Rattle.cards.specs.MaskBits.{bit_at_pack, mask-pack-lt, same_masks, mask_of_cards}
+
+-- the cards of a rank
+abbrev pub has_rank : ℕ → ℕ → Bool
+has_rank rank c = rank_of c == rank
+
+-- what a mask shows of a card
+pub card_at_mask : (mask c : ℕ) → mask < 2 ^ 52 → holds_card (cards_of_mask mask) c ≡ (bit_at mask c == 1)
+unfolding cards_of_mask pack
+card_at_mask mask c h =
+    elim (cases_lt c 52) [
+      | inl below ↦ get_or-map-range_with_len (λ k. bit_at mask k == 1) 0 52 c c false below (omega arith)
+      | inr above ↦ get_or_past (map (λ k. bit_at mask k == 1) (range_with_len 0 52)) c false (rw (length-map-range_with_len (λ k. bit_at mask k == 1) 0 52) above) ∙ rw (bit_at_above mask 52 c h above) refl
+    ]
+
+min_bits : (a b : Bool) → min (cond a 1 0) (cond b 1 0) ≡ cond (b && a) 1 0
+min_bits true true = refl
+min_bits true false = refl
+min_bits false true = refl
+min_bits false false = refl
+
+bit_and-pack-lt : (p q : ℕ → Bool) → bit_and (mask_l (map p pack)) (mask_l (map q pack)) < 2 ^ 52
+bit_and-pack-lt p q = omega (arith, and_le_l (mask_l (map p pack)) (mask_l (map q pack)), mask-pack-lt p)
+
+-- the bits that two lists over the pack share
+pub and_pack : (p q : ℕ → Bool) → bit_and (mask_l (map p pack)) (mask_l (map q pack)) ≡ mask_l (map (λ c. q c && p c) pack)
+and_pack p q =
+    same_masks _ _ (bit_and-pack-lt p q) (mask-pack-lt (λ c. q c && p c))
+    (λ i h. bit_at_and (mask_l (map p pack)) (mask_l (map q pack)) i ∙ ap (λ t. min t (bit_at (mask_l (map q pack)) i)) (bit_at_pack p i h) ∙ ap (min (cond (p i) 1 0)) (bit_at_pack q i h) ∙ min_bits (p i) (q i) ∙ sym (bit_at_pack (λ c. q c && p c) i h))
+
+-- the number of a hand's cards under a mask
+pub ones_under : (mask : ℕ) (q : ℕ → Bool) → mask < 2 ^ 52 → count_ones (bit_and mask (mask_l (map q pack))) ≡ count_by (λ c. q c && (bit_at mask c == 1)) pack
+unfolding cards_of_mask
+ones_under mask q h =
+    ap (λ m. count_ones (bit_and m (mask_l (map q pack)))) (sym (mask_of_cards mask h))
+    ∙ ap count_ones (and_pack (λ c. bit_at mask c == 1) q)
+    ∙ ones-mask_l (λ c. q c && (bit_at mask c == 1)) pack
+
+-- ---- sums
+sum_by_same : (f g : ℕ → ℕ) → ((x : ℕ) → f x ≡ g x) → (xs : List ℕ) → sum_by f xs ≡ sum_by g xs
+sum_by_same f g e [] = refl
+sum_by_same f g e (x ∷ xs) = omega (arith, sum_by-cons f x xs, sum_by-cons g x xs, e x, sum_by_same f g e xs)
+
+-- no term is larger
+sum_by-le : (f g : ℕ → ℕ) → ((x : ℕ) → f x ≤ g x) → (xs : List ℕ) → sum_by f xs ≤ sum_by g xs
+sum_by-le f g e [] = omega arith
+sum_by-le f g e (x ∷ xs) = omega (arith, sum_by-cons f x xs, sum_by-cons g x xs, e x, sum_by-le f g e xs)
+
+cond-le : (n : ℕ) (b : Bool) → cond b n 0 ≤ n
+cond-le n true = omega arith
+cond-le n false = omega arith
+
+both-le : (n : ℕ) (a b : Bool) → cond (a && b) n 0 ≤ cond a n 0
+both-le n true b = cond-le n b
+both-le n false b = omega arith
+
+all_honours : sum_by (λ c. points_of_rank (rank_of c)) pack ≡ 40
+unfolding pack
+all_honours = refl
+
+-- a pack has 40 points, a suit 10 points and 13 cards
+pub points_of-le : (hand : List Bool) → points_of hand ≤ 40
+points_of-le hand = omega (arith, all_honours, sum_by-le (λ c. cond (holds_card hand c) (points_of_rank (rank_of c)) 0) (λ c. points_of_rank (rank_of c)) (λ c. cond-le (points_of_rank (rank_of c)) (holds_card hand c)) pack)
+
+suit_honours : (suit : Suit) → sum_by (λ c. cond (is_in_suit suit c) (points_of_rank (rank_of c)) 0) pack ≡ 10
+unfolding pack
+suit_honours Spades = refl
+suit_honours Hearts = refl
+suit_honours Diamonds = refl
+suit_honours Clubs = refl
+
+pub points_in-le : (hand : List Bool) (suit : Suit) → points_in hand suit ≤ 10
+points_in-le hand suit = omega (arith, suit_honours suit, sum_by-le (λ c. cond (is_in_suit suit c && holds_card hand c) (points_of_rank (rank_of c)) 0) (λ c. cond (is_in_suit suit c) (points_of_rank (rank_of c)) 0) (λ c. both-le (points_of_rank (rank_of c)) (is_in_suit suit c) (holds_card hand c)) pack)
+
+suit_cards : (suit : Suit) → sum_by (λ c. cond (is_in_suit suit c) 1 0) pack ≡ 13
+unfolding pack
+suit_cards Spades = refl
+suit_cards Hearts = refl
+suit_cards Diamonds = refl
+suit_cards Clubs = refl
+
+pub length_of-le : (hand : List Bool) (suit : Suit) → length_of hand suit ≤ 13
+length_of-le hand suit = omega (arith, suit_cards suit, sum_by-le (λ c. cond (is_in_suit suit c && holds_card hand c) 1 0) (λ c. cond (is_in_suit suit c) 1 0) (λ c. both-le 1 (is_in_suit suit c) (holds_card hand c)) pack)
+
+not_same : (x y : ℕ) → x ≢ y → (x == y) ≡ false
+not_same x y ne = grind (arith, nat_tests)
+
+no_points_above : (r : ℕ) (b : Bool) → 4 ≤ r → cond b (points_of_rank r) 0 ≡ 0
+no_points_above (suc (suc (suc (suc r)))) true h = refl
+no_points_above r false h = refl
+no_points_above zero true h = absurd (omega arith)
+no_points_above (suc zero) true h = absurd (omega arith)
+no_points_above (suc (suc zero)) true h = absurd (omega arith)
+no_points_above (suc (suc (suc zero))) true h = absurd (omega arith)
+
+no_honour : (r : ℕ) (b : Bool) → 4 ≤ r → 0 ≡ 4 * cond ((r == 0) && b) 1 0 + 3 * cond ((r == 1) && b) 1 0 + 2 * cond ((r == 2) && b) 1 0 + cond ((r == 3) && b) 1 0
+no_honour r b h = rw (not_same r 0 (omega arith), not_same r 1 (omega arith), not_same r 2 (omega arith), not_same r 3 (omega arith)) refl
+
+-- a card's points, by its rank
+by_rank : (r : ℕ) (b : Bool) → cond b (points_of_rank r) 0 ≡ 4 * cond ((r == 0) && b) 1 0 + 3 * cond ((r == 1) && b) 1 0 + 2 * cond ((r == 2) && b) 1 0 + cond ((r == 3) && b) 1 0
+by_rank zero true = refl
+by_rank zero false = refl
+by_rank (suc zero) true = refl
+by_rank (suc zero) false = refl
+by_rank (suc (suc zero)) true = refl
+by_rank (suc (suc zero)) false = refl
+by_rank (suc (suc (suc zero))) true = refl
+by_rank (suc (suc (suc zero))) false = refl
+by_rank (suc (suc (suc (suc r)))) b = no_points_above (suc (suc (suc (suc r)))) b (omega arith) ∙ no_honour (suc (suc (suc (suc r)))) b (omega arith)
+
+sum_by_ranks : (b : ℕ → Bool) (xs : List ℕ) → sum_by (λ c. cond (b c) (points_of_rank (c % 13)) 0) xs
+    ≡ 4 * count_by (λ c. has_rank 0 c && b c) xs + 3 * count_by (λ c. has_rank 1 c && b c) xs + 2 * count_by (λ c. has_rank 2 c && b c) xs + count_by (λ c. has_rank 3 c && b c) xs
+sum_by_ranks b [] = refl
+sum_by_ranks b (x ∷ xs) =
+    omega (
+      arith,
+      sum_by-cons (λ c. cond (b c) (points_of_rank (c % 13)) 0) x xs,
+      sum_by-cons (λ c. cond (has_rank 0 c && b c) 1 0) x xs,
+      sum_by-cons (λ c. cond (has_rank 1 c && b c) 1 0) x xs,
+      sum_by-cons (λ c. cond (has_rank 2 c && b c) 1 0) x xs,
+      sum_by-cons (λ c. cond (has_rank 3 c && b c) 1 0) x xs,
+      by_rank (x % 13) (b x),
+      sum_by_ranks b xs,
+    )
+
+-- the number of a hand's cards under a mask, as the hand tells them
+pub ones_of : (mask m : ℕ) (q : ℕ → Bool) → mask < 2 ^ 52 → m ≡ mask_l (map q pack) → count_ones (bit_and mask m) ≡ count_by (λ c. q c && holds_card (cards_of_mask mask) c) pack
+ones_of mask m q h e =
+    ap (λ t. count_ones (bit_and mask t)) e ∙ ones_under mask q h
+    ∙ sum_by_same (λ c. cond (q c && (bit_at mask c == 1)) 1 0) (λ c. cond (q c && holds_card (cards_of_mask mask) c) 1 0) (λ c. ap (λ b. cond (q c && b) 1 0) (sym (card_at_mask mask c h))) pack
+
+rank_masks : (0x8004002001 ≡ mask_l (map (has_rank 0) pack)) × (0x10008004002 ≡ mask_l (map (has_rank 1) pack)) × (0x20010008004 ≡ mask_l (map (has_rank 2) pack)) × (0x40020010008 ≡ mask_l (map (has_rank 3) pack))
+unfolding pack
+rank_masks = (refl, refl, refl, refl)
+
+pub points_by_masks : (mask a k q j : ℕ) → mask < 2 ^ 52
+    → a ≡ count_ones (bit_and mask 0x8004002001) → k ≡ count_ones (bit_and mask 0x10008004002) → q ≡ count_ones (bit_and mask 0x20010008004) → j ≡ count_ones (bit_and mask 0x40020010008)
+    → 4 * a + 3 * k + 2 * q + j ≡ points_of (cards_of_mask mask)
+points_by_masks mask a k q j h ea ek eq ej =
+    omega (
+      arith,
+      ea,
+      ek,
+      eq,
+      ej,
+      ones_of mask 0x8004002001 (has_rank 0) h rank_masks.0,
+      ones_of mask 0x10008004002 (has_rank 1) h rank_masks.1,
+      ones_of mask 0x20010008004 (has_rank 2) h rank_masks.2,
+      ones_of mask 0x40020010008 (has_rank 3) h rank_masks.3,
+      sum_by_ranks (holds_card (cards_of_mask mask)) pack,
+    )
+
+pub length_under_mask : (suit : Suit) (mask m : ℕ) → mask < 2 ^ 52 → m ≡ mask_l (map (is_in_suit suit) pack) → count_ones (bit_and mask m) ≡ length_of (cards_of_mask mask) suit
+length_under_mask suit mask m h e = ones_of mask m (is_in_suit suit) h e
+
+min_test : (x : ℕ) (b : Bool) → x < 2 → (min x (cond b 1 0) == 1) ≡ (b && (x == 1))
+min_test zero true h = refl
+min_test zero false h = refl
+min_test (suc zero) true h = refl
+min_test (suc zero) false h = refl
+min_test (suc (suc x)) b h = absurd (omega arith)
+
+and_false : (b : Bool) → false ≡ (b && false)
+and_false true = refl
+and_false false = refl
+
+and_bit : (q : ℕ → Bool) (mask c : ℕ) → mask < 2 ^ 52 → (bit_at (bit_and mask (mask_l (map q pack))) c == 1) ≡ (q c && (bit_at mask c == 1))
+and_bit q mask c h =
+    elim (cases_lt c 52) [
+      | inl below ↦ ap (λ t. t == 1) (bit_at_and mask (mask_l (map q pack)) c ∙ ap (min (bit_at mask c)) (bit_at_pack q c below)) ∙ min_test (bit_at mask c) (q c) (bit_at-lt mask c)
+      | inr above ↦
+          let none : bit_at mask c ≡ 0 = bit_at_above mask 52 c h above in
+          let low : bit_and mask (mask_l (map q pack)) < 2 ^ 52 = omega (arith, and_le_l mask (mask_l (map q pack))) in
+          ap (λ t. t == 1) (bit_at_above (bit_and mask (mask_l (map q pack))) 52 c low above) ∙ and_false (q c) ∙ ap (λ t. q c && (t == 1)) (sym none)
+    ]
+
+pub and-lt : (mask m : ℕ) → mask < 2 ^ 52 → bit_and mask m < 2 ^ 52
+and-lt mask m h = omega (arith, and_le_l mask m)
+
+pub points_in_mask : (suit : Suit) (mask m : ℕ) → mask < 2 ^ 52 → m ≡ mask_l (map (is_in_suit suit) pack) → points_of (cards_of_mask (bit_and mask m)) ≡ points_in (cards_of_mask mask) suit
+points_in_mask suit mask m h e =
+    let q : ℕ → Bool = is_in_suit suit in
+    ap (λ t. points_of (cards_of_mask (bit_and mask t))) e
+    ∙ sum_by_same (λ c. cond (holds_card (cards_of_mask (bit_and mask (mask_l (map q pack)))) c) (points_of_rank (c % 13)) 0) (λ c. cond (q c && holds_card (cards_of_mask mask) c) (points_of_rank (c % 13)) 0)
+    (λ c. ap (λ b. cond b (points_of_rank (c % 13)) 0) (card_at_mask (bit_and mask (mask_l (map q pack))) c (and-lt mask (mask_l (map q pack)) h) ∙ and_bit q mask c h ∙ ap (λ b. q c && b) (sym (card_at_mask mask c h)))) pack
+
+-- the masks of the suits
+pub suit_masks : (suit : Suit) → mask_of_suit suit ≡ mask_l (map (is_in_suit suit) pack)
+unfolding pack
+suit_masks Spades = refl
+suit_masks Hearts = refl
+suit_masks Diamonds = refl
+suit_masks Clubs = refl
+
+-- a test of one bit of a hand's mask is whether the hand has the card
+pub held_bit : (mask k c : ℕ) (hand : List Bool) → mask < 2 ^ 52 → cards_of_mask mask ≡ hand → k ≡ c → (bit_and (mask / 2 ^ k) 1 == 1) ≡ holds_card hand c
+held_bit mask k c hand h view same =
+    ap (λ t. t == 1) (shr_and_one mask k) ∙ sym (card_at_mask mask k h) ∙ ap (λ d. holds_card d k) view ∙ ap (holds_card hand) same
+
+-- one more truth value of a list that is filled from the front
+pub read_more : (f : ℕ → Bool) (xs : List Bool) (i : ℕ) (x : Bool) → i < length xs → ((k : ℕ) → k < i → get_or xs k false ≡ f k) → x ≡ f i → (k : ℕ) → k < i + 1 → get_or (set xs i x) k false ≡ f k
+read_more f xs i x inside done here =
+    below_more _ _
+    (λ (k : ℕ) (h : k < i). let ne : k ≢ i = omega arith in rw (get_or-set_other xs i k x false ne) (done k h))
+    (rw (get_or-set_same xs i x false inside) here)

@@ -1,0 +1,47 @@
+-- A set of cards as a number: bit c is set where card c is in the set. Four of them are a deal.
+use Rattle.std.specs.Prelude.{◌≡◌, ℕ, ◌==◌, Bool, List, map, if◌then◌else◌}
+use Rattle.std.proofs.Common.{sym}
+use Rattle.std.specs.Int.{bit_at}
+use lib.Lanes.{mask_l}
+use Rattle.cards.specs.declared.seat.Seat.{Seat}
+use Rattle.cards.specs.declared.seat.Seat.TheVariants.{North, East, South, West}
+use Rattle.cards.specs.declared.suit.Suit.{Suit}
+use Rattle.cards.specs.declared.suit.Suit.TheVariants.{Spades, Hearts, Diamonds, Clubs}
+use Rattle.cards.specs.Shuffle.{pack}
+use Rattle.cards.specs.Deals.{IsPartition}
+use Rattle.cards.specs.Hands.{hand_of}
+
+-- the cards whose bits are set
+unfoldable pub cards_of_mask : ℕ → List Bool
+cards_of_mask mask = map (λ c. bit_at mask c == 1) pack
+
+-- the thirteen cards of a suit
+abbrev pub mask_of_suit : Suit → ℕ
+mask_of_suit Spades = 0x1FFF
+mask_of_suit Hearts = 0x3FFE000
+mask_of_suit Diamonds = 0x7FFC000000
+mask_of_suit Clubs = 0xFFF8000000000
+
+-- the mask of a seat's cards
+abbrev pub seat_mask : List Seat → Seat → ℕ
+seat_mask deal seat = mask_l (hand_of deal seat)
+
+-- the seat whose bit is set at the card
+abbrev pub seat_in : ℕ → ℕ → ℕ → ℕ → Seat
+seat_in n e s c = if bit_at n c == 1 then North else if bit_at e c == 1 then East else if bit_at s c == 1 then South else West
+
+-- the deal that the masks of North, East and South show
+unfoldable pub seats_of_masks : ℕ → ℕ → ℕ → List Seat
+seats_of_masks n e s = map (seat_in n e s) pack
+
+-- the four masks are those of a deal's four hands of thirteen
+pub record IsMasks (n e s w : ℕ) : Type 0 where
+  pub partition : IsPartition (seats_of_masks n e s)
+  pub north : n ≡ seat_mask (seats_of_masks n e s) North
+  pub east : e ≡ seat_mask (seats_of_masks n e s) East
+  pub south : s ≡ seat_mask (seats_of_masks n e s) South
+  pub west : w ≡ seat_mask (seats_of_masks n e s) West
+
+-- the masks of what four masks show are these masks
+pub masks_back : (n e s w : ℕ) → IsMasks n e s w → (seat_mask (seats_of_masks n e s) North ≡ n) × (seat_mask (seats_of_masks n e s) East ≡ e) × (seat_mask (seats_of_masks n e s) South ≡ s) × (seat_mask (seats_of_masks n e s) West ≡ w)
+masks_back n e s w ok = (sym ok.north, sym ok.east, sym ok.south, sym ok.west)

@@ -1,0 +1,116 @@
+//! Hands: the cards of one seat, their points, lengths and shape.
+
+ghost use Rattle.std.specs.Prelude.{◌≡◌, ◌<◌, ◌≤◌, ◌^◌, ◌*◌, ◌↔◌, IsTrue};
+ghost use Rattle.cards.specs.Pack.{suit_number};
+ghost use Rattle.cards.specs.Hands.{points_of, points_in, length_of, shape_of, is_balanced, ranks_of};
+ghost use Rattle.cards.specs.Masks.{cards_of_mask};
+ghost use Rattle.cards.specs.Even.{IsEven};
+
+use crate::Suit;
+use crate::masks::{points_of_mask, suit_mask};
+use std::marker::Model;
+
+/// A seat's cards, which contracts see as a list of 52 truth values, one a card.
+#[tactic(auto, using(crate::specs::MaskBits::mask_of_cards))]
+#[derive(Clone, Copy, PartialEq, Eq, Debug)]
+pub struct Hand {
+    cards: u64,
+}
+
+impl Model for Hand {
+    ghost use Rattle.std.specs.Prelude.{List, Bool, ◌<◌, ◌^◌, refl};
+    ghost use lib.Lanes.{mask_l};
+    ghost use Rattle.cards.specs.Masks.{cards_of_mask};
+    ghost use Rattle.cards.specs.MaskBits.{mask_of_cards};
+
+    ghost Value = { List Bool };
+
+    ghost view = { λ h. cards_of_mask h.cards };
+
+    ghost invariant = { λ h. h.cards < 2 ^ 52 };
+
+    ghost inverse = { λ xs. record { cards = mask_l xs } };
+
+    ghost inverse_ok = { λ h below. Prim.rw (mask_of_cards h.cards below) refl };
+}
+
+impl Hand {
+    pub(crate) fn of_mask(cards: u64) -> Hand
+        requires { cards < 2 ^ 52 }
+        ensures { result ≡ cards_of_mask cards }
+    {
+        Hand { cards }
+    }
+
+    /// The high card points: an ace counts 4, a king 3, a queen 2, a jack 1. At most 40.
+    pub fn points(&self) -> u8
+        ensures value { result ≡ points_of self.now }
+        ensures most { result ≤ 40 }
+    {
+        points_of_mask(self.cards)
+    }
+
+    /// The high card points of the suit's cards alone. At most 10.
+    pub fn points_in(&self, suit: Suit) -> u8
+        ensures value { result ≡ points_in self.now suit }
+        ensures most { result ≤ 10 }
+    {
+        points_of_mask(self.cards & suit_mask(suit))
+    }
+
+    /// How many cards of the suit the hand has, 0 to 13.
+    pub fn length(&self, suit: Suit) -> u8
+        ensures value { result ≡ length_of self.now suit }
+        ensures most { result ≤ 13 }
+    {
+        (self.cards & suit_mask(suit)).count_ones() as u8
+    }
+
+    /// The four lengths in the order spades, hearts, diamonds, clubs.
+    pub fn shape(&self) -> [u8; 4]
+        ensures { result ≡ shape_of self.now }
+    {
+        [
+            self.length(Suit::Spades),
+            self.length(Suit::Hearts),
+            self.length(Suit::Diamonds),
+            self.length(Suit::Clubs),
+        ]
+    }
+
+    /// Whether the four lengths are 4-3-3-3, 4-4-3-2 or 5-3-3-2 in some order.
+    pub fn balanced(&self) -> bool
+        ensures { result ≡ is_balanced (shape_of self.now) }
+    {
+        let mut shape = self.shape();
+        shape.sort_unstable();
+        is_even(&shape)
+    }
+
+    /// Which of the suit's thirteen ranks the hand has, from the ace down to the two.
+    pub fn ranks(&self, suit: Suit) -> [bool; 13]
+        ensures { result ≡ ranks_of self.now suit }
+    {
+        let first = first_card(suit);
+        let mut ranks = [false; 13];
+        for rank in 0..ranks.len() {
+            ranks[rank] = (self.cards >> (first + rank)) & 1 == 1;
+        }
+        ranks
+    }
+}
+
+/// The suit's first card.
+fn first_card(suit: Suit) -> usize
+    ensures value { result ≡ 13 * suit_number suit }
+    ensures most { result ≤ 39 }
+{
+    13 * suit as usize
+}
+
+/// Whether these four lengths, in ascending order, are those of a balanced hand.
+fn is_even(lengths: &[u8; 4]) -> bool
+    ensures { IsTrue result ↔ IsEven lengths.now }
+{
+    *lengths == [3, 3, 3, 4] || *lengths == [2, 3, 4, 4] || *lengths == [2, 3, 3, 5]
+}

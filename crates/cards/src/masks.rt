@@ -1,0 +1,61 @@
+//! Sets of cards as masks of 52 bits: bit c is set where card c is in the set.
+
+ghost use Rattle.std.specs.Prelude.{◌≡◌, ◌<◌, ◌≤◌, ◌^◌, ◌==◌};
+ghost use Rattle.cards.specs.Pack.{seat_number};
+ghost use Rattle.cards.specs.Hands.{points_of};
+ghost use Rattle.cards.specs.Masks.{cards_of_mask, mask_of_suit, seat_mask};
+
+use crate::{Seat, Suit};
+
+const ACES: u64 = 0x80_0400_2001;
+
+const KINGS: u64 = ACES << 1;
+
+const QUEENS: u64 = ACES << 2;
+
+const JACKS: u64 = ACES << 3;
+
+/// The seat's cards.
+pub(crate) fn mask_of(seats: &[Seat; 52], seat: Seat) -> u64
+    ensures { result ≡ seat_mask seats.now seat }
+{
+    let mut mask = 0;
+    for (card, holder) in seats.iter().enumerate() {
+        if is_same(*holder, seat) {
+            mask |= 1 << card;
+        }
+    }
+    mask
+}
+
+fn is_same(holder: Seat, seat: Seat) -> bool
+    ensures { result ≡ (seat_number holder == seat_number seat) }
+{
+    holder == seat
+}
+
+/// The thirteen cards of the suit.
+pub(crate) fn suit_mask(suit: Suit) -> u64
+    ensures value { result ≡ mask_of_suit suit }
+    ensures below { result < 2 ^ 52 }
+{
+    match suit {
+        Suit::Spades => 0x1FFF,
+        Suit::Hearts => 0x3FF_E000,
+        Suit::Diamonds => 0x7F_FC00_0000,
+        Suit::Clubs => 0xF_FF80_0000_0000,
+    }
+}
+
+/// The high card points of the cards.
+pub(crate) fn points_of_mask(cards: u64) -> u8
+    requires { cards < 2 ^ 52 }
+    ensures value { result ≡ points_of (cards_of_mask cards) }
+    ensures most { result ≤ 40 }
+{
+    let aces = (cards & ACES).count_ones();
+    let kings = (cards & KINGS).count_ones();
+    let queens = (cards & QUEENS).count_ones();
+    let jacks = (cards & JACKS).count_ones();
+    (4 * aces + 3 * kings + 2 * queens + jacks) as u8
+}
