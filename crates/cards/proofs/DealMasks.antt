@@ -100,10 +100,6 @@ masks_of_partition deal n e s w ok en ee es ew =
       west = ew ∙ ap (λ d. seat_mask d West) (sym view);
     }
 
-pub hand_is : (deal now : List Seat) (seat asked : Seat) (mask : ℕ) → IsPartition deal → mask ≡ seat_mask deal seat → deal ≡ now → asked ≡ seat → cards_of_mask mask ≡ hand_of now asked
-hand_is deal now seat asked mask ok e view is =
-    ap cards_of_mask e ∙ cards_of_seat deal seat ok.count ∙ ap (λ d. hand_of d seat) view ∙ ap (hand_of now) (sym is)
-
 pub holder_is : (n e s c : ℕ) (now : List Seat) → c < 52 → seats_of_masks n e s ≡ now → get_or now c North ≡ seat_in n e s c
 unfolding seats_of_masks pack
 holder_is n e s c now below view = ap (λ d. get_or d c North) (sym view) ∙ get_or-map-range_with_len (seat_in n e s) 0 52 c c North below (omega arith)

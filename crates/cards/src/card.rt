@@ -1,11 +1,14 @@
 //! The cards of the pack, by number.
 
-ghost use Rattle.std.specs.Prelude.{◌≡◌, ℕ, ◌/◌, ◌%◌, ◌<◌, ◌↔◌, IsSome, IfSome};
+ghost use Rattle.std.specs.Prelude.{◌≡◌, ℕ, ◌/◌, ◌<◌, ◌↔◌, IsSome, IfSome};
 
 use crate::Suit;
 use std::marker::Model;
 
-/// A card, which contracts see as its number.
+/// A card, which contracts see as its number: `13 * suit + rank`.
+///
+/// Suits are spades 0, hearts 1, diamonds 2, clubs 3; ranks are ace 0, king 1, queen 2, jack 3,
+/// ten 4, down to two 12.
 #[derive(Clone, Copy, PartialEq, Eq, Debug)]
 pub struct Card {
     number: u8,
@@ -22,8 +25,9 @@ impl Model for Card {
 }
 
 impl Card {
-    ghost use Rattle.cards.specs.Pack.{suit_number};
+    ghost use Rattle.cards.specs.Pack.{suit_number, rank_of};
 
+    /// The card of this number, or `None` exactly for 52 and above.
     pub fn new(number: u8) -> Option<Card>
         ensures in_pack { IsSome result ↔ (number < 52) }
         ensures kept { IfSome result (λ c. c ≡ number) }
@@ -35,6 +39,7 @@ impl Card {
         }
     }
 
+    /// The card's number, 0 to 51.
     pub fn number(self) -> u8
         ensures value { result ≡ self }
         ensures below { result < 52 }
@@ -42,6 +47,7 @@ impl Card {
         self.number
     }
 
+    /// The card's suit.
     pub fn suit(self) -> Suit
         ensures { suit_number result ≡ self / 13 }
     {
@@ -53,8 +59,10 @@ impl Card {
         }
     }
 
+    /// The card's rank, 0 for the ace to 12 for the two.
     pub fn rank(self) -> u8
-        ensures { result ≡ self % 13 }
+        ensures value { result ≡ rank_of self }
+        ensures below { result < 13 }
     {
         self.number % 13
     }

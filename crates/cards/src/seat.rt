@@ -1,8 +1,8 @@
-//! The four seats.
+//! The four seats at the table.
 
 ghost use Rattle.std.specs.Prelude.{◌≡◌, ◌<◌};
 
-/// A seat at the table, clockwise from North.
+/// A seat at the table, clockwise from North. Their numbers are 0 to 3.
 #[derive(Clone, Copy, PartialEq, Eq, Debug)]
 pub enum Seat {
     North,
