@@ -1,0 +1,20 @@
+-- Offsets of tokens.
+use Rattle.std.specs.Prelude.{◌≡◌, ℕ, zero, suc, List, [], ◌∷◌, map, ◌⊎◌, Option, Some, None, slice_get}
+use Rattle.cond_lang.specs.declared.token.Token.{Token}
+use Rattle.cond_lang.specs.declared.token.Placed.{Placed}
+use Rattle.cond_lang.specs.Grammar.{IsFirstFault}
+
+abbrev pub kinds : List Placed → List Token
+kinds spanned = map (λ s. s.token) spanned
+
+abbrev pub offset_or : Option Placed → ℕ → ℕ
+offset_or None end = end
+offset_or (Some s) end = s.at
+
+-- the offset of token n, or the end of the text
+abbrev pub offset_of : List Placed → ℕ → ℕ → ℕ
+offset_of spanned end n = offset_or (slice_get spanned n) end
+
+-- at is the offset of the first token that no condition goes on with, or the end
+abbrev pub IsPlace : List Placed → ℕ → ℕ → Type 0
+IsPlace spanned end at = (n : ℕ) × IsFirstFault (kinds spanned) n × (at ≡ offset_of spanned end n)

@@ -1,0 +1,395 @@
+//! The parser, with one token in sight.
+
+ghost use Rattle.std.specs.Prelude.{◌≡◌, ◌≢◌, ◌+◌, List, ◌∷◌, [], length, OnOk, OnErr, MatchOption, IfOk};
+ghost use Rattle.cond_lang.specs.declared.token.Token.{Token as AToken};
+ghost use Rattle.cond_lang.specs.Form.{amount_of, form_of};
+ghost use Rattle.std.specs.Prelude.{◌≤◌};
+ghost use Rattle.std.specs.Prelude.{ℕ, IfErr, ◌⊎◌, Err};
+ghost use Rattle.cond_lang.specs.Place.{kinds, offset_of, IsPlace};
+ghost use Rattle.cond_lang.specs.Form.{Form};
+ghost use Rattle.cond_lang.specs.Grammar.{Spells};
+ghost use Rattle.cond_lang.specs.Reading.{Gives, front, opened, closed, comma, dash, seat, suit, digits, relation, opened_seat, and_suit, maybe_suit, lengths, seat_and_lengths, atom_of, reading, a_value, comparing_by, whole, a_cond, a_both, a_unit};
+
+use crate::error::CondError;
+use crate::token::{Placed, Token};
+use crate::tree::{Op, Tree, Value};
+use cards::{Seat, Suit};
+use std::alloc::{AllocError, Global};
+use std::marker::Model;
+use thiserror::Error;
+
+#[derive(Debug, Drop, Error, PartialEq, Eq)]
+pub(crate) enum Refusal {
+    #[error("syntax")]
+    Syntax,
+    #[error("out of memory")]
+    Memory,
+}
+
+/// A clause sees the tokens that are left.
+#[derive(Drop)]
+pub(crate) struct Parser<'a> {
+    alloc: Global,
+    rest: &'a [Placed],
+}
+
+impl<'a> Model for Parser<'a> {
+    ghost use Rattle.std.specs.Prelude.{List, map};
+    ghost use Rattle.cond_lang.specs.declared.token.Token.{Token as AToken};
+
+    ghost Value = { List AToken };
+
+    ghost view = { λ p. map (λ s. s.token) p.rest.now };
+}
+
+impl<'a> Parser<'a> {
+    pub(crate) fn new(alloc: Global, rest: &'a [Placed]) -> Self
+        ensures { result ≡ kinds rest.entry.now }
+    {
+        Parser { alloc, rest }
+    }
+
+    pub(crate) fn left(&self) -> usize
+        ensures { result ≡ length self.now }
+    {
+        self.rest.len()
+    }
+
+    fn peek(&self) -> Option<Token>
+        ensures { result ≡ front self.now }
+    {
+        match self.rest {
+            [] => None,
+            [first, ..] => Some(first.token),
+        }
+    }
+
+    fn advance(&mut self)
+        requires { (t : AToken) × (rest : List AToken) × (self.old ≡ t ∷ rest) }
+        ensures { (t : AToken) × (self.old ≡ t ∷ self.new) }
+    {
+        self.rest = &self.rest[1..];
+    }
+
+    fn open(&mut self) -> Result<(), Refusal>
+        ensures gives { Gives (λ _. tt) result self.new (opened self.old) }
+        ensures shorter { length self.new ≤ length self.old }
+    {
+        let Some(Token::Open) = self.peek() else {
+            return Err(Refusal::Syntax);
+        };
+        self.advance();
+        Ok(())
+    }
+
+    fn close(&mut self) -> Result<(), Refusal>
+        ensures gives { Gives (λ _. tt) result self.new (closed self.old) }
+        ensures shorter { length self.new ≤ length self.old }
+    {
+        let Some(Token::Close) = self.peek() else {
+            return Err(Refusal::Syntax);
+        };
+        self.advance();
+        Ok(())
+    }
+
+    fn comma(&mut self) -> Result<(), Refusal>
+        ensures gives { Gives (λ _. tt) result self.new (comma self.old) }
+        ensures shorter { length self.new ≤ length self.old }
+    {
+        let Some(Token::Comma) = self.peek() else {
+            return Err(Refusal::Syntax);
+        };
+        self.advance();
+        Ok(())
+    }
+
+    fn dash(&mut self) -> Result<(), Refusal>
+        ensures gives { Gives (λ _. tt) result self.new (dash self.old) }
+        ensures shorter { length self.new ≤ length self.old }
+    {
+        let Some(Token::Dash) = self.peek() else {
+            return Err(Refusal::Syntax);
+        };
+        self.advance();
+        Ok(())
+    }
+
+    fn seat(&mut self) -> Result<Seat, Refusal>
+        ensures gives { Gives (λ q. q) result self.new (seat self.old) }
+        ensures shorter { length self.new ≤ length self.old }
+    {
+        let Some(Token::Seat(seat)) = self.peek() else {
+            return Err(Refusal::Syntax);
+        };
+        self.advance();
+        Ok(seat)
+    }
+
+    fn suit(&mut self) -> Result<Suit, Refusal>
+        ensures gives { Gives (λ s. s) result self.new (suit self.old) }
+        ensures shorter { length self.new ≤ length self.old }
+    {
+        let Some(Token::Suit(suit)) = self.peek() else {
+            return Err(Refusal::Syntax);
+        };
+        self.advance();
+        Ok(suit)
+    }
+
+    fn number(&mut self) -> Result<u16, Refusal>
+        ensures gives { Gives (λ n. n) result self.new (digits self.old) }
+        ensures shorter { length self.new ≤ length self.old }
+    {
+        let Some(Token::Number(number)) = self.peek() else {
+            return Err(Refusal::Syntax);
+        };
+        self.advance();
+        Ok(number)
+    }
+
+    fn relation(&mut self) -> Result<Op, Refusal>
+        ensures gives { Gives (λ o. o) result self.new (relation self.old) }
+        ensures shorter { length self.new ≤ length self.old }
+    {
+        let Some(Token::Relation(op)) = self.peek() else {
+            return Err(Refusal::Syntax);
+        };
+        self.advance();
+        Ok(op)
+    }
+
+    fn opened_seat(&mut self) -> Result<Seat, Refusal>
+        ensures gives { Gives (λ q. q) result self.new (opened_seat self.old) }
+        ensures shorter { length self.new ≤ length self.old }
+    {
+        self.open()?;
+        self.seat()
+    }
+
+    fn suit_in_brackets(&mut self) -> Result<Suit, Refusal>
+        ensures gives { Gives (λ s. s) result self.new (and_suit self.old) }
+        ensures shorter { length self.new ≤ length self.old }
+    {
+        self.comma()?;
+        let suit = self.suit()?;
+        self.close()?;
+        Ok(suit)
+    }
+
+    #[tactic(auto, unfolding(crate::specs::Reading::lengths))]
+    fn lengths(&mut self) -> Result<[u16; 4], Refusal>
+        ensures gives { Gives (λ n. n) result self.new (lengths self.old) }
+        ensures shorter { length self.new ≤ length self.old }
+    {
+        let spades = self.number()?;
+        self.dash()?;
+        let hearts = self.number()?;
+        self.dash()?;
+        let diamonds = self.number()?;
+        self.dash()?;
+        let clubs = self.number()?;
+        Ok([spades, hearts, diamonds, clubs])
+    }
+
+    #[tactic(auto, unfolding(crate::specs::Reading::seat_and_lengths))]
+    fn seat_and_lengths(&mut self) -> Result<(Seat, [u16; 4]), Refusal>
+        ensures gives { Gives (λ p. (p.0, p.1)) result self.new (seat_and_lengths self.old) }
+        ensures shorter { length self.new ≤ length self.old }
+    {
+        let seat = self.opened_seat()?;
+        self.comma()?;
+        let lengths = self.lengths()?;
+        self.close()?;
+        Ok((seat, lengths))
+    }
+
+    #[tactic(auto, unfolding(crate::specs::Reading::atom_of))]
+    fn atom(&mut self) -> Result<Value, Refusal>
+        ensures gives { Gives amount_of result self.new (atom_of self.old) }
+        ensures shorter { length self.new ≤ length self.old }
+    {
+        match self.peek() {
+            Some(Token::Number(number)) => {
+                self.advance();
+                Ok(Value::Number(number))
+            }
+            Some(Token::Hcp) => {
+                self.advance();
+                let seat = self.opened_seat()?;
+                self.points_of(seat)
+            }
+            Some(Token::Len) => {
+                self.advance();
+                let seat = self.opened_seat()?;
+                let suit = self.suit_in_brackets()?;
+                Ok(Value::Length(seat, suit))
+            }
+            _ => Err(Refusal::Syntax),
+        }
+    }
+
+    fn points_of(&mut self, seat: Seat) -> Result<Value, Refusal>
+        ensures gives { Gives amount_of result self.new (maybe_suit seat self.old) }
+        ensures shorter { length self.new ≤ length self.old }
+    {
+        if let Some(Token::Comma) = self.peek() {
+            self.advance();
+            let suit = self.suit()?;
+            self.close()?;
+            return Ok(Value::SuitPoints(seat, suit));
+        }
+        self.close()?;
+        Ok(Value::Points(seat))
+    }
+
+    fn boxed(&self, tree: Tree) -> Result<Box<Tree>, Refusal>
+        ensures ok { IfOk result (λ b. b.value ≡ tree) }
+        ensures err { result ≢ Err Refusal.Syntax }
+    {
+        Box::new(self.alloc, tree).map_err(|_| Refusal::Memory)
+    }
+
+    fn boxed_value(&self, value: Value) -> Result<Box<Value>, Refusal>
+        ensures ok { IfOk result (λ b. b.value ≡ value) }
+        ensures err { result ≢ Err Refusal.Syntax }
+    {
+        Box::new(self.alloc, value).map_err(|_| Refusal::Memory)
+    }
+
+    #[tactic(auto, using(crate::proofs::Enough::reads))]
+    fn value(&mut self) -> Result<Value, Refusal>
+        ensures gives { Gives amount_of result self.new (reading a_value self.old) }
+        ensures shorter { length self.new ≤ length self.old }
+    {
+        let mut left = self.atom()?;
+        while let Some(Token::Plus) = self.peek() {
+            self.advance();
+            let right = self.atom()?;
+            left = Value::Sum(self.boxed_value(left)?, self.boxed_value(right)?);
+        }
+        Ok(left)
+    }
+
+    #[tactic(auto)]
+    fn comparison(&mut self) -> Result<Tree, Refusal>
+        ensures gives { Gives form_of result self.new (comparing_by reading self.old) }
+        ensures shorter { length self.new ≤ length self.old }
+    {
+        let left = self.value()?;
+        let op = self.relation()?;
+        let right = self.value()?;
+        Ok(Tree::Compare { left, op, right })
+    }
+
+    #[cycle(conditions)]
+    #[tactic(auto, using(crate::proofs::Enough::reads))]
+    fn unit(&mut self) -> Result<Tree, Refusal>
+        ensures gives { Gives form_of result self.new (reading a_unit self.old) }
+        ensures shorter { length self.new ≤ length self.old }
+    {
+        match self.peek() {
+            Some(Token::Not) => {
+                self.advance();
+                let inner = self.unit()?;
+                Ok(Tree::Negation(self.boxed(inner)?))
+            }
+            Some(Token::Open) => {
+                self.advance();
+                let inner = self.cond()?;
+                self.close()?;
+                Ok(inner)
+            }
+            Some(Token::Balanced) => {
+                self.advance();
+                let seat = self.opened_seat()?;
+                self.close()?;
+                Ok(Tree::Balanced(seat))
+            }
+            Some(Token::Shape) => {
+                self.advance();
+                let (seat, lengths) = self.seat_and_lengths()?;
+                Ok(Tree::Shape(seat, lengths))
+            }
+            Some(Token::Pattern) => {
+                self.advance();
+                let (seat, lengths) = self.seat_and_lengths()?;
+                Ok(Tree::Pattern(seat, lengths))
+            }
+            _ => self.comparison(),
+        }
+    }
+
+    #[cycle(conditions)]
+    #[tactic(auto, using(crate::proofs::Enough::reads))]
+    fn both(&mut self) -> Result<Tree, Refusal>
+        ensures gives { Gives form_of result self.new (reading a_both self.old) }
+        ensures shorter { length self.new ≤ length self.old }
+    {
+        let mut left = self.unit()?;
+        while let Some(Token::And) = self.peek() {
+            self.advance();
+            let right = self.unit()?;
+            left = Tree::AllOf(self.boxed(left)?, self.boxed(right)?);
+        }
+        Ok(left)
+    }
+
+    #[cycle(conditions)]
+    #[tactic(auto, using(crate::proofs::Enough::reads))]
+    fn cond(&mut self) -> Result<Tree, Refusal>
+        ensures gives { Gives form_of result self.new (reading a_cond self.old) }
+        ensures shorter { length self.new ≤ length self.old }
+    {
+        let mut left = self.both()?;
+        while let Some(Token::Or) = self.peek() {
+            self.advance();
+            let right = self.both()?;
+            left = Tree::AnyOf(self.boxed(left)?, self.boxed(right)?);
+        }
+        Ok(left)
+    }
+
+    /// One condition, and no more.
+    #[tactic(auto, unfolding(crate::specs::Reading::whole))]
+    pub(crate) fn whole(&mut self) -> Result<Tree, Refusal>
+        ensures gives { Gives form_of result self.new (whole self.old) }
+        ensures shorter { length self.new ≤ length self.old }
+    {
+        let tree = self.cond()?;
+        if self.peek().is_some() {
+            return Err(Refusal::Syntax);
+        }
+        Ok(tree)
+    }
+}
+
+/// The tree that the tokens of a text of `end` bytes spell.
+pub(crate) fn parse_tokens(alloc: Global, tokens: &[Placed], end: usize) -> Result<Tree, CondError>
+    ensures spelled { IfOk result (λ t. Spells (kinds tokens.now) (form_of t)) }
+    ensures found { (t : Form) → Spells (kinds tokens.now) t → IfErr result (λ e. e ≡ CondError.Memory) }
+    ensures place { (at : ℕ) → result ≡ Err (CondError.Syntax at) → IsPlace tokens.now end at }
+    ensures errors { IfErr result (λ e. (e ≡ CondError.Memory) ⊎ ((at : ℕ) × (e ≡ CondError.Syntax at))) }
+{
+    let mut parser = Parser::new(alloc, tokens);
+    match parser.whole() {
+        Ok(tree) => Ok(tree),
+        Err(Refusal::Memory) => Err(CondError::Memory),
+        Err(Refusal::Syntax) => {
+            let index = tokens.len() - parser.left();
+            Err(CondError::Syntax {
+                at: offset_of(tokens, end, index),
+            })
+        }
+    }
+}
+
+// The offset of a token, or the end of the text.
+fn offset_of(tokens: &[Placed], end: usize, index: usize) -> usize
+    ensures { result ≡ offset_of tokens.now end index }
+{
+    match tokens.get(index) {
+        Some(token) => token.at,
+        None => end,
+    }
+}
