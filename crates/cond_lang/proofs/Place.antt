@@ -1,5 +1,5 @@
 -- Where reading stops is the first fault.
-use Rattle.std.proofs.Common.{◌≡◌, ℕ, suc, ◌+◌, ◌*◌, ◌-◌, ◌<◌, ◌≤◌, List, [], ◌∷◌, ◌++◌, Option, Some, None, length, take, refl, sym, ap, ◌∙◌, subst, append_assoc, append-nil, length-append, arith, Result, Err}
+use Rattle.std.proofs.Common.{◌≡◌, ℕ, ◌+◌, ◌*◌, ◌-◌, ◌<◌, List, [], ◌∷◌, ◌++◌, length, take, refl, sym, ap, ◌∙◌, subst, append_assoc, append-nil, length-append, arith, Result, Err}
 use Rattle.std.proofs.lemmas.List.{length-map}
 use Rattle.cond_lang.specs.declared.token.Placed.{Placed}
 use Rattle.cond_lang.specs.declared.error.CondError.{CondError}
@@ -9,8 +9,8 @@ use Rattle.std.proofs.Math.Seq.{take-append_seam, take-append-add}
 use Rattle.cond_lang.specs.declared.token.Token.{Token}
 use Rattle.cond_lang.specs.Form.{Form}
 use Rattle.cond_lang.specs.Grammar.{SpellsCond, Spells, IsViable, IsFirstFault}
-use Rattle.cond_lang.specs.Reading.{Outcome, got, stuck, Reader, after, front, Goal, a_cond, rank, steps, reading, ended, whole}
-use Rattle.cond_lang.proofs.Sequences.{Reads, HasSome, rest, reads_after, gets_at_end, stops_at}
+use Rattle.cond_lang.specs.Reading.{Outcome, got, stuck, Reader, after, front, a_cond, steps, reading, ended, whole}
+use Rattle.cond_lang.proofs.Sequences.{Reads, reads_after, gets_at_end, stops_at}
 use Rattle.cond_lang.proofs.Steps.{steps_reads}
 use Rattle.cond_lang.proofs.Enough.{reading-steps}
 use Rattle.cond_lang.proofs.Spelled.{spelled}

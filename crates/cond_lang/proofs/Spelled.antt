@@ -1,11 +1,11 @@
 -- What is spelled is read.
-use Rattle.std.proofs.Common.{◌≡◌, ◌≢◌, ℕ, List, [], ◌∷◌, ◌++◌, Option, Some, None, refl, sym, ap, ◌∙◌, subst, append_assoc, append-nil}
+use Rattle.std.proofs.Common.{◌≡◌, ◌≢◌, ℕ, List, [], ◌∷◌, ◌++◌, Some, refl, sym, ap, ◌∙◌, append_assoc, append-nil}
 use Rattle.cond_lang.specs.declared.tree.Op.{Op}
 use Rattle.cond_lang.specs.declared.token.Token.{Token}
-use Rattle.cond_lang.specs.declared.token.Token.TheVariants.{Or, And, Not, Balanced, Shape, Pattern, Hcp, Len, Seat, Suit, Number, Open, Close, Comma, Dash, Plus, Relation}
-use Rattle.cond_lang.specs.Form.{Amount, sum, number, points, suit_points, suit_length, Form, any_of, all_of, negation, compare, balanced, shape, pattern}
+use Rattle.cond_lang.specs.declared.token.Token.TheVariants.{Or, And, Not, Balanced, Shape, Pattern, Seat, Open, Close, Plus, Relation}
+use Rattle.cond_lang.specs.Form.{Amount, sum, Form, any_of, all_of, negation, compare, shape, pattern}
 use Rattle.cond_lang.specs.Grammar.{SpellsAtom, SpellsValue, atom, plus, a_number, hcp, hcp_in, len, four, SpellsCond, both, or, SpellsBoth, unit, and, SpellsUnit, not, brackets, comparison, is_balanced, has_shape, has_pattern, Spells}
-use Rattle.cond_lang.specs.Reading.{Outcome, got, stuck, Reader, after, front, closing, opened_seat, lengths, seat_and_lengths, relation, atom_of, comparing_by, a_value, sums, Goal, a_cond, a_both, a_unit, ors, ands, unit_by, step, reading}
+use Rattle.cond_lang.specs.Reading.{got, after, front, closing, lengths, seat_and_lengths, relation, atom_of, comparing_by, a_value, sums, a_cond, a_both, a_unit, ors, ands, unit_by, reading}
 use Rattle.cond_lang.proofs.Enough.{reads}
 
 atom_reads : {A : List Token} {a : Amount} → SpellsAtom A a → (B : List Token) → atom_of (A ++ B) ≡ got a B

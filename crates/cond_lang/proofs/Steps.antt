@@ -1,15 +1,13 @@
 -- The readers that lead back to a condition.
-use Rattle.std.proofs.Common.{◌≡◌, ℕ, zero, suc, ◌+◌, ◌*◌, ◌<◌, ◌≤◌, List, [], ◌∷◌, ◌++◌, Option, Some, None, length, refl, sym, ap, ◌∙◌, subst, append_assoc, append-nil, length-append, arith}
+use Rattle.std.proofs.Common.{◌≡◌, ℕ, zero, suc, List, [], ◌∷◌, ◌++◌, refl, sym, subst, append_assoc, append-nil}
 use Rattle.cards.specs.declared.seat.Seat.{Seat as ASeat}
-use Rattle.cards.specs.declared.seat.Seat.TheVariants.{North}
-use Rattle.cond_lang.specs.declared.tree.Op.{Op}
 use Rattle.cond_lang.specs.declared.tree.Op.TheVariants.{Equal}
 use Rattle.cond_lang.specs.declared.token.Token.{Token}
-use Rattle.cond_lang.specs.declared.token.Token.TheVariants.{Or, And, Not, Balanced, Shape, Pattern, Hcp, Len, Seat, Suit, Number, Open, Close, Comma, Dash, Plus, Relation}
-use Rattle.cond_lang.specs.Form.{Amount, sum, number, points, suit_points, suit_length, Form, any_of, all_of, negation, compare, balanced, shape, pattern}
-use Rattle.cond_lang.specs.Grammar.{SpellsAtom, SpellsValue, atom, plus, a_number, hcp, hcp_in, len, four, SpellsCond, both, or, SpellsBoth, unit, and, SpellsUnit, not, brackets, comparison, is_balanced, has_shape, has_pattern}
-use Rattle.cond_lang.specs.Reading.{Outcome, got, stuck, Reader, after, front, closing, opened_seat, seat_and_lengths, relation, atom_of, comparing_by, sums_by, a_value, sums, Of, Readers, Goal, a_cond, a_both, a_unit, ors, ands, unit_by, ors_by, ands_by, step, steps, rank, reading}
-use Rattle.cond_lang.proofs.Sequences.{Reads, HasSome, rest, reads_after, reads_as, reads_token, gets_token, gets_at, gets_at_end, stops_at, stops_at_end, reads_like, like_at, like_at_end}
+use Rattle.cond_lang.specs.declared.token.Token.TheVariants.{Or, And, Not, Balanced, Shape, Pattern, Seat, Number, Open, Close, Plus, Relation}
+use Rattle.cond_lang.specs.Form.{Amount, sum, number, Form, any_of, all_of, negation, compare, balanced, shape, pattern}
+use Rattle.cond_lang.specs.Grammar.{SpellsAtom, SpellsValue, atom, plus, a_number, SpellsCond, both, or, SpellsBoth, unit, and, SpellsUnit, not, brackets, comparison, is_balanced, has_shape, has_pattern}
+use Rattle.cond_lang.specs.Reading.{got, after, closing, opened_seat, seat_and_lengths, relation, atom_of, comparing_by, sums_by, a_value, sums, Of, Readers, Goal, a_cond, a_both, a_unit, ors, ands, unit_by, ors_by, ands_by, step, steps}
+use Rattle.cond_lang.proofs.Sequences.{Reads, HasSome, reads_after, reads_token, gets_at, gets_at_end, reads_like, like_at, like_at_end}
 use Rattle.cond_lang.proofs.Terminals.{gets, reads_then, reads_closing, reads_opened_seat, AreSeatAndLengths, reads_seat_and_lengths, reads_relation, reads_atom}
 
 -- what a goal's tokens mean: behind the first part of a chain, what they make of it

@@ -1,17 +1,15 @@
 -- The readers that don't lead back to a condition.
-use Rattle.std.proofs.Common.{◌≡◌, ℕ, List, [], ◌∷◌, ◌++◌, Option, refl, sym, ap, ◌∙◌, subst, append_assoc, append-nil}
+use Rattle.std.proofs.Common.{◌≡◌, ℕ, List, [], ◌∷◌, ◌++◌, refl, sym, ap, ◌∙◌, subst}
 use Rattle.cards.specs.declared.seat.Seat.{Seat as ASeat}
 use Rattle.cards.specs.declared.seat.Seat.TheVariants.{North}
-use Rattle.cards.specs.declared.suit.Suit.{Suit as ASuit}
 use Rattle.cards.specs.declared.suit.Suit.TheVariants.{Spades}
-use Rattle.cond_lang.specs.declared.tree.Op.{Op}
 use Rattle.cond_lang.specs.declared.tree.Op.TheVariants.{Equal}
 use Rattle.cond_lang.specs.declared.token.Token.{Token}
-use Rattle.cond_lang.specs.declared.token.Token.TheVariants.{Or, And, Not, Balanced, Shape, Pattern, Hcp, Len, Seat, Suit, Number, Open, Close, Comma, Dash, Plus, Relation}
-use Rattle.cond_lang.specs.Form.{Amount, number, points, suit_points, suit_length, Form, any_of, all_of, negation, compare, balanced, shape, pattern}
+use Rattle.cond_lang.specs.declared.token.Token.TheVariants.{Hcp, Len, Seat, Suit, Number, Open, Close, Comma, Dash, Relation}
+use Rattle.cond_lang.specs.Form.{number, points, suit_points, suit_length}
 use Rattle.cond_lang.specs.Grammar.{SpellsAtom, a_number, hcp, hcp_in, len, four}
-use Rattle.cond_lang.specs.Reading.{Outcome, got, stuck, Reader, after, front, opened, closed, comma, dash, seat, suit, digits, relation, closing, and_suit, maybe_suit, opened_seat, atom_of, lengths, seat_and_lengths}
-use Rattle.cond_lang.proofs.Sequences.{Reads, HasSome, reads_after, reads_as, reads_token, gets_token, gets_at, gets_at_end, stops_at, stops_at_end}
+use Rattle.cond_lang.specs.Reading.{Outcome, got, Reader, after, opened, closed, comma, dash, seat, suit, digits, relation, closing, and_suit, maybe_suit, opened_seat, atom_of, lengths, seat_and_lengths}
+use Rattle.cond_lang.proofs.Sequences.{Reads, HasSome, reads_after, reads_as, reads_token, gets_token, stops_at, stops_at_end}
 
 -- nothing more
 pub gets : {A : Type 0} (N : List Token → A → Type 0) (x : A) (S : List Token) → N [] x → Reads N (got x) S (got x S)

@@ -1,37 +1,92 @@
-//! Conditions from texts.
+//! A condition: parsed from a text, cloned, and asked whether it holds of a deal.
 
-ghost use Rattle.std.specs.Prelude.{◌≡◌, ◌<◌, ◌≤◌, ◌↔◌, List, ℕ, length, IfOk, IfErr};
-ghost use Rattle.cond_lang.specs.declared.scanner.Piece.{Piece as APiece};
-ghost use Rattle.cond_lang.specs.declared.token.Placed.{Placed as APlaced};
-ghost use Rattle.cond_lang.specs.declared.error.CondError.{CondError as AnError};
-ghost use Rattle.cond_lang.specs.Cut.{IsCut, scanned};
-ghost use Rattle.cond_lang.specs.Form.{Form, form_of};
-ghost use Rattle.cond_lang.specs.Grammar.{Spells};
-ghost use Rattle.cond_lang.specs.Place.{kinds, IsPlace};
+ghost use Rattle.std.specs.Prelude.{◌≡◌, ◌<◌, ◌≤◌, ◌↔◌, length, IfOk, IfErr, MatchResult};
+ghost use Rattle.cond_lang.specs.declared.error.CondError.{CondError as Refusal};
+ghost use Rattle.cond_lang.specs.declared.tree.Op.TheVariants.{Equal};
+ghost use Rattle.cond_lang.specs.Cut.{HasFault};
+ghost use Rattle.cond_lang.specs.Form.{Form, form_of, compare, number};
+ghost use Rattle.cond_lang.specs.Text.{SpellsTree, IsDue};
 
 use crate::error::CondError;
 use crate::parser::parse_tokens;
-use crate::scanner::{FirstPiece, scan};
-use crate::tree::Tree;
+use crate::scanner::{MOST_BYTES, scan};
+use crate::tree::{Op, Tree, Value};
 use std::alloc::Global;
+use std::marker::Model;
 
-/// The tree that a text spells.
-pub fn parse<F: FirstPiece>(cutter: &F, alloc: Global, text: &[u8]) -> Result<Tree, CondError>
-    ensures too_long { 1024 < length text.now → result ≡ Err CondError.TooLong }
-    ensures fault { (ps : List (List ℕ × APiece)) (e : AnError) → length text.now ≤ 1024 → IsCut text.now ps
-        → scanned 0 ps ≡ Err e → result ≡ Err e }
-    ensures spelled { (ps : List (List ℕ × APiece)) (ss : List APlaced) → length text.now ≤ 1024 → IsCut text.now ps
-        → scanned 0 ps ≡ Ok ss → IfOk result (λ t. Spells (kinds ss) (form_of t)) }
-    ensures found { (ps : List (List ℕ × APiece)) (ss : List APlaced) (t : Form) → length text.now ≤ 1024 → IsCut text.now ps
-        → scanned 0 ps ≡ Ok ss → Spells (kinds ss) t → IfErr result (λ e. e ≡ CondError.Memory) }
-    ensures place { (ps : List (List ℕ × APiece)) (ss : List APlaced) (at : ℕ) → length text.now ≤ 1024 → IsCut text.now ps
-        → scanned 0 ps ≡ Ok ss → result ≡ Err (CondError.Syntax at) → IsPlace ss (length text.now) at }
+/// A condition on a deal, which contracts see as its tree's form.
+///
+/// Each of its values adds up at most 1,024 numbers, points and lengths, so that a sum is a `u32`.
+#[derive(Debug, Drop)]
+pub struct Cond {
+    alloc: Global,
+    tree: Tree,
+}
+
+impl Model for Cond {
+    ghost use Rattle.cond_lang.specs.Form.{Form, form_of};
+    ghost use Rattle.cond_lang.specs.FormCode.{form_code};
+    ghost use Rattle.cond_lang.specs.Atoms.{HasAtMostAtoms};
+
+    ghost Value = { Form };
+
+    ghost coded = { form_code };
+
+    ghost view = { λ c. form_of c.tree };
+
+    ghost invariant = { λ c. HasAtMostAtoms 1024 (form_of c.tree) };
+}
+
+/// The condition that a text spells.
+///
+/// A text of more than 1,024 bytes is `TooLong`. Otherwise the leftmost faulty piece of the whole text is refused, as
+/// `Byte`, `Word` or `Number` with its offset. A text without one that spells no condition is `Syntax`, at the first
+/// token that no condition goes on with, or at the text's length. `Memory` comes where a growth was refused.
+pub fn parse(alloc: Global, text: &[u8]) -> Result<Cond, CondError>
+    ensures too_long { (result ≡ Err CondError.TooLong) ↔ (1024 < length text.now) }
+    ensures fault { (e : Refusal) → length text.now ≤ 1024 → HasFault text.now e → result ≡ Err e }
+    ensures spelled { (t : Form) → length text.now ≤ 1024 → SpellsTree text.now t → MatchResult result (λ c. c ≡ t) (λ e. e ≡ CondError.Memory) }
+    ensures tree { IfOk result (λ c. SpellsTree text.now c) }
+    ensures refused { IfErr result (λ e. IsDue text.now e) }
 {
-    if text.len() > 1024 {
+    if text.len() > MOST_BYTES {
         return Err(CondError::TooLong);
     }
-    match scan(cutter, text) {
-        Ok(tokens) => parse_tokens(alloc, tokens.as_slice(), text.len()),
-        Err(error) => Err(error),
+    let tokens = scan(text)?;
+    let tree = parse_tokens(alloc, tokens.as_slice(), text.len())?;
+    Ok(Cond { alloc, tree })
+}
+
+impl Cond {
+    /// The condition of the text `0==0`, which holds of every deal.
+    pub fn any(alloc: Global) -> Cond
+        ensures { result ≡ compare (number 0) Equal (number 0) }
+    {
+        let tree = Tree::Compare {
+            left: Value::Number(0),
+            op: Op::Equal,
+            right: Value::Number(0),
+        };
+        Cond { alloc, tree }
+    }
+
+    /// An equal condition. Its only refusal is `Memory`, and it comes only where a growth was refused.
+    pub fn try_clone(&self) -> Result<Cond, CondError>
+        ensures { MatchResult result (λ c. c ≡ self.now) (λ e. e ≡ CondError.Memory) }
+    {
+        match self.tree.try_clone(self.alloc) {
+            Ok(tree) => Ok(Cond {
+                alloc: self.alloc,
+                tree,
+            }),
+            Err(_) => Err(CondError::Memory),
+        }
+    }
+
+    /// The tree of the condition.
+    pub fn tree(&self) -> &Tree
+        ensures { form_of result.now ≡ self.now }
+    {
+        &self.tree
     }
 }

@@ -1,46 +1,32 @@
-//! The scanner, which finds the leftmost faulty piece before a parser starts.
+//! The scanner: it cuts the whole text into pieces, and finds the leftmost faulty one before the parser starts.
 
-ghost use Rattle.std.specs.Prelude.{◌≡◌, ◌<◌, ◌≤◌, ◌++◌, List, ℕ, length, take, drop};
-ghost use Rattle.cond_lang.specs.declared.scanner.Piece.{Piece as APiece};
-ghost use Rattle.std.specs.Char.{is_ascii_lowercase};
-ghost use Rattle.cond_lang.specs.Cut.{IsPiece, IsCut, scanned, Tells, words, token_of, run, begins_with, symbol_at};
+ghost use Rattle.std.specs.Prelude.{◌≡◌, ◌<◌, ◌≤◌, length, true, IfOk, IfErr};
+ghost use Rattle.std.specs.List.{AllByRecursion};
+ghost use Rattle.std.specs.Char.{is_ascii_lowercase, is_ascii_digit};
+ghost use Rattle.cond_lang.specs.Cut.{HasTokens, HasFault, words, decimal, is_separator};
+ghost use Rattle.cond_lang.specs.Scanning.{token_of, run, begins_with, symbol_at, word_piece, number_piece, piece_at};
 
 use crate::error::CondError;
-use crate::token::{Placed, Token};
+use crate::token::{Piece, Placed, Token};
 use crate::tree::Op;
 use arrayvec::ArrayVec;
 use cards::{Seat, Suit};
 
-/// What a piece of the text is.
-#[derive(Clone, Copy, Debug, PartialEq, Eq)]
-pub enum Piece {
-    Separator,
-    Token(Token),
-    Byte,
-    Word,
-    Number,
-}
-
-/// How a text's first piece is found.
-pub trait FirstPiece {
-    fn first_piece(&self, text: &[u8]) -> (Piece, usize)
-        requires { 0 < length text.now }
-        ensures found { IsPiece (take result.1 text.now) (drop result.1 text.now) result.0 }
-        ensures only { (p rest : List ℕ) (k : APiece) → IsPiece p rest k → text.now ≡ p ++ rest → (result.0 ≡ k) × (result.1 ≡ length p) }
-        ensures some { 0 < result.1 }
-        ensures within { result.1 ≤ length text.now };
-}
+/// The longest text that is read, in bytes.
+pub(crate) const MOST_BYTES: usize = 1024;
 
 /// The tokens of a text, or its leftmost faulty piece.
-pub fn scan<F: FirstPiece>(cutter: &F, text: &[u8]) -> Result<ArrayVec<Placed, 1024>, CondError>
+pub(crate) fn scan(text: &[u8]) -> Result<ArrayVec<Placed, 1024>, CondError>
     requires { length text.now ≤ 1024 }
-    ensures { (pieces : List (List ℕ × APiece)) → IsCut text.now pieces → Tells (λ v. v.items) result (scanned 0 pieces) }
+    ensures tokens { IfOk result (λ v. HasTokens text.now v.items) }
+    ensures fault { IfErr result (λ e. HasFault text.now e) }
+    ensures few { IfOk result (λ v. length v.items ≤ 1024) }
 {
     let mut tokens = ArrayVec::new();
     let mut rest = text;
     let mut at = 0;
     while !rest.is_empty() {
-        let (piece, len) = cutter.first_piece(rest);
+        let (piece, len) = first_piece(rest);
         match piece {
             Piece::Separator => {}
             Piece::Token(token) => tokens.push(Placed { token, at }),
@@ -54,8 +40,99 @@ pub fn scan<F: FirstPiece>(cutter: &F, text: &[u8]) -> Result<ArrayVec<Placed, 1
     Ok(tokens)
 }
 
+/// The first piece of a text, and its length.
+fn first_piece(text: &[u8]) -> (Piece, usize)
+    requires { 0 < length text.now }
+    ensures value { result ≡ piece_at text.now }
+    ensures some { 0 < result.1 }
+    ensures within { result.1 ≤ length text.now }
+{
+    let first = text[0];
+    if is_separator(first) {
+        (Piece::Separator, 1)
+    } else if first.is_ascii_lowercase() {
+        let count = letters(text);
+        (word_piece(&text[..count]), count)
+    } else if first.is_ascii_digit() {
+        let count = digits(text);
+        (number_piece(&text[..count]), count)
+    } else {
+        match symbol(text) {
+            Some((token, count)) => (Piece::Token(token), count),
+            None => (Piece::Byte, 1),
+        }
+    }
+}
+
+fn is_separator(byte: u8) -> bool
+    ensures { result ≡ is_separator byte }
+{
+    byte == b' ' || byte == b'\t' || byte == b'\n'
+}
+
+/// How many small letters a text begins with.
+fn letters(text: &[u8]) -> usize
+    ensures value { result ≡ run is_ascii_lowercase text.now }
+    ensures within { result ≤ length text.now }
+{
+    for (i, byte) in text.iter().enumerate() {
+        if !byte.is_ascii_lowercase() {
+            return i;
+        }
+    }
+    text.len()
+}
+
+/// How many digits a text begins with.
+fn digits(text: &[u8]) -> usize
+    ensures value { result ≡ run is_ascii_digit text.now }
+    ensures within { result ≤ length text.now }
+{
+    for (i, byte) in text.iter().enumerate() {
+        if !byte.is_ascii_digit() {
+            return i;
+        }
+    }
+    text.len()
+}
+
+/// What a run of letters is.
+fn word_piece(letters: &[u8]) -> Piece
+    ensures { result ≡ word_piece letters.now }
+{
+    match word(letters) {
+        Some(token) => Piece::Token(token),
+        None => Piece::Word,
+    }
+}
+
+/// What a run of digits is.
+fn number_piece(digits: &[u8]) -> Piece
+    requires { AllByRecursion (λ c. is_ascii_digit c ≡ true) digits.now }
+    ensures { result ≡ number_piece digits.now }
+{
+    if digits.len() <= 4 {
+        Piece::Token(Token::Number(decimal(digits)))
+    } else {
+        Piece::Number
+    }
+}
+
+/// The number that at most four digits write.
+fn decimal(digits: &[u8]) -> u16
+    requires digits { AllByRecursion (λ c. is_ascii_digit c ≡ true) digits.now }
+    requires few { length digits.now ≤ 4 }
+    ensures { result ≡ decimal digits.now }
+{
+    let mut number = 0;
+    for digit in digits {
+        number = 10 * number + u16::from(*digit - b'0');
+    }
+    number
+}
+
 /// The token of a known word.
-pub fn word(text: &[u8]) -> Option<Token>
+fn word(text: &[u8]) -> Option<Token>
     ensures { result ≡ token_of words text.now }
 {
     if text == b"or".as_slice() {
@@ -95,20 +172,8 @@ pub fn word(text: &[u8]) -> Option<Token>
     }
 }
 
-/// How many small letters a text begins with.
-pub fn letters(text: &[u8]) -> usize
-    ensures { result ≡ run is_ascii_lowercase text.now }
-{
-    for (i, byte) in text.iter().enumerate() {
-        if !byte.is_ascii_lowercase() {
-            return i;
-        }
-    }
-    text.len()
-}
-
 /// The longest symbol that a text begins with, and its length.
-pub fn symbol(text: &[u8]) -> Option<(Token, usize)>
+fn symbol(text: &[u8]) -> Option<(Token, usize)>
     ensures { result ≡ symbol_at text.now }
 {
     let (first, rest) = text.split_first()?;

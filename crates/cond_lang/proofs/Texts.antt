@@ -1,0 +1,96 @@
+-- What a text tells, it tells once.
+use Rattle.std.proofs.Common.{◌≡◌, ℕ, ◌+◌, ◌≤◌, ◌<◌, List, [], ◌∷◌, length, Result, Ok, Err, IfErr, MatchResult, sym, ap, ◌∙◌, subst, arith}
+use Rattle.std.proofs.lemmas.List.{length-map}
+use Rattle.cond_lang.specs.declared.token.Placed.{Placed}
+use Rattle.cond_lang.specs.declared.token.Piece.{Piece}
+use Rattle.cond_lang.specs.declared.token.Piece.TheVariants.{Separator, Token as PToken, Byte as PByte, Word as PWord, Number as PNumber}
+use Rattle.cond_lang.specs.declared.error.CondError.{CondError}
+use Rattle.cond_lang.specs.declared.error.CondError.TheVariants.{TooLong, Byte, Word, Number, Syntax, Memory}
+use Rattle.cond_lang.specs.Form.{Form}
+use Rattle.cond_lang.specs.Grammar.{Spells}
+use Rattle.cond_lang.specs.Place.{kinds}
+use Rattle.cond_lang.specs.Cut.{Pieces, tokens_from, with_piece, and_then_more, HasTokens, HasFault}
+use Rattle.cond_lang.specs.Text.{SpellsTree, IsDue}
+use Rattle.cond_lang.proofs.Pieces.{one_cut}
+use Rattle.cond_lang.proofs.Spelled.{one_tree}
+
+pub one_fault : (text : List ℕ) (e f : CondError) → HasFault text e → HasFault text f → e ≡ f
+one_fault text e f h k = let same : tokens_from 0 h.pieces ≡ tokens_from 0 k.pieces = ap (tokens_from 0) (one_cut text h.pieces k.pieces h.cut k.cut) in let a = h.found in let b = k.found in cc
+
+pub one_tokens : (text : List ℕ) (xs ys : List Placed) → HasTokens text xs → HasTokens text ys → xs ≡ ys
+one_tokens text xs ys h k = let same : tokens_from 0 h.pieces ≡ tokens_from 0 k.pieces = ap (tokens_from 0) (one_cut text h.pieces k.pieces h.cut k.cut) in let a = h.found in let b = k.found in cc
+
+pub no_tokens : (text : List ℕ) (e : CondError) (xs : List Placed) → HasFault text e → HasTokens text xs → ⊥
+no_tokens text e xs h k = let same : tokens_from 0 h.pieces ≡ tokens_from 0 k.pieces = ap (tokens_from 0) (one_cut text h.pieces k.pieces h.cut k.cut) in let a = h.found in let b = k.found in cc
+
+-- the fault of a piece
+abbrev pub IsOfPiece : CondError → Type 0
+IsOfPiece (Byte at) = Unit {0}
+IsOfPiece (Word at) = Unit {0}
+IsOfPiece (Number at) = Unit {0}
+IsOfPiece e = ⊥
+
+abbrev IsOfPieceIfErr : Result (List Placed) CondError → Type 0
+IsOfPieceIfErr (Ok ts) = Unit {0}
+IsOfPieceIfErr (Err e) = IsOfPiece e
+
+of_more : (t : Placed) (r : Result (List Placed) CondError) → IsOfPieceIfErr r → IsOfPieceIfErr (and_then_more t r)
+of_more t (Ok ts) h = h
+of_more t (Err e) h = h
+
+of_with : (k : Piece) (at : ℕ) (r : Result (List Placed) CondError) → IsOfPieceIfErr r → IsOfPieceIfErr (with_piece k at r)
+of_with Separator at r h = h
+of_with (PToken t) at r h = of_more _ r h
+of_with PByte at r h = tt
+of_with PWord at r h = tt
+of_with PNumber at r h = tt
+
+of_pieces : (at : ℕ) (ps : Pieces) → IsOfPieceIfErr (tokens_from at ps)
+of_pieces at [] = tt
+of_pieces at (p ∷ ps) = of_with p.1 at (tokens_from (at + length p.0) ps) (of_pieces (at + length p.0) ps)
+
+pub fault_of_piece : (text : List ℕ) (e : CondError) → HasFault text e → IsOfPiece e
+fault_of_piece text e h = subst IsOfPieceIfErr h.found (of_pieces 0 h.pieces)
+
+due : (text : List ℕ) (e : CondError) → HasFault text e → IsOfPiece e → IsDue text e
+due text TooLong h k = absurd k
+due text (Byte at) h k = h
+due text (Word at) h k = h
+due text (Number at) h k = h
+due text (Syntax at) h k = absurd k
+due text Memory h k = tt
+
+-- A piece's fault is a reason to refuse the text.
+pub fault_due : (text : List ℕ) (e : CondError) → HasFault text e → IsDue text e
+fault_due text e h = due text e h (fault_of_piece text e h)
+
+-- A text spells at most one tree.
+pub one_text_tree : (text : List ℕ) (xs : List Placed) (a b : Form) → HasTokens text xs → Spells (kinds xs) a → SpellsTree text b → a ≡ b
+one_text_tree text xs a b h s t =
+    one_tree (kinds xs) a b s (subst (λ ys. Spells (kinds ys) b) (one_tokens text t.tokens xs t.cut h) t.spells)
+
+-- Refusals, as a result tells them.
+
+pub piece_too_long :
+    (text : List ℕ) (r : Result Form CondError) (e : CondError) → r ≡ Err e → HasFault text e → length text ≤ 1024
+    → (r ≡ Err TooLong → 1024 < length text) × (1024 < length text → r ≡ Err TooLong)
+piece_too_long text r e i h few =
+    (λ k. let same : e ≡ TooLong = cc in absurd (subst IsOfPiece same (fault_of_piece text e h)), λ k. absurd (omega arith))
+
+pub piece_refused : (text : List ℕ) (r : Result Form CondError) (e : CondError) → r ≡ Err e → HasFault text e → IfErr r (IsDue text)
+piece_refused text r e i h = rw i (fault_due text e h)
+
+pub piece_fault : (text : List ℕ) (r : Result Form CondError) (e f : CondError) → r ≡ Err e → HasFault text e → HasFault text f → r ≡ Err f
+piece_fault text r e f i h k = i ∙ ap (λ x. Err x) (one_fault text e f h k)
+
+pub piece_spelled :
+    (text : List ℕ) (r : Result Form CondError) (e : CondError) (t : Form) → HasFault text e → SpellsTree text t
+    → MatchResult r (λ c. c ≡ t) (λ e. e ≡ Memory)
+piece_spelled text r e t h s = absurd (no_tokens text e s.tokens h s.cut)
+
+-- the tokens of a text that spells a tree spell it
+pub its_tokens_spell : (text : List ℕ) (xs ys : List Placed) (t : Form) → HasTokens text xs → ys ≡ xs → SpellsTree text t → Spells (kinds ys) t
+its_tokens_spell text xs ys t h i s = subst (λ zs. Spells (kinds zs) t) (one_tokens text s.tokens xs s.cut h ∙ sym i) s.spells
+
+pub few_kinds : (xs ys : List Placed) (n : ℕ) → ys ≡ xs → length xs ≤ n → length (kinds ys) ≤ n
+few_kinds xs ys n i h = omega (arith, length-map ys (λ (p : Placed). p.token), ap length i)

@@ -1,0 +1,48 @@
+use Rattle.std.proofs.Common.{ap, ◌∙◌, arith, Err}
+use Rattle.std.proofs.lemmas.Result.{err_from_is_err_and}
+use Rattle.cond_lang.specs.Form.{form_of}
+use Rattle.cond_lang.specs.Place.{kinds}
+use Rattle.cond_lang.proofs.Texts.{piece_too_long, piece_refused, piece_fault, piece_spelled, no_tokens, one_text_tree, its_tokens_spell, few_kinds}
+use Rattle.cond_lang.proofs.AtomCounts.{few_atoms}
+use Rattle.cond_lang.proofs.condition.parse.Goals as goal
+
+pub returns-in_err-tokens-clause-too_long : goal.returns-in_err-tokens-clause-too_long
+returns-in_err-tokens-clause-too_long c =
+    let p = err_from_is_err_and c.from_residual.result c.from_residual.ensures.1 in
+    piece_too_long c.args.text.now c.from_residual.result c.in_err-tokens.field-0.0 (p.1 ∙ ap (λ e. Err e) p.2) c.in_err-tokens.ensures.fault (omega arith)
+
+pub returns-in_err-tokens-clause-fault : goal.returns-in_err-tokens-clause-fault
+returns-in_err-tokens-clause-fault c = λ e few h.
+    let p = err_from_is_err_and c.from_residual.result c.from_residual.ensures.1 in
+    piece_fault c.args.text.now c.from_residual.result c.in_err-tokens.field-0.0 e (p.1 ∙ ap (λ e. Err e) p.2) c.in_err-tokens.ensures.fault h
+
+pub returns-in_err-tokens-clause-spelled : goal.returns-in_err-tokens-clause-spelled
+returns-in_err-tokens-clause-spelled c = λ t few h.
+    piece_spelled c.args.text.now c.from_residual.result c.in_err-tokens.field-0.0 t c.in_err-tokens.ensures.fault h
+
+pub returns-in_err-tokens-clause-refused : goal.returns-in_err-tokens-clause-refused
+returns-in_err-tokens-clause-refused c =
+    let p = err_from_is_err_and c.from_residual.result c.from_residual.ensures.1 in
+    piece_refused c.args.text.now c.from_residual.result c.in_err-tokens.field-0.0 (p.1 ∙ ap (λ e. Err e) p.2) c.in_err-tokens.ensures.fault
+
+pub returns-in_err-tree-clause-fault : goal.returns-in_err-tree-clause-fault
+returns-in_err-tree-clause-fault c = λ e few h. absurd (no_tokens c.args.text.now e c.in_ok-tokens.tokens.items h c.in_ok-tokens.ensures.tokens)
+
+pub returns-in_err-tree-clause-spelled : goal.returns-in_err-tree-clause-spelled
+returns-in_err-tree-clause-spelled c = λ t few h.
+    let p = err_from_is_err_and c.from_residual-in_err-tree.result c.from_residual-in_err-tree.ensures.1 in
+    let s = its_tokens_spell c.args.text.now c.in_ok-tokens.tokens.items c.as_slice.result.now t c.in_ok-tokens.ensures.tokens c.as_slice.ensures.value h in
+    rw (p.1, p.2) (c.in_err-tree.ensures.found t s)
+
+pub invariant_of-result : goal.invariant_of-result
+invariant_of-result c =
+    few_atoms 1024 (kinds c.as_slice.result.now) (form_of c.in_ok-tree.tree)
+    (few_kinds c.in_ok-tokens.tokens.items c.as_slice.result.now 1024 c.as_slice.ensures.value c.in_ok-tokens.ensures.few) c.in_ok-tree.ensures.spelled
+
+pub returns-clause-fault : goal.returns-clause-fault
+returns-clause-fault c = λ e few h. absurd (no_tokens c.args.text.now e c.in_ok-tokens.tokens.items h c.in_ok-tokens.ensures.tokens)
+
+pub returns-clause-spelled : goal.returns-clause-spelled
+returns-clause-spelled c = λ t few h.
+    one_text_tree c.args.text.now c.as_slice.result.now (form_of c.in_ok-tree.tree) t
+    (rw c.as_slice.ensures.value c.in_ok-tokens.ensures.tokens) c.in_ok-tree.ensures.spelled h

@@ -1,0 +1,6 @@
+use Rattle.std.specs.Char.{is_ascii_digit}
+use Rattle.cond_lang.proofs.Pieces.{run_all}
+use Rattle.cond_lang.proofs.scanner.first_piece.Goals as goal
+
+pub number_piece-requires : goal.number_piece-requires
+number_piece-requires c = rw c.digits-count.ensures.value (run_all is_ascii_digit c.args.text.now)

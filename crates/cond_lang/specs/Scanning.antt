@@ -1,0 +1,74 @@
+-- What the scanner's own functions return.
+use Rattle.std.specs.Prelude.{ℕ, suc, ◌==◌, nat_le, Bool, false, List, [], ◌∷◌, ◌++◌, length, take, Result, Ok, Err, Option, Some, None, if◌then◌else◌}
+use Rattle.std.specs.Str.{bytes_eq}
+use Rattle.std.specs.Char.{is_ascii_lowercase, is_ascii_digit}
+use Rattle.cond_lang.specs.declared.tree.Op.TheVariants.{Equal, NotEqual, Less, AtMost, More, AtLeast}
+use Rattle.cond_lang.specs.declared.token.Token.{Token}
+use Rattle.cond_lang.specs.declared.token.Token.TheVariants.{Number, Open, Close, Comma, Dash, Plus, Relation}
+use Rattle.cond_lang.specs.declared.token.Placed.{Placed}
+use Rattle.cond_lang.specs.declared.token.Piece.{Piece}
+use Rattle.cond_lang.specs.declared.token.Piece.TheVariants.{Separator, Token as PToken, Byte as PByte, Word as PWord, Number as PNumber}
+use Rattle.cond_lang.specs.declared.error.CondError.{CondError}
+use Rattle.cond_lang.specs.Cut.{words, is_separator, decimal}
+
+-- more tokens in front
+abbrev pub prepended : List Placed → Result (List Placed) CondError → Result (List Placed) CondError
+prepended ts (Ok more) = Ok (ts ++ more)
+prepended ts (Err e) = Err e
+
+-- the token of the table's entry with this text
+abbrev pub token_of : List (List ℕ × Token) → List ℕ → Option Token
+token_of [] p = None
+token_of (entry ∷ table) p = if bytes_eq p entry.0 then Some entry.1 else token_of table p
+
+-- how many such bytes the text begins with
+abbrev pub run : (ℕ → Bool) → List ℕ → ℕ
+run f [] = 0
+run f (c ∷ s) = if f c then suc (run f s) else 0
+
+abbrev pub begins_with : ℕ → List ℕ → Bool
+begins_with c [] = false
+begins_with c (d ∷ s) = d == c
+
+abbrev pub symbol_after : ℕ → List ℕ → Option (Token × ℕ)
+symbol_after c s =
+    if c == 40 then Some (Open, 1)
+    else (if c == 41 then Some (Close, 1)
+    else (if c == 44 then Some (Comma, 1)
+    else (if c == 45 then Some (Dash, 1)
+    else (if c == 43 then Some (Plus, 1)
+    else (if c == 61 then (if begins_with 61 s then Some (Relation Equal, 2) else None)
+    else (if c == 33 then (if begins_with 61 s then Some (Relation NotEqual, 2) else None)
+    else (if c == 60 then (if begins_with 61 s then Some (Relation AtMost, 2) else Some (Relation Less, 1))
+    else (if c == 62 then (if begins_with 61 s then Some (Relation AtLeast, 2) else Some (Relation More, 1))
+    else None))))))))
+
+-- the longest symbol that the text begins with, and its length
+abbrev pub symbol_at : List ℕ → Option (Token × ℕ)
+symbol_at [] = None
+symbol_at (c ∷ s) = symbol_after c s
+
+abbrev pub token_or : Piece → Option Token → Piece
+token_or other None = other
+token_or other (Some t) = PToken t
+
+-- what a run of letters is
+abbrev pub word_piece : List ℕ → Piece
+word_piece p = token_or PWord (token_of words p)
+
+-- what a run of digits is
+abbrev pub number_piece : List ℕ → Piece
+number_piece p = if nat_le (length p) 4 then PToken (Number (decimal p)) else PNumber
+
+abbrev pub symbol_piece : Option (Token × ℕ) → Piece × ℕ
+symbol_piece None = (PByte, 1)
+symbol_piece (Some s) = (PToken s.0, s.1)
+
+-- the first piece of a text that isn't empty, and its length
+abbrev pub piece_at : List ℕ → Piece × ℕ
+piece_at [] = (PByte, 0)
+piece_at (c ∷ s) =
+    if is_separator c then (Separator, 1)
+    else (if is_ascii_lowercase c then (word_piece (take (run is_ascii_lowercase (c ∷ s)) (c ∷ s)), run is_ascii_lowercase (c ∷ s))
+    else (if is_ascii_digit c then (number_piece (take (run is_ascii_digit (c ∷ s)) (c ∷ s)), run is_ascii_digit (c ∷ s))
+    else symbol_piece (symbol_after c s)))
