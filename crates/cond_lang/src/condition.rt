@@ -5,12 +5,15 @@ ghost use Rattle.cond_lang.specs.declared.error.CondError.{CondError as Refusal}
 ghost use Rattle.cond_lang.specs.declared.tree.Op.TheVariants.{Equal};
 ghost use Rattle.cond_lang.specs.Cut.{HasFault};
 ghost use Rattle.cond_lang.specs.Form.{Form, form_of, compare, number};
+ghost use Rattle.cond_lang.specs.Meaning.{holds};
 ghost use Rattle.cond_lang.specs.Text.{SpellsTree, IsDue};
 
 use crate::error::CondError;
+use crate::meaning;
 use crate::parser::parse_tokens;
 use crate::scanner::{MOST_BYTES, scan};
 use crate::tree::{Op, Tree, Value};
+use cards::Deal;
 use std::alloc::Global;
 use std::marker::Model;
 
@@ -81,6 +84,13 @@ impl Cond {
             }),
             Err(_) => Err(CondError::Memory),
         }
+    }
+
+    /// Whether the condition is true of the deal.
+    pub fn holds(&self, deal: &Deal) -> bool
+        ensures { result ≡ holds self.now deal.now }
+    {
+        meaning::holds(&self.tree, deal)
     }
 
     /// The tree of the condition.
