@@ -1,0 +1,4 @@
+pub mod Places
+pub mod VerdictLists
+pub mod Candidates
+pub mod Prefixes

@@ -1,0 +1,5 @@
+pub mod Verdicts
+pub mod Views
+pub mod Rings
+pub mod Jobs
+pub mod Work

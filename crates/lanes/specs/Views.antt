@@ -1,0 +1,34 @@
+-- What contracts see of a lane's ends and of the turns.
+use Rattle.std.specs.Prelude.{ℕ, Bool, List}
+use denote.RawPtr.{Ptr}
+use Rattle.rtrb.specs.Shared.{Names}
+use Rattle.lanes.specs.declared.verdict.Verdict.{Verdict}
+
+-- which ring a lane goes through
+pub record Ring : Type 0 where
+  pub words : Ptr
+  pub slots : Ptr
+  pub names : Names
+
+-- the end that sends: what was sent, and how many slots are known to be free
+pub record InView : Type 0 where
+  pub sent : List Verdict
+  pub room : ℕ
+  pub ring : Ring
+
+-- a closed end: all that was sent
+pub record ClosedView : Type 0 where
+  pub sent : List Verdict
+  pub ring : Ring
+
+-- the end that takes: what was taken, and what is left once it is settled
+pub record OutView : Type 0 where
+  pub taken : List Verdict
+  pub ring : Ring
+  pub settled : Bool
+  pub left : List Verdict
+
+-- whose turn it is
+pub record TurnsView : Type 0 where
+  pub turn : ℕ
+  pub workers : ℕ

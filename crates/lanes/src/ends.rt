@@ -1,0 +1,170 @@
+//! The two ends of a lane, which is a bounded ring between one worker and the writer.
+
+ghost use Rattle.std.specs.Prelude.{◌≡◌, ◌+◌, ◌<◌, ◌≤◌, ◌↔◌, ◌⊎◌, [], ◌∷◌, ◌++◌, length, IsTrue, IsOk, IsSome, IsErrOf, OnOk, IfOk, IfErr, IfSome, IfNone, true, false};
+ghost use Rattle.lanes.specs.declared.ends.LaneError.TheVariants.{Capacity, Memory};
+
+use crate::verdict::Verdict;
+use rtrb::{Consumer, Finished, Producer, PushError, RingBuffer};
+use std::alloc::Global;
+use std::marker::Model;
+use thiserror::Error;
+
+/// The most verdicts that a lane may hold.
+const MOST_CAPACITY: u32 = 4096;
+
+/// Why there is no lane.
+#[derive(Debug, Drop, Error)]
+pub enum LaneError {
+    #[error("a lane holds 1 to 4096 verdicts")]
+    Capacity,
+    #[error("out of memory")]
+    Memory,
+}
+
+/// The end that a worker sends into. Contracts see what was sent, how many slots are known to be free, and
+/// which ring it is.
+#[derive(Drop)]
+pub struct LaneIn {
+    producer: Producer<Verdict>,
+}
+
+impl Model for LaneIn {
+    ghost use Rattle.rtrb.specs.Ring.{sent, known_free};
+    ghost use Rattle.lanes.specs.Views.{InView};
+    ghost use Rattle.lanes.specs.Rings.{ring_of_producer};
+
+    ghost Value = { InView };
+
+    ghost view = { λ l. record { sent = sent l.producer; room = known_free l.producer; ring = ring_of_producer l.producer } };
+}
+
+/// What a closed end leaves. Contracts see all that was sent, and which ring it is.
+#[derive(Drop)]
+pub struct Closed {
+    finished: Finished<Verdict>,
+}
+
+impl Model for Closed {
+    ghost use Rattle.rtrb.specs.Ring.{all_sent};
+    ghost use Rattle.lanes.specs.Views.{ClosedView};
+    ghost use Rattle.lanes.specs.Rings.{ring_of_finished};
+
+    ghost Value = { ClosedView };
+
+    ghost view = { λ c. record { sent = all_sent c.finished; ring = ring_of_finished c.finished } };
+}
+
+/// The end that the writer takes from. Contracts see what was taken, which ring it is, whether it is settled,
+/// and from then on what is left.
+#[derive(Drop)]
+pub struct LaneOut {
+    consumer: Consumer<Verdict>,
+    settled: bool,
+}
+
+impl Model for LaneOut {
+    ghost use Rattle.std.specs.Prelude.{cond, []};
+    ghost use Rattle.rtrb.specs.Ring.{received, known_items};
+    ghost use Rattle.lanes.specs.Views.{OutView};
+    ghost use Rattle.lanes.specs.Rings.{ring_of_consumer};
+
+    ghost Value = { OutView };
+
+    ghost view = { λ l. record { taken = received l.consumer; ring = ring_of_consumer l.consumer; settled = l.settled; left = cond l.settled (known_items l.consumer) [] } };
+}
+
+/// A lane that holds at most `capacity` verdicts. Refused with `Capacity` exactly where that is not 1 to 4,096,
+/// and otherwise with `Memory` where there was none.
+pub fn lane(alloc: Global, capacity: u32) -> Result<(LaneIn, LaneOut), LaneError>
+    ensures capacity { IsErrOf result Capacity ↔ ((capacity ≡ 0) ⊎ (4096 < capacity)) }
+    ensures ring { IfOk result (λ r. r.0.ring ≡ r.1.ring) }
+    ensures sender { IfOk result (λ r. (r.0.sent ≡ []) × (r.0.room ≡ capacity)) }
+    ensures taker { IfOk result (λ r. (r.1.taken ≡ []) × (r.1.settled ≡ false)) }
+{
+    if capacity == 0 || capacity > MOST_CAPACITY {
+        return Err(LaneError::Capacity);
+    }
+    // Making a ring is no event of the run's core.
+    let Ok((producer, consumer)) = RingBuffer::new(alloc, capacity as usize) else {
+        return Err(LaneError::Memory);
+    };
+    let settled = false;
+    Ok((LaneIn { producer }, LaneOut { consumer, settled }))
+}
+
+impl LaneIn {
+    /// Sends a verdict, or hands it back where the lane is full. It waits for nobody.
+    pub fn try_send(&mut self, verdict: Verdict) -> Result<(), Verdict>
+        ensures ring { self.new.ring ≡ self.old.ring }
+        ensures sent { OnOk result (self.new.sent ≡ self.old.sent ++ verdict ∷ []) }
+        ensures room { OnOk result (self.old.room ≤ self.new.room + 1) }
+        ensures back { IfErr result (λ v. (v ≡ verdict) × (self.new ≡ self.old)) }
+        ensures succeeds { 0 < self.old.room → IsOk result }
+    {
+        // A push that succeeds is the core's Send; one that fails is no event.
+        match self.producer.push(verdict) {
+            Ok(()) => Ok(()),
+            Err(PushError::Full(back)) => Err(back),
+        }
+    }
+
+    /// How many verdicts the lane may hold.
+    pub(crate) fn capacity(&self) -> u32 {
+        self.producer.capacity().min(MOST_CAPACITY as usize) as u32
+    }
+
+    /// Closes the lane. `None` where the ring can't say how it ended. It waits for nobody.
+    pub fn close(self) -> Option<Closed>
+        ensures { IfSome result (λ c. (c.sent ≡ self.sent) × (c.ring ≡ self.ring)) }
+    {
+        let LaneIn { producer } = self;
+        // Giving up the producing end is the core's Close.
+        let finished = producer.finish()?;
+        Some(Closed { finished })
+    }
+}
+
+impl LaneOut {
+    /// Takes the next verdict, where there is one. It waits for nobody. Once the lane is settled it gives
+    /// what is left, one after another, and then nothing.
+    pub fn take(&mut self) -> Option<Verdict>
+        ensures ring { self.new.ring ≡ self.old.ring }
+        ensures settled { self.new.settled ≡ self.old.settled }
+        ensures some { IfSome result (λ v. self.new.taken ≡ self.old.taken ++ v ∷ []) }
+        ensures none { IfNone result (self.new ≡ self.old) }
+        ensures left { IfSome result (λ v. self.old.settled ≡ true → self.old.left ≡ v ∷ self.new.left) }
+        ensures all_left { self.old.settled ≡ true → (IsSome result ↔ (0 < length self.old.left)) }
+    {
+        // A pop that succeeds is the core's Take while the run goes on, and no event afterwards; one that
+        // fails is none.
+        if !self.settled {
+            return self.consumer.pop().ok();
+        }
+        if self.consumer.cached_slots() == 0 {
+            return None;
+        }
+        Some(self.consumer.pop_known())
+    }
+
+    /// Settles the lane by what its closed end left: how many verdicts are left to take. It waits for nobody.
+    pub fn settle(&mut self, closed: &mut Closed) -> u64
+        requires { self.old.ring ≡ closed.old.ring }
+        ensures closed { closed.new ≡ closed.old }
+        ensures ring { self.new.ring ≡ self.old.ring }
+        ensures taken { self.new.taken ≡ self.old.taken }
+        ensures settled { self.new.settled ≡ true }
+        ensures count { result ≡ length self.new.left }
+        ensures fifo { self.new.taken ++ self.new.left ≡ closed.old.sent }
+    {
+        self.settled = true;
+        // Settling is no event of the core.
+        self.consumer.slots_after(&mut closed.finished) as u64
+    }
+
+    /// Whether the lane is settled.
+    pub fn is_settled(&self) -> bool
+        ensures { result ≡ self.now.settled }
+    {
+        self.settled
+    }
+}

@@ -1,0 +1,121 @@
+use super::*;
+use cards::{Deal, Places};
+use cond_lang::Cond;
+use lcg48::Lcg48;
+use std::alloc::Global;
+use std::sync::Arc;
+use std::sync::atomic::{AtomicBool, Ordering};
+use std::test::Fail;
+
+fn verdict(number: u64) -> Verdict {
+    let places = Places::draw(&mut Lcg48::seeded(0));
+    Verdict {
+        number,
+        accepted: true,
+        deal: Deal::shuffled(&places),
+    }
+}
+
+#[test]
+fn shares_leave_nothing_out(rt: HostRuntime) -> Result<(), Fail> {
+    let wanted: [&[u64]; 4] = [&[5, 9, 13], &[6, 10, 14], &[7, 11], &[8, 12]];
+    for (worker, numbers) in wanted.iter().enumerate() {
+        let share = Share::new(5, 10, 4, worker as u32).ok_or("a share")?;
+        assert_eq!(rt; share.len(), numbers.len() as u64);
+        for i in 0..share.len() {
+            assert_eq!(rt; Some(&share.at(i)), numbers.get(i as usize));
+        }
+    }
+    Ok(())
+}
+
+#[test]
+fn shares_out_of_range(rt: HostRuntime) {
+    assert!(rt; Share::new((1 << 40) - 1, 1, 1, 0).is_some());
+    assert!(rt; Share::new((1 << 40) - 1, 2, 1, 0).is_none());
+    assert!(rt; Share::new(u64::MAX, u64::MAX, 1, 0).is_none());
+    assert!(rt; Share::new(0, 1, 17, 0).is_none());
+    assert!(rt; Share::new(0, 1, 1, 1).is_none());
+}
+
+#[test]
+fn turns_go_round(rt: HostRuntime) -> Result<(), Fail> {
+    let mut turns = Turns::new(3).ok_or("turns")?;
+    for wanted in [0, 1, 2, 0] {
+        assert_eq!(rt; turns.lane(), wanted);
+        turns.advance();
+    }
+    assert!(rt; Turns::new(0).is_none());
+    assert!(rt; Turns::new(17).is_none());
+    Ok(())
+}
+
+#[test]
+fn capacities(rt: HostRuntime) {
+    for capacity in [0, 4097] {
+        assert!(rt; matches!(lane(rt.alloc(), capacity), Err(LaneError::Capacity)));
+    }
+    assert!(rt; lane(rt.alloc(), 4096).is_ok());
+}
+
+#[test]
+fn a_lane_of_one_verdict(rt: HostRuntime) -> Result<(), Fail> {
+    let (mut sender, mut taker) = lane(rt.alloc(), 1)?;
+    assert!(rt; sender.try_send(verdict(3)).is_ok());
+    assert!(rt; matches!(sender.try_send(verdict(4)), Err(back) if back.number == 4));
+    let mut closed = sender.close().ok_or("a closed lane")?;
+    assert!(rt; !taker.is_settled());
+    assert_eq!(rt; taker.settle(&mut closed), 1);
+    assert!(rt; taker.is_settled());
+    assert!(rt; matches!(taker.take(), Some(taken) if taken.number == 3));
+    assert!(rt; taker.take().is_none());
+    Ok(())
+}
+
+/// Stops at a number.
+#[derive(Drop)]
+struct StopsAt(u64);
+
+impl Gate for StopsAt {
+    fn pass(&self, _worker: u32, number: u64) -> bool {
+        number != self.0
+    }
+}
+
+fn job(alloc: Global) -> Result<Job, Fail> {
+    Ok(Job {
+        seed: 0,
+        share: Share::new(5, 10, 4, 1).ok_or("a share")?,
+        cond: Cond::any(alloc),
+    })
+}
+
+#[test]
+fn a_whole_share(rt: HostRuntime) -> Result<(), Fail> {
+    let (sender, mut taker) = lane(rt.alloc(), 4)?;
+    let gate = Arc::new(rt.alloc(), OpenGate)?;
+    let stop = Arc::new(rt.alloc(), AtomicBool::new(false))?;
+    let end = work(&rt, job(rt.alloc())?, sender, gate, Arc::try_clone(&stop)?);
+    assert!(rt; matches!(&end, WorkEnd::Done(_)));
+    assert!(rt; !stop.load(Ordering::SeqCst));
+    for number in [6, 10, 14] {
+        assert!(rt;
+            matches!(taker.take(), Some(taken) if taken.number == number && taken.accepted)
+        );
+    }
+    assert!(rt; taker.take().is_none());
+    Ok(())
+}
+
+#[test]
+fn a_stopped_share(rt: HostRuntime) -> Result<(), Fail> {
+    let (sender, mut taker) = lane(rt.alloc(), 4)?;
+    let gate = Arc::new(rt.alloc(), StopsAt(10))?;
+    let stop = Arc::new(rt.alloc(), AtomicBool::new(false))?;
+    let end = work(&rt, job(rt.alloc())?, sender, gate, Arc::try_clone(&stop)?);
+    assert!(rt; matches!(&end, WorkEnd::Stopped(_)));
+    assert!(rt; stop.load(Ordering::SeqCst));
+    assert!(rt; matches!(taker.take(), Some(taken) if taken.number == 6));
+    assert!(rt; taker.take().is_none());
+    Ok(())
+}
