@@ -1,0 +1,79 @@
+-- Portable Bridge Notation 2.1 in this project's profile: a text is the header line and the games.
+use Rattle.std.specs.Prelude.{ℕ, ◌+◌, ◌*◌, List, [], ◌++◌, Option, Some, None, Bool, map, filter, codes, decimal, slice_index}
+use Rattle.std.specs.List.{range_with_len}
+use Rattle.cards.specs.declared.seat.Seat.{Seat}
+use Rattle.cards.specs.declared.seat.Seat.TheVariants.{North, East, South, West}
+use Rattle.cards.specs.declared.suit.Suit.{Suit}
+use Rattle.cards.specs.declared.suit.Suit.TheVariants.{Spades, Hearts, Diamonds, Clubs}
+use Rattle.cards.specs.Pack.{suit_number}
+use Rattle.cards.specs.Hands.{hand_of, holds_card}
+use Rattle.pbn_text.specs.declared.board.Vul.{Vul}
+use Rattle.pbn_text.specs.declared.board.Vul.TheVariants.{Neither, NorthSouth, EastWest, Both}
+use Rattle.pbn_text.specs.declared.heading.Heading.{Heading}
+use Rattle.pbn_text.specs.Boards.{dealer_of, vulnerable_of}
+
+abbrev pub header : List ℕ
+header = codes "% PBN 2.1\n"
+
+-- the labels of a game: event, site and date, each the bytes of its text where it is given
+abbrev pub HeadingView : Type 0
+HeadingView = Heading
+
+abbrev pub no_heading : HeadingView
+no_heading = record { event = None; site = None; date = None }
+
+-- the line [NAME "VALUE"]
+abbrev pub tag : List ℕ → List ℕ → List ℕ
+tag name value = codes "[" ++ name ++ codes " \"" ++ value ++ codes "\"]\n"
+
+-- a label's line, where it is given
+abbrev pub label : List ℕ → Option (List ℕ) → List ℕ
+label name None = []
+label name (Some text) = tag name text
+
+abbrev pub dealer_text : Seat → List ℕ
+dealer_text North = codes "N"
+dealer_text East = codes "E"
+dealer_text South = codes "S"
+dealer_text West = codes "W"
+
+abbrev pub vulnerable_text : Vul → List ℕ
+vulnerable_text Neither = codes "None"
+vulnerable_text NorthSouth = codes "NS"
+vulnerable_text EastWest = codes "EW"
+vulnerable_text Both = codes "All"
+
+abbrev pub letters : List ℕ
+letters = codes "AKQJT98765432"
+
+-- the letters of the ranks that the hand has in the suit, the ace first
+unfoldable pub suit_text : List Bool → Suit → List ℕ
+suit_text hand suit =
+    map (slice_index letters) (filter (λ rank. holds_card hand (13 * suit_number suit + rank)) (range_with_len 0 13))
+
+abbrev pub hand_text : List Bool → List ℕ
+hand_text hand =
+    suit_text hand Spades ++ codes "." ++ suit_text hand Hearts ++ codes "." ++ suit_text hand Diamonds ++ codes "." ++ suit_text hand Clubs
+
+abbrev pub deal_text : List Seat → List ℕ
+deal_text deal =
+    codes "N:"
+    ++ hand_text (hand_of deal North) ++ codes " "
+    ++ hand_text (hand_of deal East) ++ codes " "
+    ++ hand_text (hand_of deal South) ++ codes " "
+    ++ hand_text (hand_of deal West)
+
+-- the lines of the labels that are given
+abbrev pub heading_text : HeadingView → List ℕ
+heading_text heading = label (codes "Event") heading.event ++ label (codes "Site") heading.site ++ label (codes "Date") heading.date
+
+-- the lines of the board
+abbrev pub board_text : ℕ → List ℕ
+board_text board =
+    tag (codes "Board") (decimal board)
+    ++ tag (codes "Dealer") (dealer_text (dealer_of board))
+    ++ tag (codes "Vulnerable") (vulnerable_text (vulnerable_of board))
+
+-- the lines of a game, and an empty one
+unfoldable pub game : ℕ → HeadingView → List Seat → List ℕ
+game board heading deal = heading_text heading ++ board_text board ++ tag (codes "Deal") (deal_text deal) ++ codes "\n"

@@ -1,0 +1,4 @@
+pub mod Boards
+pub mod Labels
+pub mod Games
+pub mod Lines

@@ -1,0 +1,173 @@
+//! The text of a game, line by line.
+
+ghost use Rattle.std.specs.Prelude.{◌≡◌, ◌≤◌, ◌+◌, ◌++◌, length};
+ghost use Rattle.arrayvec.specs.ArrayVec.{array_vec_len};
+ghost use Rattle.cards.specs.Hands.{hand_of, length_of};
+ghost use Rattle.pbn_text.specs.Games.{board_text, dealer_text, game as game_of, hand_text, heading_text, no_heading, suit_text, vulnerable_text};
+ghost use Rattle.pbn_text.specs.Lines.{deal_line, label_line, line};
+
+use crate::{Date, Heading, Label, Vul, dealer, vulnerable};
+use arrayvec::ArrayVec;
+use cards::{Deal, Hand, Seat, Suit};
+use itoa::Buffer;
+
+/// The line before the games, ended by its line feed.
+pub const HEADER: [u8; 10] = *b"% PBN 2.1\n";
+
+/// The ranks of a suit, the ace first.
+const LETTERS: [u8; 13] = *b"AKQJT98765432";
+
+/// The text of one game.
+type Text = ArrayVec<u8, 400>;
+
+/// The text of the board's game: a line for each label of the heading, the board's number, dealer
+/// and vulnerability, the deal, and an empty line. The board's number is at least 1.
+///
+/// It has at most 385 bytes, and at most 144 without a heading.
+pub fn game(board: u64, heading: &Heading, deal: &Deal) -> ArrayVec<u8, 400>
+    requires { 1 ≤ board }
+    ensures value { result.items ≡ game_of board heading.now deal.now }
+    ensures most { array_vec_len result ≤ 385 }
+    ensures plain { heading.now ≡ no_heading → array_vec_len result ≤ 144 }
+{
+    let mut text = ArrayVec::new();
+    put_heading(&mut text, heading);
+    put_board(&mut text, board);
+    put_deal(&mut text, deal);
+    text
+}
+
+/// Appends the lines of the labels that are given.
+fn put_heading(text: &mut Text, heading: &Heading)
+    requires { array_vec_len text.old + 241 ≤ 400 }
+    ensures items { text.new.items ≡ text.old.items ++ heading_text heading.now }
+    ensures most { array_vec_len text.new ≤ array_vec_len text.old + 241 }
+{
+    put_label(text, b"[Event \"", &heading.event);
+    put_label(text, b"[Site \"", &heading.site);
+    put_date(text, b"[Date \"", &heading.date);
+}
+
+fn put_label(text: &mut Text, opening: &[u8], label: &Option<Label>)
+    requires { array_vec_len text.old + length opening.now + 103 ≤ 400 }
+    ensures items { text.new.items ≡ text.old.items ++ label_line opening.now label.now }
+    ensures most { array_vec_len text.new ≤ array_vec_len text.old + length opening.now + 103 }
+{
+    if let Some(label) = label {
+        put_line(text, opening, label.as_bytes());
+    }
+}
+
+fn put_date(text: &mut Text, opening: &[u8], date: &Option<Date>)
+    requires { array_vec_len text.old + length opening.now + 13 ≤ 400 }
+    ensures items { text.new.items ≡ text.old.items ++ label_line opening.now date.now }
+    ensures most { array_vec_len text.new ≤ array_vec_len text.old + length opening.now + 13 }
+{
+    if let Some(date) = date {
+        put_line(text, opening, date.as_bytes());
+    }
+}
+
+/// Appends the lines of the board's number, dealer and vulnerability.
+fn put_board(text: &mut Text, board: u64)
+    requires number { 1 ≤ board }
+    requires room { array_vec_len text.old + 64 ≤ 400 }
+    ensures items { text.new.items ≡ text.old.items ++ board_text board }
+    ensures most { array_vec_len text.new ≤ array_vec_len text.old + 64 }
+{
+    let mut buffer = Buffer::new();
+    put_line(text, b"[Board \"", buffer.format(board).as_bytes());
+    put_line(text, b"[Dealer \"", dealer_letter(dealer(board)));
+    put_line(text, b"[Vulnerable \"", vulnerable_word(vulnerable(board)));
+}
+
+fn dealer_letter(seat: Seat) -> &'static [u8]
+    ensures value { result.now ≡ dealer_text seat }
+    ensures one { length result.now ≡ 1 }
+{
+    match seat {
+        Seat::North => b"N",
+        Seat::East => b"E",
+        Seat::South => b"S",
+        Seat::West => b"W",
+    }
+}
+
+fn vulnerable_word(sides: Vul) -> &'static [u8]
+    ensures value { result.now ≡ vulnerable_text sides }
+    ensures most { length result.now ≤ 4 }
+{
+    match sides {
+        Vul::Neither => b"None",
+        Vul::NorthSouth => b"NS",
+        Vul::EastWest => b"EW",
+        Vul::Both => b"All",
+    }
+}
+
+/// Appends the line of the deal and the empty line.
+fn put_deal(text: &mut Text, deal: &Deal)
+    requires { array_vec_len text.old + 95 ≤ 400 }
+    ensures items { text.new.items ≡ text.old.items ++ deal_line deal.now }
+    ensures len { array_vec_len text.new ≡ array_vec_len text.old + 80 }
+{
+    put(text, b"[Deal \"N:");
+    put_hand(text, deal, Seat::North);
+    put(text, b" ");
+    put_hand(text, deal, Seat::East);
+    put(text, b" ");
+    put_hand(text, deal, Seat::South);
+    put(text, b" ");
+    put_hand(text, deal, Seat::West);
+    put(text, b"\"]\n\n");
+}
+
+/// Appends the seat's thirteen cards and the three dots between its suits.
+fn put_hand(text: &mut Text, deal: &Deal, seat: Seat)
+    requires { array_vec_len text.old + 29 ≤ 400 }
+    ensures items { text.new.items ≡ text.old.items ++ hand_text (hand_of deal.now seat) }
+    ensures len { array_vec_len text.new ≡ array_vec_len text.old + 16 }
+{
+    let hand = deal.hand(seat);
+    put_suit(text, &hand, Suit::Spades);
+    put(text, b".");
+    put_suit(text, &hand, Suit::Hearts);
+    put(text, b".");
+    put_suit(text, &hand, Suit::Diamonds);
+    put(text, b".");
+    put_suit(text, &hand, Suit::Clubs);
+}
+
+/// Appends the letters of the hand's ranks in the suit.
+fn put_suit(text: &mut Text, hand: &Hand, suit: Suit)
+    requires { array_vec_len text.old + 13 ≤ 400 }
+    ensures items { text.new.items ≡ text.old.items ++ suit_text hand.now suit }
+    ensures len { array_vec_len text.new ≡ array_vec_len text.old + length_of hand.now suit }
+{
+    let ranks = hand.ranks(suit);
+    for rank in 0..ranks.len() {
+        if ranks[rank] {
+            text.push(LETTERS[rank]);
+        }
+    }
+}
+
+/// Appends the opening, the value and the end of a tag line.
+fn put_line(text: &mut Text, opening: &[u8], value: &[u8])
+    requires { array_vec_len text.old + length opening.now + length value.now + 3 ≤ 400 }
+    ensures items { text.new.items ≡ text.old.items ++ line opening.now value.now }
+    ensures len { array_vec_len text.new ≡ array_vec_len text.old + length opening.now + length value.now + 3 }
+{
+    put(text, opening);
+    put(text, value);
+    put(text, b"\"]\n");
+}
+
+/// Appends the piece.
+fn put(text: &mut Text, piece: &[u8])
+    requires { array_vec_len text.old + length piece.now ≤ 400 }
+    ensures items { text.new.items ≡ text.old.items ++ piece.now }
+    ensures len { array_vec_len text.new ≡ array_vec_len text.old + length piece.now }
+{
+    let _fits = text.try_extend_from_slice(piece);
+}

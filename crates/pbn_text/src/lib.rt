@@ -1,0 +1,16 @@
+//! Bridge deals as games of Portable Bridge Notation 2.1, in this project's profile.
+//!
+//! A text is `HEADER` and then one game after the other. A game has a line for each label of its
+//! heading, the board's number, its dealer and vulnerability, and the deal.
+#![tactic(auto)]
+
+mod board;
+mod games;
+mod heading;
+
+pub use board::{Vul, dealer, vulnerable};
+pub use games::{HEADER, game};
+pub use heading::{Date, Heading, Label};
+
+#[cfg(test)]
+mod tests;
