@@ -1,3 +1,5 @@
 pub mod Sinks
 pub mod Fuses
 pub mod Values
+pub mod Plans
+pub mod Text

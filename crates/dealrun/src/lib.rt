@@ -4,12 +4,14 @@
 mod fuse;
 mod memory_sink;
 mod piped;
+mod plan;
 mod sink;
 mod values;
 
 pub use fuse::Fuse;
 pub use memory_sink::MemSink;
 pub use piped::Piped;
+pub use plan::{Plan, PlanError};
 pub use sink::{Sink, SinkFault, put_all};
 pub use values::stream;
 
