@@ -1,3 +1,5 @@
 pub mod SinkLemmas
 pub mod Ranges
 pub mod ValueLemmas
+pub mod Games
+pub mod Running

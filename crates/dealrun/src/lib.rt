@@ -4,6 +4,7 @@
 mod fuse;
 mod memory_sink;
 mod piped;
+mod plain;
 mod plan;
 mod sink;
 mod values;
@@ -11,6 +12,7 @@ mod values;
 pub use fuse::Fuse;
 pub use memory_sink::MemSink;
 pub use piped::Piped;
+pub use plain::{PlainFault, run_plain};
 pub use plan::{Plan, PlanError};
 pub use sink::{Sink, SinkFault, put_all};
 pub use values::stream;
