@@ -1,0 +1,120 @@
+//! Random texts: whatever they are, an answer comes, and a refusal stands where the definition says.
+
+ghost use Rattle.std.specs.Prelude.{◌<◌};
+
+use super::*;
+use crate::CondError;
+
+/// Plain random numbers, by a multiplication and a shift.
+#[derive(Drop)]
+pub(super) struct Dice {
+    state: u64,
+}
+
+impl Dice {
+    pub(super) fn new(seed: u64) -> Dice {
+        Dice { state: seed }
+    }
+
+    /// A number below `end`.
+    pub(super) fn below(&mut self, end: u8) -> u8
+        requires { 0 < end }
+        ensures { result < end }
+    {
+        self.state = self
+            .state
+            .wrapping_mul(6_364_136_223_846_793_005)
+            .wrapping_add(1_442_695_040_888_963_407);
+        ((self.state >> 33) % u64::from(end)) as u8
+    }
+}
+
+/// The words and symbols of the language, and some numbers.
+const TOKENS: [&[u8]; 30] = [
+    b"or",
+    b"and",
+    b"not",
+    b"balanced",
+    b"shape",
+    b"pattern",
+    b"hcp",
+    b"len",
+    b"north",
+    b"east",
+    b"south",
+    b"west",
+    b"spades",
+    b"hearts",
+    b"diamonds",
+    b"clubs",
+    b"(",
+    b")",
+    b",",
+    b"-",
+    b"+",
+    b"==",
+    b"!=",
+    b"<",
+    b"<=",
+    b">",
+    b">=",
+    b"0",
+    b"15",
+    b"9999",
+];
+
+/// Random beginnings, each a way into the grammar, so that more than the first token is read.
+const BEGINNINGS: [&[u8]; 8] = [
+    b"",
+    b"not ",
+    b"(",
+    b"hcp(north",
+    b"len(south,clubs)",
+    b"shape(west,4-3-3-",
+    b"1+2",
+    b"0==0 and ",
+];
+
+/// What must hold of an answer: where a text is refused as syntax, the part before the fault is refused nowhere but at its
+/// own end.
+fn expect_sound(rt: &(impl Abort + AllocGlobal), text: &[u8]) {
+    let Err(CondError::Syntax { at }) = parse(rt.alloc(), text) else {
+        return;
+    };
+    let before = text.get(..at);
+    assert!(rt; before.is_some());
+    if let Some(before) = before {
+        match parse(rt.alloc(), before) {
+            Ok(_) => {}
+            Err(refusal) => assert_eq!(rt; refusal, CondError::Syntax { at }),
+        }
+    }
+}
+
+#[test]
+fn random_token_lists(rt: HostRuntime) -> Result<(), Fail> {
+    let mut dice = Dice::new(2026);
+    for _ in 0..50_000 {
+        let mut text = Vec::new(rt.alloc());
+        text.extend_from_slice(BEGINNINGS[usize::from(dice.below(8))])?;
+        for _ in 0..dice.below(16) {
+            text.push(b' ')?;
+            text.extend_from_slice(TOKENS[usize::from(dice.below(30))])?;
+        }
+        expect_sound(&rt, &text);
+    }
+    Ok(())
+}
+
+#[test]
+fn random_bytes(rt: HostRuntime) -> Result<(), Fail> {
+    let mut dice = Dice::new(1);
+    for _ in 0..10_000 {
+        let mut text = Vec::new(rt.alloc());
+        for _ in 0..dice.below(40) {
+            text.push(dice.below(128))?;
+        }
+        expect_sound(&rt, &text);
+    }
+    Ok(())
+}

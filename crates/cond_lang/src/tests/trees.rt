@@ -1,0 +1,104 @@
+//! The trees that texts spell.
+
+use super::*;
+
+fn expect_tree(rt: &(impl Abort + AllocGlobal), text: &str, tree: &str) -> Result<(), Fail> {
+    let spelled = format!(in rt.alloc(); "{:?}", condition(rt.alloc(), text)?.tree())?;
+    assert_eq!(rt; spelled.as_str(), tree);
+    Ok(())
+}
+
+#[test]
+fn worked_trees(rt: HostRuntime) -> Result<(), Fail> {
+    expect_tree(
+        &rt,
+        "0==0",
+        "Compare { left: Number(0), op: Equal, right: Number(0) }",
+    )?;
+    expect_tree(
+        &rt,
+        "15<=hcp(north)",
+        "Compare { left: Number(15), op: AtMost, right: Points(North) }",
+    )?;
+    expect_tree(
+        &rt,
+        "balanced(north) or balanced(east) and balanced(south)",
+        "AnyOf(Balanced(North), AllOf(Balanced(East), Balanced(South)))",
+    )?;
+    expect_tree(
+        &rt,
+        "balanced(north) or balanced(east) or balanced(south)",
+        "AnyOf(AnyOf(Balanced(North), Balanced(East)), Balanced(South))",
+    )?;
+    expect_tree(
+        &rt,
+        "not balanced(north) and balanced(east)",
+        "AllOf(Negation(Balanced(North)), Balanced(East))",
+    )?;
+    expect_tree(
+        &rt,
+        "not (balanced(north) and balanced(east))",
+        "Negation(AllOf(Balanced(North), Balanced(East)))",
+    )?;
+    expect_tree(
+        &rt,
+        "pattern ( east , 5 - 4 - 3 - 1 )",
+        "Pattern(East, [5, 4, 3, 1])",
+    )
+}
+
+#[test]
+fn sums_group_to_the_left(rt: HostRuntime) -> Result<(), Fail> {
+    expect_tree(
+        &rt,
+        "1+2+3==6",
+        "Compare { left: Sum(Sum(Number(1), Number(2)), Number(3)), op: Equal, right: Number(6) }",
+    )
+}
+
+#[test]
+fn every_word_and_symbol(rt: HostRuntime) -> Result<(), Fail> {
+    expect_tree(
+        &rt,
+        "hcp(north,spades)!=hcp(east,hearts)",
+        "Compare { left: SuitPoints(North, Spades), op: NotEqual, right: SuitPoints(East, Hearts) }",
+    )?;
+    expect_tree(
+        &rt,
+        "len(south,diamonds)<0015",
+        "Compare { left: Length(South, Diamonds), op: Less, right: Number(15) }",
+    )?;
+    expect_tree(
+        &rt,
+        "len(west,clubs)>3and 4>=1",
+        "AllOf(Compare { left: Length(West, Clubs), op: More, right: Number(3) }, Compare { left: Number(4), op: AtLeast, right: Number(1) })",
+    )?;
+    expect_tree(
+        &rt,
+        "shape(west,1-2-3-7)\tor\n0==9999",
+        "AnyOf(Shape(West, [1, 2, 3, 7]), Compare { left: Number(0), op: Equal, right: Number(9999) })",
+    )
+}
+
+#[test]
+fn any_is_the_tree_of_zero_is_zero(rt: HostRuntime) -> Result<(), Fail> {
+    let any = Cond::any(rt.alloc());
+    let spelled = format!(in rt.alloc(); "{:?}", any.tree())?;
+    assert_eq!(rt;
+        spelled.as_str(),
+        "Compare { left: Number(0), op: Equal, right: Number(0) }"
+    );
+    Ok(())
+}
+
+#[test]
+fn a_clone_has_an_equal_tree(rt: HostRuntime) -> Result<(), Fail> {
+    let text =
+        "not (hcp(north)+len(south,clubs)+3>=15 or shape(east,4-4-3-2)) and pattern(west,4-3-3-3)";
+    let first = condition(rt.alloc(), text)?;
+    let second = first.try_clone()?;
+    let spelled = format!(in rt.alloc(); "{:?}", first.tree())?;
+    let again = format!(in rt.alloc(); "{:?}", second.tree())?;
+    assert_eq!(rt; spelled.as_str(), again.as_str());
+    Ok(())
+}
