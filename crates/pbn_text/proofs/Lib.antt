@@ -1,2 +1,3 @@
 pub mod Suits
 pub mod Copies
+pub mod Reading

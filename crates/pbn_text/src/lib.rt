@@ -7,6 +7,7 @@
 mod board;
 mod games;
 mod heading;
+pub mod laws;
 
 pub use board::{Vul, dealer, vulnerable};
 pub use games::{HEADER, game};

@@ -2,7 +2,14 @@
 
 use super::*;
 use cards::{Deal, Places, Seat};
+use std::process::Abort;
 use std::test::Fail;
+
+/// The game of the pack in order at board 1.
+const FIRST: &[u8] = b"[Board \"1\"]\n[Dealer \"N\"]\n[Vulnerable \"None\"]\n[Deal \"N:AKQJT98765432... .AKQJT98765432.. ..AKQJT98765432. ...AKQJT98765432\"]\n\n";
+
+/// The game of the worked deal at board 2.
+const SECOND: &[u8] = b"[Board \"2\"]\n[Dealer \"E\"]\n[Vulnerable \"NS\"]\n[Deal \"N:.63.AKQ987.A9732 A8654.KQ5.T.QJT6 J973.J98742.3.K4 KQT2.AT.J6542.85\"]\n\n";
 
 /// The deal of a pack in order, whose first thirteen cards are North's.
 fn pack_in_order() -> Result<Deal, Fail> {
@@ -13,7 +20,134 @@ fn pack_in_order() -> Result<Deal, Fail> {
     Ok(Deal::shuffled(&Places::new(places).ok_or("places")?))
 }
 
+/// The worked deal, by the seats of the cards: spades, hearts, diamonds, clubs, each from the ace on.
+fn worked_deal() -> Result<Deal, Fail> {
+    let (n, e, s, w) = (Seat::North, Seat::East, Seat::South, Seat::West);
+    let seats = [
+        e, w, w, s, w, s, e, s, e, e, e, s, w, w, e, e, s, w, s, s, s, n, e, s, n, s, n, n, n, w, e,
+        n, n, n, w, w, w, s, w, n, s, e, e, e, n, w, n, e, w, s, n, n,
+    ];
+    Ok(Deal::from_seats(&seats).ok_or("thirteen each")?)
+}
+
 #[test]
 fn header_is_ten_bytes(rt: HostRuntime) {
     assert_eq!(rt; HEADER.as_slice(), b"% PBN 2.1\n".as_slice());
+}
+
+#[test]
+fn game_of_the_pack_in_order(rt: HostRuntime) -> Result<(), Fail> {
+    let text = game(1, &Heading::none(), &pack_in_order()?);
+    assert_eq!(rt; text.as_slice(), FIRST);
+    assert_eq!(rt; text.len(), 125);
+    Ok(())
+}
+
+#[test]
+fn game_of_the_worked_deal(rt: HostRuntime) -> Result<(), Fail> {
+    let text = game(2, &Heading::none(), &worked_deal()?);
+    assert_eq!(rt; text.as_slice(), SECOND);
+    assert_eq!(rt; text.len(), 123);
+    Ok(())
+}
+
+/// Law 2, boards 1 to 16.
+const BOARDS: [(Seat, Vul); 16] = [
+    (Seat::North, Vul::Neither),
+    (Seat::East, Vul::NorthSouth),
+    (Seat::South, Vul::EastWest),
+    (Seat::West, Vul::Both),
+    (Seat::North, Vul::NorthSouth),
+    (Seat::East, Vul::EastWest),
+    (Seat::South, Vul::Both),
+    (Seat::West, Vul::Neither),
+    (Seat::North, Vul::EastWest),
+    (Seat::East, Vul::Both),
+    (Seat::South, Vul::Neither),
+    (Seat::West, Vul::NorthSouth),
+    (Seat::North, Vul::Both),
+    (Seat::East, Vul::Neither),
+    (Seat::South, Vul::NorthSouth),
+    (Seat::West, Vul::EastWest),
+];
+
+#[test]
+fn every_board_of_the_cycle(rt: HostRuntime) {
+    for (i, (seat, sides)) in BOARDS.iter().enumerate() {
+        let board = i as u64 + 1;
+        assert_eq!(rt; dealer(board), *seat);
+        assert_eq!(rt; vulnerable(board), *sides);
+    }
+    assert_eq!(rt; dealer(17), Seat::North);
+    assert_eq!(rt; vulnerable(17), Vul::Neither);
+    assert_eq!(rt; dealer(32), Seat::West);
+    assert_eq!(rt; vulnerable(32), Vul::EastWest);
+}
+
+const LARGEST: u64 = 18_446_744_073_709_551_614;
+
+#[test]
+fn longest_games(rt: HostRuntime) -> Result<(), Fail> {
+    let deal = pack_in_order()?;
+    let plain = game(LARGEST, &Heading::none(), &deal);
+    assert_eq!(rt; plain.len(), 144);
+    assert_eq!(rt; dealer(LARGEST), Seat::East);
+    assert_eq!(rt; vulnerable(LARGEST), Vul::Neither);
+    let label = Label::new(&[b'~'; 100]);
+    assert!(rt; label.is_some());
+    let date = Date::new(b"2024.05.01");
+    assert!(rt; date.is_some());
+    let heading = Heading {
+        event: label,
+        site: label,
+        date,
+    };
+    assert_eq!(rt; game(LARGEST, &heading, &deal).len(), 385);
+    Ok(())
+}
+
+/// The lines of a game's heading and board.
+fn check_front(rt: &impl Abort, heading: &Heading, front: &[u8]) -> Result<(), Fail> {
+    let text = game(16, heading, &pack_in_order()?);
+    let front_of_text = text.as_slice().get(..front.len());
+    assert_eq!(rt; front_of_text, Some(front));
+    Ok(())
+}
+
+#[test]
+fn labels_before_the_board(rt: HostRuntime) -> Result<(), Fail> {
+    let mut heading = Heading::none();
+    heading.event = Label::new(b"Club night");
+    heading.date = Date::new(b"2024.05.01");
+    let front = b"[Event \"Club night\"]\n[Date \"2024.05.01\"]\n[Board \"16\"]\n[Dealer \"W\"]\n[Vulnerable \"EW\"]\n[Deal \"N:";
+    check_front(&rt, &heading, front)?;
+    heading.site = Label::new(b"");
+    let front = b"[Event \"Club night\"]\n[Site \"\"]\n[Date \"2024.05.01\"]\n[Board \"16\"]\n";
+    check_front(&rt, &heading, front)?;
+    Ok(())
+}
+
+#[test]
+fn labels_that_are_refused(rt: HostRuntime) {
+    assert!(rt; Label::new(&[b'a'; 101]).is_none());
+    assert!(rt; Label::new(b"say \"hello\"").is_none());
+    assert!(rt; Label::new(b"back\\slash").is_none());
+    assert!(rt; Label::new(b"two\nlines").is_none());
+    assert!(rt; Label::new(b"\x7F").is_none());
+    assert!(rt; Label::new(b"caf\xC3\xA9").is_none());
+    assert!(rt; Label::new(b" !#[]~").is_some());
+    assert!(rt; Date::new(b"2024-05-01").is_none());
+    assert!(rt; Date::new(b"2024.5.01").is_none());
+    assert!(rt; Date::new(b"2024.05.011").is_none());
+    assert!(rt; Date::new(b"2O24.05.01").is_none());
+    assert!(rt; Date::new(b"0000.99.99").is_some());
+}
+
+#[test]
+fn labels_keep_their_bytes(rt: HostRuntime) -> Result<(), Fail> {
+    let label = Label::new(b"Club night").ok_or("label")?;
+    assert_eq!(rt; label.as_bytes(), b"Club night".as_slice());
+    let date = Date::new(b"2024.05.01").ok_or("date")?;
+    assert_eq!(rt; date.as_bytes(), b"2024.05.01".as_slice());
+    Ok(())
 }
