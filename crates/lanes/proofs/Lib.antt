@@ -2,3 +2,6 @@ pub mod Places
 pub mod VerdictLists
 pub mod Candidates
 pub mod Prefixes
+pub mod Sums
+pub mod Steps
+pub mod Fields

@@ -2,7 +2,10 @@
 #![tactic(auto)]
 
 mod ends;
+mod event;
 mod gate;
+pub mod laws;
+mod machine;
 mod pause;
 mod share;
 mod turns;
@@ -10,7 +13,9 @@ mod verdict;
 mod worker;
 
 pub use ends::{Closed, LaneError, LaneIn, LaneOut, lane};
+pub use event::Event;
 pub use gate::{Gate, OpenGate};
+pub use machine::Core;
 pub use share::{Job, Share};
 pub use turns::Turns;
 pub use verdict::Verdict;

@@ -1,8 +1,11 @@
+ghost use Rattle.std.specs.Prelude.{◌≡◌};
+
 use super::*;
 use cards::{Deal, Places};
 use cond_lang::Cond;
 use lcg48::Lcg48;
 use std::alloc::Global;
+use std::process::Abort;
 use std::sync::Arc;
 use std::sync::atomic::{AtomicBool, Ordering};
 use std::test::Fail;
@@ -117,5 +120,103 @@ fn a_stopped_share(rt: HostRuntime) -> Result<(), Fail> {
     assert!(rt; stop.load(Ordering::SeqCst));
     assert!(rt; matches!(taker.take(), Some(taken) if taken.number == 6));
     assert!(rt; taker.take().is_none());
+    Ok(())
+}
+
+/// Each event is answered as the table beside it says.
+fn replay(rt: &impl Abort, core: &mut Core, events: &[(Event, bool)])
+    ensures { core.new.workers ≡ core.old.workers }
+{
+    for (event, allowed) in events {
+        assert_eq!(rt; core.step(*event), *allowed, "{event:?}");
+    }
+}
+
+#[test]
+fn a_core_of_two_lanes(rt: HostRuntime) -> Result<(), Fail> {
+    let mut core = Core::new(3, 2, 1).ok_or("a core")?;
+    replay(
+        &rt,
+        &mut core,
+        &[
+            (Event::Send(0), true),
+            (Event::Send(0), false),
+            (Event::Take, true),
+            (Event::Take, false),
+            (Event::Send(1), true),
+            (Event::Close(1), true),
+            (Event::Close(0), false),
+            (Event::Send(5), false),
+            (Event::Stop, true),
+            (Event::Take, false),
+            (Event::Close(0), true),
+            (Event::Close(0), false),
+        ],
+    );
+    Ok(())
+}
+
+#[test]
+fn a_core_to_its_end(rt: HostRuntime) -> Result<(), Fail> {
+    let core = &mut Core::new(3, 2, 1).ok_or("a core")?;
+    let all = [
+        Event::Send(0),
+        Event::Take,
+        Event::Send(1),
+        Event::Take,
+        Event::Send(0),
+        Event::Take,
+        Event::Close(0),
+        Event::Close(1),
+        Event::Stop,
+    ];
+    for event in all {
+        assert!(rt; core.step(event), "{event:?}");
+    }
+    assert!(rt; core.step(Event::Stop));
+    assert!(rt; !core.step(Event::Take));
+    assert_eq!(rt; (core.turn(), core.stopped()), (3, true));
+    Ok(())
+}
+
+#[test]
+fn the_counters_of_a_core(rt: HostRuntime) -> Result<(), Fail> {
+    let mut core = Core::new(3, 2, 1).ok_or("a core")?;
+    replay(
+        &rt,
+        &mut core,
+        &[
+            (Event::Send(0), true),
+            (Event::Take, true),
+            (Event::Send(1), true),
+            (Event::Close(1), true),
+        ],
+    );
+    assert_eq!(rt;
+        (core.sent(0), core.taken(0), core.closed(0)),
+        (1, 1, false)
+    );
+    assert_eq!(rt; (core.sent(1), core.taken(1), core.closed(1)), (1, 0, true));
+    assert!(rt; !core.stopped());
+    Ok(())
+}
+
+#[test]
+fn an_empty_core_and_none(rt: HostRuntime) -> Result<(), Fail> {
+    let mut empty = Core::new(0, 1, 1).ok_or("a core")?;
+    replay(
+        &rt,
+        &mut empty,
+        &[
+            (Event::Send(0), false),
+            (Event::Take, false),
+            (Event::Close(0), true),
+        ],
+    );
+    assert!(rt; Core::new(1, 0, 1).is_none());
+    assert!(rt; Core::new((1 << 40) + 1, 1, 1).is_none());
+    assert!(rt; Core::new(1, 17, 1).is_none());
+    assert!(rt; Core::new(1, 1, 0).is_none());
+    assert!(rt; Core::new(1, 1, 4097).is_none());
     Ok(())
 }
