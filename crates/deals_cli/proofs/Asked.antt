@@ -1,0 +1,151 @@
+-- What words without a fault ask for.
+use Rattle.std.proofs.Common.{◌≡◌, ◌⊎◌, ◌∙◌, ◌||◌, ℕ, Bool, true, false, List, [], ◌∷◌, Option, Some, None, refl, sym, ap, subst, inl, inr, codes, option_map}
+use Rattle.std.specs.Prelude.{IsSome, Box, if◌then◌else◌}
+use Rattle.std.specs.Borrow.{Bor}
+use Rattle.std.specs.Box.{box_value}
+use Rattle.std.specs.Str.{bytes_eq}
+use Rattle.std.proofs.lemmas.Slice.Eq.{bytes_eq-Decides}
+use Rattle.clap.specs.Faults.{fault_of, is_simple_and_free}
+use Rattle.clap.specs.Kinds.{HasKind, Kinds}
+use Rattle.clap.specs.Simple.{App, HasMatchesOf, argument_words, built, label_of, subcommand_of, subcommand_rows, subcommand_rows_of}
+use Rattle.clap.specs.Walk.{Row, Text, answers_to, rows_after}
+use Rattle.clap.specs.Words.{found_of, kind_of, rows_of, subcommand_name_of}
+use Rattle.clap.specs.declared.error.Error.{Error}
+use Rattle.clap.specs.declared.error.kind.ErrorKind.TheVariants.{OutOfMemory}
+use Rattle.clap.specs.declared.parser.matches.ArgMatches.{ArgMatches}
+use Rattle.clap.specs.declared.parser.matches.ArgMatches.TheViews.{out-ArgMatches, out-SubCommand}
+use Rattle.clap.specs.declared.parser.matches.SubCommand.{SubCommand}
+use Rattle.deals_cli.specs.CommandLine.{asked, deals, making_in, stream_wish, unless_fault, wish_by}
+use Rattle.deals_cli.specs.Readings.{MakeValues, StreamValues}
+use Rattle.deals_cli.specs.Requests.{Wish, make}
+use Rattle.deals_cli.proofs.Commands.{help_built, make_built, make_values, stream_built, stream_values}
+use Rattle.deals_cli.proofs.Entered.{Enters, enters}
+
+-- the words name `stream`, and its options have their values
+pub record NamesStream (words : List Text) : Type 0 where
+  pub rows : List Row
+  pub named : subcommand_of deals words ≡ Some (codes "stream", rows)
+  pub values : StreamValues rows
+
+pub record NamesMake (words : List Text) : Type 0 where
+  pub rows : List Row
+  pub named : subcommand_of deals words ≡ Some (codes "make", rows)
+  pub values : MakeValues rows
+
+-- clap's `help` is no subcommand of words without a fault
+no_help : (word : Text) → answers_to word (codes "help", []) ≡ true → bytes_eq word (codes "help") ≡ false → ⊥
+no_help word answers other = go (bytes_eq (codes "help") word) refl
+  where
+    go : (b : Bool) → bytes_eq (codes "help") word ≡ b → ⊥
+    go true e =
+        let is : codes "help" ≡ word = (bytes_eq-Decides (codes "help") word).0 e in
+        let bad : true ≡ false = subst (λ (w : Text). bytes_eq w (codes "help") ≡ false) (sym is) other in
+        cc
+    go false e = let bad : false ≡ true = rw e at answers in cc
+
+pub named : (words : List Text) → fault_of deals words ≡ [] → NamesStream words ⊎ NamesMake words
+named words f =
+    let e = enters (built deals) (argument_words deals words) refl refl f in
+    elim e.is_sub [
+      | inl same ↦ inl (record {
+          rows = rows_after stream_built.rules [] e.rest;
+          named = rw same at e.entered_it;
+          values = stream_values e.rest (rw same at e.fault);
+        })
+      | inr (inl same) ↦ inr (record {
+          rows = rows_after make_built.rules [] e.rest;
+          named = rw same at e.entered_it;
+          values = make_values e.rest (rw same at e.fault);
+        })
+      | inr (inr (inl same)) ↦ absurd (no_help e.word (rw same at e.answers) e.no_help)
+      | inr (inr (inr bad)) ↦ absurd bad
+    ]
+
+-- ---- a parse
+
+pub no_fault : (app : App) (words : List Text) → app ≡ deals → (is_simple_and_free app ≡ true → fault_of app words ≡ []) → fault_of deals words ≡ []
+no_fault app words is h = subst (λ (a : App). (is_simple_and_free a ≡ true → fault_of a words ≡ []) → fault_of deals words ≡ []) (sym is) (λ k. k refl) h
+
+pub err_kind : (app : App) (words : List Text) (e : Error) → app ≡ deals → (is_simple_and_free app ≡ true → HasKind (fault_of app words) e) → IsSome (asked words) → kind_of e ≡ OutOfMemory
+unfolding asked
+err_kind app words e is h some =
+    go (fault_of deals words) (subst (λ (a : App). (is_simple_and_free a ≡ true → HasKind (fault_of a words) e) → HasKind (fault_of deals words) e) (sym is) (λ k. k refl) h) some
+  where
+    go : (ks : Kinds) → HasKind ks e → IsSome (unless_fault ks (option_map wish_by (subcommand_of deals words))) → kind_of e ≡ OutOfMemory
+    go [] has s = elim has [ inl m ↦ m | inr bad ↦ absurd bad ]
+    go (k ∷ ks) has s = let bad : false ≡ true = s in absurd cc
+
+-- the subcommand that a parse met, with its name and what its options were given
+pub record Met (sub : Option (Bor Text × Bor ArgMatches)) (name : Text) (rows : List Row) : Type 0 where
+  pub pair : Bor Text × Bor ArgMatches
+  pub is : sub ≡ Some pair
+  pub name_is : pair.0.now ≡ name
+  pub rows_are : rows_of (found_of pair.1.now) ≡ rows
+
+name-rows : {Z : Type 0} (o : Option (Box SubCommand Z)) → option_map (λ b. (out-SubCommand (box_value b)).name.now) o ≡ option_map (λ p. p.0) (subcommand_rows o)
+name-rows None = refl
+name-rows (Some b) = refl
+
+met_by : (m : ArgMatches) (sub : Option (Bor Text × Bor ArgMatches)) (name : Text) (rows : List Row)
+    → option_map (λ q. q.0.now) sub ≡ subcommand_name_of m → option_map (λ q. rows_of (found_of q.1.now)) sub ≡ option_map (λ q. q.1) (subcommand_rows_of m)
+    → subcommand_rows_of m ≡ Some (name, rows) → Met sub name rows
+met_by m sub name rows names all is = go sub refl
+  where
+    names_are : subcommand_name_of m ≡ Some name
+    names_are = name-rows (out-ArgMatches m).subcommand ∙ ap (option_map (λ p. p.0)) is
+
+    go : (o : Option (Bor Text × Bor ArgMatches)) → sub ≡ o → Met sub name rows
+    go None e = let bad = rw e at names in absurd cc
+    go (Some pair) e =
+        let a : Some pair.0.now ≡ Some name = ap (option_map (λ q. q.0.now)) (sym e) ∙ names ∙ names_are in
+        let b : Some (rows_of (found_of pair.1.now)) ≡ Some rows = ap (option_map (λ q. rows_of (found_of q.1.now))) (sym e) ∙ all ∙ ap (option_map (λ p. p.1)) is in
+        record { pair = pair; is = e; name_is = cc; rows_are = cc }
+
+pub met : (app : App) (words : List Text) (m : ArgMatches) (sub : Option (Bor Text × Bor ArgMatches)) (name : Text) (rows : List Row) → app ≡ deals → HasMatchesOf app words m
+    → option_map (λ q. q.0.now) sub ≡ subcommand_name_of m → option_map (λ q. rows_of (found_of q.1.now)) sub ≡ option_map (λ q. q.1) (subcommand_rows_of m)
+    → subcommand_of deals words ≡ Some (name, rows) → Met sub name rows
+met app words m sub name rows is has names all named =
+    let at = subst (λ (a : App). HasMatchesOf a words m) is has in
+    met_by m sub name rows names all ((at refl).1 ∙ named)
+
+pub asked_stream : (words : List Text) → fault_of deals words ≡ [] → (n : NamesStream words) → asked words ≡ Some (stream_wish n.rows)
+unfolding asked
+asked_stream words f n = ap (λ (k : Kinds). unless_fault k (option_map wish_by (subcommand_of deals words))) f ∙ ap (option_map wish_by) n.named
+
+pub asked_make : (words : List Text) → fault_of deals words ≡ [] → (n : NamesMake words) → asked words ≡ Some (make (making_in n.rows))
+unfolding asked
+asked_make words f n = ap (λ (k : Kinds). unless_fault k (option_map wish_by (subcommand_of deals words))) f ∙ ap (option_map wish_by) n.named
+
+-- what the words ask for, by the name of the subcommand that was met
+pub record Chosen (words : List Text) (name : Text) (rows : List Row) : Type 0 where
+  pub stream : bytes_eq name (codes "stream") ≡ true → StreamValues rows × (asked words ≡ Some (stream_wish rows))
+  pub make : bytes_eq name (codes "stream") ≡ false → MakeValues rows × (asked words ≡ Some (make (making_in rows)))
+
+abbrev of_pair : List Text → Bor Text × Bor ArgMatches → Type 0
+of_pair words p = Chosen words p.0.now (rows_of (found_of p.1.now))
+
+chosen_stream : (words : List Text) → fault_of deals words ≡ [] → (n : NamesStream words) → Chosen words (codes "stream") n.rows
+chosen_stream words f n = record { stream = λ e. (n.values, asked_stream words f n); make = λ e. absurd cc }
+
+chosen_make : (words : List Text) → fault_of deals words ≡ [] → (n : NamesMake words) → Chosen words (codes "make") n.rows
+chosen_make words f n = record { stream = λ e. absurd cc; make = λ e. (n.values, asked_make words f n) }
+
+from_met : (words : List Text) (sub : Option (Bor Text × Bor ArgMatches)) (p : Bor Text × Bor ArgMatches) (name : Text) (rows : List Row) → sub ≡ Some p → Met sub name rows
+    → Chosen words name rows → of_pair words p
+from_met words sub p name rows is found h =
+    let both : Some found.pair ≡ Some p = sym found.is ∙ is in
+    let same : found.pair ≡ p = cc in
+    let at : Chosen words found.pair.0.now (rows_of (found_of found.pair.1.now)) =
+    subst (λ (r : List Row). Chosen words found.pair.0.now r) (sym found.rows_are) (subst (λ (n : Text). Chosen words n rows) (sym found.name_is) h) in
+    subst (of_pair words) same at
+
+pub chosen : (app : App) (words : List Text) (m : ArgMatches) (sub : Option (Bor Text × Bor ArgMatches)) (p : Bor Text × Bor ArgMatches) → app ≡ deals → HasMatchesOf app words m
+    → (is_simple_and_free app ≡ true → fault_of app words ≡ [])
+    → option_map (λ q. q.0.now) sub ≡ subcommand_name_of m → option_map (λ q. rows_of (found_of q.1.now)) sub ≡ option_map (λ q. q.1) (subcommand_rows_of m)
+    → sub ≡ Some p → Chosen words p.0.now (rows_of (found_of p.1.now))
+chosen app words m sub p is has none names rows sub_is =
+    let f = no_fault app words is none in
+    elim (named words f) [
+      | inl n ↦ from_met words sub p (codes "stream") n.rows sub_is (met app words m sub (codes "stream") n.rows is has names rows n.named) (chosen_stream words f n)
+      | inr n ↦ from_met words sub p (codes "make") n.rows sub_is (met app words m sub (codes "make") n.rows is has names rows n.named) (chosen_make words f n)
+    ]

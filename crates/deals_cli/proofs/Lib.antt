@@ -1,0 +1,8 @@
+pub mod Refusals
+pub mod Builders
+pub mod Walks
+pub mod Help
+pub mod Entered
+pub mod Commands
+pub mod Numbers
+pub mod Asked

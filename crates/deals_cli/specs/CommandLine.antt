@@ -1,0 +1,108 @@
+-- The command line: what the program's words ask for, by clap's own functions of the words.
+use Rattle.std.specs.Prelude.{ℕ, true, List, [], ◌∷◌, Option, Some, None, codes, pos, option_map, unwrap_or, if◌then◌else◌}
+use Rattle.std.specs.Str.{bytes_eq}
+use Rattle.std.specs.Str.Parse.{digits_value, without_leading_plus}
+use Rattle.clap.specs.Words.{App, Kinds, Row, Rule, Text, fault_of, first_of, new_app, new_rule, one_of, subcommand_of, with_rule, with_subcommand}
+use Rattle.clap.specs.Simple.{on_top}
+use Rattle.clap.specs.declared.builder.value_parser.ValueParser.{ValueParser}
+use Rattle.clap.specs.declared.builder.value_parser.ValueParser.TheVariants.{Signed, String, Unsigned}
+use Rattle.deals_cli.specs.Requests.{Making, Wish, stream, make}
+
+-- ---- the commands
+
+-- an option `--id VALUE`
+abbrev pub option_rule : Text → ValueParser → Rule
+option_rule id parser = record (new_rule id) { long = Some id; value_names = 1; parser = Some parser }
+
+abbrev pub required : Rule → Rule
+required rule = record rule { required = true }
+
+abbrev pub u32_parser : ValueParser
+u32_parser = Signed (pos 0) (pos 4294967295)
+
+abbrev pub u64_parser : ValueParser
+u64_parser = Unsigned 0 18446744073709551615
+
+-- at most 2^40
+abbrev pub count_parser : ValueParser
+count_parser = Unsigned 0 1099511627776
+
+-- `deals stream --seed S --count N`
+abbrev pub stream_app : App
+stream_app = with_rule
+    (with_rule (new_app (codes "stream")) (required (option_rule (codes "seed") u32_parser)))
+    (required (option_rule (codes "count") count_parser))
+
+-- `deals make --seed S --candidates N` and its further options
+abbrev pub with_candidates : App → App
+with_candidates a = with_rule (with_rule a
+    (required (option_rule (codes "seed") u32_parser)))
+    (required (option_rule (codes "candidates") u64_parser))
+
+abbrev pub with_search : App → App
+with_search a = with_rule (with_rule (with_rule a
+    (option_rule (codes "first") u64_parser))
+    (option_rule (codes "workers") u32_parser))
+    (option_rule (codes "lane") u32_parser)
+
+abbrev pub with_boards : App → App
+with_boards a = with_rule (with_rule (with_rule a
+    (option_rule (codes "where") String))
+    (option_rule (codes "boards") u32_parser))
+    (option_rule (codes "first-board") u64_parser)
+
+abbrev pub with_labels : App → App
+with_labels a = with_rule (with_rule (with_rule a
+    (option_rule (codes "event") String))
+    (option_rule (codes "site") String))
+    (option_rule (codes "date") String)
+
+abbrev pub make_app : App
+make_app = with_labels (with_boards (with_search (with_candidates (new_app (codes "make")))))
+
+-- `deals`, with clap's own `help` and `--version`, and a subcommand that has to be named
+abbrev pub deals_top : App
+deals_top = on_top (λ s. record s { has_version = true; subcommand_required = true }) (new_app (codes "deals"))
+
+abbrev pub deals : App
+deals = with_subcommand (with_subcommand deals_top stream_app.top) make_app.top
+
+-- ---- what the words ask for
+
+-- the number that an option was given in decimal, where it was given
+abbrev pub number_in : Text → List Row → Option ℕ
+number_in id rows = option_map (λ t. digits_value 10 (without_leading_plus t)) (one_of id rows)
+
+abbrev pub number_or : ℕ → Text → List Row → ℕ
+number_or default id rows = unwrap_or (number_in id rows) default
+
+abbrev pub stream_wish : List Row → Wish
+stream_wish rows = stream (number_or 0 (codes "seed") rows) (number_or 0 (codes "count") rows)
+
+abbrev pub making_in : List Row → Making
+making_in rows = record {
+  seed = number_or 0 (codes "seed") rows;
+  candidates = number_or 0 (codes "candidates") rows;
+  first = number_or 0 (codes "first") rows;
+  workers = number_or 1 (codes "workers") rows;
+  lane = number_or 64 (codes "lane") rows;
+  condition = first_of (codes "where") rows;
+  boards = number_in (codes "boards") rows;
+  first_board = number_in (codes "first-board") rows;
+  event = first_of (codes "event") rows;
+  site = first_of (codes "site") rows;
+  date = first_of (codes "date") rows;
+}
+
+-- by the subcommand's name and what its options were given
+abbrev pub wish_by : Text × List Row → Wish
+wish_by p = if bytes_eq p.0 (codes "stream") then stream_wish p.1 else make (making_in p.1)
+
+-- a wish stands where no fault does
+abbrev pub unless_fault : Kinds → Option Wish → Option Wish
+unless_fault [] wish = wish
+unless_fault (k ∷ kinds) wish = None
+
+-- what the words ask for, where nothing but want of memory can fail their parse
+unfoldable pub asked : List Text → Option Wish
+asked words = unless_fault (fault_of deals words) (option_map wish_by (subcommand_of deals words))

@@ -1,0 +1,100 @@
+-- What the program does for a wish, and how it ends.
+use Rattle.std.specs.Prelude.{◌≡◌, ◌≤◌, ◌<◌, ◌^◌, ◌+◌, ℕ, Bool, true, false, List, Option, None, Some, Result, Ok, Err, length, unwrap_or}
+use Rattle.cond_lang.specs.Form.{Form, compare, number}
+use Rattle.cond_lang.specs.Text.{SpellsTree}
+use Rattle.cond_lang.specs.declared.error.CondError.{CondError}
+use Rattle.cond_lang.specs.declared.error.CondError.TheVariants.{Memory as no_memory}
+use Rattle.cond_lang.specs.declared.tree.Op.TheVariants.{Equal}
+use Rattle.pbn_text.specs.Labels.{IsDate, IsLabel}
+use Rattle.dealrun.specs.Plans.{Planned}
+use Rattle.dealrun.specs.Sinks.{AppendsAll}
+use Rattle.dealrun.specs.Text.{text}
+use Rattle.dealrun.specs.Values.{lines}
+use Rattle.deals_cli.specs.Requests.{Making, Wish, stream, make}
+use Rattle.deals_cli.specs.declared.failure.Failure.{Failure}
+use Rattle.deals_cli.specs.declared.failure.Failure.TheVariants.{CommandLine, Plan, Label, Condition, Output, Memory, Spawn, Stopped, Unclosed}
+
+-- ---- what is asked for
+
+-- the plan of `make`
+abbrev pub plan_of : Making → Planned
+plan_of m = record {
+  seed = m.seed;
+  first = m.first;
+  count = m.candidates;
+  workers = m.workers;
+  capacity = m.lane;
+  limit = m.boards;
+  first_board = unwrap_or m.first_board 1;
+  heading = record { event = m.event; site = m.site; date = m.date };
+}
+
+-- the plan's numbers are in range
+pub record HasNumbers (m : Making) : Type 0 where
+  pub candidates : m.first + m.candidates ≤ 2 ^ 40
+  pub workers : (0 < m.workers) × (m.workers ≤ 16)
+  pub lane : (0 < m.lane) × (m.lane ≤ 4096)
+  pub boards : m.boards ≡ Some 0 → ⊥
+  pub first_board : (0 < unwrap_or m.first_board 1) × (unwrap_or m.first_board 1 ≤ 2 ^ 40)
+
+-- its labels can be written
+pub record HasLabels (m : Making) : Type 0 where
+  pub event : (t : List ℕ) → m.event ≡ Some t → IsLabel t
+  pub site : (t : List ℕ) → m.site ≡ Some t → IsLabel t
+  pub date : (t : List ℕ) → m.date ≡ Some t → IsDate t
+
+-- there is such a plan
+pub record IsPlanned (m : Making) : Type 0 where
+  pub numbers : HasNumbers m
+  pub labels : HasLabels m
+
+-- the text of a condition means this tree; without a text every deal is accepted
+abbrev pub Means : Option (List ℕ) → Form → Type 0
+Means None form = form ≡ compare (number 0) Equal (number 0)
+Means (Some t) form = (length t ≤ 1024) × SpellsTree t form
+
+-- what a wish asks for was appended
+abbrev pub Appends : Wish → Option (List ℕ) → Option (List ℕ) → Type 0
+Appends (stream seed count) old new = AppendsAll old new (lines seed count)
+Appends (make m) old new = (form : Form) × Means m.condition form × AppendsAll old new (text (plan_of m) form)
+
+-- the words of a wish have to be accepted, so far as they aren't a condition
+abbrev pub HasPlan : Wish → Type 0
+HasPlan (stream seed count) = Unit {0}
+HasPlan (make m) = IsPlanned m
+
+-- the condition of a wish has to be accepted
+abbrev pub HasMeaning : Wish → Type 0
+HasMeaning (stream seed count) = Unit {0}
+HasMeaning (make m) = (form : Form) × Means m.condition form
+
+-- ---- how it ends
+
+abbrev pub status_of : Failure → ℕ
+status_of (CommandLine text) = 2
+status_of (Plan error) = 2
+status_of (Label label) = 2
+status_of (Condition error) = 3
+status_of Output = 4
+status_of Memory = 5
+status_of Spawn = 6
+status_of (Stopped worker) = 6
+status_of (Unclosed worker) = 6
+
+-- want of memory in a parse is want of memory
+abbrev pub failure_of : CondError → Failure
+failure_of no_memory = Memory
+failure_of error = Condition error
+
+-- how many faults of the output stand behind a result
+abbrev pub faults_in : {T : Type 0} → Result T Failure → ℕ
+faults_in (Err Output) = 1
+faults_in _ = 0
+
+-- nothing was written before this failure
+abbrev pub is_untouched : Failure → Bool
+is_untouched Output = false
+is_untouched Spawn = false
+is_untouched (Stopped worker) = false
+is_untouched (Unclosed worker) = false
+is_untouched _ = true

@@ -1,0 +1,154 @@
+//! The commands and options of the program, as `clap` knows them.
+
+ghost use Rattle.std.specs.Prelude.{◌≡◌, false, IfOk};
+ghost use Rattle.clap.specs.Words.{app_of, rule_of, with_rule};
+ghost use Rattle.clap.specs.declared.Command.TheViews.{out-Command as fields_of};
+ghost use Rattle.deals_cli.specs.CommandLine.{deals, make_app, option_rule, stream_app, with_boards, with_candidates, with_labels, with_search};
+
+use clap::builder::ValueParser;
+use clap::{Arg, Command, value_parser};
+use std::alloc::{AllocError, Global};
+
+/// The most values that `stream` prints.
+const MOST_VALUES: i64 = 1099511627776;
+
+const STREAM_EXAMPLES: &str = "Example:
+  deals stream --seed 0 --count 3";
+
+const MAKE_EXAMPLES: &str = "Examples:
+  Thirty-six boards:
+    deals make --seed 2024 --candidates 36
+  Strong balanced hands for North, from a million candidates, on four workers:
+    deals make --seed 2024 --candidates 1000000 --workers 4 --where 'hcp(north)>=15 and balanced(north)'
+  The first twelve slam hands of a long search, on four workers:
+    deals make --seed 2024 --candidates 100000000 --boards 12 --workers 4 --where 'hcp(north)+hcp(south)>=33'
+
+The same options give the same bytes, on every machine and with any number of workers.";
+
+const CANDIDATES: &str = "How many candidates are tried; first + N is at most 1099511627776";
+const FIRST: &str = "The number of the first candidate [default: 0]";
+const WORKERS: &str = "How many workers, 1 to 16 [default: 1]";
+const LANE: &str = "How many verdicts a worker may be ahead of the writer, 1 to 4096 [default: 64]";
+const WHERE: &str = "The condition that a deal has to meet [default: every deal]";
+const BOARDS: &str =
+    "Stops after M boards, 1 to 4294967295; fewer mean that the candidates held no more [default: no limit]";
+const FIRST_BOARD: &str = "The number of the first board, 1 to 1099511627776 [default: 1]";
+const EVENT: &str = "The event, at most 100 characters of ASCII without \" and \\ [default: no line]";
+const SITE: &str = "The place, like the event [default: no line]";
+const DATE: &str = "The date, as 2024.05.01 [default: no line]";
+
+/// An option `--id NAME`, with its help.
+fn option<'a>(
+    alloc: Global,
+    id: &'a str,
+    parser: ValueParser<'a>,
+    name: &'a str,
+    help: &'a str,
+) -> Arg<'a>
+    ensures rule { rule_of result ≡ option_rule id.entry.now parser.entry }
+    ensures local { result.global ≡ false }
+{
+    Arg::new(alloc, id)
+        .long(id)
+        .value_parser(parser)
+        .value_name(name)
+        .help(help)
+}
+
+/// The command with one more option.
+fn with_option<'a>(command: Command<'a>, arg: Arg<'a>) -> Result<Command<'a>, AllocError>
+    requires { arg.global ≡ false }
+    ensures app { IfOk result (λ c. app_of c ≡ with_rule (app_of command.entry) (rule_of arg.entry)) }
+    ensures local { IfOk result (λ c. (fields_of c).has_globals ≡ (fields_of command.entry).has_globals) }
+{
+    command.arg(arg)
+}
+
+fn stream_command<'a>(alloc: Global) -> Result<Command<'a>, AllocError>
+    ensures app { IfOk result (λ c. app_of c ≡ stream_app) }
+    ensures local { IfOk result (λ c. (fields_of c).has_globals ≡ false) }
+{
+    let command = Command::new(alloc, "stream")
+        .about("Prints the nrand48 values of a seed, one per line")
+        .after_help(STREAM_EXAMPLES);
+    let values = value_parser!(u64).range(..=MOST_VALUES);
+    let seed = option(alloc, "seed", value_parser!(u32), "S", "The seed, 0 to 4294967295").required(true);
+    let count = option(alloc, "count", values, "N", "How many values, 0 to 1099511627776").required(true);
+    let command = with_option(command, seed)?;
+    with_option(command, count)
+}
+
+/// The command with the options that have to be given.
+fn with_candidates<'a>(alloc: Global, command: Command<'a>) -> Result<Command<'a>, AllocError>
+    ensures app { IfOk result (λ c. app_of c ≡ with_candidates (app_of command.entry)) }
+    ensures local { IfOk result (λ c. (fields_of c).has_globals ≡ (fields_of command.entry).has_globals) }
+{
+    let seed = option(alloc, "seed", value_parser!(u32), "S", "The seed, 0 to 4294967295").required(true);
+    let command = with_option(command, seed)?;
+    let candidates = option(alloc, "candidates", value_parser!(u64), "N", CANDIDATES).required(true);
+    with_option(command, candidates)
+}
+
+/// The command with the options of where and how the search runs.
+fn with_search<'a>(alloc: Global, command: Command<'a>) -> Result<Command<'a>, AllocError>
+    ensures app { IfOk result (λ c. app_of c ≡ with_search (app_of command.entry)) }
+    ensures local { IfOk result (λ c. (fields_of c).has_globals ≡ (fields_of command.entry).has_globals) }
+{
+    let first = option(alloc, "first", value_parser!(u64), "K", FIRST);
+    let command = with_option(command, first)?;
+    let workers = option(alloc, "workers", value_parser!(u32), "W", WORKERS);
+    let command = with_option(command, workers)?;
+    let lane = option(alloc, "lane", value_parser!(u32), "C", LANE);
+    with_option(command, lane)
+}
+
+/// The command with the options of which boards are written.
+fn with_boards<'a>(alloc: Global, command: Command<'a>) -> Result<Command<'a>, AllocError>
+    ensures app { IfOk result (λ c. app_of c ≡ with_boards (app_of command.entry)) }
+    ensures local { IfOk result (λ c. (fields_of c).has_globals ≡ (fields_of command.entry).has_globals) }
+{
+    let condition = option(alloc, "where", ValueParser::String, "TEXT", WHERE);
+    let command = with_option(command, condition)?;
+    let boards = option(alloc, "boards", value_parser!(u32), "M", BOARDS);
+    let command = with_option(command, boards)?;
+    let first_board = option(alloc, "first-board", value_parser!(u64), "B", FIRST_BOARD);
+    with_option(command, first_board)
+}
+
+/// The command with the options of the labels.
+fn with_labels<'a>(alloc: Global, command: Command<'a>) -> Result<Command<'a>, AllocError>
+    ensures app { IfOk result (λ c. app_of c ≡ with_labels (app_of command.entry)) }
+    ensures local { IfOk result (λ c. (fields_of c).has_globals ≡ (fields_of command.entry).has_globals) }
+{
+    let event = option(alloc, "event", ValueParser::String, "TEXT", EVENT);
+    let command = with_option(command, event)?;
+    let site = option(alloc, "site", ValueParser::String, "TEXT", SITE);
+    let command = with_option(command, site)?;
+    let date = option(alloc, "date", ValueParser::String, "DATE", DATE);
+    with_option(command, date)
+}
+
+fn make_command<'a>(alloc: Global) -> Result<Command<'a>, AllocError>
+    ensures app { IfOk result (λ c. app_of c ≡ make_app) }
+    ensures local { IfOk result (λ c. (fields_of c).has_globals ≡ false) }
+{
+    let command = Command::new(alloc, "make")
+        .about("Writes bridge deals as games of Portable Bridge Notation")
+        .after_help(MAKE_EXAMPLES);
+    let command = with_candidates(alloc, command)?;
+    let command = with_search(alloc, command)?;
+    let command = with_boards(alloc, command)?;
+    with_labels(alloc, command)
+}
+
+/// The program's whole command line.
+pub fn command<'a>(alloc: Global) -> Result<Command<'a>, AllocError>
+    ensures { IfOk result (λ c. app_of c ≡ deals) }
+{
+    Command::new(alloc, "deals")
+        .version("0.1.0")
+        .about("Bridge deals that can be dealt again, by the sequence of POSIX drand48 and Knuth's Algorithm P")
+        .subcommand_required(true)
+        .subcommand(stream_command(alloc)?)?
+        .subcommand(make_command(alloc)?)
+}

@@ -1,0 +1,165 @@
+//! Why the program did nothing, or not all: its statuses and texts.
+
+ghost use Rattle.std.specs.Prelude.{◌≡◌, ◌-◌, ◌^◌, ◌<◌};
+ghost use Rattle.deals_cli.specs.Program.{failure_of, status_of};
+ghost use Rattle.deals_cli.specs.declared.failure.Failure.TheVariants.{Memory, Output};
+
+use cond_lang::CondError;
+use dealrun::{PlanError, Sink, SinkFault, put_all};
+use itoa::Buffer;
+use std::alloc::AllocError;
+
+/// A label of the games.
+#[derive(Clone, Copy, Debug, PartialEq, Eq)]
+pub enum LabelName {
+    Event,
+    Site,
+    Date,
+}
+
+/// Why the program did nothing, or not all.
+#[derive(Debug, Drop)]
+pub enum Failure {
+    /// The command line is refused, with clap's text.
+    CommandLine(String),
+    Plan(PlanError),
+    /// The label can't be written between the quotes of a tag.
+    Label(LabelName),
+    /// The condition is refused, and not for want of memory.
+    Condition(CondError),
+    /// The output failed.
+    Output,
+    /// Memory ran out.
+    Memory,
+    /// A thread couldn't be started.
+    Spawn,
+    Stopped(u32),
+    Unclosed(u32),
+}
+
+impl From<SinkFault> for Failure {
+    ghost from_gives = { λ _ e. e ≡ Output };
+
+    fn from(_fault: SinkFault) -> Failure {
+        Failure::Output
+    }
+}
+
+impl From<AllocError> for Failure {
+    ghost from_gives = { λ _ e. e ≡ Memory };
+
+    fn from(_error: AllocError) -> Failure {
+        Failure::Memory
+    }
+}
+
+impl From<CondError> for Failure {
+    ghost from_gives = { λ error e. e ≡ failure_of error };
+
+    fn from(error: CondError) -> Failure {
+        match error {
+            CondError::Memory => Failure::Memory,
+            refused => Failure::Condition(refused),
+        }
+    }
+}
+
+/// A line: two texts, and a number between them.
+#[derive(Drop)]
+struct Message<'a> {
+    before: &'a str,
+    number: Option<u64>,
+    after: &'a str,
+}
+
+impl<'a> Message<'a> {
+    fn plain(text: &'a str) -> Message<'a> {
+        Message {
+            before: text,
+            number: None,
+            after: "",
+        }
+    }
+
+    fn with(before: &'a str, number: u64, after: &'a str) -> Message<'a> {
+        Message {
+            before,
+            number: Some(number),
+            after,
+        }
+    }
+}
+
+fn of_plan(error: PlanError) -> &'static str {
+    match error {
+        PlanError::Range => "plan refused: range\n",
+        PlanError::Workers => "plan refused: workers\n",
+        PlanError::Capacity => "plan refused: lane capacity\n",
+        PlanError::Boards => "plan refused: boards\n",
+        PlanError::FirstBoard => "plan refused: first board\n",
+    }
+}
+
+fn of_label(label: LabelName) -> &'static str {
+    match label {
+        LabelName::Event => "label refused: event\n",
+        LabelName::Site => "label refused: site\n",
+        LabelName::Date => "label refused: date\n",
+    }
+}
+
+fn of_condition(error: CondError) -> Message<'static> {
+    const AT: &str = "condition refused at byte ";
+    match error {
+        CondError::TooLong => Message::plain("condition refused: longer than 1024 bytes\n"),
+        CondError::Byte { at } => Message::with(AT, at as u64, ": unexpected byte\n"),
+        CondError::Word { at } => Message::with(AT, at as u64, ": unknown word\n"),
+        CondError::Number { at } => Message::with(AT, at as u64, ": number too long\n"),
+        CondError::Syntax { at } => Message::with(AT, at as u64, ": syntax\n"),
+        CondError::Memory => Message::plain(OUT_OF_MEMORY),
+    }
+}
+
+/// The line for want of memory.
+pub const OUT_OF_MEMORY: &str = "out of memory\n";
+
+impl Failure {
+    /// The exit status.
+    pub fn status(&self) -> u8
+        ensures { result ≡ status_of self.now }
+    {
+        match self {
+            Failure::CommandLine(_) | Failure::Plan(_) | Failure::Label(_) => 2,
+            Failure::Condition(_) => 3,
+            Failure::Output => 4,
+            Failure::Memory => 5,
+            Failure::Spawn | Failure::Stopped(_) | Failure::Unclosed(_) => 6,
+        }
+    }
+
+    fn message(&self) -> Message<'_> {
+        match self {
+            Failure::CommandLine(text) => Message::plain(text.as_str()),
+            Failure::Plan(error) => Message::plain(of_plan(*error)),
+            Failure::Label(label) => Message::plain(of_label(*label)),
+            Failure::Condition(error) => of_condition(*error),
+            Failure::Output => Message::plain("output failed\n"),
+            Failure::Memory => Message::plain(OUT_OF_MEMORY),
+            Failure::Spawn => Message::plain("thread not started\n"),
+            Failure::Stopped(worker) => Message::with("worker ", u64::from(*worker), " stopped\n"),
+            Failure::Unclosed(worker) => Message::with("worker ", u64::from(*worker), " not closed\n"),
+        }
+    }
+
+    /// Says it to the user, in one line but for clap's texts.
+    pub fn say<E: Sink>(&self, err: &mut E) -> Result<(), SinkFault>
+        requires { E.faults err.old < 2 ^ 64 - 1 }
+    {
+        let message = self.message();
+        put_all(err, message.before.as_bytes())?;
+        if let Some(number) = message.number {
+            put_all(err, Buffer::new().format(number).as_bytes())?;
+        }
+        put_all(err, message.after.as_bytes())
+    }
+}

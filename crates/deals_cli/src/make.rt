@@ -1,0 +1,113 @@
+//! The subcommand `make`: its plan, its condition and its run.
+
+ghost use Rattle.std.specs.Prelude.{◌≡◌, ◌≢◌, ◌⊎◌, ◌-◌, ◌+◌, ◌^◌, ◌<◌, ℕ, List, Some, true, IfErr, IfOk, OnOk, option_map};
+ghost use Rattle.cond_lang.specs.Form.{Form};
+ghost use Rattle.pbn_text.specs.Games.{no_heading};
+ghost use Rattle.pbn_text.specs.Labels.{IsDate, IsLabel};
+ghost use Rattle.deals_cli.specs.Program.{Appends, HasLabels, HasMeaning, HasNumbers, IsPlanned, Means, faults_in, is_untouched, plan_of, status_of};
+ghost use Rattle.deals_cli.specs.Requests.{make as wish, making_of};
+
+use crate::failure::{Failure, LabelName};
+use crate::request::MakeRequest;
+use cond_lang::{Cond, parse};
+use dealrun::{Plan, PlanError, Sink, run_plain};
+use pbn_text::{Date, Heading, Label};
+use std::alloc::Global;
+
+/// The label of a text that was given. It is refused exactly where no label has the text.
+fn label_of(text: Option<&str>, name: LabelName) -> Result<Option<Label>, Failure>
+    ensures made { IfOk result (λ l. l ≡ option_map (λ s. s.now) text.entry) }
+    ensures sound { IfOk result (λ _. (t : List ℕ) → option_map (λ s. s.now) text.entry ≡ Some t → IsLabel t) }
+    ensures refused { IfErr result (λ e. (e ≡ Failure.Label name) × (((t : List ℕ) → option_map (λ s. s.now) text.entry ≡ Some t → IsLabel t) → ⊥)) }
+{
+    match text {
+        None => Ok(None),
+        Some(text) => match Label::new(text.as_bytes()) {
+            Some(label) => Ok(Some(label)),
+            None => Err(Failure::Label(name)),
+        },
+    }
+}
+
+/// The date of a text that was given. It is refused exactly where it is no date.
+fn date_of(text: Option<&str>) -> Result<Option<Date>, Failure>
+    ensures made { IfOk result (λ d. d ≡ option_map (λ s. s.now) text.entry) }
+    ensures sound { IfOk result (λ _. (t : List ℕ) → option_map (λ s. s.now) text.entry ≡ Some t → IsDate t) }
+    ensures refused { IfErr result (λ e. (e ≡ Failure.Label LabelName.Date) × (((t : List ℕ) → option_map (λ s. s.now) text.entry ≡ Some t → IsDate t) → ⊥)) }
+{
+    match text {
+        None => Ok(None),
+        Some(text) => match Date::new(text.as_bytes()) {
+            Some(date) => Ok(Some(date)),
+            None => Err(Failure::Label(LabelName::Date)),
+        },
+    }
+}
+
+/// The labels of the games. The first one that can't be written is refused.
+fn heading_of(request: &MakeRequest<'_>) -> Result<Heading, Failure>
+    ensures made { IfOk result (λ h. h ≡ (plan_of (making_of request.now)).heading) }
+    ensures sound { IfOk result (λ _. HasLabels (making_of request.now)) }
+    ensures refused { IfErr result (λ e. (status_of e ≡ 2) × (HasLabels (making_of request.now) → ⊥)) }
+{
+    Ok(Heading {
+        event: label_of(request.event, LabelName::Event)?,
+        site: label_of(request.site, LabelName::Site)?,
+        date: date_of(request.date)?,
+    })
+}
+
+/// The plan with the numbers of the options: the candidates, the workers, the lanes and the boards.
+fn numbers_of(request: &MakeRequest<'_>) -> Result<Plan, PlanError>
+    ensures made { IfOk result (λ p. p ≡ record (plan_of (making_of request.now)) { heading = no_heading }) }
+    ensures sound { IfOk result (λ _. HasNumbers (making_of request.now)) }
+    ensures refused { IfErr result (λ _. HasNumbers (making_of request.now) → ⊥) }
+{
+    let plan = Plan::new(request.seed, request.first, request.candidates, request.workers, request.lane)?;
+    let plan = match request.boards {
+        Some(most) => plan.limited(most)?,
+        None => plan,
+    };
+    plan.numbered(request.first_board.unwrap_or(1))
+}
+
+/// The plan of the options, with its labels.
+fn planned(request: &MakeRequest<'_>) -> Result<Plan, Failure>
+    ensures made { IfOk result (λ p. p ≡ plan_of (making_of request.now)) }
+    ensures refused { IfErr result (λ e. (status_of e ≡ 2) × (IsPlanned (making_of request.now) → ⊥)) }
+{
+    let plan = match numbers_of(request) {
+        Ok(plan) => plan,
+        Err(error) => return Err(Failure::Plan(error)),
+    };
+    Ok(plan.headed(heading_of(request)?))
+}
+
+/// What the condition's text means; without a text every deal is accepted.
+fn condition_of(alloc: Global, request: &MakeRequest<'_>) -> Result<Cond, Failure>
+    ensures meant { IfOk result (λ c. Means (making_of request.now).condition c) }
+    ensures refused { IfErr result (λ e. ((status_of e ≡ 5) ⊎ (status_of e ≡ 3)) × ((f : Form) → Means (making_of request.now).condition f → status_of e ≡ 5)) }
+    ensures untouched { IfErr result (λ e. is_untouched e ≡ true) }
+{
+    let Some(text) = request.condition else {
+        return Ok(Cond::any(alloc));
+    };
+    Ok(parse(alloc, text.as_bytes())?)
+}
+
+/// Writes the games that the options ask for.
+pub fn make<O: Sink>(alloc: Global, request: &MakeRequest<'_>, out: &mut O) -> Result<(), Failure>
+    requires { O.faults out.old < 2 ^ 64 - 1 }
+    ensures text { OnOk result (Appends (wish (making_of request.now)) (O.bytes out.old) (O.bytes out.new)) }
+    ensures planned { IsPlanned (making_of request.now) → IfErr result (λ e. status_of e ≢ 2) }
+    ensures meant { HasMeaning (wish (making_of request.now)) → IfErr result (λ e. status_of e ≢ 3) }
+    ensures untouched { IfErr result (λ e. is_untouched e ≡ true → O.bytes out.new ≡ O.bytes out.old) }
+    ensures faults { O.faults out.new ≡ O.faults out.old + faults_in result }
+{
+    let plan = planned(request)?;
+    let condition = condition_of(alloc, request)?;
+    match run_plain(&plan, &condition, out) {
+        Ok(_) => Ok(()),
+        Err(_) => Err(Failure::Output),
+    }
+}
