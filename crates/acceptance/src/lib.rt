@@ -1,0 +1,17 @@
+//! Tests that cross the crates: the program over sinks in memory, and the runs below it.
+#![tactic(auto)]
+
+#[cfg(test)]
+mod support;
+
+#[cfg(test)]
+mod make;
+
+#[cfg(test)]
+mod plain;
+
+#[cfg(test)]
+mod refusals;
+
+#[cfg(test)]
+mod stream;
