@@ -281,7 +281,7 @@ first_run f c s h known =
     record { p = take n (c ∷ s); rest = drop n (c ∷ s); kind = k.0; split = sym (take-append-drop n (c ∷ s)); some = r.some; is = k.1 }
 
 -- a symbol that fits is no longer than what is found
-fits : (q text : List ℕ) → BeginsWithSymbol q text → IsAtLeast (length q) (symbol_at text) text
+pub fits : (q text : List ℕ) → BeginsWithSymbol q text → IsAtLeast (length q) (symbol_at text) text
 fits q text b = subst (λ s. IsAtLeast (length q) (symbol_at s) s) (sym b.begins) (longest q b.token b.known b.more)
 
 taken_some : (n c : ℕ) (s : List ℕ) → 0 < n → 0 < length (take n (c ∷ s))

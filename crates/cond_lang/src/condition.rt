@@ -1,7 +1,7 @@
 //! A condition: parsed from a text, cloned, and asked whether it holds of a deal.
 
 ghost use Rattle.std.specs.Prelude.{◌≡◌, ◌<◌, ◌≤◌, ◌↔◌, length, IfOk, IfErr, MatchResult};
-ghost use Rattle.cond_lang.specs.declared.error.CondError.{CondError as Refusal};
+ghost use Rattle.cond_lang.specs.declared.error.CondError.{CondError as Fault};
 ghost use Rattle.cond_lang.specs.declared.tree.Op.TheVariants.{Equal};
 ghost use Rattle.cond_lang.specs.Cut.{HasFault};
 ghost use Rattle.cond_lang.specs.Form.{Form, form_of, compare, number};
@@ -47,7 +47,7 @@ impl Model for Cond {
 /// token that no condition goes on with, or at the text's length. `Memory` comes where a growth was refused.
 pub fn parse(alloc: Global, text: &[u8]) -> Result<Cond, CondError>
     ensures too_long { (result ≡ Err CondError.TooLong) ↔ (1024 < length text.now) }
-    ensures fault { (e : Refusal) → length text.now ≤ 1024 → HasFault text.now e → result ≡ Err e }
+    ensures fault { (e : Fault) → length text.now ≤ 1024 → HasFault text.now e → result ≡ Err e }
     ensures spelled { (t : Form) → length text.now ≤ 1024 → SpellsTree text.now t → MatchResult result (λ c. c ≡ t) (λ e. e ≡ CondError.Memory) }
     ensures tree { IfOk result (λ c. SpellsTree text.now c) }
     ensures refused { IfErr result (λ e. IsDue text.now e) }
