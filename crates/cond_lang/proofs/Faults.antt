@@ -12,7 +12,8 @@ use Rattle.cond_lang.specs.Form.{Form, number, compare}
 use Rattle.cond_lang.specs.Grammar.{atom, a_number, both, unit, comparison, Spells, IsFirstFault}
 use Rattle.cond_lang.specs.Place.{kinds}
 use Rattle.cond_lang.specs.Text.{SpellsTree, HasSyntaxFault}
-use Rattle.cond_lang.proofs.Pieces.{fits, entry_of}
+use Rattle.cond_lang.proofs.Symbols.{fits}
+use Rattle.cond_lang.proofs.Tables.{entry_of}
 use Rattle.cond_lang.proofs.Texts.{one_tokens}
 
 spells_nothing : (T : List Token) (n : ℕ) (t : Form) → IsFirstFault T n → Spells T t → ⊥
