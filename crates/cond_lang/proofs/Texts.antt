@@ -11,7 +11,7 @@ use Rattle.cond_lang.specs.Grammar.{Spells}
 use Rattle.cond_lang.specs.Place.{kinds}
 use Rattle.cond_lang.specs.Cut.{Pieces, tokens_from, with_piece, and_then_more, HasTokens, HasFault}
 use Rattle.cond_lang.specs.Text.{SpellsTree, IsDue}
-use Rattle.cond_lang.proofs.Pieces.{one_cut}
+use Rattle.cond_lang.proofs.Cuts.{one_cut}
 use Rattle.cond_lang.proofs.Spelled.{one_tree}
 
 pub one_fault : (text : List ℕ) (e f : CondError) → HasFault text e → HasFault text f → e ≡ f

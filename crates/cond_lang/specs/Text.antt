@@ -1,5 +1,5 @@
 -- What a text spells, and why it is refused.
-use Rattle.std.specs.Prelude.{ℕ, ◌<◌, List, length}
+use Rattle.std.specs.Prelude.{◌≡◌, ℕ, ◌<◌, List, length, Result, MatchResult}
 use Rattle.cond_lang.specs.declared.token.Placed.{Placed}
 use Rattle.cond_lang.specs.declared.error.CondError.{CondError}
 use Rattle.cond_lang.specs.declared.error.CondError.TheVariants.{TooLong, Byte, Word, Number, Syntax, Memory}
@@ -28,3 +28,7 @@ IsDue text (Word at) = HasFault text (Word at)
 IsDue text (Number at) = HasFault text (Number at)
 IsDue text (Syntax at) = HasSyntaxFault text at
 IsDue text Memory = Unit {0}
+
+-- the result is this tree, unless memory ran out
+abbrev pub IsUnlessMemory : Result Form CondError → Form → Type 0
+IsUnlessMemory result tree = MatchResult result (λ t. t ≡ tree) (λ e. e ≡ Memory)

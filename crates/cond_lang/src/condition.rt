@@ -1,12 +1,13 @@
 //! A condition: parsed from a text, cloned, and asked whether it holds of a deal.
 
-ghost use Rattle.std.specs.Prelude.{◌≡◌, ◌<◌, ◌≤◌, ◌↔◌, length, IfOk, IfErr, MatchResult};
-ghost use Rattle.cond_lang.specs.declared.error.CondError.{CondError as Refusal};
+ghost use Rattle.std.specs.Prelude.{◌≡◌, ◌<◌, ◌≤◌, ◌↔◌, length, IfOk, IfErr};
+ghost use Rattle.cond_lang.specs.declared.error.CondError.{CondError as Fault};
 ghost use Rattle.cond_lang.specs.declared.tree.Op.TheVariants.{Equal};
+ghost use Rattle.cond_lang.specs.Atoms.{HasAtMostAtoms};
 ghost use Rattle.cond_lang.specs.Cut.{HasFault};
 ghost use Rattle.cond_lang.specs.Form.{Form, form_of, compare, number};
 ghost use Rattle.cond_lang.specs.Meaning.{holds};
-ghost use Rattle.cond_lang.specs.Text.{SpellsTree, IsDue};
+ghost use Rattle.cond_lang.specs.Text.{SpellsTree, IsDue, IsUnlessMemory};
 
 use crate::error::CondError;
 use crate::meaning;
@@ -47,8 +48,10 @@ impl Model for Cond {
 /// token that no condition goes on with, or at the text's length. `Memory` comes where a growth was refused.
 pub fn parse(alloc: Global, text: &[u8]) -> Result<Cond, CondError>
     ensures too_long { (result ≡ Err CondError.TooLong) ↔ (1024 < length text.now) }
-    ensures fault { (e : Refusal) → length text.now ≤ 1024 → HasFault text.now e → result ≡ Err e }
-    ensures spelled { (t : Form) → length text.now ≤ 1024 → SpellsTree text.now t → MatchResult result (λ c. c ≡ t) (λ e. e ≡ CondError.Memory) }
+    ensures fault { (e : Fault) → length text.now ≤ 1024 → HasFault text.now e → result ≡ Err e }
+    ensures spelled { (t : Form) → length text.now ≤ 1024 → SpellsTree text.now t → IsUnlessMemory result t }
+
+    // What comes back is due: the tree is the text's, and each refusal has its reason.
     ensures tree { IfOk result (λ c. SpellsTree text.now c) }
     ensures refused { IfErr result (λ e. IsDue text.now e) }
 {
@@ -75,7 +78,7 @@ impl Cond {
 
     /// An equal condition. Its only refusal is `Memory`, and it comes only where a growth was refused.
     pub fn try_clone(&self) -> Result<Cond, CondError>
-        ensures { MatchResult result (λ c. c ≡ self.now) (λ e. e ≡ CondError.Memory) }
+        ensures { IsUnlessMemory result self.now }
     {
         match self.tree.try_clone(self.alloc) {
             Ok(tree) => Ok(Cond {
@@ -93,9 +96,10 @@ impl Cond {
         meaning::holds(&self.tree, deal)
     }
 
-    /// The tree of the condition.
+    /// The tree of the condition: each of its values has at most 1,024 atoms.
     pub fn tree(&self) -> &Tree
-        ensures { form_of result.now ≡ self.now }
+        ensures form { form_of result.now ≡ self.now }
+        ensures few { HasAtMostAtoms 1024 self.now }
     {
         &self.tree
     }

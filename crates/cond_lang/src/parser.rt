@@ -1,32 +1,36 @@
-//! The parser, with one token in sight.
+//! The parser: it reads the tokens from the left, with one token in sight, and builds the tree as it goes.
 
-ghost use Rattle.std.specs.Prelude.{◌≡◌, ◌≢◌, ◌+◌, List, ◌∷◌, [], length, OnOk, OnErr, MatchOption, IfOk};
+ghost use Rattle.std.specs.Prelude.{◌≡◌, ◌≢◌, ◌≤◌, ◌⊎◌, ℕ, List, ◌∷◌, length, IfOk, IfErr, Err};
 ghost use Rattle.cond_lang.specs.declared.token.Token.{Token as AToken};
-ghost use Rattle.cond_lang.specs.Form.{amount_of, form_of};
-ghost use Rattle.std.specs.Prelude.{◌≤◌};
-ghost use Rattle.std.specs.Prelude.{ℕ, IfErr, ◌⊎◌, Err};
-ghost use Rattle.cond_lang.specs.Place.{kinds, offset_of, IsPlace};
-ghost use Rattle.cond_lang.specs.Form.{Form};
+ghost use Rattle.cond_lang.specs.Form.{Form, amount_of, form_of};
 ghost use Rattle.cond_lang.specs.Grammar.{Spells};
-ghost use Rattle.cond_lang.specs.Reading.{Gives, front, opened, closed, comma, dash, seat, suit, digits, relation, opened_seat, and_suit, maybe_suit, lengths, seat_and_lengths, atom_of, reading, a_value, comparing_by, whole, a_cond, a_both, a_unit};
+ghost use Rattle.cond_lang.specs.Place.{kinds, offset_of, IsPlace};
+ghost use Rattle.cond_lang.specs.Reading.{Gives, front, opened, closed, comma, dash, seat, suit, digits, relation};
+ghost use Rattle.cond_lang.specs.Reading.{opened_seat, and_suit, maybe_suit, lengths, seat_and_lengths, atom_of};
+ghost use Rattle.cond_lang.specs.Reading.{reading, a_value, comparing_by, a_unit, a_both, a_cond, whole};
 
 use crate::error::CondError;
 use crate::token::{Placed, Token};
 use crate::tree::{Op, Tree, Value};
 use cards::{Seat, Suit};
-use std::alloc::{AllocError, Global};
+use std::alloc::Global;
 use std::marker::Model;
 use thiserror::Error;
 
+/// Why the parser stopped.
 #[derive(Debug, Drop, Error, PartialEq, Eq)]
 pub(crate) enum Refusal {
+    /// No condition goes on with the token in sight.
     #[error("syntax")]
     Syntax,
+    /// A growth was refused.
     #[error("out of memory")]
     Memory,
 }
 
-/// A clause sees the tokens that are left.
+/// The tokens that are left, which is all that contracts see of a parser.
+///
+/// After a `Syntax` the token in sight is the one that was refused.
 #[derive(Drop)]
 pub(crate) struct Parser<'a> {
     alloc: Global,
@@ -49,12 +53,14 @@ impl<'a> Parser<'a> {
         Parser { alloc, rest }
     }
 
+    /// How many tokens are left.
     pub(crate) fn left(&self) -> usize
         ensures { result ≡ length self.now }
     {
         self.rest.len()
     }
 
+    /// The token in sight.
     fn peek(&self) -> Option<Token>
         ensures { result ≡ front self.now }
     {
@@ -64,6 +70,7 @@ impl<'a> Parser<'a> {
         }
     }
 
+    /// Passes the token in sight.
     fn advance(&mut self)
         requires { (t : AToken) × (rest : List AToken) × (self.old ≡ t ∷ rest) }
         ensures { (t : AToken) × (self.old ≡ t ∷ self.new) }
@@ -159,6 +166,7 @@ impl<'a> Parser<'a> {
         Ok(op)
     }
 
+    /// `( seat`
     fn opened_seat(&mut self) -> Result<Seat, Refusal>
         ensures gives { Gives (λ q. q) result self.new (opened_seat self.old) }
         ensures shorter { length self.new ≤ length self.old }
@@ -167,6 +175,7 @@ impl<'a> Parser<'a> {
         self.seat()
     }
 
+    /// `, suit )`
     fn suit_in_brackets(&mut self) -> Result<Suit, Refusal>
         ensures gives { Gives (λ s. s) result self.new (and_suit self.old) }
         ensures shorter { length self.new ≤ length self.old }
@@ -177,6 +186,7 @@ impl<'a> Parser<'a> {
         Ok(suit)
     }
 
+    /// `number - number - number - number`
     #[tactic(auto, unfolding(crate::specs::Reading::lengths))]
     fn lengths(&mut self) -> Result<[u16; 4], Refusal>
         ensures gives { Gives (λ n. n) result self.new (lengths self.old) }
@@ -192,6 +202,7 @@ impl<'a> Parser<'a> {
         Ok([spades, hearts, diamonds, clubs])
     }
 
+    /// `( seat , number - number - number - number )`
     #[tactic(auto, unfolding(crate::specs::Reading::seat_and_lengths))]
     fn seat_and_lengths(&mut self) -> Result<(Seat, [u16; 4]), Refusal>
         ensures gives { Gives (λ p. (p.0, p.1)) result self.new (seat_and_lengths self.old) }
@@ -204,6 +215,7 @@ impl<'a> Parser<'a> {
         Ok((seat, lengths))
     }
 
+    /// A number, points or a length.
     #[tactic(auto, unfolding(crate::specs::Reading::atom_of))]
     fn atom(&mut self) -> Result<Value, Refusal>
         ensures gives { Gives amount_of result self.new (atom_of self.old) }
@@ -229,6 +241,7 @@ impl<'a> Parser<'a> {
         }
     }
 
+    /// `)` or `, suit )` behind `hcp ( seat`
     fn points_of(&mut self, seat: Seat) -> Result<Value, Refusal>
         ensures gives { Gives amount_of result self.new (maybe_suit seat self.old) }
         ensures shorter { length self.new ≤ length self.old }
@@ -243,6 +256,7 @@ impl<'a> Parser<'a> {
         Ok(Value::Points(seat))
     }
 
+    /// The tree on the heap.
     fn boxed(&self, tree: Tree) -> Result<Box<Tree>, Refusal>
         ensures ok { IfOk result (λ b. b.value ≡ tree) }
         ensures err { result ≢ Err Refusal.Syntax }
@@ -250,6 +264,7 @@ impl<'a> Parser<'a> {
         Box::new(self.alloc, tree).map_err(|_| Refusal::Memory)
     }
 
+    /// The value on the heap.
     fn boxed_value(&self, value: Value) -> Result<Box<Value>, Refusal>
         ensures ok { IfOk result (λ b. b.value ≡ value) }
         ensures err { result ≢ Err Refusal.Syntax }
@@ -257,6 +272,7 @@ impl<'a> Parser<'a> {
         Box::new(self.alloc, value).map_err(|_| Refusal::Memory)
     }
 
+    /// Atoms with `+` between them.
     #[tactic(auto, using(crate::proofs::Enough::reads))]
     fn value(&mut self) -> Result<Value, Refusal>
         ensures gives { Gives amount_of result self.new (reading a_value self.old) }
@@ -271,7 +287,7 @@ impl<'a> Parser<'a> {
         Ok(left)
     }
 
-    #[tactic(auto)]
+    /// `value op value`
     fn comparison(&mut self) -> Result<Tree, Refusal>
         ensures gives { Gives form_of result self.new (comparing_by reading self.old) }
         ensures shorter { length self.new ≤ length self.old }
@@ -282,6 +298,7 @@ impl<'a> Parser<'a> {
         Ok(Tree::Compare { left, op, right })
     }
 
+    /// One test.
     #[cycle(conditions)]
     #[tactic(auto, using(crate::proofs::Enough::reads))]
     fn unit(&mut self) -> Result<Tree, Refusal>
@@ -320,6 +337,7 @@ impl<'a> Parser<'a> {
         }
     }
 
+    /// Tests with `and` between them.
     #[cycle(conditions)]
     #[tactic(auto, using(crate::proofs::Enough::reads))]
     fn both(&mut self) -> Result<Tree, Refusal>
@@ -335,6 +353,7 @@ impl<'a> Parser<'a> {
         Ok(left)
     }
 
+    /// What `and` joins, with `or` between.
     #[cycle(conditions)]
     #[tactic(auto, using(crate::proofs::Enough::reads))]
     fn cond(&mut self) -> Result<Tree, Refusal>
@@ -364,7 +383,7 @@ impl<'a> Parser<'a> {
     }
 }
 
-/// The tree that the tokens of a text of `end` bytes spell.
+/// The tree that the tokens spell, which are those of a text of `end` bytes.
 pub(crate) fn parse_tokens(alloc: Global, tokens: &[Placed], end: usize) -> Result<Tree, CondError>
     ensures spelled { IfOk result (λ t. Spells (kinds tokens.now) (form_of t)) }
     ensures found { (t : Form) → Spells (kinds tokens.now) t → IfErr result (λ e. e ≡ CondError.Memory) }
@@ -384,7 +403,7 @@ pub(crate) fn parse_tokens(alloc: Global, tokens: &[Placed], end: usize) -> Resu
     }
 }
 
-// The offset of a token, or the end of the text.
+/// The offset of the token at the index, or `end` where there is none.
 fn offset_of(tokens: &[Placed], end: usize, index: usize) -> usize
     ensures { result ≡ offset_of tokens.now end index }
 {

@@ -89,3 +89,17 @@ fn forty_points_in_a_thousand_deals(rt: HostRuntime) -> Result<(), Fail> {
     }
     Ok(())
 }
+
+fn answer_of_sent<C: FnOnce() -> bool + Send>(ask: C) -> bool
+    requires { C.pre ask }
+{
+    ask()
+}
+
+#[test]
+fn a_condition_can_be_sent(rt: HostRuntime) -> Result<(), Fail> {
+    let cond = condition(rt.alloc(), "hcp(south)==5")?;
+    let deal = deal(WORKED)?;
+    assert!(rt; answer_of_sent(move || cond.holds(&deal)));
+    Ok(())
+}

@@ -29,8 +29,8 @@ impl Dice {
     }
 }
 
-/// The words and symbols of the language, and some numbers.
-const TOKENS: [&[u8]; 30] = [
+/// The words and symbols of the language, some numbers, and whole tests, so that more than the first token is read.
+const TOKENS: [&[u8]; 40] = [
     b"or",
     b"and",
     b"not",
@@ -61,18 +61,16 @@ const TOKENS: [&[u8]; 30] = [
     b"0",
     b"15",
     b"9999",
-];
-
-/// Random beginnings, each a way into the grammar, so that more than the first token is read.
-const BEGINNINGS: [&[u8]; 8] = [
-    b"",
-    b"not ",
-    b"(",
-    b"hcp(north",
+    b"hcp(north)",
     b"len(south,clubs)",
-    b"shape(west,4-3-3-",
+    b"hcp(east,hearts)",
+    b"balanced(west)",
+    b"shape(west,4-3-3-3)",
+    b"pattern(north,5-4-3-1)",
     b"1+2",
-    b"0==0 and ",
+    b"0==0 and",
+    b"hcp(north)>=15 or",
+    b"not (",
 ];
 
 /// What must hold of an answer: where a text is refused as syntax, the part before the fault is refused nowhere but at its
@@ -96,10 +94,10 @@ fn random_token_lists(rt: HostRuntime) -> Result<(), Fail> {
     let mut dice = Dice::new(2026);
     for _ in 0..50_000 {
         let mut text = Vec::new(rt.alloc());
-        text.extend_from_slice(BEGINNINGS[usize::from(dice.below(8))])?;
-        for _ in 0..dice.below(16) {
+        let most = if dice.below(100) == 0 { 250 } else { 12 };
+        for _ in 0..dice.below(most) {
+            text.extend_from_slice(TOKENS[usize::from(dice.below(40))])?;
             text.push(b' ')?;
-            text.extend_from_slice(TOKENS[usize::from(dice.below(30))])?;
         }
         expect_sound(&rt, &text);
     }

@@ -1,5 +1,5 @@
 use Rattle.std.specs.Char.{is_ascii_digit}
-use Rattle.cond_lang.proofs.Pieces.{run_all}
+use Rattle.cond_lang.proofs.Runs.{run_all}
 use Rattle.cond_lang.proofs.scanner.first_piece.Goals as goal
 
 pub number_piece-requires : goal.number_piece-requires
