@@ -6,3 +6,4 @@ pub mod Candidates
 pub mod Masks
 pub mod MaskBits
 pub mod Even
+pub mod Exchanges

@@ -1,4 +1,4 @@
-use Rattle.std.proofs.Common.{◌≡◌, ◌∙◌, ap}
+use Rattle.std.proofs.Common.{◌∙◌, ap}
 use Rattle.cards.specs.Masks.{cards_of_mask}
 use Rattle.cards.proofs.DealMasks.{cards_of_seat}
 use Rattle.cards.proofs.deal.Deal.hand.Goals as goal

@@ -1,0 +1,11 @@
+use Rattle.std.proofs.Common.{◌≡◌, ℕ, ◌+◌, ◌-◌, ◌^◌, ◌<◌, cond}
+use Rattle.std.specs.Int.{bit_at}
+use Rattle.cards.specs.Exchanges.{IsTraced, stands_within}
+use Rattle.cards.proofs.shuffle.settle.Given as goal
+
+abbrev pub invariant-loop-k : goal.invariant-loop-k
+invariant-loop-k l = record {
+  traced : IsTraced l.places l.pack (l.last - l.k);
+  bits : (c : ℕ) → c < 52 → bit_at l.mask c ≡ cond (stands_within l.places (l.last + 1 - l.k) l.last c) 1 0;
+  fits : l.mask < 2 ^ 52;
+}
