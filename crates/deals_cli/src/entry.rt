@@ -40,6 +40,7 @@ fn serve<O: Sink>(alloc: Global, words: &[String], out: &mut O) -> Result<(), Fa
     ensures text { (w : Wish) → asked (map string_bytes words.now) ≡ Some w → OnOk result (Appends w (O.bytes out.old) (O.bytes out.new)) }
     ensures planned { (w : Wish) → asked (map string_bytes words.now) ≡ Some w → HasPlan w → IfErr result (λ e. status_of e ≢ 2) }
     ensures meant { (w : Wish) → asked (map string_bytes words.now) ≡ Some w → HasMeaning w → IfErr result (λ e. status_of e ≢ 3) }
+    ensures order { (w : Wish) → asked (map string_bytes words.now) ≡ Some w → IfErr result (λ e. status_of e ≡ 3 → HasPlan w) }
     ensures untouched { IfErr result (λ e. is_untouched e ≡ true → O.bytes out.new ≡ O.bytes out.old) }
     ensures faults { O.faults out.new ≡ O.faults out.old + faults_in result }
 {
@@ -72,6 +73,8 @@ pub fn program<R: Threads + Wait + Clone + Send + 'static, O: Sink, E: Sink>(
     // Words that ask for something are refused only for their plan and their condition.
     ensures planned { (w : Wish) → asked (map string_bytes words.now) ≡ Some w → HasPlan w → result ≢ 2 }
     ensures meant { (w : Wish) → asked (map string_bytes words.now) ≡ Some w → HasMeaning w → result ≢ 3 }
+    // The condition is looked at only where the plan stands.
+    ensures order { (w : Wish) → asked (map string_bytes words.now) ≡ Some w → result ≡ 3 → HasPlan w }
     // Nothing was written where something is refused or memory ran out.
     ensures untouched { (result ≡ 2) ⊎ (result ≡ 3) ⊎ (result ≡ 5) → O.bytes out.new ≡ O.bytes out.old }
     // The status is 4 exactly where the output failed, once.

@@ -74,6 +74,7 @@ fn numbers_of(request: &MakeRequest<'_>) -> Result<Plan, PlanError>
 /// The plan of the options, with its labels.
 fn planned(request: &MakeRequest<'_>) -> Result<Plan, Failure>
     ensures made { IfOk result (λ p. p ≡ plan_of (making_of request.now)) }
+    ensures sound { IfOk result (λ _. IsPlanned (making_of request.now)) }
     ensures refused { IfErr result (λ e. (status_of e ≡ 2) × (IsPlanned (making_of request.now) → ⊥)) }
 {
     let plan = match numbers_of(request) {
@@ -101,6 +102,7 @@ pub fn make<O: Sink>(alloc: Global, request: &MakeRequest<'_>, out: &mut O) -> R
     ensures text { OnOk result (Appends (wish (making_of request.now)) (O.bytes out.old) (O.bytes out.new)) }
     ensures planned { IsPlanned (making_of request.now) → IfErr result (λ e. status_of e ≢ 2) }
     ensures meant { HasMeaning (wish (making_of request.now)) → IfErr result (λ e. status_of e ≢ 3) }
+    ensures order { IfErr result (λ e. status_of e ≡ 3 → IsPlanned (making_of request.now)) }
     ensures untouched { IfErr result (λ e. is_untouched e ≡ true → O.bytes out.new ≡ O.bytes out.old) }
     ensures faults { O.faults out.new ≡ O.faults out.old + faults_in result }
 {
