@@ -1,50 +1,122 @@
--- One turn of the scanner.
+-- One turn of the scanner: what is found so far and what is left tell what the whole text tells.
 use Rattle.std.proofs.Common.{◌≡◌, ℕ, ◌+◌, ◌<◌, List, [], ◌∷◌, ◌++◌, length, drop, Result, Ok, Err, refl, sym, ap, ◌∙◌, subst, append_assoc, append-nil, length-append, arith}
 use Rattle.std.proofs.Math.Seq.{drop-append_seam}
+use Rattle.cond_lang.specs.declared.token.Token.{Token}
 use Rattle.cond_lang.specs.declared.token.Placed.{Placed}
 use Rattle.cond_lang.specs.declared.token.Piece.{Piece}
+use Rattle.cond_lang.specs.declared.token.Piece.TheVariants.{Separator, Token as PToken}
 use Rattle.cond_lang.specs.declared.error.CondError.{CondError}
-use Rattle.cond_lang.specs.Cut.{Pieces, IsCut, end, piece, tokens_from, with_piece, and_then_more}
+use Rattle.cond_lang.specs.Cut.{Pieces, IsCut, end, piece, tokens_from, with_piece, and_then_more, HasTokens, HasFault}
 use Rattle.cond_lang.specs.Scanning.{prepended, piece_at}
+use Rattle.cond_lang.proofs.Cuts.{some_cut}
 use Rattle.cond_lang.proofs.Pieces.{only_piece}
 
--- what is left of a text, by its pieces
-pub record Left (whole : Result (List Placed) CondError) (found : List Placed) (at : ℕ) (s : List ℕ) : Type 0 where
-  pub pieces : Pieces
-  pub cut : IsCut s pieces
-  pub same : whole ≡ prepended found (tokens_from at pieces)
+abbrev pub Told : Type 0
+Told = Result (List Placed) CondError
 
-pub record Turn (whole : Result (List Placed) CondError) (found : List Placed) (at n : ℕ) (k : Piece) (s : List ℕ) : Type 0 where
-  pub pieces : Pieces
-  pub cut : IsCut (drop n s) pieces
-  pub same : whole ≡ prepended found (with_piece k at (tokens_from (at + n) pieces))
+-- these tokens are found, and s is left of the text, from the offset at on
+pub record IsLeft (text : List ℕ) (found : List Placed) (at : ℕ) (s : List ℕ) : Type 0 where
+  pub whole : Pieces
+  pub whole_cut : IsCut text whole
+  pub left : Pieces
+  pub left_cut : IsCut s left
+  pub same : tokens_from 0 whole ≡ prepended found (tokens_from at left)
 
-drop_front : (p rest : List ℕ) → drop (length p) (p ++ rest) ≡ rest
-drop_front p rest = drop-append_seam p rest
+nothing_found : (r : Told) → r ≡ prepended [] r
+nothing_found (Ok ts) = refl
+nothing_found (Err e) = refl
 
-pub turn :
-    (whole : Result (List Placed) CondError) (found : List Placed) (at : ℕ) (s : List ℕ) (first : Piece × ℕ) (qs : Pieces)
-    → IsCut s qs → whole ≡ prepended found (tokens_from at qs) → 0 < length s → first ≡ piece_at s
-    → Turn whole found at first.1 first.0 s
-turn whole found at s first qs end e h f = absurd (omega arith)
-turn whole found at s first qs (piece {p} {rest} {k = j} {ps} l i c) e h f =
-    let o : first ≡ (j, length p) = f ∙ only_piece i in
+-- at the start the whole text is left
+pub all_left : (text : List ℕ) → IsLeft text [] 0 text
+all_left text =
+    let c = some_cut text in
+    record { whole = c.0; whole_cut = c.1; left = c.0; left_cut = c.1; same = nothing_found (tokens_from 0 c.0) }
+
+-- What is left begins with a piece.
+record Turn (text : List ℕ) (found : List Placed) (at : ℕ) (s : List ℕ) (first : Piece × ℕ) : Type 0 where
+  whole : Pieces
+  whole_cut : IsCut text whole
+  left : Pieces
+  left_cut : IsCut (drop first.1 s) left
+  same : tokens_from 0 whole ≡ prepended found (with_piece first.0 at (tokens_from (at + first.1) left))
+
+turn_at :
+    (text : List ℕ) (found : List Placed) (at : ℕ) (s : List ℕ) (first : Piece × ℕ) (whole qs : Pieces)
+    → IsCut text whole → IsCut s qs → tokens_from 0 whole ≡ prepended found (tokens_from at qs)
+    → 0 < length s → first ≡ piece_at s → Turn text found at s first
+turn_at text found at s first whole qs c end e h f = absurd (omega arith)
+turn_at text found at s first whole qs c (piece {p} {rest} {k = k} {ps} l i d) e h f =
+    let o : first ≡ (k, length p) = f ∙ only_piece i in
     record {
-      pieces = ps;
-      cut = subst (λ L. IsCut L ps) (sym (drop_front p rest) ∙ ap (λ m. drop m (p ++ rest)) (sym (ap (λ x. x.1) o))) c;
+      whole = whole;
+      whole_cut = c;
+      left = ps;
+      left_cut = subst (λ L. IsCut L ps) (sym (drop-append_seam p rest) ∙ ap (λ n. drop n (p ++ rest)) (sym (ap (λ x. x.1) o))) d;
       same = e ∙ ap (λ x. prepended found (with_piece x.0 at (tokens_from (at + x.1) ps))) (sym o);
     }
 
-pub prepended_push : (ss : List Placed) (s : Placed) (r : Result (List Placed) CondError) → prepended ss (and_then_more s r) ≡ prepended (ss ++ s ∷ []) r
-prepended_push ss s (Ok ts) = ap (λ L. Ok L) (sym (append_assoc ss (s ∷ []) ts))
-prepended_push ss s (Err e) = refl
+turn :
+    (text : List ℕ) (found : List Placed) (at : ℕ) (s : List ℕ) (first : Piece × ℕ)
+    → IsLeft text found at s → 0 < length s → first ≡ piece_at s → Turn text found at s first
+turn text found at s first l h f = turn_at text found at s first l.whole l.left l.whole_cut l.left_cut l.same h f
 
-pub begins : (r : Result (List Placed) CondError) → r ≡ prepended [] r
-begins (Ok ts) = refl
-begins (Err e) = refl
+-- A faulty first piece is the text's fault.
+pub faulty :
+    (text : List ℕ) (found : List Placed) (at : ℕ) (s : List ℕ) (first : Piece × ℕ) (k : Piece) (e : CondError)
+    → IsLeft text found at s → 0 < length s → first ≡ piece_at s → first.0 ≡ k → ((r : Told) → with_piece k at r ≡ Err e)
+    → HasFault text e
+faulty text found at s first k e l h f i w =
+    let t = turn text found at s first l h f in
+    let r : Told = tokens_from (at + first.1) t.left in
+    record {
+      pieces = t.whole;
+      cut = t.whole_cut;
+      found = t.same ∙ ap (λ k. prepended found (with_piece k at r)) i ∙ ap (prepended found) (w r);
+    }
 
-pub ends :
-    (whole : Result (List Placed) CondError) (found : List Placed) (at : ℕ) (s : List ℕ) (qs : Pieces)
-    → IsCut s qs → whole ≡ prepended found (tokens_from at qs) → length s ≡ 0 → whole ≡ Ok found
-ends whole found at s qs end e h = e ∙ ap (λ L. Ok L) (append-nil found)
-ends whole found at s qs (piece {p} {rest} {k = j} {ps} l i c) e h = absurd (omega (arith, length-append p rest))
+-- Another first piece is passed.
+passed :
+    (text : List ℕ) (found more : List Placed) (at : ℕ) (s : List ℕ) (first : Piece × ℕ) (k : Piece)
+    → IsLeft text found at s → 0 < length s → first ≡ piece_at s → first.0 ≡ k
+    → ((r : Told) → prepended found (with_piece k at r) ≡ prepended more r)
+    → IsLeft text more (at + first.1) (drop first.1 s)
+passed text found more at s first k l h f i w =
+    let t = turn text found at s first l h f in
+    let r : Told = tokens_from (at + first.1) t.left in
+    record {
+      whole = t.whole;
+      whole_cut = t.whole_cut;
+      left = t.left;
+      left_cut = t.left_cut;
+      same = t.same ∙ ap (λ k. prepended found (with_piece k at r)) i ∙ w r;
+    }
+
+-- a separator tells nothing
+pub passed_separator :
+    (text : List ℕ) (found : List Placed) (at : ℕ) (s : List ℕ) (first : Piece × ℕ)
+    → IsLeft text found at s → 0 < length s → first ≡ piece_at s → first.0 ≡ Separator
+    → IsLeft text found (at + first.1) (drop first.1 s)
+passed_separator text found at s first l h f i = passed text found found at s first Separator l h f i (λ r. refl)
+
+pushed : (ts : List Placed) (t : Placed) (r : Told) → prepended ts (and_then_more t r) ≡ prepended (ts ++ t ∷ []) r
+pushed ts t (Ok more) = ap (λ L. Ok L) (sym (append_assoc ts (t ∷ []) more))
+pushed ts t (Err e) = refl
+
+-- a token is one more that is found
+pub passed_token :
+    (text : List ℕ) (found : List Placed) (at : ℕ) (s : List ℕ) (first : Piece × ℕ) (t : Token)
+    → IsLeft text found at s → 0 < length s → first ≡ piece_at s → first.0 ≡ PToken t
+    → IsLeft text (found ++ record { token = t; at = at } ∷ []) (at + first.1) (drop first.1 s)
+passed_token text found at s first t l h f i =
+    passed text found (found ++ record { token = t; at = at } ∷ []) at s first (PToken t) l h f i (pushed found (record { token = t; at = at }))
+
+ended :
+    (text : List ℕ) (found : List Placed) (at : ℕ) (s : List ℕ) (whole qs : Pieces)
+    → IsCut text whole → IsCut s qs → tokens_from 0 whole ≡ prepended found (tokens_from at qs) → length s ≡ 0
+    → HasTokens text found
+ended text found at s whole qs c end e h = record { pieces = whole; cut = c; found = e ∙ ap (λ L. Ok L) (append-nil found) }
+ended text found at s whole qs c (piece {p} {rest} l i d) e h = absurd (omega (arith, length-append p rest))
+
+-- Where nothing is left, what was found are the text's tokens.
+pub none_left : (text : List ℕ) (found : List Placed) (at : ℕ) (s : List ℕ) → IsLeft text found at s → length s ≡ 0 → HasTokens text found
+none_left text found at s l h = ended text found at s l.whole l.left l.whole_cut l.left_cut l.same h

@@ -1,4 +1,5 @@
--- A text is cut into pieces, each the longest that fits at its place: words, numbers, symbols, separators, and bytes that begin none of these.
+-- A text is cut into pieces, each the longest that fits at its place: words, numbers, symbols, separators, and bytes
+-- that begin none of these.
 use Rattle.std.specs.Prelude.{◌≡◌, ℕ, ◌+◌, ◌*◌, ◌-◌, ◌<◌, ◌≤◌, Bool, true, false, ◌||◌, ◌==◌, List, [], ◌∷◌, ◌++◌, length, codes, fold, Result, Ok, Err, Contains}
 use Rattle.std.specs.List.{AllByRecursion}
 use Rattle.std.specs.Char.{is_ascii_lowercase, is_ascii_digit}
@@ -16,14 +17,16 @@ use Rattle.cond_lang.specs.declared.error.CondError.TheVariants.{Byte, Word, Num
 -- the sixteen words, each with its token
 abbrev pub words : List (List ℕ × Token)
 words =
-    (codes "or", Or) ∷ (codes "and", And) ∷ (codes "not", Not) ∷ (codes "balanced", Balanced) ∷ (codes "shape", Shape) ∷ (codes "pattern", Pattern)
-    ∷ (codes "hcp", Hcp) ∷ (codes "len", Len) ∷ (codes "north", Seat North) ∷ (codes "east", Seat East) ∷ (codes "south", Seat South) ∷ (codes "west", Seat West)
+    (codes "or", Or) ∷ (codes "and", And) ∷ (codes "not", Not)
+    ∷ (codes "balanced", Balanced) ∷ (codes "shape", Shape) ∷ (codes "pattern", Pattern) ∷ (codes "hcp", Hcp) ∷ (codes "len", Len)
+    ∷ (codes "north", Seat North) ∷ (codes "east", Seat East) ∷ (codes "south", Seat South) ∷ (codes "west", Seat West)
     ∷ (codes "spades", Suit Spades) ∷ (codes "hearts", Suit Hearts) ∷ (codes "diamonds", Suit Diamonds) ∷ (codes "clubs", Suit Clubs) ∷ []
 
 -- the eleven symbols, each with its token
 abbrev pub symbols : List (List ℕ × Token)
 symbols =
-    (codes "(", Open) ∷ (codes ")", Close) ∷ (codes ",", Comma) ∷ (codes "-", Dash) ∷ (codes "+", Plus) ∷ (codes "==", Relation Equal) ∷ (codes "!=", Relation NotEqual)
+    (codes "(", Open) ∷ (codes ")", Close) ∷ (codes ",", Comma) ∷ (codes "-", Dash) ∷ (codes "+", Plus)
+    ∷ (codes "==", Relation Equal) ∷ (codes "!=", Relation NotEqual)
     ∷ (codes "<", Relation Less) ∷ (codes "<=", Relation AtMost) ∷ (codes ">", Relation More) ∷ (codes ">=", Relation AtLeast) ∷ []
 
 -- a space, a tab or a line feed
@@ -55,26 +58,42 @@ pub record BeginsWithSymbol (q text : List ℕ) : Type 0 where
 -- p is a piece of this kind where rest follows it
 pub data IsPiece : List ℕ → List ℕ → Piece → Type 0 where
   blank : {c : ℕ} {rest : List ℕ} → is_separator c ≡ true → IsPiece (c ∷ []) rest Separator
-  word : {p rest : List ℕ} {t : Token} → IsRun is_ascii_lowercase p rest → Contains words (p, t) → IsPiece p rest (PToken t)
-  no_word : {p rest : List ℕ} → IsRun is_ascii_lowercase p rest → ((t : Token) → Contains words (p, t) → ⊥) → IsPiece p rest PWord
-  number : {p rest : List ℕ} → IsRun is_ascii_digit p rest → length p ≤ 4 → IsPiece p rest (PToken (Number (decimal p)))
+  word :
+      {p rest : List ℕ} {t : Token} → IsRun is_ascii_lowercase p rest → Contains words (p, t)
+      → IsPiece p rest (PToken t)
+  no_word :
+      {p rest : List ℕ} → IsRun is_ascii_lowercase p rest → ((t : Token) → Contains words (p, t) → ⊥)
+      → IsPiece p rest PWord
+  number :
+      {p rest : List ℕ} → IsRun is_ascii_digit p rest → length p ≤ 4
+      → IsPiece p rest (PToken (Number (decimal p)))
   long : {p rest : List ℕ} → IsRun is_ascii_digit p rest → 4 < length p → IsPiece p rest PNumber
-  symbol : {p rest : List ℕ} {t : Token} → Contains symbols (p, t) → ((q : List ℕ) → BeginsWithSymbol q (p ++ rest) → length q ≤ length p) → IsPiece p rest (PToken t)
-  stray : {c : ℕ} {rest : List ℕ} → is_separator c ≡ false → is_ascii_lowercase c ≡ false → is_ascii_digit c ≡ false
-      → ((q : List ℕ) → BeginsWithSymbol q (c ∷ rest) → ⊥) → IsPiece (c ∷ []) rest PByte
+  symbol :
+      {p rest : List ℕ} {t : Token} → Contains symbols (p, t)
+      → ((q : List ℕ) → BeginsWithSymbol q (p ++ rest) → length q ≤ length p)
+      → IsPiece p rest (PToken t)
+  stray :
+      {c : ℕ} {rest : List ℕ} → is_separator c ≡ false → is_ascii_lowercase c ≡ false → is_ascii_digit c ≡ false
+      → ((q : List ℕ) → BeginsWithSymbol q (c ∷ rest) → ⊥)
+      → IsPiece (c ∷ []) rest PByte
 
+-- pieces of a text, and what each of them is
 abbrev pub Pieces : Type 0
 Pieces = List (List ℕ × Piece)
 
 -- the text is these pieces, one after another
 pub data IsCut : List ℕ → Pieces → Type 0 where
   end : IsCut [] []
-  piece : {p rest : List ℕ} {k : Piece} {ps : Pieces} → 0 < length p → IsPiece p rest k → IsCut rest ps → IsCut (p ++ rest) ((p, k) ∷ ps)
+  piece :
+      {p rest : List ℕ} {k : Piece} {ps : Pieces} → 0 < length p → IsPiece p rest k → IsCut rest ps
+      → IsCut (p ++ rest) ((p, k) ∷ ps)
 
+-- one token more in front of those that follow, unless there is a fault among these
 abbrev pub and_then_more : Placed → Result (List Placed) CondError → Result (List Placed) CondError
 and_then_more t (Ok ts) = Ok (t ∷ ts)
 and_then_more t (Err e) = Err e
 
+-- a piece in front of what the later ones tell: a fault hides all that follows
 abbrev pub with_piece : Piece → ℕ → Result (List Placed) CondError → Result (List Placed) CondError
 with_piece Separator at r = r
 with_piece (PToken t) at r = and_then_more (record { token = t; at = at }) r

@@ -1,4 +1,4 @@
--- A condition's tree without where it lies in memory.
+-- A condition's tree without the addresses that its boxes have in memory: two trees are equal where their forms are.
 use Rattle.std.specs.Prelude.{ℕ, List}
 use Rattle.cards.specs.declared.seat.Seat.{Seat}
 use Rattle.cards.specs.declared.suit.Suit.{Suit}
@@ -8,6 +8,7 @@ use Rattle.cond_lang.specs.declared.tree.Value.TheVariants.{Sum', Number, Points
 use Rattle.cond_lang.specs.declared.tree.Tree.{Tree}
 use Rattle.cond_lang.specs.declared.tree.Tree.TheVariants.{AnyOf', AllOf', Negation', Compare, Balanced, Shape, Pattern}
 
+-- a value
 pub data Amount : Type 0 where
   sum : Amount → Amount → Amount
   number : ℕ → Amount
@@ -15,6 +16,7 @@ pub data Amount : Type 0 where
   suit_points : Seat → Suit → Amount
   suit_length : Seat → Suit → Amount
 
+-- a tree
 pub data Form : Type 0 where
   any_of : Form → Form → Form
   all_of : Form → Form → Form
