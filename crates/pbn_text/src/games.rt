@@ -3,7 +3,8 @@
 ghost use Rattle.std.specs.Prelude.{◌≡◌, ◌≤◌, ◌+◌, ◌++◌, length, take};
 ghost use Rattle.arrayvec.specs.ArrayVec.{array_vec_len};
 ghost use Rattle.cards.specs.Hands.{hand_of, length_of};
-ghost use Rattle.pbn_text.specs.Games.{board_text, dealer_text, game as game_of, hand_text, heading_text, no_heading, suit_text, vulnerable_text};
+ghost use Rattle.pbn_text.specs.Games.{game as game_of, no_heading, heading_text, board_text};
+ghost use Rattle.pbn_text.specs.Games.{dealer_text, vulnerable_text, hand_text, suit_text};
 ghost use Rattle.pbn_text.specs.Lines.{deal_line, label_line, line};
 
 use crate::{Date, Heading, Label, Vul, dealer, vulnerable};
@@ -143,7 +144,8 @@ fn put_hand(text: &mut Text, deal: &Deal, seat: Seat)
     put(text, &buffer[..end]);
 }
 
-/// Writes the letters of the hand's ranks in the suit from this place on, and answers where they end.
+/// Writes the letters of the hand's ranks in the suit from this place on, and answers where they
+/// end.
 ///
 /// Each letter is written, and the next one over it where the hand hasn't the rank: that is quicker
 /// than to ask for each.

@@ -22,7 +22,7 @@ fn pack_in_order() -> Result<Deal, Fail> {
     Ok(Deal::shuffled(&Places::new(places).ok_or("places")?))
 }
 
-/// The worked deal, by the seats of the cards: spades, hearts, diamonds, clubs, each from the ace on.
+/// The worked deal by the seats of the cards, from the ace of spades to the two of clubs.
 fn worked_deal() -> Result<Deal, Fail> {
     let (n, e, s, w) = (Seat::North, Seat::East, Seat::South, Seat::West);
     let seats = [
