@@ -1,5 +1,5 @@
 -- Four masks and the deal that they show give each other.
-use Rattle.std.proofs.Common.{◌≡◌, ℕ, ◌+◌, ◌*◌, ◌/◌, ◌%◌, ◌^◌, ◌<◌, ◌==◌, Bool, true, false, cond, List, [], ◌∷◌, ◌++◌, length, map, take, refl, sym, ◌∙◌, ap, arith, get_or, pow-suc, subst}
+use Rattle.std.proofs.Common.{◌≡◌, ℕ, ◌+◌, ◌*◌, ◌/◌, ◌%◌, ◌^◌, ◌<◌, ◌==◌, Bool, true, false, cond, List, [], ◌∷◌, ◌++◌, length, map, take, refl, sym, ◌∙◌, ap, arith, get_or, pow-suc}
 use Rattle.std.specs.Prelude.{if◌then◌else◌}
 use Rattle.std.specs.Int.{bit_at}
 use Rattle.std.specs.List.{range_with_len}
@@ -17,7 +17,7 @@ use Rattle.cards.specs.Pack.{seat_number}
 use Rattle.cards.specs.Shuffle.{pack}
 use Rattle.cards.specs.Deals.{IsPartition}
 use Rattle.cards.specs.Hands.{hand_of}
-use Rattle.cards.specs.Masks.{cards_of_mask, seat_mask, seat_in, seats_of_masks, IsMasks}
+use Rattle.cards.specs.Masks.{cards_of_mask, seat_mask, seat_in, seats_of_masks}
 
 -- the bit of a card in a seat's mask
 pub bit_at_seat : (deal : List Seat) (seat : Seat) (c : ℕ) → c < length deal → bit_at (seat_mask deal seat) c ≡ cond (seat_number (get_or deal c North) == seat_number seat) 1 0
@@ -88,17 +88,6 @@ seat_mask-lt deal seat ok =
 pub masks_view : (deal : List Seat) (n e s : ℕ) → IsPartition deal → n ≡ seat_mask deal North → e ≡ seat_mask deal East → s ≡ seat_mask deal South → seats_of_masks n e s ≡ deal
 masks_view deal n e s ok en ee es =
     ap (λ m. seats_of_masks m e s) en ∙ ap (λ m. seats_of_masks (seat_mask deal North) m s) ee ∙ ap (seats_of_masks (seat_mask deal North) (seat_mask deal East)) es ∙ masks_of_seats deal ok.count
-
-pub masks_of_partition : (deal : List Seat) (n e s w : ℕ) → IsPartition deal → n ≡ seat_mask deal North → e ≡ seat_mask deal East → s ≡ seat_mask deal South → w ≡ seat_mask deal West → IsMasks n e s w
-masks_of_partition deal n e s w ok en ee es ew =
-    let view = masks_view deal n e s ok en ee es in
-    record {
-      partition = let back : IsPartition (seats_of_masks n e s) = subst IsPartition (sym view) ok in back;
-      north = en ∙ ap (λ d. seat_mask d North) (sym view);
-      east = ee ∙ ap (λ d. seat_mask d East) (sym view);
-      south = es ∙ ap (λ d. seat_mask d South) (sym view);
-      west = ew ∙ ap (λ d. seat_mask d West) (sym view);
-    }
 
 pub holder_is : (n e s c : ℕ) (now : List Seat) → c < 52 → seats_of_masks n e s ≡ now → get_or now c North ≡ seat_in n e s c
 unfolding seats_of_masks pack

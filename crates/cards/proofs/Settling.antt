@@ -23,7 +23,8 @@ use Rattle.cards.specs.Hands.{hand_of}
 use Rattle.cards.specs.Masks.{seat_mask, seats_of_masks, IsMasks}
 use Rattle.cards.specs.MaskBits.{bit_at_pack, mask-pack-lt, same_masks}
 use Rattle.cards.proofs.Tracing.{length-pack, before_exchanges, exchange, settled, traced-none}
-use Rattle.cards.proofs.DealMasks.{masks_of_partition, masks_view}
+use Rattle.cards.proofs.DealMasks.{masks_view}
+use Rattle.cards.proofs.FullMasks.{masks_of_partition}
 use Rattle.cards.proofs.Dealing.{card_at-position_of, position_from_card, dealt-partition}
 
 pub long : (places cards : List ℕ) (n : ℕ) → IsTraced places cards n → length cards ≡ 52

@@ -2,4 +2,7 @@
 use Rattle.std.specs.Prelude.{◌≡◌, ℕ, ◌⊎◌, List, [], ◌∷◌}
 
 abbrev pub IsEven : List ℕ → Type 0
-IsEven lengths = (lengths ≡ 3 ∷ 3 ∷ 3 ∷ 4 ∷ []) ⊎ (lengths ≡ 2 ∷ 3 ∷ 4 ∷ 4 ∷ []) ⊎ (lengths ≡ 2 ∷ 3 ∷ 3 ∷ 5 ∷ [])
+IsEven lengths =
+    (lengths ≡ 3 ∷ 3 ∷ 3 ∷ 4 ∷ [])
+    ⊎ (lengths ≡ 2 ∷ 3 ∷ 4 ∷ 4 ∷ [])
+    ⊎ (lengths ≡ 2 ∷ 3 ∷ 3 ∷ 5 ∷ [])

@@ -44,7 +44,9 @@ is_rearrangement xs ys = list_all (λ x. count_by (λ y. y == x) xs == count_by 
 -- in some order 4-3-3-3, 4-4-3-2 or 5-3-3-2
 abbrev pub is_balanced : List ℕ → Bool
 is_balanced shape =
-    is_rearrangement shape (4 ∷ 3 ∷ 3 ∷ 3 ∷ []) || is_rearrangement shape (4 ∷ 4 ∷ 3 ∷ 2 ∷ []) || is_rearrangement shape (5 ∷ 3 ∷ 3 ∷ 2 ∷ [])
+    is_rearrangement shape (4 ∷ 3 ∷ 3 ∷ 3 ∷ [])
+    || is_rearrangement shape (4 ∷ 4 ∷ 3 ∷ 2 ∷ [])
+    || is_rearrangement shape (5 ∷ 3 ∷ 3 ∷ 2 ∷ [])
 
 -- which of the suit's thirteen ranks the hand has, the ace first
 abbrev pub ranks_of : List Bool → Suit → List Bool

@@ -1,7 +1,7 @@
 //! The pack, the shuffle of Knuth's Algorithm P, bridge deals and hands.
 //!
-//! Cards are numbered 0 to 51. A `Places` holds the draws of one shuffle, a `Deal` says who has each
-//! card, and a `Hand` counts what one seat has.
+//! Cards are numbered 0 to 51. A `Places` holds the places of one shuffle, a `Deal` says who has
+//! each card, and a `Hand` counts what one seat has.
 #![tactic(auto)]
 
 mod card;

@@ -1,10 +1,10 @@
 -- What can be read off a game's text: the text of one deal is that of no other.
-use Rattle.std.proofs.Common.{◌≡◌, ℕ, zero, suc, ◌+◌, ◌-◌, ◌*◌, ◌<◌, ◌≤◌, ◌≢◌, ◌==◌, ◌&&◌, Bool, true, false, not, cond, List, [], ◌∷◌, ◌++◌, length, get_or, map, refl, sym, ◌∙◌, ap, arith, subst, inl, inr, ◌⊎◌}
+use Rattle.std.proofs.Common.{◌≡◌, ℕ, zero, suc, ◌+◌, ◌-◌, ◌*◌, ◌<◌, ◌==◌, ◌&&◌, Bool, true, false, not, cond, List, [], ◌∷◌, ◌++◌, length, get_or, map, refl, sym, ◌∙◌, ap, arith, subst, inl, inr, ◌⊎◌}
 use Rattle.std.specs.Prelude.{slice_index, codes, filter}
 use Rattle.std.specs.List.{range_with_len, list_all}
-use Rattle.std.proofs.lemmas.Bool.{cases_lt, false≢true}
+use Rattle.std.proofs.lemmas.Bool.{cases_lt}
 use Rattle.std.proofs.lemmas.Bool.Decides.{nat_tests}
-use Rattle.std.proofs.lemmas.List.{append_assoc, append_cancel_left, append_cancel_right, ext_get_or, get_or-map, length-map}
+use Rattle.std.proofs.lemmas.List.{append_assoc, append_cancel_left, append_cancel_right, ext_get_or, get_or-map}
 use Rattle.std.proofs.lemmas.List.Folds.{list_all-append}
 use Rattle.std.proofs.lemmas.List.FromFn.{get_or-map-range_with_len}
 use Rattle.cards.specs.declared.seat.Seat.{Seat}
@@ -65,7 +65,7 @@ chosen_pass : (test : ℕ → Bool) (f : ℕ → ℕ) (p : ℕ → Bool) (xs : L
 chosen_pass test f p [] h = refl
 chosen_pass test f p (x ∷ xs) h =
     elim (either (p x)) [
-      inl e ↦ rw e (both (test (f x)) (list_all test (map f (filter p xs))) (and_left (test (f x)) (list_all (λ y. test (f y)) xs) h) (chosen_pass test f p xs (and_right (test (f x)) (list_all (λ y. test (f y)) xs) h)))
+      | inl e ↦ rw e (both (test (f x)) (list_all test (map f (filter p xs))) (and_left (test (f x)) (list_all (λ y. test (f y)) xs) h) (chosen_pass test f p xs (and_right (test (f x)) (list_all (λ y. test (f y)) xs) h)))
       | inr e ↦ rw e (chosen_pass test f p xs (and_right (test (f x)) (list_all (λ y. test (f y)) xs) h))
     ]
 
@@ -155,7 +155,7 @@ no_dot hand suit = suit_lacks 0x2E hand suit refl
 suits_from_hand : (a b : List Bool) → hand_text a ≡ hand_text b → (suit : Suit) → suit_text a suit ≡ suit_text b suit
 suits_from_hand a b e suit =
     let parts = four_parts 0x2E [] (suit_text a Spades) (suit_text a Hearts) (suit_text a Diamonds) (suit_text a Clubs) (suit_text b Spades) (suit_text b Hearts) (suit_text b Diamonds) (suit_text b Clubs)
-      (no_dot a Spades) (no_dot a Hearts) (no_dot a Diamonds) (no_dot b Spades) (no_dot b Hearts) (no_dot b Diamonds) e in
+    (no_dot a Spades) (no_dot a Hearts) (no_dot a Diamonds) (no_dot b Spades) (no_dot b Hearts) (no_dot b Diamonds) e in
     each_suit (λ s. suit_text a s ≡ suit_text b s) parts.0 parts.1 parts.2 parts.3 suit
 
 lacks-append : (c : ℕ) (xs ys : List ℕ) → Lacks c xs → Lacks c ys → Lacks c (xs ++ ys)
@@ -179,18 +179,18 @@ no_space hand = dotted (suit_text hand Spades) (suit_text hand Hearts) (suit_tex
 hands_from_deal : (d e : List Seat) → deal_text d ≡ deal_text e → (seat : Seat) → hand_text (hand_of d seat) ≡ hand_text (hand_of e seat)
 hands_from_deal d e same seat =
     let parts = four_parts 0x20 (codes "N:") (hand_text (hand_of d North)) (hand_text (hand_of d East)) (hand_text (hand_of d South)) (hand_text (hand_of d West)) (hand_text (hand_of e North)) (hand_text (hand_of e East)) (hand_text (hand_of e South)) (hand_text (hand_of e West))
-      (no_space (hand_of d North)) (no_space (hand_of d East)) (no_space (hand_of d South)) (no_space (hand_of e North)) (no_space (hand_of e East)) (no_space (hand_of e South)) same in
+    (no_space (hand_of d North)) (no_space (hand_of d East)) (no_space (hand_of d South)) (no_space (hand_of e North)) (no_space (hand_of e East)) (no_space (hand_of e South)) same in
     each_seat (λ q. hand_text (hand_of d q) ≡ hand_text (hand_of e q)) parts.0 parts.1 parts.2 parts.3 seat
 
 -- a card by its suit and its rank
 by_suit : (a b : List Bool) (c : ℕ) → c < 52 → ((suit : Suit) (rank : ℕ) → rank < 13 → has a suit rank ≡ has b suit rank) → holds_card a c ≡ holds_card b c
 by_suit a b c h same =
     elim (cases_lt c 13) [
-      inl s ↦ at Spades c 0 s refl (omega arith)
+      | inl s ↦ at Spades c 0 s refl (omega arith)
       | inr s' ↦ elim (cases_lt c 26) [
-        inl h' ↦ at Hearts (c - 13) 13 (omega arith) refl (omega arith)
+        | inl h' ↦ at Hearts (c - 13) 13 (omega arith) refl (omega arith)
         | inr h'' ↦ elim (cases_lt c 39) [
-          inl d ↦ at Diamonds (c - 26) 26 (omega arith) refl (omega arith)
+          | inl d ↦ at Diamonds (c - 26) 26 (omega arith) refl (omega arith)
           | inr d' ↦ at Clubs (c - 39) 39 (omega arith) refl (omega arith)
         ]
       ]
@@ -227,12 +227,12 @@ seats_from_deal : (d e : List Seat) → length d ≡ 52 → length e ≡ 52 → 
 seats_from_deal d e p q same =
     ext_get_or North d e (p ∙ sym q)
     (λ c h.
-        let below : c < 52 = rw p at h in
-        seat_same (get_or d c North) (get_or e c North)
-        (λ seat.
-            sym (held d seat c h)
-            ∙ by_suit (hand_of d seat) (hand_of e seat) c below (λ suit rank low. rank_from_suit (hand_of d seat) (hand_of e seat) suit rank low (suits_from_hand (hand_of d seat) (hand_of e seat) (hands_from_deal d e same seat) suit))
-            ∙ held e seat c (rw q below)))
+    let below : c < 52 = rw p at h in
+    seat_same (get_or d c North) (get_or e c North)
+    (λ seat.
+    sym (held d seat c h)
+    ∙ by_suit (hand_of d seat) (hand_of e seat) c below (λ suit rank low. rank_from_suit (hand_of d seat) (hand_of e seat) suit rank low (suits_from_hand (hand_of d seat) (hand_of e seat) (hands_from_deal d e same seat) suit))
+    ∙ held e seat c (rw q below)))
 
 pub deal_from_game : (board : ℕ) (heading : HeadingView) (deal other : List Seat) → length deal ≡ 52 → length other ≡ 52 → game board heading deal ≡ game board heading other → deal ≡ other
 unfolding game

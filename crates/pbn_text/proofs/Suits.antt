@@ -1,8 +1,8 @@
 -- A suit's text, rank by rank, and its length.
-use Rattle.std.proofs.Common.{◌≡◌, ℕ, ◌+◌, ◌*◌, ◌<◌, ◌==◌, Bool, true, false, cond, List, [], ◌∷◌, ◌++◌, length, get_or, map, refl, sym, ◌∙◌, ap, arith}
+use Rattle.std.proofs.Common.{◌≡◌, ℕ, ◌+◌, ◌*◌, ◌<◌, ◌==◌, Bool, true, false, cond, List, [], ◌∷◌, ◌++◌, length, get_or, set, take, map, inl, inr, ◌⊎◌, refl, sym, ◌∙◌, ap, arith}
 use Rattle.std.specs.Prelude.{slice_index}
 use Rattle.std.specs.List.{range_with_len, filter, count_by}
-use Rattle.std.proofs.lemmas.List.{map-id, length-map, map-append, append_assoc}
+use Rattle.std.proofs.lemmas.List.{map-id, length-map, map-append, append_assoc, append-nil, length-append, take_more_set, take-set}
 use Rattle.std.proofs.lemmas.List.FromFn.{map-range_with_len_more, get_or-map-range_with_len, fill_by_all}
 use Rattle.std.proofs.lemmas.List.Elements.{filter-append}
 use Rattle.std.proofs.lemmas.List.Sums.{length-filter, sum_by-cons}
@@ -78,13 +78,28 @@ thirteen deal seat ok =
 pub rank_read : (hand : List Bool) (suit : Suit) (ranks : List Bool) (n : ℕ) → ranks ≡ map (λ rank. holds_card hand (13 * suit_number suit + rank)) (range_with_len 0 13) → n < 13 → get_or ranks n false ≡ holds_card hand (13 * suit_number suit + n)
 rank_read hand suit ranks n e h = ap (λ xs. get_or xs n false) e ∙ get_or-map-range_with_len (has hand suit) 0 13 n n false h (omega arith)
 
--- a text that has the ranks below n, and then the next one where the hand has it
-pub more : (start old new : List ℕ) (hand : List Bool) (suit : Suit) (n : ℕ) (b : Bool) → old ≡ start ++ first_ranks hand suit n → b ≡ holds_card hand (13 * suit_number suit + n)
-    → new ≡ old ++ cond b (slice_index letters n ∷ []) [] → new ≡ start ++ first_ranks hand suit (n + 1)
-more start old new hand suit n b before held is =
-    is ∙ ap (λ xs. xs ++ cond b (slice_index letters n ∷ []) []) before
-    ∙ append_assoc start (first_ranks hand suit n) (cond b (slice_index letters n ∷ []) [])
-    ∙ ap (λ xs. start ++ xs) (sym (first_ranks-more hand suit n b held))
+pub either : (b : Bool) → (b ≡ true) ⊎ (b ≡ false)
+either true = inl refl
+either false = inr refl
+
+-- a buffer's front and the ranks below n, after the next letter is written and counted
+pub one_written : (buffer front : List ℕ) (from : ℕ) (hand : List Bool) (suit : Suit) (n end new : ℕ) → end < length buffer → new ≡ end + 1 → take end buffer ≡ front ++ first_ranks hand suit n → end ≡ from + length (first_ranks hand suit n) → true ≡ holds_card hand (13 * suit_number suit + n)
+    → (take new (set buffer end (slice_index letters n)) ≡ front ++ first_ranks hand suit (n + 1)) × (new ≡ from + length (first_ranks hand suit (n + 1)))
+one_written buffer front from hand suit n end new inside step written count held =
+    let one : List ℕ = slice_index letters n ∷ [] in
+    let more : first_ranks hand suit (n + 1) ≡ first_ranks hand suit n ++ one = first_ranks-more hand suit n true held in (
+      ap (λ k. take k (set buffer end (slice_index letters n))) step ∙ take_more_set buffer end (slice_index letters n) inside ∙ ap (λ xs. xs ++ one) written ∙ append_assoc front (first_ranks hand suit n) one ∙ ap (λ xs. front ++ xs) (sym more),
+      omega (arith, step, count, ap length more, length-append (first_ranks hand suit n) one),
+    )
+
+-- the same after a letter that is not counted
+pub one_passed : (buffer front : List ℕ) (from : ℕ) (hand : List Bool) (suit : Suit) (n end new : ℕ) → new ≡ end → take end buffer ≡ front ++ first_ranks hand suit n → end ≡ from + length (first_ranks hand suit n) → false ≡ holds_card hand (13 * suit_number suit + n)
+    → (take new (set buffer end (slice_index letters n)) ≡ front ++ first_ranks hand suit (n + 1)) × (new ≡ from + length (first_ranks hand suit (n + 1)))
+one_passed buffer front from hand suit n end new step written count held =
+    let same : first_ranks hand suit (n + 1) ≡ first_ranks hand suit n = first_ranks-more hand suit n false held ∙ append-nil (first_ranks hand suit n) in (
+      ap (λ k. take k (set buffer end (slice_index letters n))) step ∙ take-set buffer end (slice_index letters n) ∙ written ∙ ap (λ xs. front ++ xs) (sym same),
+      omega (arith, step, count, ap length same),
+    )
 
 pub thirteen_of : (deal : List Seat) (seat : Seat) (hand : List Bool) → IsPartition deal → hand ≡ hand_of deal seat
     → length_of hand Spades + length_of hand Hearts + length_of hand Diamonds + length_of hand Clubs ≡ 13

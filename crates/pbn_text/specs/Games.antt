@@ -53,7 +53,10 @@ suit_text hand suit =
 
 abbrev pub hand_text : List Bool → List ℕ
 hand_text hand =
-    suit_text hand Spades ++ codes "." ++ suit_text hand Hearts ++ codes "." ++ suit_text hand Diamonds ++ codes "." ++ suit_text hand Clubs
+    suit_text hand Spades ++ codes "."
+    ++ suit_text hand Hearts ++ codes "."
+    ++ suit_text hand Diamonds ++ codes "."
+    ++ suit_text hand Clubs
 
 abbrev pub deal_text : List Seat → List ℕ
 deal_text deal =
@@ -65,7 +68,10 @@ deal_text deal =
 
 -- the lines of the labels that are given
 abbrev pub heading_text : HeadingView → List ℕ
-heading_text heading = label (codes "Event") heading.event ++ label (codes "Site") heading.site ++ label (codes "Date") heading.date
+heading_text heading =
+    label (codes "Event") heading.event
+    ++ label (codes "Site") heading.site
+    ++ label (codes "Date") heading.date
 
 -- the lines of the board
 abbrev pub board_text : ℕ → List ℕ
@@ -76,4 +82,5 @@ board_text board =
 
 -- the lines of a game, and an empty one
 unfoldable pub game : ℕ → HeadingView → List Seat → List ℕ
-game board heading deal = heading_text heading ++ board_text board ++ tag (codes "Deal") (deal_text deal) ++ codes "\n"
+game board heading deal =
+    heading_text heading ++ board_text board ++ tag (codes "Deal") (deal_text deal) ++ codes "\n"

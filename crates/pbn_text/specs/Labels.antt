@@ -12,7 +12,8 @@ pub record IsLabel (text : List ℕ) : Type 0 where
 
 -- in the form YYYY.MM.DD a dot stands at 4 and at 7, and a digit elsewhere
 abbrev pub FitsDate : ℕ → ℕ → Type 0
-FitsDate i byte = (i ≡ 4 → byte ≡ 0x2E) × (i ≡ 7 → byte ≡ 0x2E) × (i ≢ 4 → i ≢ 7 → (0x30 ≤ byte) × (byte ≤ 0x39))
+FitsDate i byte =
+    (i ≡ 4 → byte ≡ 0x2E) × (i ≡ 7 → byte ≡ 0x2E) × (i ≢ 4 → i ≢ 7 → (0x30 ≤ byte) × (byte ≤ 0x39))
 
 -- a year, a month and a day; no calendar is consulted
 pub record IsDate (text : List ℕ) : Type 0 where

@@ -1,9 +1,10 @@
 //! The text of a game, line by line.
 
-ghost use Rattle.std.specs.Prelude.{◌≡◌, ◌≤◌, ◌+◌, ◌++◌, length};
+ghost use Rattle.std.specs.Prelude.{◌≡◌, ◌≤◌, ◌+◌, ◌++◌, length, take};
 ghost use Rattle.arrayvec.specs.ArrayVec.{array_vec_len};
 ghost use Rattle.cards.specs.Hands.{hand_of, length_of};
-ghost use Rattle.pbn_text.specs.Games.{board_text, dealer_text, game as game_of, hand_text, heading_text, no_heading, suit_text, vulnerable_text};
+ghost use Rattle.pbn_text.specs.Games.{game as game_of, no_heading, heading_text, board_text};
+ghost use Rattle.pbn_text.specs.Games.{dealer_text, vulnerable_text, hand_text, suit_text};
 ghost use Rattle.pbn_text.specs.Lines.{deal_line, label_line, line};
 
 use crate::{Date, Heading, Label, Vul, dealer, vulnerable};
@@ -16,6 +17,9 @@ pub const HEADER: [u8; 10] = *b"% PBN 2.1\n";
 
 /// The ranks of a suit, the ace first.
 const LETTERS: [u8; 13] = *b"AKQJT98765432";
+
+/// Room for the cards of a hand, its dots, and the letters that are written over.
+const ROOM: usize = 64;
 
 /// The text of one game.
 type Text = ArrayVec<u8, 400>;
@@ -107,7 +111,7 @@ fn vulnerable_word(sides: Vul) -> &'static [u8]
 
 /// Appends the line of the deal and the empty line.
 fn put_deal(text: &mut Text, deal: &Deal)
-    requires { array_vec_len text.old + 95 ≤ 400 }
+    requires { array_vec_len text.old + 80 ≤ 400 }
     ensures items { text.new.items ≡ text.old.items ++ deal_line deal.now }
     ensures len { array_vec_len text.new ≡ array_vec_len text.old + 80 }
 {
@@ -124,32 +128,40 @@ fn put_deal(text: &mut Text, deal: &Deal)
 
 /// Appends the seat's thirteen cards and the three dots between its suits.
 fn put_hand(text: &mut Text, deal: &Deal, seat: Seat)
-    requires { array_vec_len text.old + 29 ≤ 400 }
+    requires { array_vec_len text.old + 16 ≤ 400 }
     ensures items { text.new.items ≡ text.old.items ++ hand_text (hand_of deal.now seat) }
     ensures len { array_vec_len text.new ≡ array_vec_len text.old + 16 }
 {
     let hand = deal.hand(seat);
-    put_suit(text, &hand, Suit::Spades);
-    put(text, b".");
-    put_suit(text, &hand, Suit::Hearts);
-    put(text, b".");
-    put_suit(text, &hand, Suit::Diamonds);
-    put(text, b".");
-    put_suit(text, &hand, Suit::Clubs);
+    let mut buffer = [0; ROOM];
+    let mut end = write_suit(&mut buffer, 0, &hand, Suit::Spades);
+    buffer[end] = b'.';
+    end = write_suit(&mut buffer, end + 1, &hand, Suit::Hearts);
+    buffer[end] = b'.';
+    end = write_suit(&mut buffer, end + 1, &hand, Suit::Diamonds);
+    buffer[end] = b'.';
+    end = write_suit(&mut buffer, end + 1, &hand, Suit::Clubs);
+    put(text, &buffer[..end]);
 }
 
-/// Appends the letters of the hand's ranks in the suit.
-fn put_suit(text: &mut Text, hand: &Hand, suit: Suit)
-    requires { array_vec_len text.old + 13 ≤ 400 }
-    ensures items { text.new.items ≡ text.old.items ++ suit_text hand.now suit }
-    ensures len { array_vec_len text.new ≡ array_vec_len text.old + length_of hand.now suit }
+/// Writes the letters of the hand's ranks in the suit from this place on, and answers where they
+/// end.
+///
+/// Each letter is written, and the next one over it where the hand hasn't the rank: that is quicker
+/// than to ask for each.
+fn write_suit(buffer: &mut [u8; ROOM], from: usize, hand: &Hand, suit: Suit) -> usize
+    requires { from ≤ 42 }
+    ensures written { take result buffer.new ≡ take from buffer.old ++ suit_text hand.now suit }
+    ensures len { result ≡ from + length_of hand.now suit }
+    ensures most { result ≤ from + 13 }
 {
     let ranks = hand.ranks(suit);
+    let mut end = from;
     for rank in 0..ranks.len() {
-        if ranks[rank] {
-            text.push(LETTERS[rank]);
-        }
+        buffer[end] = LETTERS[rank];
+        end += usize::from(ranks[rank]);
     }
+    end
 }
 
 /// Appends the opening, the value and the end of a tag line.

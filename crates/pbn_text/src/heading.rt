@@ -56,7 +56,7 @@ impl Label {
     }
 
     /// The label's bytes.
-    pub fn as_bytes(&self) -> &[u8]
+    pub(crate) fn as_bytes(&self) -> &[u8]
         ensures value { result.now ≡ self.now }
         ensures label { IsLabel self.now }
     {
@@ -110,7 +110,7 @@ impl Date {
     }
 
     /// The date's ten bytes.
-    pub fn as_bytes(&self) -> &[u8]
+    pub(crate) fn as_bytes(&self) -> &[u8]
         ensures value { result.now ≡ self.now }
         ensures date { IsDate self.now }
     {

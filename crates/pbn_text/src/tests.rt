@@ -6,10 +6,12 @@ use std::process::Abort;
 use std::test::Fail;
 
 /// The game of the pack in order at board 1.
-const FIRST: &[u8] = b"[Board \"1\"]\n[Dealer \"N\"]\n[Vulnerable \"None\"]\n[Deal \"N:AKQJT98765432... .AKQJT98765432.. ..AKQJT98765432. ...AKQJT98765432\"]\n\n";
+const FIRST: &[u8] =
+    b"[Board \"1\"]\n[Dealer \"N\"]\n[Vulnerable \"None\"]\n[Deal \"N:AKQJT98765432... .AKQJT98765432.. ..AKQJT98765432. ...AKQJT98765432\"]\n\n";
 
 /// The game of the worked deal at board 2.
-const SECOND: &[u8] = b"[Board \"2\"]\n[Dealer \"E\"]\n[Vulnerable \"NS\"]\n[Deal \"N:.63.AKQ987.A9732 A8654.KQ5.T.QJT6 J973.J98742.3.K4 KQT2.AT.J6542.85\"]\n\n";
+const SECOND: &[u8] =
+    b"[Board \"2\"]\n[Dealer \"E\"]\n[Vulnerable \"NS\"]\n[Deal \"N:.63.AKQ987.A9732 A8654.KQ5.T.QJT6 J973.J98742.3.K4 KQT2.AT.J6542.85\"]\n\n";
 
 /// The deal of a pack in order, whose first thirteen cards are North's.
 fn pack_in_order() -> Result<Deal, Fail> {
@@ -20,12 +22,12 @@ fn pack_in_order() -> Result<Deal, Fail> {
     Ok(Deal::shuffled(&Places::new(places).ok_or("places")?))
 }
 
-/// The worked deal, by the seats of the cards: spades, hearts, diamonds, clubs, each from the ace on.
+/// The worked deal by the seats of the cards, from the ace of spades to the two of clubs.
 fn worked_deal() -> Result<Deal, Fail> {
     let (n, e, s, w) = (Seat::North, Seat::East, Seat::South, Seat::West);
     let seats = [
-        e, w, w, s, w, s, e, s, e, e, e, s, w, w, e, e, s, w, s, s, s, n, e, s, n, s, n, n, n, w, e,
-        n, n, n, w, w, w, s, w, n, s, e, e, e, n, w, n, e, w, s, n, n,
+        e, w, w, s, w, s, e, s, e, e, e, s, w, w, e, e, s, w, s, s, s, n, e, s, n, s, n, n, n, w,
+        e, n, n, n, w, w, w, s, w, n, s, e, e, e, n, w, n, e, w, s, n, n,
     ];
     Ok(Deal::from_seats(&seats).ok_or("thirteen each")?)
 }
@@ -119,7 +121,8 @@ fn labels_before_the_board(rt: HostRuntime) -> Result<(), Fail> {
     let mut heading = Heading::none();
     heading.event = Label::new(b"Club night");
     heading.date = Date::new(b"2024.05.01");
-    let front = b"[Event \"Club night\"]\n[Date \"2024.05.01\"]\n[Board \"16\"]\n[Dealer \"W\"]\n[Vulnerable \"EW\"]\n[Deal \"N:";
+    let front =
+        b"[Event \"Club night\"]\n[Date \"2024.05.01\"]\n[Board \"16\"]\n[Dealer \"W\"]\n[Vulnerable \"EW\"]\n[Deal \"N:";
     check_front(&rt, &heading, front)?;
     heading.site = Label::new(b"");
     let front = b"[Event \"Club night\"]\n[Site \"\"]\n[Date \"2024.05.01\"]\n[Board \"16\"]\n";

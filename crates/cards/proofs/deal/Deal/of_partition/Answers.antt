@@ -1,4 +1,5 @@
-use Rattle.cards.proofs.DealMasks.{masks_view, masks_of_partition}
+use Rattle.cards.proofs.DealMasks.{masks_view}
+use Rattle.cards.proofs.FullMasks.{masks_of_partition}
 use Rattle.cards.proofs.deal.Deal.of_partition.Goals as goal
 
 pub invariant_of-result : goal.invariant_of-result
