@@ -3,3 +3,11 @@ pub mod Ranges
 pub mod ValueLemmas
 pub mod Games
 pub mod Running
+pub mod Maps
+pub mod Joining
+pub mod Printing
+pub mod Advance
+pub mod Wholes
+pub mod Accepting
+pub mod Endings
+pub mod Finals

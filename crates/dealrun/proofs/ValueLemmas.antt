@@ -1,5 +1,5 @@
 -- The lines of a seed, by how many.
-use Rattle.std.proofs.Common.{◌≡◌, ◌<◌, ◌+◌, ◌-◌, ◌++◌, ◌∙◌, ℕ, List, [], Option, refl, sym, ap, arith, append_assoc, add-one, subst}
+use Rattle.std.proofs.Common.{◌≡◌, ◌<◌, ◌+◌, ◌-◌, ◌++◌, ◌∙◌, ℕ, List, [], Option, refl, sym, ap, arith, add-one, subst}
 use Rattle.std.specs.List.{flat_map, range_with_len}
 use Rattle.lcg48.specs.Sequence.{seeded_state, state_after, state_at, step, value_of}
 use Rattle.dealrun.specs.Sinks.{append_known, AppendsAll, AppendsPart}

@@ -3,3 +3,7 @@ pub mod Fuses
 pub mod Values
 pub mod Plans
 pub mod Text
+pub mod Turns
+pub mod Joins
+pub mod Writing
+pub mod Stands

@@ -51,11 +51,11 @@ impl Model for Plan {
     ghost view = { λ p. record { seed = p.seed; first = p.first; count = p.count; workers = p.workers; capacity = p.capacity; limit = p.limit; first_board = p.first_board; heading = p.heading } };
 
     ghost invariant = { λ p. record {
-        candidates : p.first + p.count ≤ 2 ^ 40;
-        workers : (0 < p.workers) × (p.workers ≤ 16);
-        capacity : (0 < p.capacity) × (p.capacity ≤ 4096);
-        limit : ForSome p.limit (λ most. 0 < most);
-        boards : (0 < p.first_board) × (p.first_board ≤ 2 ^ 40);
+      candidates : p.first + p.count ≤ 2 ^ 40;
+      workers : (0 < p.workers) × (p.workers ≤ 16);
+      capacity : (0 < p.capacity) × (p.capacity ≤ 4096);
+      limit : ForSome p.limit (λ most. 0 < most);
+      boards : (0 < p.first_board) × (p.first_board ≤ 2 ^ 40);
     } };
 
     ghost inverse = { λ v. record { seed = v.seed; first = v.first; count = v.count; workers = v.workers; capacity = v.capacity; limit = v.limit; first_board = v.first_board; heading = v.heading } };
@@ -66,7 +66,13 @@ impl Plan {
     ///
     /// `Range` where `first + count` is above 2^40; else `Workers` where they aren't 1 to 16; else `Capacity` where
     /// it isn't 1 to 4,096.
-    pub fn new(seed: u32, first: u64, count: u64, workers: u32, capacity: u32) -> Result<Plan, PlanError>
+    pub fn new(
+        seed: u32,
+        first: u64,
+        count: u64,
+        workers: u32,
+        capacity: u32,
+    ) -> Result<Plan, PlanError>
         ensures in_range { IsOk result ↔ ((first + count ≤ 2 ^ 40) × ((0 < workers) × (workers ≤ 16)) × ((0 < capacity) × (capacity ≤ 4096))) }
         ensures made { IfOk result (λ p. p ≡ record { seed = seed; first = first; count = count; workers = workers; capacity = capacity; limit = None; first_board = 1; heading = no_heading }) }
         ensures refused { IfErr result (λ e. e ≡ refusal_of first count workers) }

@@ -35,7 +35,7 @@ pub turns-elsewhere : (W w n : ℕ) → w ≢ n % W → turns W w (n + 1) ≡ tu
 turns-elsewhere W w n ne = let s : n + 1 ≡ suc n = omega arith in rw s (turns-more W w n ∙ cond-false (n % W == w) _ _ (ne_eqb (n % W) w (λ e. ne (sym e))))
 
 -- how many turns each of the W lanes has among the first n
-abbrev turn_counts : ℕ → ℕ → List ℕ
+abbrev pub turn_counts : ℕ → ℕ → List ℕ
 turn_counts W n = map (λ w. turns W w n) (range_with_len 0 W)
 
 count_at : (W n w : ℕ) → w < W → get_or (turn_counts W n) w 0 ≡ turns W w n

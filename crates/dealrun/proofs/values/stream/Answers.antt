@@ -1,4 +1,4 @@
-use Rattle.std.proofs.Common.{◌≡◌, ◌∙◌, ℕ, List, rules, arith, sym, ap, subst}
+use Rattle.std.proofs.Common.{◌≡◌, ◌∙◌, rules, sym, ap}
 use Rattle.std.proofs.lemmas.Result.{MatchResult-from_err}
 use Rattle.lcg48.specs.Sequence.{step, value_of}
 use Rattle.dealrun.specs.Values.{line}

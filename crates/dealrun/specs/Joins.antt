@@ -1,0 +1,68 @@
+-- What is known of the lanes once their workers were joined.
+use Rattle.std.specs.Prelude.{◌≡◌, ◌<◌, ℕ, true, false, List, ◌++◌, slice_index_or, Option, Some, None, MatchOption}
+use Rattle.lanes.specs.declared.verdict.Verdict.{Verdict}
+use Rattle.lanes.specs.Views.{OutView}
+use Rattle.lanes.specs.Work.{IsPrefix, IsProperPrefix}
+use Rattle.cond_lang.specs.Form.{Form}
+use Rattle.dealrun.specs.Plans.{Planned}
+use Rattle.dealrun.specs.Turns.{verdicts_for}
+use Rattle.dealrun.specs.declared.join.Outcome.{Outcome}
+use Rattle.dealrun.specs.declared.join.Outcome.TheVariants.{Done, Stopped, Unclosed}
+
+-- what was taken from a lane, followed by what is left in it
+abbrev pub all_of : OutView → List Verdict
+all_of l = l.taken ++ l.left
+
+-- the lane of a worker that owed the verdicts `all`, before and after the worker was joined
+abbrev pub JoinsAs : List Verdict → OutView → OutView → Outcome → Type 0
+JoinsAs all old new Done = (new.settled ≡ true) × (all_of new ≡ all)
+JoinsAs all old new Stopped = (new.settled ≡ true) × IsProperPrefix (all_of new) all
+JoinsAs all old new Unclosed = new ≡ old
+
+-- P holds of each of the first n lanes and its worker's verdicts
+abbrev pub Below : (List Verdict → OutView → Type 0) → ℕ → List (List Verdict) → List OutView → Type 0
+Below P n lists lanes = (k : ℕ) (d : List Verdict) (e : OutView) → k < n → P (slice_index_or lists k d) (slice_index_or lanes k e)
+
+abbrev pub PartIfSettled : List Verdict → OutView → Type 0
+PartIfSettled all l = l.settled ≡ true → IsPrefix (all_of l) all
+
+abbrev pub WholeIfSettled : List Verdict → OutView → Type 0
+WholeIfSettled all l = l.settled ≡ true → all_of l ≡ all
+
+abbrev pub IsSettled : List Verdict → OutView → Type 0
+IsSettled all l = l.settled ≡ true
+
+-- lane k is settled, and holds less than its worker owed
+abbrev pub BeginningAt : ℕ → List (List Verdict) → List OutView → Type 0
+BeginningAt k lists lanes = (d : List Verdict) (e : OutView) → ((slice_index_or lanes k e).settled ≡ true) × IsProperPrefix (all_of (slice_index_or lanes k e)) (slice_index_or lists k d)
+
+abbrev pub UnsettledAt : ℕ → List OutView → Type 0
+UnsettledAt k lanes = (e : OutView) → (slice_index_or lanes k e).settled ≡ false
+
+-- the first n workers were joined, and these are the least that was stopped and the least that was not closed
+pub record JoinedAs (n : ℕ) (lists : List (List Verdict)) (lanes : List OutView) (stopped unclosed : Option ℕ) : Type 0 where
+  pub parts : Below PartIfSettled n lists lanes
+  pub stopped_is : MatchOption stopped (Below WholeIfSettled n lists lanes) (λ s. (s < n) × Below WholeIfSettled s lists lanes × BeginningAt s lists lanes)
+  pub unclosed_is : MatchOption unclosed (Below IsSettled n lists lanes) (λ u. (u < n) × Below IsSettled u lists lanes × UnsettledAt u lanes)
+
+abbrev pub first_of : Option ℕ → ℕ → Option ℕ
+first_of None w = Some w
+first_of (Some s) w = Some s
+
+abbrev pub stopped_after : Outcome → ℕ → Option ℕ → Option ℕ
+stopped_after Done w s = s
+stopped_after Stopped w s = first_of s w
+stopped_after Unclosed w s = s
+
+abbrev pub unclosed_after : Outcome → ℕ → Option ℕ → Option ℕ
+unclosed_after Done w u = u
+unclosed_after Stopped w u = u
+unclosed_after Unclosed w u = first_of u w
+
+-- a lane that is settled, of a worker that sent all
+abbrev pub IsWhole : List Verdict → OutView → Type 0
+IsWhole all l = (l.settled ≡ true) × (all_of l ≡ all)
+
+-- every lane is
+abbrev pub AllWhole : Planned → Form → List OutView → Type 0
+AllWhole plan form lanes = (w : ℕ) (e : OutView) → w < plan.workers → IsWhole (verdicts_for plan form w) (slice_index_or lanes w e)

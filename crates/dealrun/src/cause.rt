@@ -1,0 +1,16 @@
+//! Why a run was interrupted.
+
+/// Why a run did not write all that its plan asks for. Where there are several causes, the first in this order.
+#[derive(Clone, Copy, Debug, PartialEq, Eq)]
+pub enum Cause {
+    /// A growth was refused before any thread started.
+    Memory,
+    /// A thread could not be started.
+    Spawn,
+    /// The sink failed.
+    Output,
+    /// A worker was stopped before it had sent all: the least such worker.
+    Stopped { worker: u32 },
+    /// A lane can't say how it ended: that of the least such worker.
+    Unclosed { worker: u32 },
+}

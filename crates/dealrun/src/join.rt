@@ -1,0 +1,89 @@
+//! The workers of a run when they are joined, and the lanes that are settled then.
+
+ghost use Rattle.std.specs.Prelude.{◌≡◌, ◌+◌, ◌<◌, ◌≤◌, ℕ, All, map, take, vec_len, slice_index_or, false};
+ghost use Rattle.lanes.specs.Jobs.{verdicts_of};
+ghost use Rattle.dealrun.specs.declared.join.Outcome.TheVariants.{Done, Stopped, Unclosed};
+
+use crate::start::Started;
+use lanes::{LaneOut, WorkEnd};
+use std::thread::Threads;
+
+/// How a worker ended.
+#[derive(Clone, Copy, Drop)]
+pub enum Outcome {
+    Done,
+    Stopped,
+    Unclosed,
+}
+
+/// The least worker that was stopped, and the least whose lane was not closed.
+#[derive(Clone, Copy, Drop)]
+pub struct Joined {
+    pub stopped: Option<u32>,
+    pub unclosed: Option<u32>,
+}
+
+impl Joined {
+    ghost use Rattle.dealrun.specs.Joins.{stopped_after, unclosed_after};
+
+    fn none() -> Joined
+        ensures { (result.stopped ≡ None) × (result.unclosed ≡ None) }
+    {
+        Joined {
+            stopped: None,
+            unclosed: None,
+        }
+    }
+
+    fn note(&mut self, worker: u32, outcome: Outcome)
+        ensures { (self.new.stopped ≡ stopped_after outcome worker self.old.stopped) × (self.new.unclosed ≡ unclosed_after outcome worker self.old.unclosed) }
+    {
+        match outcome {
+            Outcome::Done => {}
+            Outcome::Stopped => self.stopped = self.stopped.or(Some(worker)),
+            Outcome::Unclosed => self.unclosed = self.unclosed.or(Some(worker)),
+        }
+    }
+}
+
+ghost use Rattle.dealrun.specs.Joins.{JoinsAs, JoinedAs};
+
+/// Joins a worker, and settles its lane where it was closed.
+fn join_one<R: Threads>(rt: &R, handle: Started, lane: &mut LaneOut) -> Outcome
+    requires { handle.promise.lane.value.ring ≡ lane.old.ring }
+    ensures same { (lane.new.ring ≡ lane.old.ring) × (lane.new.taken ≡ lane.old.taken) }
+    ensures joined { JoinsAs (verdicts_of handle.promise.job.value) lane.old lane.new result }
+{
+    match handle.join(rt) {
+        WorkEnd::Done(mut closed) => {
+            lane.settle(&mut closed);
+            Outcome::Done
+        }
+        WorkEnd::Stopped(mut closed) => {
+            lane.settle(&mut closed);
+            Outcome::Stopped
+        }
+        WorkEnd::Unclosed => Outcome::Unclosed,
+    }
+}
+
+/// Joins the workers in order, and settles the lanes that were closed.
+pub fn join_all<R: Threads>(rt: &R, handles: Vec<Started>, lanes: &mut Vec<LaneOut>) -> Joined
+    requires counts { (vec_len handles ≤ vec_len lanes.old) × (vec_len lanes.old ≤ 16) }
+    requires rings { map (λ h. h.promise.lane.value.ring) handles.items ≡ take (vec_len handles) (map (λ l. l.ring) lanes.old.items) }
+    requires unsettled { All (λ l. l.settled ≡ false) lanes.old.items }
+    ensures taken { map (λ l. l.taken) lanes.new.items ≡ map (λ l. l.taken) lanes.old.items }
+    ensures len { vec_len lanes.new ≡ vec_len lanes.old }
+    ensures joined { JoinedAs (vec_len handles) (map (λ h. verdicts_of h.promise.job.value) handles.items) lanes.new.items result.stopped result.unclosed }
+    ensures rest { (k : ℕ) (e : _) → vec_len handles ≤ k → k < vec_len lanes.new → (slice_index_or lanes.new.items k e).settled ≡ false }
+{
+    let mut joined = Joined::none();
+    let mut worker = 0u32;
+    for handle in handles {
+        let lane = &mut lanes[worker as usize];
+        let outcome = join_one(rt, handle, lane);
+        joined.note(worker, outcome);
+        worker += 1;
+    }
+    joined
+}

@@ -1,0 +1,147 @@
+//! The workers of a run, before and when they start.
+
+ghost use Rattle.std.specs.Prelude.{◌≡◌, ◌+◌, ◌<◌, ◌≤◌, ℕ, [], All, IfOk, IfSome, map, take, vec_len, vec_capacity, false, true};
+ghost use Rattle.std.specs.List.{range_with_len};
+ghost use Rattle.lanes.specs.Jobs.{verdicts_of};
+ghost use Rattle.lanes.specs.Work.{Ends};
+ghost use Rattle.dealrun.specs.Turns.{verdicts_for};
+
+use crate::plan::Plan;
+use cond_lang::Cond;
+use lanes::{Gate, Job, LaneIn, LaneOut, Share, WorkEnd, lane, work};
+use std::alloc::{AllocError, Global};
+use std::snapshot::Snapshot;
+use std::sync::atomic::AtomicBool;
+use std::sync::{Arc, Wait};
+use std::thread;
+use std::thread::{Promise, PromisedHandle, Threads};
+
+/// The promise that a worker ends as its job asks, on the ring of its lane.
+#[derive(Drop)]
+pub struct EndsAsAssigned {
+    job: Snapshot<Job>,
+    lane: Snapshot<LaneIn>,
+}
+
+impl Promise<WorkEnd> for EndsAsAssigned {
+    ghost kept_by = { λ p r. Ends (verdicts_of p.job.value) p.lane.value.ring r };
+}
+
+/// The handle of a worker that was started.
+pub type Started = PromisedHandle<WorkEnd, EndsAsAssigned>;
+
+/// All that a worker starts with.
+#[derive(Drop)]
+pub struct Assignment<R, G> {
+    rt: R,
+    job: Job,
+    lane: LaneIn,
+    gate: Arc<G, Global>,
+    stop: Arc<AtomicBool, Global>,
+    ghost fresh: { lane.sent ≡ [] },
+}
+
+/// The assignment of one worker, and the other end of its lane. It fails only where a growth was refused.
+fn assign<R: Clone, G: Drop>(
+    rt: &R,
+    alloc: Global,
+    plan: &Plan,
+    cond: &Cond,
+    worker: u32,
+    gate: &Arc<G, Global>,
+    stop: &Arc<AtomicBool, Global>,
+) -> Result<(Assignment<R, G>, LaneOut), AllocError>
+    requires { worker < plan.now.workers }
+    ensures job { IfOk result (λ r. verdicts_of r.0.job ≡ verdicts_for plan.now cond.now worker) }
+    ensures ring { IfOk result (λ r. r.0.lane.ring ≡ r.1.ring) }
+    ensures taker { IfOk result (λ r. (r.1.taken ≡ []) × (r.1.settled ≡ false)) }
+{
+    let Some(share) = Share::new(plan.first(), plan.count(), plan.workers(), worker) else {
+        unreachable!()
+    };
+    let Ok(cond) = cond.try_clone() else {
+        return Err(AllocError);
+    };
+    let Ok((sender, taker)) = lane(alloc, plan.capacity()) else {
+        return Err(AllocError);
+    };
+    let seed = plan.seed();
+    let assignment = Assignment {
+        rt: rt.clone()?,
+        job: Job { seed, share, cond },
+        lane: sender,
+        gate: Arc::try_clone(gate)?,
+        stop: Arc::try_clone(stop)?,
+    };
+    Ok((assignment, taker))
+}
+
+/// The assignments of all workers of a plan, and the other ends of their lanes. It fails only where a growth was
+/// refused.
+pub fn assign_all<R: Clone, G: Drop>(
+    rt: &R,
+    alloc: Global,
+    plan: &Plan,
+    cond: &Cond,
+    gate: &Arc<G, Global>,
+    stop: &Arc<AtomicBool, Global>,
+) -> Result<(Vec<Assignment<R, G>>, Vec<LaneOut>), AllocError>
+    ensures len { IfOk result (λ r. (vec_len r.0 ≡ plan.now.workers) × (vec_len r.1 ≡ plan.now.workers)) }
+    ensures few { IfOk result (λ _. (0 < plan.now.workers) × (plan.now.workers ≤ 16)) }
+    ensures jobs { IfOk result (λ r. map (λ a. verdicts_of a.job) r.0.items ≡ map (verdicts_for plan.now cond.now) (range_with_len 0 plan.now.workers)) }
+    ensures rings { IfOk result (λ r. map (λ a. a.lane.ring) r.0.items ≡ map (λ l. l.ring) r.1.items) }
+    ensures idle { IfOk result (λ r. All (λ l. (l.taken ≡ []) × (l.settled ≡ false)) r.1.items) }
+{
+    let mut assignments = Vec::new(alloc);
+    let mut lanes = Vec::new(alloc);
+    for worker in 0..plan.workers() {
+        let (assignment, lane) = assign(rt, alloc, plan, cond, worker, gate, stop)?;
+        assignments.push(assignment)?;
+        lanes.push(lane)?;
+    }
+    Ok((assignments, lanes))
+}
+
+/// Starts a worker in a thread. `None` where no thread can be made.
+fn start<T: Threads, R: Wait + Drop + Send + 'static, G: Gate + Drop + Send + Sync + 'static>(
+    rt: &T,
+    assignment: Assignment<R, G>,
+) -> Option<Started>
+    ensures job { IfSome result (λ h. verdicts_of h.promise.job.value ≡ verdicts_of assignment.job) }
+    ensures ring { IfSome result (λ h. h.promise.lane.value.ring ≡ assignment.lane.ring) }
+{
+    let Assignment {
+        rt: mine,
+        job,
+        lane,
+        gate,
+        stop,
+    } = assignment;
+    let promise = EndsAsAssigned {
+        job: Snapshot::of(&job),
+        lane: Snapshot::of(&lane),
+    };
+    thread::spawn_with(rt, promise, move || work(mine, job, lane, gate, stop)).ok()
+}
+
+/// Starts the workers in order, until a thread can't be made. True where all were started.
+pub fn start_all<
+    T: Threads,
+    R: Wait + Drop + Send + 'static,
+    G: Gate + Drop + Send + Sync + 'static,
+>(rt: &T, assignments: Vec<Assignment<R, G>>, handles: &mut Vec<Started>) -> bool
+    requires empty { handles.old.items ≡ [] }
+    requires room { vec_len assignments ≤ vec_capacity handles.old }
+    ensures all { result ≡ true → vec_len handles.new ≡ vec_len assignments }
+    ensures len { vec_len handles.new ≤ vec_len assignments }
+    ensures jobs { map (λ h. verdicts_of h.promise.job.value) handles.new.items ≡ take (vec_len handles.new) (map (λ a. verdicts_of a.job) assignments.items) }
+    ensures rings { map (λ h. h.promise.lane.value.ring) handles.new.items ≡ take (vec_len handles.new) (map (λ a. a.lane.ring) assignments.items) }
+{
+    for assignment in assignments {
+        match start(rt, assignment) {
+            Some(handle) => handles.push_reserved(handle),
+            None => return false,
+        }
+    }
+    true
+}

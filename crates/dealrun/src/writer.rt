@@ -1,0 +1,203 @@
+//! The writer of a run: it takes the verdicts in turn and writes the games of the accepted ones.
+
+ghost use Rattle.std.specs.Prelude.{◌≡◌, ◌-◌, ◌+◌, ◌<◌, ◌≤◌, ◌^◌, ◌↔◌, ◌++◌, [], ◌∷◌, ℕ, List, Option, cond, map, vec_len, OnOk, OnErr, MatchResult, IfSome, IfNone, IsTrue, slice_index_or, true, false, Some, ◌⊎◌};
+ghost use Rattle.lanes.specs.declared.verdict.Verdict.{Verdict};
+ghost use Rattle.dealrun.specs.Sinks.{append_known, AppendsPart, Counts};
+ghost use Rattle.dealrun.specs.Writing.{game_after, GoesOn, GivesUp};
+ghost use Rattle.dealrun.specs.Joins.{AllWhole};
+ghost use Rattle.cond_lang.specs.Form.{Form};
+
+use crate::plan::Plan;
+use crate::sink::{Sink, SinkFault, put_all};
+use lanes::{LaneOut, Turns, Verdict};
+use pbn_text::{HEADER, game};
+use std::sync::Wait;
+use std::sync::atomic::{AtomicBool, Ordering};
+use std::{hint, thread};
+
+/// The most spins before a waiting writer leaves its time slice.
+const MOST_SPINS: u32 = 1024;
+
+/// How far the writer has come: whose turn it is, how many verdicts were taken, and how many games were written.
+#[derive(Drop)]
+pub struct Progress {
+    pub turns: Turns,
+    pub taken: u64,
+    pub boards: u64,
+    pub ghost turn: { turns.turn ≡ taken },
+    pub ghost fewer: { boards ≤ taken },
+}
+
+impl Progress {
+    /// No verdict was taken.
+    pub fn new(plan: &Plan) -> Progress
+        ensures start { (result.taken ≡ 0) × (result.boards ≡ 0) }
+        ensures workers { result.turns.workers ≡ plan.now.workers }
+    {
+        let Some(turns) = Turns::new(plan.workers()) else {
+            unreachable!()
+        };
+        Progress {
+            turns,
+            taken: 0,
+            boards: 0,
+        }
+    }
+
+    /// Whether the plan's limit of boards is met.
+    pub fn is_full(&self, plan: &Plan) -> bool
+        ensures { IsTrue result ↔ (plan.now.limit ≡ Some self.now.boards) }
+    {
+        match plan.limit() {
+            Some(most) => self.boards == u64::from(most),
+            None => false,
+        }
+    }
+
+    /// Counts a verdict that was taken, and writes its game where it is accepted.
+    fn write<S: Sink>(
+        &mut self,
+        plan: &Plan,
+        sink: &mut S,
+        verdict: &Verdict,
+    ) -> Result<(), SinkFault>
+        requires taken { self.old.taken < 2 ^ 40 }
+        requires faults { S.faults sink.old < 2 ^ 64 - 1 }
+        ensures taken { (self.new.taken ≡ self.old.taken + 1) × (self.new.turns.workers ≡ self.old.turns.workers) }
+        ensures faults { Counts (S.faults sink.old) (S.faults sink.new) result }
+        ensures boards { OnOk result (self.new.boards ≡ cond verdict.now.accepted (self.old.boards + 1) self.old.boards) }
+        ensures bytes { OnOk result (S.bytes sink.new ≡ append_known (S.bytes sink.old) (cond verdict.now.accepted (game_after plan.now self.old.boards verdict.now) [])) }
+        ensures broken { OnErr result ((verdict.now.accepted ≡ true) × (self.new.boards ≡ self.old.boards) × AppendsPart (S.bytes sink.old) (S.bytes sink.new) (game_after plan.now self.old.boards verdict.now)) }
+    {
+        self.turns.advance();
+        self.taken += 1;
+        if verdict.accepted {
+            let board = plan.first_board() + self.boards;
+            let text = game(board, plan.heading(), &verdict.deal);
+            put_all(sink, text.as_slice())?;
+            self.boards += 1;
+        }
+        Ok(())
+    }
+}
+
+/// Takes a verdict, and tries again until there is one or the flag is up. The first pause lets the worker get
+/// ahead by about a lane's content.
+fn wait_take<R: Wait>(
+    rt: &R,
+    lane: &mut LaneOut,
+    capacity: u32,
+    stop: &AtomicBool,
+) -> Option<Verdict>
+    ensures same { (lane.new.ring ≡ lane.old.ring) × (lane.new.settled ≡ lane.old.settled) }
+    ensures some { IfSome result (λ v. lane.new.taken ≡ lane.old.taken ++ v ∷ []) }
+    ensures none { IfNone result (lane.new ≡ lane.old) }
+{
+    let mut spins = capacity.saturating_mul(16).min(MOST_SPINS);
+    for _ in rt.forever() {
+        let verdict = lane.take();
+        // A load of the stop flag is no event of the core.
+        if verdict.is_some() || stop.load(Ordering::SeqCst) {
+            return verdict;
+        }
+        pause(spins);
+        spins = 0;
+    }
+    unreachable!()
+}
+
+/// Spins so often, or leaves the time slice where that is 0.
+fn pause(spins: u32) {
+    if spins == 0 {
+        thread::yield_now();
+    }
+    for _ in 0..spins {
+        hint::spin_loop();
+    }
+}
+
+/// Takes the verdicts in turn and writes their games, until all were taken, the limit of boards is met, or there is
+/// none and the flag is up.
+fn write_beside<R: Wait, S: Sink>(
+    rt: &R,
+    plan: &Plan,
+    lanes: &mut Vec<LaneOut>,
+    sink: &mut S,
+    progress: &mut Progress,
+    stop: &AtomicBool,
+) -> Result<(), SinkFault>
+    requires faults { S.faults sink.old < 2 ^ 64 - 1 }
+    requires counts { (vec_len lanes.old ≡ plan.now.workers) × (progress.old.turns.workers ≡ plan.now.workers) × (progress.old.taken ≤ plan.now.count) }
+    ensures same { (map (λ l. l.ring) lanes.new.items ≡ map (λ l. l.ring) lanes.old.items) × (map (λ l. l.settled) lanes.new.items ≡ map (λ l. l.settled) lanes.old.items) }
+    ensures counts { (vec_len lanes.new ≡ vec_len lanes.old) × (progress.new.turns.workers ≡ plan.now.workers) × (progress.new.taken ≤ plan.now.count) }
+    ensures faults { Counts (S.faults sink.old) (S.faults sink.new) result }
+    ensures broken { OnErr result ((base : Option (List ℕ)) → GoesOn plan.now lanes.old.items progress.old.taken progress.old.boards base (S.bytes sink.old) → GivesUp plan.now lanes.new.items progress.new.taken progress.new.boards base (S.bytes sink.new)) }
+    ensures written { OnOk result ((base : Option (List ℕ)) → GoesOn plan.now lanes.old.items progress.old.taken progress.old.boards base (S.bytes sink.old) → GoesOn plan.now lanes.new.items progress.new.taken progress.new.boards base (S.bytes sink.new)) }
+{
+    for _taken in progress.taken..plan.count() {
+        if progress.is_full(plan) {
+            return Ok(());
+        }
+        let lane = &mut lanes[progress.turns.lane() as usize];
+        let Some(verdict) = wait_take(rt, lane, plan.capacity(), stop) else {
+            return Ok(());
+        };
+        progress.write(plan, sink, &verdict)?;
+    }
+    Ok(())
+}
+
+/// Writes the header, and then the games as `write_beside` does.
+pub fn write_all<R: Wait, S: Sink>(
+    rt: &R,
+    plan: &Plan,
+    lanes: &mut Vec<LaneOut>,
+    sink: &mut S,
+    progress: &mut Progress,
+    stop: &AtomicBool,
+) -> Result<(), SinkFault>
+    requires faults { S.faults sink.old < 2 ^ 64 - 1 }
+    requires counts { (vec_len lanes.old ≡ plan.now.workers) × (progress.old.turns.workers ≡ plan.now.workers) × (progress.old.taken ≡ 0) × (progress.old.boards ≡ 0) }
+    requires fresh { (w : ℕ) (e : _) → w < plan.now.workers → (slice_index_or lanes.old.items w e).taken ≡ [] }
+    ensures same { (map (λ l. l.ring) lanes.new.items ≡ map (λ l. l.ring) lanes.old.items) × (map (λ l. l.settled) lanes.new.items ≡ map (λ l. l.settled) lanes.old.items) }
+    ensures counts { (vec_len lanes.new ≡ vec_len lanes.old) × (progress.new.turns.workers ≡ plan.now.workers) × (progress.new.taken ≤ plan.now.count) }
+    ensures faults { Counts (S.faults sink.old) (S.faults sink.new) result }
+    ensures broken { OnErr result (GivesUp plan.now lanes.new.items progress.new.taken progress.new.boards (S.bytes sink.old) (S.bytes sink.new)) }
+    ensures written { OnOk result (GoesOn plan.now lanes.new.items progress.new.taken progress.new.boards (S.bytes sink.old) (S.bytes sink.new)) }
+{
+    put_all(sink, &HEADER)?;
+    write_beside(rt, plan, lanes, sink, progress, stop)?;
+    Ok(())
+}
+
+/// Takes what is left of the lanes, whose workers sent all, and writes it, until the limit of boards is met.
+pub fn write_rest<S: Sink>(
+    plan: &Plan,
+    lanes: &mut Vec<LaneOut>,
+    sink: &mut S,
+    progress: &mut Progress,
+) -> Result<(), SinkFault>
+    requires faults { S.faults sink.old < 2 ^ 64 - 1 }
+    requires counts { (vec_len lanes.old ≡ plan.now.workers) × (progress.old.turns.workers ≡ plan.now.workers) × (progress.old.taken ≤ plan.now.count) }
+    requires whole { (form : Form) × AllWhole plan.now form lanes.old.items }
+    requires begun { (base : Option (List ℕ)) × GoesOn plan.now lanes.old.items progress.old.taken progress.old.boards base (S.bytes sink.old) }
+    ensures len { vec_len lanes.new ≡ vec_len lanes.old }
+    ensures whole { (form : Form) → AllWhole plan.now form lanes.old.items → AllWhole plan.now form lanes.new.items }
+    ensures counts { progress.new.taken ≤ plan.now.count }
+    ensures faults { Counts (S.faults sink.old) (S.faults sink.new) result }
+    ensures broken { OnErr result ((base : Option (List ℕ)) → GoesOn plan.now lanes.old.items progress.old.taken progress.old.boards base (S.bytes sink.old) → GivesUp plan.now lanes.new.items progress.new.taken progress.new.boards base (S.bytes sink.new)) }
+    ensures written { OnOk result ((base : Option (List ℕ)) → GoesOn plan.now lanes.old.items progress.old.taken progress.old.boards base (S.bytes sink.old) → GoesOn plan.now lanes.new.items progress.new.taken progress.new.boards base (S.bytes sink.new)) }
+    ensures end { OnOk result ((progress.new.taken ≡ plan.now.count) ⊎ (plan.now.limit ≡ Some progress.new.boards)) }
+{
+    for _taken in progress.taken..plan.count() {
+        if progress.is_full(plan) {
+            return Ok(());
+        }
+        let lane = &mut lanes[progress.turns.lane() as usize];
+        let Some(verdict) = lane.take() else {
+            unreachable!()
+        };
+        progress.write(plan, sink, &verdict)?;
+    }
+    Ok(())
+}
