@@ -6,6 +6,8 @@ use Rattle.cond_lang.specs.declared.error.CondError.{CondError}
 use Rattle.cond_lang.specs.declared.error.CondError.TheVariants.{Memory as no_memory}
 use Rattle.cond_lang.specs.declared.tree.Op.TheVariants.{Equal}
 use Rattle.pbn_text.specs.Labels.{IsDate, IsLabel}
+use Rattle.dealrun.specs.declared.cause.Cause.{Cause}
+use Rattle.dealrun.specs.declared.cause.Cause.TheVariants as cause
 use Rattle.dealrun.specs.Plans.{Planned}
 use Rattle.dealrun.specs.Sinks.{AppendsAll}
 use Rattle.dealrun.specs.Text.{text}
@@ -85,6 +87,14 @@ status_of (Unclosed worker) = 6
 abbrev pub failure_of : CondError → Failure
 failure_of no_memory = Memory
 failure_of error = Condition error
+
+-- an interrupted run, by its cause
+abbrev pub failure_by : Cause → Failure
+failure_by cause.Memory = Memory
+failure_by cause.Spawn = Spawn
+failure_by cause.Output = Output
+failure_by (cause.Stopped worker) = Stopped worker
+failure_by (cause.Unclosed worker) = Unclosed worker
 
 -- how many faults of the output stand behind a result
 abbrev pub faults_in : {T : Type 0} → Result T Failure → ℕ

@@ -35,7 +35,12 @@ fn show<O: Sink>(alloc: Global, error: &Error, out: &mut O) -> Result<(), Failur
 }
 
 /// Does what the words ask for, and flushes the output.
-fn serve<O: Sink>(alloc: Global, words: &[String], out: &mut O) -> Result<(), Failure>
+fn serve<R: Threads + Wait + Clone + Send + 'static, O: Sink>(
+    rt: &R,
+    alloc: Global,
+    words: &[String],
+    out: &mut O,
+) -> Result<(), Failure>
     requires { O.faults out.old < 2 ^ 64 - 1 }
     ensures text { (w : Wish) → asked (map string_bytes words.now) ≡ Some w → OnOk result (Appends w (O.bytes out.old) (O.bytes out.new)) }
     ensures planned { (w : Wish) → asked (map string_bytes words.now) ≡ Some w → HasPlan w → IfErr result (λ e. status_of e ≢ 2) }
@@ -46,7 +51,7 @@ fn serve<O: Sink>(alloc: Global, words: &[String], out: &mut O) -> Result<(), Fa
 {
     match read_words(alloc, words) {
         Ok(Request::Stream(request)) => stream(request.seed, request.count, out)?,
-        Ok(Request::Make(request)) => make(alloc, &request, out)?,
+        Ok(Request::Make(request)) => make(rt, alloc, &request, out)?,
         Err(error) => show(alloc, &error, out)?,
     }
     out.flush()?;
@@ -58,9 +63,9 @@ fn serve<O: Sink>(alloc: Global, words: &[String], out: &mut O) -> Result<(), Fa
 /// 0: done, or help was asked for, whose text is on `out`; 2: the command line, the plan or a label is refused;
 /// 3: the condition is refused; 4: the output failed; 5: want of memory; 6: a thread couldn't be started, or a
 /// worker stopped or wasn't closed. What went wrong is said on `err`, in one line but for clap's texts, and faults
-/// of `err` are ignored.
+/// of `err` are ignored. It may wait for its workers.
 pub fn program<R: Threads + Wait + Clone + Send + 'static, O: Sink, E: Sink>(
-    _rt: &R,
+    rt: &R,
     alloc: Global,
     words: &[String],
     out: &mut O,
@@ -80,7 +85,7 @@ pub fn program<R: Threads + Wait + Clone + Send + 'static, O: Sink, E: Sink>(
     // The status is 4 exactly where the output failed, once.
     ensures output { O.faults out.new ≡ O.faults out.old + (if result == 4 then 1 else 0) }
 {
-    match serve(alloc, words, out) {
+    match serve(rt, alloc, words, out) {
         Ok(()) => 0,
         Err(failure) => {
             let _ = failure.say(err);

@@ -1,11 +1,11 @@
 //! Why the program did nothing, or not all: its statuses and texts.
 
 ghost use Rattle.std.specs.Prelude.{◌≡◌, ◌-◌, ◌^◌, ◌<◌};
-ghost use Rattle.deals_cli.specs.Program.{failure_of, status_of};
+ghost use Rattle.deals_cli.specs.Program.{failure_by, failure_of, status_of};
 ghost use Rattle.deals_cli.specs.declared.failure.Failure.TheVariants.{Memory, Output};
 
 use cond_lang::CondError;
-use dealrun::{PlanError, Sink, SinkFault, put_all};
+use dealrun::{Cause, PlanError, Sink, SinkFault, put_all};
 use itoa::Buffer;
 use std::alloc::AllocError;
 
@@ -124,6 +124,19 @@ fn of_condition(error: CondError) -> Message<'static> {
 pub const OUT_OF_MEMORY: &str = "out of memory\n";
 
 impl Failure {
+    /// How a run that was interrupted ends the program.
+    pub fn from_cause(cause: Cause) -> Failure
+        ensures { result ≡ failure_by cause }
+    {
+        match cause {
+            Cause::Memory => Failure::Memory,
+            Cause::Spawn => Failure::Spawn,
+            Cause::Output => Failure::Output,
+            Cause::Stopped { worker } => Failure::Stopped(worker),
+            Cause::Unclosed { worker } => Failure::Unclosed(worker),
+        }
+    }
+
     /// The exit status.
     pub fn status(&self) -> u8
         ensures { result ≡ status_of self.now }

@@ -10,9 +10,12 @@ ghost use Rattle.deals_cli.specs.Requests.{make as wish, making_of};
 use crate::failure::{Failure, LabelName};
 use crate::request::MakeRequest;
 use cond_lang::{Cond, parse};
-use dealrun::{Plan, PlanError, Sink, run_plain};
+use dealrun::{Plan, PlanError, Sink, run};
+use lanes::OpenGate;
 use pbn_text::{Date, Heading, Label};
 use std::alloc::Global;
+use std::sync::{Arc, Wait};
+use std::thread::Threads;
 
 /// The label of a text that was given. It is refused exactly where no label has the text.
 fn label_of(text: Option<&str>, name: LabelName) -> Result<Option<Label>, Failure>
@@ -96,8 +99,13 @@ fn condition_of(alloc: Global, request: &MakeRequest<'_>) -> Result<Cond, Failur
     Ok(parse(alloc, text.as_bytes())?)
 }
 
-/// Writes the games that the options ask for.
-pub fn make<O: Sink>(alloc: Global, request: &MakeRequest<'_>, out: &mut O) -> Result<(), Failure>
+/// Writes the games that the options ask for, judged by their workers.
+pub fn make<R: Threads + Wait + Clone + Send + 'static, O: Sink>(
+    rt: &R,
+    alloc: Global,
+    request: &MakeRequest<'_>,
+    out: &mut O,
+) -> Result<(), Failure>
     requires { O.faults out.old < 2 ^ 64 - 1 }
     ensures text { OnOk result (Appends (wish (making_of request.now)) (O.bytes out.old) (O.bytes out.new)) }
     ensures planned { IsPlanned (making_of request.now) → IfErr result (λ e. status_of e ≢ 2) }
@@ -108,8 +116,11 @@ pub fn make<O: Sink>(alloc: Global, request: &MakeRequest<'_>, out: &mut O) -> R
 {
     let plan = planned(request)?;
     let condition = condition_of(alloc, request)?;
-    match run_plain(&plan, &condition, out) {
+    let Ok(gate) = Arc::new(alloc, OpenGate) else {
+        return Err(Failure::Memory);
+    };
+    match run(rt, alloc, &plan, condition, out, gate) {
         Ok(_) => Ok(()),
-        Err(_) => Err(Failure::Output),
+        Err(fault) => Err(Failure::from_cause(fault.cause)),
     }
 }
