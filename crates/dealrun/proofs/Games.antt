@@ -1,9 +1,9 @@
 -- Games one after another, and the accepted candidates one after another.
-use Rattle.std.proofs.Common.{◌≡◌, ◌∙◌, ◌<◌, ◌≤◌, ◌+◌, ◌-◌, ◌++◌, ℕ, zero, suc, Bool, true, false, cond, List, [], ◌∷◌, length, map, take, drop, Option, Some, None, refl, sym, ap, subst, arith, append_assoc, length-append}
+use Rattle.std.proofs.Common.{◌≡◌, ◌∙◌, ◌<◌, ◌≤◌, ◌+◌, ◌-◌, ◌++◌, ℕ, suc, Bool, true, false, cond, List, [], ◌∷◌, length, map, take, Option, Some, None, refl, sym, ap, arith, append_assoc, length-append}
 use Rattle.std.specs.Prelude.{filter}
 use Rattle.std.specs.List.{enumerate_from, flat_map, range_with_len}
 use Rattle.std.proofs.lemmas.Grind.{flat_map-append}
-use Rattle.std.proofs.lemmas.List.{append-nil, map-append, length-map, take-append-le, take_all}
+use Rattle.std.proofs.lemmas.List.{append-nil, map-append, length-map, take_all}
 use Rattle.std.proofs.lemmas.List.Elements.{filter-append}
 use Rattle.std.proofs.Math.Seq.{take-append_seam, take-append-add}
 use Rattle.cards.specs.declared.seat.Seat.{Seat}
@@ -12,7 +12,7 @@ use Rattle.cond_lang.specs.Form.{Form}
 use Rattle.cond_lang.specs.Meaning.{holds}
 use Rattle.pbn_text.specs.Games.{HeadingView, game, header}
 use Rattle.dealrun.specs.Plans.{Planned}
-use Rattle.dealrun.specs.Text.{accepted, accepted_among, games, limited, text_of, text_of_deals}
+use Rattle.dealrun.specs.Text.{accepted_among, games, limited, text_of, text_of_deals}
 use Rattle.dealrun.proofs.Ranges.{range_with_len-add, range_with_len-more}
 
 -- ---- games

@@ -1,5 +1,5 @@
 -- The plain run, candidate by candidate.
-use Rattle.std.proofs.Common.{◌≡◌, ◌∙◌, ◌<◌, ◌≤◌, ◌+◌, ◌*◌, ◌-◌, ◌++◌, ℕ, Bool, true, false, List, [], ◌∷◌, length, take, Option, Some, None, refl, sym, ap, subst, arith, append_assoc, length-append}
+use Rattle.std.proofs.Common.{◌≡◌, ◌∙◌, ◌<◌, ◌≤◌, ◌+◌, ◌*◌, ◌++◌, ℕ, Bool, true, false, List, [], ◌∷◌, length, take, Option, Some, None, refl, sym, ap, subst, arith, append_assoc, length-append}
 use Rattle.std.proofs.lemmas.List.{append-nil}
 use Rattle.std.proofs.Math.Seq.{take-append_seam}
 use Rattle.lcg48.specs.Sequence.{seeded_state, state_after}
@@ -15,7 +15,7 @@ use Rattle.dealrun.specs.Plans.{Planned}
 use Rattle.dealrun.specs.Sinks.{append_known, AppendsAll, AppendsPart}
 use Rattle.dealrun.specs.Text.{BreaksOff, accepted, accepted_among, limited, text, text_of}
 use Rattle.dealrun.proofs.SinkLemmas.{append_known-append}
-use Rattle.dealrun.proofs.Games.{IsWithin, LimitedParts, More, accepted_among-more, accepted_among-none, accepted_among-parts, limited-all, limited-full, limited-next, text_of-append, text_of-more, text_of-none, within_more}
+use Rattle.dealrun.proofs.Games.{IsWithin, accepted_among-more, accepted_among-none, accepted_among-parts, limited-all, limited-full, limited-next, text_of-append, text_of-more, text_of-none, within_more}
 
 -- after i candidates: the accepted ones among them were written, within the limit
 pub record Running (plan : Planned) (form : Form) (i boards : ℕ) (base now : Option (List ℕ)) : Type 0 where

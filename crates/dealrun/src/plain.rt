@@ -38,7 +38,12 @@ pub(crate) fn is_full(plan: &Plan, boards: u64) -> bool
 }
 
 /// Writes the game of the next board, where `boards` are written.
-pub(crate) fn put_game<S: Sink>(plan: &Plan, boards: u64, deal: &Deal, sink: &mut S) -> Result<(), SinkFault>
+pub(crate) fn put_game<S: Sink>(
+    plan: &Plan,
+    boards: u64,
+    deal: &Deal,
+    sink: &mut S,
+) -> Result<(), SinkFault>
     requires faults { S.faults sink.old < 2 ^ 64 - 1 }
     requires boards { boards ≤ 2 ^ 40 }
     ensures bytes { Puts (S.bytes sink.old) (S.bytes sink.new) result (game_of (plan.now.first_board + boards) plan.now.heading deal.now) }

@@ -1,8 +1,8 @@
 //! The program `deals`: its words and standard streams, and its status.
 #![tactic(auto)]
 
-use deals_cli::program;
 use dealrun::{Piped, put_all};
+use deals_cli::program;
 use std::io::{BufWriter, ErrorKind, Result};
 use std::process::ExitCode;
 use std::{env, io};

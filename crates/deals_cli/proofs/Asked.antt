@@ -1,13 +1,13 @@
 -- What words without a fault ask for.
-use Rattle.std.proofs.Common.{◌≡◌, ◌⊎◌, ◌∙◌, ◌||◌, ℕ, Bool, true, false, List, [], ◌∷◌, Option, Some, None, refl, sym, ap, subst, inl, inr, codes, option_map}
-use Rattle.std.specs.Prelude.{IsSome, Box, if◌then◌else◌}
+use Rattle.std.proofs.Common.{◌≡◌, ◌⊎◌, ◌∙◌, Bool, true, false, List, [], ◌∷◌, Option, Some, None, refl, sym, ap, subst, inl, inr, codes, option_map}
+use Rattle.std.specs.Prelude.{IsSome, Box}
 use Rattle.std.specs.Borrow.{Bor}
 use Rattle.std.specs.Box.{box_value}
 use Rattle.std.specs.Str.{bytes_eq}
 use Rattle.std.proofs.lemmas.Slice.Eq.{bytes_eq-Decides}
 use Rattle.clap.specs.Faults.{fault_of, is_simple_and_free}
 use Rattle.clap.specs.Kinds.{HasKind, Kinds}
-use Rattle.clap.specs.Simple.{App, HasMatchesOf, argument_words, built, label_of, subcommand_of, subcommand_rows, subcommand_rows_of}
+use Rattle.clap.specs.Simple.{App, HasMatchesOf, argument_words, built, subcommand_of, subcommand_rows, subcommand_rows_of}
 use Rattle.clap.specs.Walk.{Row, Text, answers_to, rows_after}
 use Rattle.clap.specs.Words.{found_of, kind_of, rows_of, subcommand_name_of}
 use Rattle.clap.specs.declared.error.Error.{Error}
@@ -17,9 +17,9 @@ use Rattle.clap.specs.declared.parser.matches.ArgMatches.TheViews.{out-ArgMatche
 use Rattle.clap.specs.declared.parser.matches.SubCommand.{SubCommand}
 use Rattle.deals_cli.specs.CommandLine.{asked, deals, making_in, stream_wish, unless_fault, wish_by}
 use Rattle.deals_cli.specs.Readings.{MakeValues, StreamValues}
-use Rattle.deals_cli.specs.Requests.{Wish, make}
-use Rattle.deals_cli.proofs.Commands.{help_built, make_built, make_values, stream_built, stream_values}
-use Rattle.deals_cli.proofs.Entered.{Enters, enters}
+use Rattle.deals_cli.specs.Requests.{make}
+use Rattle.deals_cli.proofs.Commands.{make_built, make_values, stream_built, stream_values}
+use Rattle.deals_cli.proofs.Entered.{enters}
 
 -- the words name `stream`, and its options have their values
 pub record NamesStream (words : List Text) : Type 0 where
@@ -48,15 +48,15 @@ named words f =
     let e = enters (built deals) (argument_words deals words) refl refl f in
     elim e.is_sub [
       | inl same ↦ inl (record {
-          rows = rows_after stream_built.rules [] e.rest;
-          named = rw same at e.entered_it;
-          values = stream_values e.rest (rw same at e.fault);
-        })
+        rows = rows_after stream_built.rules [] e.rest;
+        named = rw same at e.entered_it;
+        values = stream_values e.rest (rw same at e.fault);
+      })
       | inr (inl same) ↦ inr (record {
-          rows = rows_after make_built.rules [] e.rest;
-          named = rw same at e.entered_it;
-          values = make_values e.rest (rw same at e.fault);
-        })
+        rows = rows_after make_built.rules [] e.rest;
+        named = rw same at e.entered_it;
+        values = make_values e.rest (rw same at e.fault);
+      })
       | inr (inr (inl same)) ↦ absurd (no_help e.word (rw same at e.answers) e.no_help)
       | inr (inr (inr bad)) ↦ absurd bad
     ]

@@ -1,14 +1,14 @@
 -- The options of each subcommand as built, and what a parse without a fault says of their values.
-use Rattle.std.proofs.Common.{◌≡◌, ◌⊎◌, ◌≤◌, ℕ, true, false, List, [], ◌∷◌, Option, None, refl, inl, inr, codes, lit≤}
-use Rattle.clap.specs.Simple.{App, Shape, built, filled, new_shape}
+use Rattle.std.proofs.Common.{◌≡◌, ◌⊎◌, ◌≤◌, ℕ, false, List, [], ◌∷◌, None, refl, inl, inr, codes, lit≤}
+use Rattle.clap.specs.Simple.{Shape, built, filled, new_shape}
 use Rattle.clap.specs.Faults.{level_fault}
 use Rattle.clap.specs.Walk.{Row, Rule, Text, nothing_held, one_of, rows_after}
 use Rattle.clap.specs.declared.builder.value_parser.ValueParser.{ValueParser}
 use Rattle.clap.specs.declared.builder.value_parser.ValueParser.TheVariants.{Unsigned}
 use Rattle.clap.proofs.ValueTestLemmas.{accepts-Accepts}
 use Rattle.deals_cli.specs.CommandLine.{count_parser, deals, option_rule, required, u32_parser, u64_parser}
-use Rattle.deals_cli.specs.Readings.{Gives32, Gives64, GivesUpTo, HasValue, MakeValues, MayGive32, MayGive64, StreamValues}
-use Rattle.deals_cli.proofs.Walks.{IsIn, Passing, PlainRules, given_value, level_checked, level_passing, passed_value, required_given}
+use Rattle.deals_cli.specs.Readings.{Gives32, GivesUpTo, HasValue, MakeValues, MayGive32, MayGive64, StreamValues}
+use Rattle.deals_cli.proofs.Walks.{PlainRules, given_value, level_checked, level_passing, passed_value, required_given}
 
 abbrev first_shape : List Shape → Shape
 first_shape [] = new_shape []

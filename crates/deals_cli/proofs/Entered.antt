@@ -1,11 +1,9 @@
 -- The subcommand that a parse without a fault entered.
-use Rattle.std.proofs.Common.{◌≡◌, ◌⊎◌, ◌∙◌, Bool, true, false, List, [], ◌∷◌, Option, Some, None, is_some, refl, sym, ap, subst, inl, inr, find, option_map, codes}
+use Rattle.std.proofs.Common.{◌≡◌, ◌⊎◌, Bool, true, false, List, [], ◌∷◌, Option, Some, None, is_some, refl, subst, inl, inr, find, codes}
 use Rattle.std.specs.Str.{bytes_eq}
-use Rattle.std.specs.Option.{option_map_or}
-use Rattle.clap.specs.Kinds.{Kinds}
-use Rattle.clap.specs.Walk.{Row, Text, answers_to, nothing_held, rows_after, stop_after, walk, walk_from}
-use Rattle.clap.specs.Simple.{App, Shape, argument_words, built, entered, label_of, names_of, rows_at, subcommand_of}
-use Rattle.clap.specs.Faults.{built_fault, entered_fault, fault_of, level_fault, walk_fault}
+use Rattle.clap.specs.Walk.{Text, answers_to, nothing_held, rows_after, stop_after, walk_from}
+use Rattle.clap.specs.Simple.{App, Shape, entered, label_of, names_of, rows_at}
+use Rattle.clap.specs.Faults.{built_fault, entered_fault, level_fault, walk_fault}
 use Rattle.deals_cli.proofs.Help.{IsOther, walk_other}
 use Rattle.deals_cli.proofs.Walks.{or_none_first, level_below, level_checked, subcommand_there}
 

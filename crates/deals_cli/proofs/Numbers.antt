@@ -1,5 +1,5 @@
 -- The numbers that the typed getters answer are those that the words give.
-use Rattle.std.proofs.Common.{◌≡◌, ◌⊎◌, ◌∙◌, ◌<◌, ◌≤◌, ◌^◌, ℕ, List, Option, Some, None, refl, sym, ap, subst, inl, inr, lit<, option_map, arith}
+use Rattle.std.proofs.Common.{◌≡◌, ◌∙◌, ℕ, List, Option, Some, None, sym, ap, subst, inl, inr, lit<, option_map}
 use Rattle.std.specs.Prelude.{Ok, Err, Result}
 use Rattle.std.specs.Str.Parse.{ParsesUnsigned, digits_value, without_leading_plus}
 use Rattle.clap.proofs.CallerReads.{signed_reads}
@@ -7,7 +7,7 @@ use Rattle.clap.proofs.WalkLemmas.{one_text-rows}
 use Rattle.clap.specs.Words.{ReadsOne, Text, Row, one_of, one_text, rows_of, without_minus}
 use Rattle.clap.specs.declared.parser.matches.Found.{Found}
 use Rattle.deals_cli.specs.CommandLine.{number_in}
-use Rattle.deals_cli.specs.Readings.{Gives32, GivesUpTo, MayGive32, MayGive64}
+use Rattle.deals_cli.specs.Readings.{MayGive32, MayGive64}
 
 number-some : (id : Text) (rows : List Row) (t : Text) → one_of id rows ≡ Some t → number_in id rows ≡ Some (digits_value 10 (without_leading_plus t))
 number-some id rows t e = ap (option_map (λ (u : Text). digits_value 10 (without_leading_plus u))) e

@@ -1,5 +1,5 @@
 -- How the refusal of a condition ends the program.
-use Rattle.std.proofs.Common.{◌≡◌, ◌≤◌, ◌⊎◌, ◌∙◌, ℕ, List, length, Option, Some, refl, ap, sym, subst, inl, inr, option_map}
+use Rattle.std.proofs.Common.{◌≡◌, ◌≤◌, ◌⊎◌, ℕ, List, length, Option, Some, refl, ap, sym, subst, inl, inr, option_map}
 use Rattle.std.specs.Borrow.{Bor}
 use Rattle.cond_lang.specs.Form.{Form}
 use Rattle.cond_lang.specs.Text.{SpellsTree}

@@ -1,5 +1,5 @@
 -- What the program does for a wish, and how it ends.
-use Rattle.std.specs.Prelude.{◌≡◌, ◌≤◌, ◌<◌, ◌^◌, ◌+◌, ℕ, Bool, true, false, List, Option, None, Some, Result, Ok, Err, length, unwrap_or}
+use Rattle.std.specs.Prelude.{◌≡◌, ◌≤◌, ◌<◌, ◌^◌, ◌+◌, ℕ, Bool, true, false, List, Option, None, Some, Result, Err, length, unwrap_or}
 use Rattle.cond_lang.specs.Form.{Form, compare, number}
 use Rattle.cond_lang.specs.Text.{SpellsTree}
 use Rattle.cond_lang.specs.declared.error.CondError.{CondError}

@@ -26,15 +26,25 @@ const MAKE_EXAMPLES: &str = "Examples:
 The same options give the same bytes, on every machine and with any number of workers.";
 
 const CANDIDATES: &str = "How many candidates are tried; first + N is at most 1099511627776";
+
 const FIRST: &str = "The number of the first candidate [default: 0]";
+
 const WORKERS: &str = "How many workers, 1 to 16 [default: 1]";
+
 const LANE: &str = "How many verdicts a worker may be ahead of the writer, 1 to 4096 [default: 64]";
+
 const WHERE: &str = "The condition that a deal has to meet [default: every deal]";
+
 const BOARDS: &str =
     "Stops after M boards, 1 to 4294967295; fewer mean that the candidates held no more [default: no limit]";
+
 const FIRST_BOARD: &str = "The number of the first board, 1 to 1099511627776 [default: 1]";
-const EVENT: &str = "The event, at most 100 characters of ASCII without \" and \\ [default: no line]";
+
+const EVENT: &str =
+    "The event, at most 100 characters of ASCII without \" and \\ [default: no line]";
+
 const SITE: &str = "The place, like the event [default: no line]";
+
 const DATE: &str = "The date, as 2024.05.01 [default: no line]";
 
 /// An option `--id NAME`, with its help.
@@ -72,8 +82,22 @@ fn stream_command<'a>(alloc: Global) -> Result<Command<'a>, AllocError>
         .about("Prints the nrand48 values of a seed, one per line")
         .after_help(STREAM_EXAMPLES);
     let values = value_parser!(u64).range(..=MOST_VALUES);
-    let seed = option(alloc, "seed", value_parser!(u32), "S", "The seed, 0 to 4294967295").required(true);
-    let count = option(alloc, "count", values, "N", "How many values, 0 to 1099511627776").required(true);
+    let seed = option(
+        alloc,
+        "seed",
+        value_parser!(u32),
+        "S",
+        "The seed, 0 to 4294967295",
+    )
+    .required(true);
+    let count = option(
+        alloc,
+        "count",
+        values,
+        "N",
+        "How many values, 0 to 1099511627776",
+    )
+    .required(true);
     let command = with_option(command, seed)?;
     with_option(command, count)
 }
@@ -83,9 +107,18 @@ fn with_candidates<'a>(alloc: Global, command: Command<'a>) -> Result<Command<'a
     ensures app { IfOk result (λ c. app_of c ≡ with_candidates (app_of command.entry)) }
     ensures local { IfOk result (λ c. (fields_of c).has_globals ≡ (fields_of command.entry).has_globals) }
 {
-    let seed = option(alloc, "seed", value_parser!(u32), "S", "The seed, 0 to 4294967295").required(true);
+    let seed = option(
+        alloc,
+        "seed",
+        value_parser!(u32),
+        "S",
+        "The seed, 0 to 4294967295",
+    )
+    .required(true);
     let command = with_option(command, seed)?;
-    let candidates = option(alloc, "candidates", value_parser!(u64), "N", CANDIDATES).required(true);
+    let candidates = option(alloc, "candidates", value_parser!(u64), "N", CANDIDATES).required(
+        true,
+    );
     with_option(command, candidates)
 }
 
@@ -147,7 +180,9 @@ pub fn command<'a>(alloc: Global) -> Result<Command<'a>, AllocError>
 {
     Command::new(alloc, "deals")
         .version("0.1.0")
-        .about("Bridge deals that can be dealt again, by the sequence of POSIX drand48 and Knuth's Algorithm P")
+        .about(
+            "Bridge deals that can be dealt again, by the sequence of POSIX drand48 and Knuth's Algorithm P",
+        )
         .subcommand_required(true)
         .subcommand(stream_command(alloc)?)?
         .subcommand(make_command(alloc)?)

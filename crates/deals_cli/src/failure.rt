@@ -160,7 +160,11 @@ impl Failure {
             Failure::Memory => Message::plain(OUT_OF_MEMORY),
             Failure::Spawn => Message::plain("thread not started\n"),
             Failure::Stopped(worker) => Message::with("worker ", u64::from(*worker), " stopped\n"),
-            Failure::Unclosed(worker) => Message::with("worker ", u64::from(*worker), " not closed\n"),
+            Failure::Unclosed(worker) => Message::with(
+                "worker ",
+                u64::from(*worker),
+                " not closed\n",
+            ),
         }
     }
 

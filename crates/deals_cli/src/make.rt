@@ -66,7 +66,13 @@ fn numbers_of(request: &MakeRequest<'_>) -> Result<Plan, PlanError>
     ensures sound { IfOk result (λ _. HasNumbers (making_of request.now)) }
     ensures refused { IfErr result (λ _. HasNumbers (making_of request.now) → ⊥) }
 {
-    let plan = Plan::new(request.seed, request.first, request.candidates, request.workers, request.lane)?;
+    let plan = Plan::new(
+        request.seed,
+        request.first,
+        request.candidates,
+        request.workers,
+        request.lane,
+    )?;
     let plan = match request.boards {
         Some(most) => plan.limited(most)?,
         None => plan,

@@ -1,7 +1,7 @@
-use Rattle.std.proofs.Common.{◌≡◌, ◌+◌, ◌<◌, ◌≤◌, ◌∙◌, true, refl, arith, ap, sym}
+use Rattle.std.proofs.Common.{◌≡◌, ◌+◌, ◌∙◌, true, refl, arith, ap, sym}
 use Rattle.cards.specs.Candidates.{state_before}
 use Rattle.cards.specs.Deals.{dealt}
-use Rattle.dealrun.proofs.Running.{Running, breaks_game, breaks_header, ended_full, next_deal, next_generator, running_next, running_none, running_skip}
+use Rattle.dealrun.proofs.Running.{breaks_game, breaks_header, ended_full, next_deal, next_generator, running_next, running_none, running_skip}
 use Rattle.dealrun.proofs.SinkLemmas.{at_err, at_ok}
 use Rattle.dealrun.proofs.plain.run_plain.Goals as goal
 use Rattle.dealrun.proofs.plain.run_plain.Goals.{then-holds+else-is_err-2, else-holds}
@@ -41,18 +41,18 @@ loop-preserved g c =
     c.loop.invariant.generator c.draw.ensures.stepped (omega arith) in
     elim c.if-holds.branch [
       | then-holds+else-is_err-2 w ↦ record {
-          running = rw (w.boards-is, w.sink-is) (running_next c.args.plan.now c.args.cond.now c.loop.counter c.loop.boards _ (g.S.Sink.bytes c.loop.sink) _ c.shuffled-deal.result deal
-              (sym w.if-holds.true ∙ c.holds.ensures)
-              (λ e. let full : c.is_full.result ≡ true = c.is_full.ensures.1 e in let not_full = c.if-is_full.false in absurd cc)
-              c.loop.invariant.running
-              (at_ok _ _ w.put_game.result w.if-is_err-2.ensures.value w.put_game.ensures.bytes));
-          generator = generator;
-          faults = ap g.S.Sink.faults w.sink-is ∙ at_ok _ _ w.put_game.result w.if-is_err-2.ensures.value w.put_game.ensures.faults ∙ c.loop.invariant.faults;
-        }
+        running = rw (w.boards-is, w.sink-is) (running_next c.args.plan.now c.args.cond.now c.loop.counter c.loop.boards _ (g.S.Sink.bytes c.loop.sink) _ c.shuffled-deal.result deal
+            (sym w.if-holds.true ∙ c.holds.ensures)
+            (λ e. let full : c.is_full.result ≡ true = c.is_full.ensures.1 e in let not_full = c.if-is_full.false in absurd cc)
+            c.loop.invariant.running
+            (at_ok _ _ w.put_game.result w.if-is_err-2.ensures.value w.put_game.ensures.bytes));
+        generator = generator;
+        faults = ap g.S.Sink.faults w.sink-is ∙ at_ok _ _ w.put_game.result w.if-is_err-2.ensures.value w.put_game.ensures.faults ∙ c.loop.invariant.faults;
+      }
       | else-holds w ↦ record {
-          running = rw (w.boards-is, w.sink-is) (running_skip c.args.plan.now c.args.cond.now c.loop.counter c.loop.boards _ _ c.shuffled-deal.result deal
-              (sym w.if-holds.false ∙ c.holds.ensures) c.loop.invariant.running);
-          generator = generator;
-          faults = ap g.S.Sink.faults w.sink-is ∙ c.loop.invariant.faults;
-        }
+        running = rw (w.boards-is, w.sink-is) (running_skip c.args.plan.now c.args.cond.now c.loop.counter c.loop.boards _ _ c.shuffled-deal.result deal
+            (sym w.if-holds.false ∙ c.holds.ensures) c.loop.invariant.running);
+        generator = generator;
+        faults = ap g.S.Sink.faults w.sink-is ∙ c.loop.invariant.faults;
+      }
     ]

@@ -14,5 +14,5 @@ returns-clause-app c =
     (with_rule (with_rule (app_of c.args.command) (option_rule (codes "where") String)) (option_rule (codes "boards") u32_parser))
     (rule_of c.option-first_board.result) (option_rule (codes "first-board") u64_parser)
     (c.in_ok-command-2.ensures.app ∙ (ap (λ (a : App). with_rule a (rule_of c.option-boards.result)) (c.in_ok-command.ensures.app ∙ ap (with_rule (app_of c.args.command)) condition)
-        ∙ ap (with_rule (with_rule (app_of c.args.command) (option_rule (codes "where") String))) boards))
+    ∙ ap (with_rule (with_rule (app_of c.args.command) (option_rule (codes "where") String))) boards))
     first_board c.with_option-3.ensures.app

@@ -1,4 +1,4 @@
-use Rattle.std.proofs.Common.{◌≡◌, ◌∙◌, ap, ap₂, sym, map, string_bytes, Some}
+use Rattle.std.proofs.Common.{◌∙◌, ap, ap₂, sym, map, string_bytes, Some}
 use Rattle.std.proofs.lemmas.Result.{err_from_is_err_and}
 use Rattle.deals_cli.specs.Requests.{make, stream}
 use Rattle.deals_cli.proofs.Asked.{chosen, err_kind}
