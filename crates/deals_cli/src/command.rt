@@ -3,7 +3,7 @@
 ghost use Rattle.std.specs.Prelude.{◌≡◌, false, IfOk};
 ghost use Rattle.clap.specs.Words.{app_of, rule_of, with_rule};
 ghost use Rattle.clap.specs.declared.Command.TheViews.{out-Command as fields_of};
-ghost use Rattle.deals_cli.specs.CommandLine.{deals, make_app, option_rule, stream_app, with_boards, with_candidates, with_labels, with_search};
+ghost use Rattle.deals_cli.specs.CommandLine.{deals, make_app, option_rule, required, stream_app, with_boards, with_candidates, with_labels, with_search};
 
 use clap::builder::ValueParser;
 use clap::{Arg, Command, value_parser};
@@ -24,6 +24,10 @@ const MAKE_EXAMPLES: &str = "Examples:
     deals make --seed 2024 --candidates 100000000 --boards 12 --workers 4 --where 'hcp(north)+hcp(south)>=33'
 
 The same options give the same bytes, on every machine and with any number of workers.";
+
+const SEED: &str = "The seed, 0 to 4294967295";
+
+const COUNT: &str = "How many values, 0 to 1099511627776";
 
 const CANDIDATES: &str = "How many candidates are tried; first + N is at most 1099511627776";
 
@@ -65,6 +69,20 @@ fn option<'a>(
         .help(help)
 }
 
+/// An option that has to be given.
+fn required<'a>(
+    alloc: Global,
+    id: &'a str,
+    parser: ValueParser<'a>,
+    name: &'a str,
+    help: &'a str,
+) -> Arg<'a>
+    ensures rule { rule_of result ≡ required (option_rule id.entry.now parser.entry) }
+    ensures local { result.global ≡ false }
+{
+    option(alloc, id, parser, name, help).required(true)
+}
+
 /// The command with one more option.
 fn with_option<'a>(command: Command<'a>, arg: Arg<'a>) -> Result<Command<'a>, AllocError>
     requires { arg.global ≡ false }
@@ -82,22 +100,8 @@ fn stream_command<'a>(alloc: Global) -> Result<Command<'a>, AllocError>
         .about("Prints the nrand48 values of a seed, one per line")
         .after_help(STREAM_EXAMPLES);
     let values = value_parser!(u64).range(..=MOST_VALUES);
-    let seed = option(
-        alloc,
-        "seed",
-        value_parser!(u32),
-        "S",
-        "The seed, 0 to 4294967295",
-    )
-    .required(true);
-    let count = option(
-        alloc,
-        "count",
-        values,
-        "N",
-        "How many values, 0 to 1099511627776",
-    )
-    .required(true);
+    let seed = required(alloc, "seed", value_parser!(u32), "S", SEED);
+    let count = required(alloc, "count", values, "N", COUNT);
     let command = with_option(command, seed)?;
     with_option(command, count)
 }
@@ -107,18 +111,9 @@ fn with_candidates<'a>(alloc: Global, command: Command<'a>) -> Result<Command<'a
     ensures app { IfOk result (λ c. app_of c ≡ with_candidates (app_of command.entry)) }
     ensures local { IfOk result (λ c. (fields_of c).has_globals ≡ (fields_of command.entry).has_globals) }
 {
-    let seed = option(
-        alloc,
-        "seed",
-        value_parser!(u32),
-        "S",
-        "The seed, 0 to 4294967295",
-    )
-    .required(true);
+    let seed = required(alloc, "seed", value_parser!(u32), "S", SEED);
     let command = with_option(command, seed)?;
-    let candidates = option(alloc, "candidates", value_parser!(u64), "N", CANDIDATES).required(
-        true,
-    );
+    let candidates = required(alloc, "candidates", value_parser!(u64), "N", CANDIDATES);
     with_option(command, candidates)
 }
 
