@@ -2,16 +2,20 @@
 #![tactic(auto)]
 
 #[cfg(test)]
-mod support;
-
+mod beside;
+#[cfg(test)]
+mod gates;
+#[cfg(test)]
+mod interrupted;
 #[cfg(test)]
 mod make;
-
 #[cfg(test)]
 mod plain;
-
 #[cfg(test)]
 mod refusals;
-
 #[cfg(test)]
 mod stream;
+#[cfg(test)]
+mod support;
+#[cfg(test)]
+mod whole_runs;

@@ -157,6 +157,7 @@ complete plan form lanes t boards old new some le h settled parts ended =
       whole = λ less w e lt. whole_lane (get_or lanes w e) w (fronts w e lt) (sent w e lt) (h.in_turn.turns_are w e lt ∙ ap (turns plan.workers w) (all_needed less) ∙ sym (length-verdicts plan.seed plan.first plan.count form plan.workers w));
       bytes = whole_text plan form lanes t some le h.in_turn fronts boards old new h.written h.within h.short ended;
       boards_are = all_boards plan form lanes t some le h.in_turn fronts boards old new h.written h.within h.short ended;
+      stand = stand plan form lanes t some le h.in_turn h.short parts;
     }
   where
     all_needed : plan.limit ≢ Some boards → t ≡ plan.count

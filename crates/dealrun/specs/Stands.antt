@@ -84,3 +84,4 @@ pub record Completes (plan : Planned) (form : Form) (lanes : List OutView) (boar
   pub whole : plan.limit ≢ Some boards → EachLane plan lanes (λ w l. (l.taken ≡ verdicts_for plan form w) × (l.left ≡ []))
   pub bytes : AppendsAll old new (text plan form)
   pub boards_are : boards ≡ length (accepted plan form)
+  pub stand : LanesStand plan form lanes

@@ -11,7 +11,7 @@ ghost use Rattle.dealrun.specs.Text.{text, accepted, end_of};
 ghost use Rattle.dealrun.specs.Turns.{verdicts_for};
 ghost use Rattle.dealrun.specs.Joins.{AllWhole, all_of};
 ghost use Rattle.dealrun.specs.Writing.{GoesOn};
-ghost use Rattle.dealrun.specs.Stands.{Owes, EachLane, AllSettled, StandsAfter, Rises, Completes};
+ghost use Rattle.dealrun.specs.Stands.{Owes, EachLane, AllSettled, LanesStand, StandsAfter, Rises, Completes};
 
 use crate::cause::Cause;
 use crate::join::join_all;
@@ -66,6 +66,7 @@ pub fn run<
     ensures nothing_left { IfOk result (λ r. plan.now.limit ≢ Some r.boards → EachLane plan.now r.lanes.items (λ w l. (l.taken ≡ verdicts_for plan.now cond w) × (l.left ≡ []))) }
     ensures bytes { IfOk result (λ _. AppendsAll (S.bytes sink.old) (S.bytes sink.new) (text plan.now cond)) }
     ensures boards { IfOk result (λ r. r.boards ≡ length (accepted plan.now cond)) }
+    ensures in_turn { IfOk result (λ r. LanesStand plan.now cond r.lanes.items) }
     ensures stands { IfErr result (λ e. StandsAfter plan.now cond e.cause e.lanes.items e.boards (S.bytes sink.old) (S.bytes sink.new)) }
     ensures faults { MatchResult result (λ _. S.faults sink.new ≡ S.faults sink.old) (λ e. Rises e.cause (S.faults sink.old) (S.faults sink.new)) }
 {

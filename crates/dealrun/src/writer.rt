@@ -7,10 +7,11 @@ ghost use Rattle.dealrun.specs.Writing.{game_after, GoesOn, GivesUp};
 ghost use Rattle.dealrun.specs.Joins.{AllWhole};
 ghost use Rattle.cond_lang.specs.Form.{Form};
 
+use crate::plain::{is_full, put_game};
 use crate::plan::Plan;
 use crate::sink::{Sink, SinkFault, put_all};
 use lanes::{LaneOut, Turns, Verdict};
-use pbn_text::{HEADER, game};
+use pbn_text::HEADER;
 use std::sync::Wait;
 use std::sync::atomic::{AtomicBool, Ordering};
 use std::{hint, thread};
@@ -48,10 +49,7 @@ impl Progress {
     pub fn is_full(&self, plan: &Plan) -> bool
         ensures { IsTrue result ↔ (plan.now.limit ≡ Some self.now.boards) }
     {
-        match plan.limit() {
-            Some(most) => self.boards == u64::from(most),
-            None => false,
-        }
+        is_full(plan, self.boards)
     }
 
     /// Counts a verdict that was taken, and writes its game where it is accepted.
@@ -72,9 +70,7 @@ impl Progress {
         self.turns.advance();
         self.taken += 1;
         if verdict.accepted {
-            let board = plan.first_board() + self.boards;
-            let text = game(board, plan.heading(), &verdict.deal);
-            put_all(sink, text.as_slice())?;
+            put_game(plan, self.boards, &verdict.deal, sink)?;
             self.boards += 1;
         }
         Ok(())

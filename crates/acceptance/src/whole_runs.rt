@@ -1,0 +1,101 @@
+//! Runs over lanes that end well: the same bytes as the plain run, whatever the workers and the capacity.
+
+use cond_lang::{Cond, parse};
+use dealrun::{Fuse, MemSink, Plan, run, run_plain};
+use lanes::OpenGate;
+use std::sync::Arc;
+use std::test::Fail;
+
+#[test]
+fn writes_the_plain_text(rt: HostRuntime) -> Result<(), Fail> {
+    for text in [b"0==0".as_slice(), b"hcp(north)>=15", b"not hcp(north)>=15"] {
+        let condition = parse(rt.alloc(), text)?;
+        let plan = Plan::new(0, 0, 200, 1, 64)?;
+        let mut plain = MemSink::new(rt.alloc());
+        let boards = run_plain(&plan, &condition, &mut plain);
+        for workers in [1, 3, 16] {
+            for capacity in [1, 64] {
+                let plan = Plan::new(0, 0, 200, workers, capacity)?;
+                let mut sink = MemSink::new(rt.alloc());
+                let gate = Arc::new(rt.alloc(), OpenGate)?;
+                let report = run(
+                    &rt,
+                    rt.alloc(),
+                    &plan,
+                    condition.try_clone()?,
+                    &mut sink,
+                    gate,
+                );
+                assert_eq!(rt; report.ok().map(|report| report.boards), boards.ok());
+                assert!(rt; sink.bytes() == plain.bytes());
+            }
+        }
+    }
+    Ok(())
+}
+
+#[test]
+fn counts_bytes_and_boards(rt: HostRuntime) -> Result<(), Fail> {
+    for (count, workers, boards, bytes) in [(200, 3, 200, 25_052), (3, 16, 3, 381), (0, 1, 0, 10)] {
+        let plan = Plan::new(0, 0, count, workers, 64)?;
+        let mut sink = Fuse::new(MemSink::new(rt.alloc()), 0, 1, true);
+        let gate = Arc::new(rt.alloc(), OpenGate)?;
+        match run(
+            &rt,
+            rt.alloc(),
+            &plan,
+            Cond::any(rt.alloc()),
+            &mut sink,
+            gate,
+        ) {
+            Ok(report) => assert_eq!(rt; report.boards, boards),
+            Err(_) => assert!(rt; false),
+        }
+        assert_eq!(rt; sink.bytes().len(), bytes);
+    }
+    Ok(())
+}
+
+/// With a limit no candidate is taken after it is met, and what is left of a lane comes next.
+#[test]
+fn stops_at_a_limit(rt: HostRuntime) -> Result<(), Fail> {
+    let plan = Plan::new(0, 0, 200, 3, 64)?.limited(5)?;
+    let mut sink = MemSink::new(rt.alloc());
+    let gate = Arc::new(rt.alloc(), OpenGate)?;
+    match run(
+        &rt,
+        rt.alloc(),
+        &plan,
+        Cond::any(rt.alloc()),
+        &mut sink,
+        gate,
+    ) {
+        Ok(mut report) => {
+            assert_eq!(rt; report.boards, 5);
+            for (lane, number) in report.lanes.iter_mut().zip([6, 7, 5]) {
+                assert!(rt; lane.take().is_none_or(|verdict| verdict.number == number));
+            }
+        }
+        Err(_) => assert!(rt; false),
+    }
+    assert_eq!(rt; sink.bytes().len(), 628);
+    Ok(())
+}
+
+#[test]
+fn has_limits_past_the_end(rt: HostRuntime) -> Result<(), Fail> {
+    for (text, limit, boards, bytes) in [
+        (b"0==0".as_slice(), 200, 200, 25_052),
+        (b"0==0", 201, 200, 25_052),
+        (b"shape(north,9-9-9-9)", 5, 0, 10),
+    ] {
+        let plan = Plan::new(0, 0, 200, 3, 64)?.limited(limit)?;
+        let mut sink = MemSink::new(rt.alloc());
+        let gate = Arc::new(rt.alloc(), OpenGate)?;
+        let condition = parse(rt.alloc(), text)?;
+        let report = run(&rt, rt.alloc(), &plan, condition, &mut sink, gate);
+        assert_eq!(rt; report.ok().map(|report| report.boards), Some(boards));
+        assert_eq!(rt; sink.bytes().len(), bytes);
+    }
+    Ok(())
+}
