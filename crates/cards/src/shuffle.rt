@@ -31,6 +31,8 @@ pub(crate) fn settle(pack: &mut [u8; 52], places: &[u8; 51], last: usize) -> u64
 }
 
 /// The exchange at a position, and the card that stays there. At position 0 nothing is left to do.
+///
+/// It is written out, since a `swap` first asks whether the two positions are the same.
 fn exchange(pack: &mut [u8; 52], places: &[u8; 51], position: usize) -> u8
     requires places { IsPlaces places.now }
     requires inside { position < 52 }
@@ -39,8 +41,13 @@ fn exchange(pack: &mut [u8; 52], places: &[u8; 51], position: usize) -> u8
     ensures card { result ≡ card_at places.now position }
     ensures below { result < 52 }
 {
-    if position > 0 {
-        pack.swap(position, usize::from(places[51 - position]));
+    if position == 0 {
+        return pack[0];
     }
-    pack[position]
+    let place = usize::from(places[51 - position]);
+    let card = pack[place];
+    let other = pack[position];
+    pack[position] = card;
+    pack[place] = other;
+    card
 }

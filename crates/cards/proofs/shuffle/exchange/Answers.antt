@@ -1,23 +1,33 @@
-use Rattle.std.proofs.Common.{◌-◌, sym, arith, subst}
+use Rattle.std.proofs.Common.{◌-◌, ◌<◌, ◌∙◌, get_or, sym, ap, arith, subst, length}
+use Rattle.std.proofs.lemmas.List.Edits.{swap_is, swapped_from_swap}
+use Rattle.std.proofs.lemmas.List.Sorted.{IsPermutation-swap}
 use Rattle.cards.specs.Exchanges.{IsTraced}
 use Rattle.cards.proofs.Settling.{traced_on, settled_card}
 use Rattle.cards.proofs.Tracing.{card_at-below}
 use Rattle.cards.proofs.shuffle.exchange.Goals as goal
-use Rattle.cards.proofs.shuffle.exchange.Goals.{then-position-gt0, else-position-gt0}
+
+pub returns-then-position-eq0-clause-card : goal.returns-then-position-eq0-clause-card
+returns-then-position-eq0-clause-card c =
+    ap (λ i. get_or c.args.pack.now i 0) (sym c.if-position-eq0.true)
+    ∙ settled_card c.args.places.now c.args.pack.now c.args.position c.requires.places c.requires.inside (subst (IsTraced c.args.places.now c.args.pack.now) (omega arith) c.requires.traced)
+
+pub returns-then-position-eq0-clause-below : goal.returns-then-position-eq0-clause-below
+returns-then-position-eq0-clause-below c = omega (arith, returns-then-position-eq0-clause-card c, card_at-below c.args.places.now c.args.position c.requires.places c.requires.inside)
 
 pub returns-clause-traced : goal.returns-clause-traced
 returns-clause-traced c =
-    elim c.if-position-gt0.branch [
-      | then-position-gt0 w ↦
-          subst (λ cards. IsTraced c.args.places.now cards (c.args.position - 1)) (sym w.pack-is)
-          (traced_on c.args.places.now c.args.pack.now w.swap.new.self w.from.result c.args.position c.requires.places w.if-position-gt0.true c.requires.inside (omega arith) w.swap.ensures.after w.swap.ensures.permutation c.requires.traced)
-      | else-position-gt0 w ↦
-          subst (λ cards. IsTraced c.args.places.now cards (c.args.position - 1)) (sym w.pack-is)
-          (subst (IsTraced c.args.places.now c.args.pack.now) (omega arith) c.requires.traced)
-    ]
+    let inside : c.args.position < length c.args.pack.now = omega arith in
+    let low : c.from-place.result < length c.args.pack.now = omega (arith, c.requires.places.below (51 - c.args.position) (omega arith)) in
+    let is = swap_is c.args.pack.now c.args.position c.from-place.result 0 inside low in
+    traced_on c.args.places.now c.args.pack.now _ c.from-place.result c.args.position c.requires.places (omega arith) c.requires.inside (omega arith) is
+    (IsPermutation-swap c.args.pack.now _ c.args.position c.from-place.result inside low is) c.requires.traced
 
 pub returns-clause-card : goal.returns-clause-card
-returns-clause-card c = settled_card c.args.places.now c.if-position-gt0.pack c.args.position c.requires.places c.requires.inside (returns-clause-traced c)
+returns-clause-card c =
+    let inside : c.args.position < length c.args.pack.now = omega arith in
+    let low : c.from-place.result < length c.args.pack.now = omega (arith, c.requires.places.below (51 - c.args.position) (omega arith)) in
+    let is = swap_is c.args.pack.now c.args.position c.from-place.result 0 inside low in
+    omega (arith, (swapped_from_swap c.args.pack.now _ c.args.position c.from-place.result 0 inside low is).0, settled_card c.args.places.now _ c.args.position c.requires.places c.requires.inside (returns-clause-traced c))
 
 pub returns-clause-below : goal.returns-clause-below
 returns-clause-below c = omega (arith, returns-clause-card c, card_at-below c.args.places.now c.args.position c.requires.places c.requires.inside)
