@@ -1,11 +1,13 @@
 -- How the refusal of a condition ends the program.
-use Rattle.std.proofs.Common.{◌≡◌, ◌≤◌, ◌⊎◌, ℕ, List, length, Option, Some, refl, ap, sym, subst, inl, inr, option_map}
+use Rattle.std.proofs.Common.{◌≡◌, ◌≤◌, ◌⊎◌, ℕ, List, length, Option, Some, refl, ap, sym, subst, inl, inr, option_map, arith}
 use Rattle.std.specs.Borrow.{Bor}
 use Rattle.cond_lang.specs.Form.{Form}
 use Rattle.cond_lang.specs.Text.{SpellsTree}
 use Rattle.cond_lang.specs.declared.error.CondError.{CondError}
 use Rattle.cond_lang.specs.declared.error.CondError.TheVariants.{TooLong, Byte, Word, Number, Syntax, Memory}
-use Rattle.deals_cli.specs.Program.{Means, failure_of, status_of}
+use Rattle.deals_cli.specs.Program.{IsStatus, Means, failure_of, status_of}
+use Rattle.deals_cli.specs.declared.failure.Failure.{Failure}
+use Rattle.deals_cli.specs.declared.failure.Failure.TheVariants.{CommandLine, Plan, Label, Condition, Output, Memory as no_memory, Spawn, Stopped, Unclosed}
 
 pub refused_status : (e : CondError) → (status_of (failure_of e) ≡ 5) ⊎ (status_of (failure_of e) ≡ 3)
 refused_status TooLong = inr refl
@@ -22,3 +24,15 @@ meant_status o text bytes e given same memory f means =
     let here : Means (Some text.now) f = subst (λ (x : Option (Bor (List ℕ))). Means (option_map (λ s. s.now) x) f) given means in
     let at : Means (Some bytes) f = subst (λ (b : List ℕ). Means (Some b) f) (sym same) here in
     ap (λ x. status_of (failure_of x)) (memory f at.0 at.1)
+
+-- a failure's status is one of the program's
+pub status_of-status : (f : Failure) → IsStatus (status_of f)
+status_of-status (CommandLine text) = (1, omega arith, refl)
+status_of-status (Plan error) = (1, omega arith, refl)
+status_of-status (Label label) = (1, omega arith, refl)
+status_of-status (Condition error) = (2, omega arith, refl)
+status_of-status Output = (3, omega arith, refl)
+status_of-status no_memory = (4, omega arith, refl)
+status_of-status Spawn = (5, omega arith, refl)
+status_of-status (Stopped worker) = (5, omega arith, refl)
+status_of-status (Unclosed worker) = (5, omega arith, refl)

@@ -1,5 +1,5 @@
 -- What the program does for a wish, and how it ends.
-use Rattle.std.specs.Prelude.{◌≡◌, ◌≤◌, ◌<◌, ◌^◌, ◌+◌, ℕ, Bool, true, false, List, Option, None, Some, Result, Err, length, unwrap_or}
+use Rattle.std.specs.Prelude.{◌≡◌, ◌≤◌, ◌<◌, ◌^◌, ◌+◌, ℕ, Bool, true, false, List, [], ◌∷◌, Contains, Option, None, Some, Result, Err, length, unwrap_or}
 use Rattle.cond_lang.specs.Form.{Form, compare, number}
 use Rattle.cond_lang.specs.Text.{SpellsTree}
 use Rattle.cond_lang.specs.declared.error.CondError.{CondError}
@@ -70,7 +70,16 @@ abbrev pub HasMeaning : Wish → Type 0
 HasMeaning (stream seed count) = Unit {0}
 HasMeaning (make m) = (form : Form) × Means m.condition form
 
+-- a wish that is served by threads
+abbrev pub HasRun : Wish → Type 0
+HasRun (stream seed count) = ⊥
+HasRun (make m) = Unit {0}
+
 -- ---- how it ends
+
+-- a status of the program
+abbrev pub IsStatus : ℕ → Type 0
+IsStatus n = Contains (0 ∷ 2 ∷ 3 ∷ 4 ∷ 5 ∷ 6 ∷ []) n
 
 abbrev pub status_of : Failure → ℕ
 status_of (CommandLine text) = 2

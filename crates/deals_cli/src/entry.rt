@@ -1,9 +1,9 @@
 //! The program over its words and two sinks.
 
-ghost use Rattle.std.specs.Prelude.{◌≡◌, ◌≢◌, ◌⊎◌, ◌+◌, ◌-◌, ◌^◌, ◌<◌, ◌==◌, Some, true, if◌then◌else◌, IfErr, IsErrOf, IsSome, OnOk, map, string_bytes};
+ghost use Rattle.std.specs.Prelude.{◌≡◌, ◌≢◌, ◌⊎◌, ◌+◌, ◌-◌, ◌^◌, ◌<◌, ◌≤◌, ◌==◌, Some, true, if◌then◌else◌, IfErr, IsErrOf, IsSome, OnOk, map, string_bytes};
 ghost use Rattle.clap.specs.Words.{kind_of};
 ghost use Rattle.deals_cli.specs.CommandLine.{asked};
-ghost use Rattle.deals_cli.specs.Program.{Appends, HasMeaning, HasPlan, faults_in, is_untouched, status_of};
+ghost use Rattle.deals_cli.specs.Program.{Appends, HasMeaning, HasPlan, HasRun, IsStatus, faults_in, is_untouched, status_of};
 ghost use Rattle.deals_cli.specs.Requests.{Wish};
 
 use crate::failure::Failure;
@@ -46,6 +46,7 @@ fn serve<R: Threads + Wait + Clone + Send + 'static, O: Sink>(
     ensures planned { (w : Wish) → asked (map string_bytes words.now) ≡ Some w → HasPlan w → IfErr result (λ e. status_of e ≢ 2) }
     ensures meant { (w : Wish) → asked (map string_bytes words.now) ≡ Some w → HasMeaning w → IfErr result (λ e. status_of e ≢ 3) }
     ensures order { (w : Wish) → asked (map string_bytes words.now) ≡ Some w → IfErr result (λ e. status_of e ≡ 3 → HasPlan w) }
+    ensures threads { (w : Wish) → asked (map string_bytes words.now) ≡ Some w → IfErr result (λ e. status_of e ≡ 6 → HasRun w) }
     ensures untouched { IfErr result (λ e. is_untouched e ≡ true → O.bytes out.new ≡ O.bytes out.old) }
     ensures faults { O.faults out.new ≡ O.faults out.old + faults_in result }
 {
@@ -80,10 +81,14 @@ pub fn program<R: Threads + Wait + Clone + Send + 'static, O: Sink, E: Sink>(
     ensures meant { (w : Wish) → asked (map string_bytes words.now) ≡ Some w → HasMeaning w → result ≢ 3 }
     // The condition is looked at only where the plan stands.
     ensures order { (w : Wish) → asked (map string_bytes words.now) ≡ Some w → result ≡ 3 → HasPlan w }
+    // Only a run over lanes ends with its threads' status.
+    ensures threads { (w : Wish) → asked (map string_bytes words.now) ≡ Some w → result ≡ 6 → HasRun w }
+    ensures status { IsStatus result }
     // Nothing was written where something is refused or memory ran out.
     ensures untouched { (result ≡ 2) ⊎ (result ≡ 3) ⊎ (result ≡ 5) → O.bytes out.new ≡ O.bytes out.old }
     // The status is 4 exactly where the output failed, once.
     ensures output { O.faults out.new ≡ O.faults out.old + (if result == 4 then 1 else 0) }
+    ensures said { (E.faults err.old ≤ E.faults err.new) × (E.faults err.new ≤ E.faults err.old + 1) }
 {
     match serve(rt, alloc, words, out) {
         Ok(()) => 0,
