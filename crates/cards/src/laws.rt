@@ -9,3 +9,11 @@ ghost use Rattle.cards.specs.Hands.{is_rearrangement};
 pub fn rearrangement()
     ensures { (xs ys : List ℕ) → IsTrue (is_rearrangement xs ys) ↔ IsPermutation xs ys }
 {}
+
+ghost use Rattle.cards.specs.Candidates.{candidate};
+ghost use Rattle.cards.specs.Deals.{IsPartition};
+
+/// Every candidate of every seed is a partition of the pack into four hands of thirteen.
+pub fn candidates()
+    ensures { (seed k : ℕ) → IsPartition (candidate seed k) }
+{}
