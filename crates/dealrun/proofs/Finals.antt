@@ -4,6 +4,10 @@ use Rattle.std.specs.Result.{is_err}
 use Rattle.std.proofs.lemmas.Bool.{cases_lt, both_ways, false≢true, true≢false}
 use Rattle.std.proofs.lemmas.List.{get_or-map, length-map, get_or-take}
 use Rattle.std.proofs.lemmas.List.FromFn.{get_or-map-range_with_len}
+use Rattle.std.proofs.lemmas.List.Elements.{All-map}
+use Rattle.cards.specs.Candidates.{candidate}
+use Rattle.cards.specs.Deals.{IsPartition}
+use Rattle.cards.proofs.Partitions.{candidate_partition}
 use Rattle.cond_lang.specs.Form.{Form}
 use Rattle.lanes.specs.declared.verdict.Verdict.{Verdict}
 use Rattle.lanes.specs.Views.{OutView}
@@ -11,6 +15,7 @@ use Rattle.lanes.specs.Work.{IsPrefix, IsProperPrefix}
 use Rattle.lanes.proofs.Places.{turns-none}
 use Rattle.dealrun.specs.Plans.{Planned}
 use Rattle.dealrun.specs.Sinks.{append_known}
+use Rattle.dealrun.specs.Text.{accepted}
 use Rattle.dealrun.specs.Turns.{verdicts_for, taken_in_all, printed, boards_in}
 use Rattle.dealrun.specs.Joins.{all_of, JoinedAs, Below, WholeIfSettled, IsSettled, BeginningAt, UnsettledAt, AllWhole}
 use Rattle.dealrun.specs.Writing.{TakenInTurn, StaysShort, Written, BrokenOff, GoesOn, GivesUp}
@@ -171,3 +176,11 @@ given_err (Err e) P is h = h
 pub given_ok : {A E : Type 0} (r : Result A E) (P : Type 0) → is_err r ≡ false → OnOk r P → P
 given_ok (Ok x) P is h = h
 given_ok (Err e) P is h = absurd (true≢false is)
+
+pub always : {A E : Type 0} (r : Result A E) (P : Type 0) → P → IfOk r (λ _. P)
+always (Ok x) P h = h
+always (Err e) P h = tt
+
+-- the accepted deals are partitions, as every candidate is
+pub partitions : (plan : Planned) (form : Form) → All IsPartition (map (candidate plan.seed) (accepted plan form))
+partitions plan form = All-map IsPartition (candidate plan.seed) (accepted plan form) (λ k d lt. candidate_partition plan.seed (get_or (accepted plan form) k d))

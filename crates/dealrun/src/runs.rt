@@ -1,6 +1,8 @@
 //! A run: the workers beside the writer, from the start to what stands at the end.
 
 ghost use Rattle.std.specs.Prelude.{◌≡◌, ◌≢◌, ◌-◌, ◌^◌, ◌<◌, ◌≤◌, ℕ, List, Option, [], Some, true, false, All, IfOk, IfErr, MatchResult, map, length, take, vec_len};
+ghost use Rattle.cards.specs.Candidates.{candidate};
+ghost use Rattle.cards.specs.Deals.{IsPartition};
 ghost use Rattle.cond_lang.specs.Form.{Form};
 ghost use Rattle.lanes.specs.Jobs.{verdicts_of};
 ghost use Rattle.lanes.specs.Verdicts.{turns};
@@ -66,6 +68,7 @@ pub fn run<
     ensures nothing_left { IfOk result (λ r. plan.now.limit ≢ Some r.boards → EachLane plan.now r.lanes.items (λ w l. (l.taken ≡ verdicts_for plan.now cond w) × (l.left ≡ []))) }
     ensures bytes { IfOk result (λ _. AppendsAll (S.bytes sink.old) (S.bytes sink.new) (text plan.now cond)) }
     ensures boards { IfOk result (λ r. r.boards ≡ length (accepted plan.now cond)) }
+    ensures partitions { IfOk result (λ _. All IsPartition (map (candidate plan.now.seed) (accepted plan.now cond))) }
     ensures in_turn { IfOk result (λ r. LanesStand plan.now cond r.lanes.items) }
     ensures stands { IfErr result (λ e. StandsAfter plan.now cond e.cause e.lanes.items e.boards (S.bytes sink.old) (S.bytes sink.new)) }
     ensures faults { MatchResult result (λ _. S.faults sink.new ≡ S.faults sink.old) (λ e. Rises e.cause (S.faults sink.old) (S.faults sink.new)) }
