@@ -1,10 +1,9 @@
 -- The accepted ones among more and more candidates, and where a limit of them is met.
-use Rattle.std.proofs.Common.{◌≡◌, ℕ, zero, suc, ◌+◌, ◌==◌, ◌<◌, ◌≤◌, ◌⊎◌, Bool, true, false, cond, List, [], ◌∷◌, ◌++◌, length, get_or, map, take, Option, Some, None, refl, sym, ◌∙◌, ap, arith, inl, inr, append_assoc, map-id}
-use Rattle.std.specs.List.{range_with_len, filter, position_or_len}
+use Rattle.std.proofs.Common.{◌≡◌, ℕ, zero, suc, ◌+◌, ◌==◌, ◌<◌, ◌≤◌, ◌⊎◌, Bool, true, false, cond, List, [], ◌∷◌, ◌++◌, length, get_or, map, take, Option, Some, None, refl, sym, ◌∙◌, ap, arith, inl, inr}
+use Rattle.std.specs.List.{range_with_len, position_or_len}
 use Rattle.std.specs.Option.{ForSome}
 use Rattle.std.proofs.lemmas.Bool.{cases_lt, ne_eqb, eq-eqb, eqb-true}
 use Rattle.std.proofs.lemmas.List.{append-nil, take_all, map-append}
-use Rattle.std.proofs.lemmas.List.Elements.{filter-append}
 use Rattle.std.proofs.lemmas.List.Sums.{position_or_len_is, passes_at_first}
 use Rattle.std.proofs.lemmas.List.FromFn.{map-range_with_len_more, length-range_with_len, get_or-range_with_len}
 use Rattle.std.proofs.Math.Seq.{take-append_seam}
@@ -17,48 +16,8 @@ use Rattle.lanes.specs.Verdicts.{verdict_of}
 use Rattle.dealrun.specs.Plans.{Planned}
 use Rattle.dealrun.specs.Text.{accepted_among, limited, end_of}
 use Rattle.dealrun.specs.Turns.{deals_in}
+use Rattle.dealrun.proofs.Games.{accepted_among-none, accepted_among-more, accepted_among-parts}
 use Rattle.dealrun.proofs.Printing.{deals_in-push}
-
-range-push : (a n : ℕ) → range_with_len a (suc n) ≡ range_with_len a n ++ (a + n) ∷ []
-range-push a n =
-    let e : suc n ≡ n + 1 = omega arith in
-    ap (range_with_len a) e ∙ sym (map-id (range_with_len a (n + 1))) ∙ map-range_with_len_more (λ i. i) a n (a + n) refl ∙ ap (λ xs. xs ++ (a + n) ∷ []) (map-id (range_with_len a n))
-
-pub accepted_among-none : (seed first : ℕ) (form : Form) → accepted_among seed first form 0 ≡ []
-unfolding accepted_among
-accepted_among-none seed first form = refl
-
-pub accepted_among-more : (seed first : ℕ) (form : Form) (n : ℕ) → accepted_among seed first form (suc n) ≡ accepted_among seed first form n ++ cond (holds form (candidate seed (first + n))) ((first + n) ∷ []) []
-unfolding accepted_among
-accepted_among-more seed first form n =
-    let test : ℕ → Bool = λ k. holds form (candidate seed k) in
-    ap (filter test) (range-push first n) ∙ filter-append test (range_with_len first n) ((first + n) ∷ [])
-
--- more candidates accept more after those
-more_after : (seed first : ℕ) (form : Form) (t k : ℕ) → (more : List ℕ) × (accepted_among seed first form (t + k) ≡ accepted_among seed first form t ++ more)
-more_after seed first form t zero =
-    let e : t + zero ≡ t = omega arith in
-    ([], ap (accepted_among seed first form) e ∙ sym (append-nil (accepted_among seed first form t)))
-more_after seed first form t (suc k) =
-    let e : t + suc k ≡ suc (t + k) = omega arith in
-    let before = more_after seed first form t k in
-    let last : List ℕ = cond (holds form (candidate seed (first + (t + k)))) ((first + (t + k)) ∷ []) [] in (
-      before.0 ++ last,
-      ap (accepted_among seed first form) e ∙ accepted_among-more seed first form (t + k) ∙ ap (λ xs. xs ++ last) before.1 ∙ append_assoc (accepted_among seed first form t) before.0 last,
-    )
-
-pub accepted_split : (seed first : ℕ) (form : Form) (t n : ℕ) → t ≤ n → (more : List ℕ) × (accepted_among seed first form n ≡ accepted_among seed first form t ++ more)
-accepted_split seed first form t zero le =
-    let e : zero ≡ t + 0 = omega arith in
-    let more = more_after seed first form t 0 in (more.0, ap (accepted_among seed first form) e ∙ more.1)
-accepted_split seed first form t (suc n) le =
-    elim (cases_lt n t) [
-      | inl past ↦ let e : suc n ≡ t = omega arith in ([], ap (accepted_among seed first form) e ∙ sym (append-nil (accepted_among seed first form t)))
-      | inr within ↦
-          let before = accepted_split seed first form t n (omega arith) in
-          let last : List ℕ = cond (holds form (candidate seed (first + n))) ((first + n) ∷ []) [] in
-          (before.0 ++ last, accepted_among-more seed first form n ∙ ap (λ xs. xs ++ last) before.1 ∙ append_assoc (accepted_among seed first form t) before.0 last)
-    ]
 
 -- the deals of the accepted ones among the verdicts on these candidates
 deal_of_last : (seed : ℕ) (form : Form) (k : ℕ) (deals : List (List Seat)) (numbers : List ℕ) (b : Bool) → deals ≡ map (candidate seed) numbers
@@ -74,7 +33,7 @@ deals_are seed first form (suc n) =
     let e : suc n ≡ n + 1 = omega arith in
     ap (λ m. deals_in (map at (range_with_len 0 m))) e ∙ ap deals_in (map-range_with_len_more at 0 n n (omega arith)) ∙ deals_in-push (map at (range_with_len 0 n)) (at n)
     ∙ deal_of_last seed form (first + n) (deals_in (map at (range_with_len 0 n))) (accepted_among seed first form n) (holds form (candidate seed (first + n))) (deals_are seed first form n)
-    ∙ ap (map (candidate seed)) (sym (accepted_among-more seed first form n))
+    ∙ ap (map (candidate seed)) (sym (ap (accepted_among seed first form) e ∙ accepted_among-more seed first form n (holds form (candidate seed (first + n))) refl))
 
 module _ (p : Planned) (form : Form) (t : ℕ) (le : t ≤ p.count) where
   abbrev counted : ℕ → ℕ
@@ -137,8 +96,8 @@ module _ (p : Planned) (form : Form) (t : ℕ) (le : t ≤ p.count) where
 
   take_met : (most : ℕ) → counted t ≡ most → take most (accepted_among p.seed p.first form p.count) ≡ accepted_among p.seed p.first form t
   take_met most is =
-      let split = accepted_split p.seed p.first form t p.count le in
-      ap (λ n. take n (accepted_among p.seed p.first form p.count)) (sym is) ∙ ap (take (counted t)) split.1 ∙ take-append_seam (accepted_among p.seed p.first form t) split.0
+      let split = accepted_among-parts p.seed p.first form t p.count le in
+      ap (λ n. take n (accepted_among p.seed p.first form p.count)) (sym is) ∙ ap (take (counted t)) split.is ∙ take-append_seam (accepted_among p.seed p.first form t) split.rest
 
   within_limit : (limit : Option ℕ) → ForSome limit (λ most. counted t ≤ most) → IsEnd limit → limited limit (accepted_among p.seed p.first form p.count) ≡ accepted_among p.seed p.first form t
   within_limit None within (inl e) = ap (accepted_among p.seed p.first form) (sym e)

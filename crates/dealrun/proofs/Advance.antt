@@ -16,11 +16,12 @@ use Rattle.dealrun.specs.Text.{games, text_of_deals}
 use Rattle.dealrun.specs.Turns.{in_turn, deals_in, printed, boards_in, taken_lists}
 use Rattle.dealrun.specs.Writing.{game_after, TakenInTurn, StaysShort, GoesOn, GivesUp}
 use Rattle.dealrun.proofs.SinkLemmas.{append_known-append}
-use Rattle.dealrun.proofs.Printing.{text-push, deals_in-push, in_turn-none, in_turn-kept, in_turn-grown, grown}
+use Rattle.dealrun.proofs.Games.{text_of_deals-more}
+use Rattle.dealrun.proofs.Printing.{deals_in-push, in_turn-none, in_turn-kept, in_turn-grown, grown}
 
 more_text : (plan : Planned) (deals : List (List Seat)) (deal : List Seat) (b : Bool)
     → text_of_deals plan (cond b (deals ++ deal ∷ []) deals) ≡ text_of_deals plan deals ++ cond b (game (plan.first_board + length deals) plan.heading deal) []
-more_text plan deals deal true = text-push plan deals deal
+more_text plan deals deal true = text_of_deals-more plan deals deal
 more_text plan deals deal false = sym (append-nil (text_of_deals plan deals))
 
 more_boards : (deals : List (List Seat)) (deal : List Seat) (b : Bool) → length (cond b (deals ++ deal ∷ []) deals) ≡ cond b (length deals + 1) (length deals)

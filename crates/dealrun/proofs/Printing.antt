@@ -1,40 +1,16 @@
 -- What is printed of lists that are gone through in turn, as the lists grow.
-use Rattle.std.proofs.Common.{◌≡◌, ℕ, zero, suc, ◌+◌, ◌/◌, ◌%◌, ◌<◌, ◌≤◌, Bool, true, false, cond, List, [], ◌∷◌, ◌++◌, length, get_or, set, map, Some, refl, sym, ◌∙◌, ap, arith, inl, inr, append_assoc, length-append}
-use Rattle.std.specs.List.{range_with_len, filter_map, cons_option, slice_get, filter, flat_map, enumerate_from}
+use Rattle.std.proofs.Common.{◌≡◌, ℕ, zero, suc, ◌+◌, ◌/◌, ◌%◌, ◌<◌, ◌≤◌, Bool, true, false, cond, List, [], ◌∷◌, ◌++◌, length, get_or, set, map, Some, refl, sym, ◌∙◌, ap, arith, inl, inr, length-append}
+use Rattle.std.specs.List.{range_with_len, filter_map, cons_option, slice_get, filter}
 use Rattle.std.proofs.lemmas.Bool.{cases_eq}
-use Rattle.std.proofs.lemmas.Grind.{flat_map-append}
 use Rattle.std.proofs.lemmas.List.{get_or-set_same, get_or-set_other, append-nil, map-append}
 use Rattle.std.proofs.lemmas.List.Elements.{filter-append, filter_map-append}
 use Rattle.std.proofs.lemmas.Option.{slice_get-get_or}
 use Rattle.std.proofs.Math.ListN.{get_or-append}
 use Rattle.std.proofs.Math.Seq.{get_or-append_seam}
-use Rattle.cards.specs.declared.seat.Seat.{Seat}
 use Rattle.lanes.specs.declared.verdict.Verdict.{Verdict}
 use Rattle.lanes.specs.Verdicts.{turns}
 use Rattle.lanes.proofs.Places.{range-more, count_even, turns_less}
-use Rattle.pbn_text.specs.Games.{HeadingView, game, header}
-use Rattle.dealrun.specs.Plans.{Planned}
-use Rattle.dealrun.specs.Text.{games, text_of_deals}
 use Rattle.dealrun.specs.Turns.{at_turn, in_turn, deals_in}
-
-enumerated : {A : Type 0} (n : ℕ) (xs : List A) (x : A) → enumerate_from n (xs ++ x ∷ []) ≡ enumerate_from n xs ++ (n + length xs, x) ∷ []
-enumerated n [] x = let e : n ≡ n + 0 = omega arith in ap (λ k. (k, x) ∷ []) e
-enumerated n (y ∷ ys) x =
-    let e : n + 1 + length ys ≡ n + suc (length ys) = omega arith in
-    ap (λ zs. (n, y) ∷ zs) (enumerated (n + 1) ys x ∙ ap (λ k. enumerate_from (n + 1) ys ++ (k, x) ∷ []) e)
-
-pub games-push : (heading : HeadingView) (board : ℕ) (deals : List (List Seat)) (deal : List Seat) → games heading board (deals ++ deal ∷ []) ≡ games heading board deals ++ game (board + length deals) heading deal
-unfolding games
-games-push heading board deals deal =
-    let f : ℕ × List Seat → List ℕ = λ p. game (board + p.0) heading p.1 in
-    ap (flat_map f) (enumerated 0 deals deal) ∙ flat_map-append f (enumerate_from 0 deals) ((0 + length deals, deal) ∷ [])
-    ∙ ap (λ bs. flat_map f (enumerate_from 0 deals) ++ bs) (append-nil (game (board + (0 + length deals)) heading deal))
-    ∙ ap (λ k. flat_map f (enumerate_from 0 deals) ++ game (board + k) heading deal) (let e : 0 + length deals ≡ length deals = omega arith in e)
-
-pub text-push : (plan : Planned) (deals : List (List Seat)) (deal : List Seat) → text_of_deals plan (deals ++ deal ∷ []) ≡ text_of_deals plan deals ++ game (plan.first_board + length deals) plan.heading deal
-text-push plan deals deal =
-    ap (λ bs. header ++ bs) (games-push plan.heading plan.first_board deals deal)
-    ∙ sym (append_assoc header (games plan.heading plan.first_board deals) (game (plan.first_board + length deals) plan.heading deal))
 
 pub deals_in-push : (vs : List Verdict) (v : Verdict) → deals_in (vs ++ v ∷ []) ≡ cond v.accepted (deals_in vs ++ v.deal ∷ []) (deals_in vs)
 unfolding deals_in
