@@ -10,7 +10,7 @@ use std::thread::Threads;
 
 /// How a worker ended.
 #[derive(Clone, Copy, Drop)]
-pub enum Outcome {
+pub(crate) enum Outcome {
     Done,
     Stopped,
     Unclosed,
@@ -18,9 +18,9 @@ pub enum Outcome {
 
 /// The least worker that was stopped, and the least whose lane was not closed.
 #[derive(Clone, Copy, Drop)]
-pub struct Joined {
-    pub stopped: Option<u32>,
-    pub unclosed: Option<u32>,
+pub(crate) struct Joined {
+    pub(crate) stopped: Option<u32>,
+    pub(crate) unclosed: Option<u32>,
 }
 
 impl Joined {
@@ -68,7 +68,11 @@ fn join_one<R: Threads>(rt: &R, handle: Started, lane: &mut LaneOut) -> Outcome
 }
 
 /// Joins the workers in order, and settles the lanes that were closed.
-pub fn join_all<R: Threads>(rt: &R, handles: Vec<Started>, lanes: &mut Vec<LaneOut>) -> Joined
+pub(crate) fn join_all<R: Threads>(
+    rt: &R,
+    handles: Vec<Started>,
+    lanes: &mut Vec<LaneOut>,
+) -> Joined
     requires counts { (vec_len handles ≤ vec_len lanes.old) × (vec_len lanes.old ≤ 16) }
     requires rings { map (λ h. h.promise.lane.value.ring) handles.items ≡ take (vec_len handles) (map (λ l. l.ring) lanes.old.items) }
     requires unsettled { All (λ l. l.settled ≡ false) lanes.old.items }

@@ -18,7 +18,7 @@ use std::thread::{Promise, PromisedHandle, Threads};
 
 /// The promise that a worker ends as its job asks, on the ring of its lane.
 #[derive(Drop)]
-pub struct EndsAsAssigned {
+pub(crate) struct EndsAsAssigned {
     job: Snapshot<Job>,
     lane: Snapshot<LaneIn>,
 }
@@ -28,11 +28,11 @@ impl Promise<WorkEnd> for EndsAsAssigned {
 }
 
 /// The handle of a worker that was started.
-pub type Started = PromisedHandle<WorkEnd, EndsAsAssigned>;
+pub(crate) type Started = PromisedHandle<WorkEnd, EndsAsAssigned>;
 
 /// All that a worker starts with.
 #[derive(Drop)]
-pub struct Assignment<R, G> {
+pub(crate) struct Assignment<R, G> {
     rt: R,
     job: Job,
     lane: LaneIn,
@@ -78,7 +78,7 @@ fn assign<R: Clone, G: Drop>(
 
 /// The assignments of all workers of a plan, and the other ends of their lanes. It fails only where a growth was
 /// refused.
-pub fn assign_all<R: Clone, G: Drop>(
+pub(crate) fn assign_all<R: Clone, G: Drop>(
     rt: &R,
     alloc: Global,
     plan: &Plan,
@@ -125,7 +125,7 @@ fn start<T: Threads, R: Wait + Drop + Send + 'static, G: Gate + Drop + Send + Sy
 }
 
 /// Starts the workers in order, until a thread can't be made. True where all were started.
-pub fn start_all<
+pub(crate) fn start_all<
     T: Threads,
     R: Wait + Drop + Send + 'static,
     G: Gate + Drop + Send + Sync + 'static,

@@ -21,17 +21,17 @@ const MOST_SPINS: u32 = 1024;
 
 /// How far the writer has come: whose turn it is, how many verdicts were taken, and how many games were written.
 #[derive(Drop)]
-pub struct Progress {
-    pub turns: Turns,
-    pub taken: u64,
-    pub boards: u64,
-    pub ghost turn: { turns.turn ≡ taken },
-    pub ghost fewer: { boards ≤ taken },
+pub(crate) struct Progress {
+    pub(crate) turns: Turns,
+    pub(crate) taken: u64,
+    pub(crate) boards: u64,
+    ghost turn: { turns.turn ≡ taken },
+    ghost fewer: { boards ≤ taken },
 }
 
 impl Progress {
     /// No verdict was taken.
-    pub fn new(plan: &Plan) -> Progress
+    pub(crate) fn new(plan: &Plan) -> Progress
         ensures start { (result.taken ≡ 0) × (result.boards ≡ 0) }
         ensures workers { result.turns.workers ≡ plan.now.workers }
     {
@@ -46,7 +46,7 @@ impl Progress {
     }
 
     /// Whether the plan's limit of boards is met.
-    pub fn is_full(&self, plan: &Plan) -> bool
+    pub(crate) fn is_full(&self, plan: &Plan) -> bool
         ensures { IsTrue result ↔ (plan.now.limit ≡ Some self.now.boards) }
     {
         is_full(plan, self.boards)
@@ -144,7 +144,7 @@ fn write_beside<R: Wait, S: Sink>(
 }
 
 /// Writes the header, and then the games as `write_beside` does.
-pub fn write_all<R: Wait, S: Sink>(
+pub(crate) fn write_all<R: Wait, S: Sink>(
     rt: &R,
     plan: &Plan,
     lanes: &mut Vec<LaneOut>,
@@ -167,7 +167,7 @@ pub fn write_all<R: Wait, S: Sink>(
 }
 
 /// Takes what is left of the lanes, whose workers sent all, and writes it, until the limit of boards is met.
-pub fn write_rest<S: Sink>(
+pub(crate) fn write_rest<S: Sink>(
     plan: &Plan,
     lanes: &mut Vec<LaneOut>,
     sink: &mut S,
