@@ -1,9 +1,13 @@
 //! Algorithm P: the exchanges of cards, and the cards of four hands as they settle.
 
-ghost use Rattle.std.specs.Prelude.{◌≡◌, ◌-◌, ◌<◌, ◌≤◌, map};
+ghost use Rattle.std.specs.Prelude.{◌≡◌, ℕ, ◌-◌, ◌<◌, ◌≤◌, map};
+ghost use Rattle.std.specs.List.Sorted.{IsPermutation};
 ghost use lib.Lanes.{mask_l};
-ghost use Rattle.cards.specs.Shuffle.{IsPlaces, card_at, pack as pack_in_order};
-ghost use Rattle.cards.specs.Exchanges.{IsTraced, stands_within};
+ghost use Rattle.cards.specs.Shuffle.{IsPlaces, card_at, drawn_places, pack as pack_in_order};
+ghost use Rattle.cards.specs.Exchanges.{IsDealing, IsTraced, stands_within};
+
+use crate::places::place_for;
+use lcg48::Lcg48;
 
 /// The cards in order.
 pub(crate) const PACK: [u8; 52] = [
@@ -45,6 +49,51 @@ fn exchange(pack: &mut [u8; 52], places: &[u8; 51], position: usize) -> u8
         return pack[0];
     }
     let place = usize::from(places[51 - position]);
+    let card = pack[place];
+    let other = pack[position];
+    pack[position] = card;
+    pack[place] = other;
+    card
+}
+
+/// As `settle`, with each place drawn when it is needed.
+pub(crate) fn settle_drawn(pack: &mut [u8; 52], generator: &mut Lcg48, last: usize) -> u64
+    requires from { 12 ≤ last }
+    requires to { last ≤ 51 }
+    requires whole { IsPermutation pack_in_order pack.old }
+    ensures whole { IsPermutation pack_in_order pack.new }
+    ensures dealing { (x : ℕ)
+        → IsDealing x generator.old pack.old last
+        → IsDealing x generator.new pack.new (last - 13) }
+    ensures mask { (x : ℕ)
+        → IsDealing x generator.old pack.old last
+        → result ≡ mask_l (map (stands_within (drawn_places x) (last - 12) last) pack_in_order) }
+{
+    let mut mask = 0;
+    for k in 0..13 {
+        let card = exchange_drawn(pack, generator, last - k);
+        mask |= 1 << card;
+    }
+    mask
+}
+
+/// As `exchange`, with the place drawn.
+fn exchange_drawn(pack: &mut [u8; 52], generator: &mut Lcg48, position: usize) -> u8
+    requires inside { position < 52 }
+    requires whole { IsPermutation pack_in_order pack.old }
+    ensures whole { IsPermutation pack_in_order pack.new }
+    ensures below { result < 52 }
+    ensures dealing { (x : ℕ)
+        → IsDealing x generator.old pack.old position
+        → IsDealing x generator.new pack.new (position - 1) }
+    ensures card { (x : ℕ)
+        → IsDealing x generator.old pack.old position
+        → result ≡ card_at (drawn_places x) position }
+{
+    if position == 0 {
+        return pack[0];
+    }
+    let place = usize::from(place_for(position + 1, generator.next()));
     let card = pack[place];
     let other = pack[position];
     pack[position] = card;

@@ -8,7 +8,7 @@ ghost use Rattle.dealrun.specs.Text.{BreaksOff, accepted, text};
 
 use crate::plan::Plan;
 use crate::sink::{Sink, SinkFault, put_all};
-use cards::{Deal, Places};
+use cards::Deal;
 use cond_lang::Cond;
 use lcg48::{Lcg48, Steps, Stride};
 use pbn_text::{HEADER, game};
@@ -75,7 +75,7 @@ pub fn run_plain<S: Sink>(plan: &Plan, cond: &Cond, sink: &mut S) -> Result<u64,
         if is_full(plan, boards) {
             break;
         }
-        let deal = Deal::shuffled(&Places::draw(&mut generator));
+        let deal = Deal::draw(&mut generator);
         if cond.holds(&deal) {
             if put_game(plan, boards, &deal, sink).is_err() {
                 return Err(PlainFault { boards });

@@ -13,7 +13,7 @@ use crate::gate::Gate;
 use crate::pause::Pause;
 use crate::share::{Job, Share};
 use crate::verdict::Verdict;
-use cards::{Deal, Places};
+use cards::Deal;
 use lcg48::{Lcg48, Steps, Stride};
 use std::alloc::Global;
 use std::sync::atomic::{AtomicBool, Ordering};
@@ -136,8 +136,8 @@ impl Deals {
         ensures generator { self.new.generator ≡ state_after self.old.generator (51 + self.old.gap) }
         ensures gap { self.new.gap ≡ self.old.gap }
     {
-        let places = Places::draw(&mut self.generator);
+        let deal = Deal::draw(&mut self.generator);
         self.generator = self.gap.apply(&self.generator);
-        Deal::shuffled(&places)
+        deal
     }
 }

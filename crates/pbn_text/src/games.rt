@@ -3,6 +3,7 @@
 ghost use Rattle.std.specs.Prelude.{◌≡◌, ◌≤◌, ◌+◌, ◌++◌, length, take};
 ghost use Rattle.arrayvec.specs.ArrayVec.{array_vec_len};
 ghost use Rattle.cards.specs.Hands.{hand_of, length_of};
+ghost use Rattle.cards.specs.declared.suit.Suit.TheVariants.{Spades, Hearts, Diamonds, Clubs};
 ghost use Rattle.pbn_text.specs.Games.{game as game_of, no_heading, heading_text, board_text};
 ghost use Rattle.pbn_text.specs.Games.{dealer_text, vulnerable_text, hand_text, suit_text};
 ghost use Rattle.pbn_text.specs.Lines.{deal_line, label_line, line};
@@ -132,16 +133,28 @@ fn put_hand(text: &mut Text, deal: &Deal, seat: Seat)
     ensures items { text.new.items ≡ text.old.items ++ hand_text (hand_of deal.now seat) }
     ensures len { array_vec_len text.new ≡ array_vec_len text.old + 16 }
 {
-    let hand = deal.hand(seat);
     let mut buffer = [0; ROOM];
-    let mut end = write_suit(&mut buffer, 0, &hand, Suit::Spades);
+    // The end is always 16, and a copy of a known length is quicker.
+    let _end = write_hand(&mut buffer, &deal.hand(seat));
+    put(text, &buffer[..16]);
+}
+
+/// Writes the hand's cards and the three dots to the front of the buffer, and answers where they
+/// end.
+fn write_hand(buffer: &mut [u8; ROOM], hand: &Hand) -> usize
+    ensures written { take result buffer.new ≡ hand_text hand.now }
+    ensures len { result
+        ≡ length_of hand.now Spades + length_of hand.now Hearts + length_of hand.now Diamonds
+        + length_of hand.now Clubs + 3 }
+    ensures room { length buffer.new ≡ 64 }
+{
+    let mut end = write_suit(buffer, 0, hand, Suit::Spades);
     buffer[end] = b'.';
-    end = write_suit(&mut buffer, end + 1, &hand, Suit::Hearts);
+    end = write_suit(buffer, end + 1, hand, Suit::Hearts);
     buffer[end] = b'.';
-    end = write_suit(&mut buffer, end + 1, &hand, Suit::Diamonds);
+    end = write_suit(buffer, end + 1, hand, Suit::Diamonds);
     buffer[end] = b'.';
-    end = write_suit(&mut buffer, end + 1, &hand, Suit::Clubs);
-    put(text, &buffer[..end]);
+    write_suit(buffer, end + 1, hand, Suit::Clubs)
 }
 
 /// Writes the letters of the hand's ranks in the suit from this place on, and answers where they

@@ -28,20 +28,20 @@ returns-then-is_full-clause-boards g c =
 
 pub returns-then-is_err-2-clause-bytes : goal.returns-then-is_err-2-clause-bytes
 returns-then-is_err-2-clause-bytes g c =
-    let deal = next_deal c.args.plan.now c.loop.counter c.loop.generator c.shuffled-deal.result c.loop.invariant.generator (c.shuffled-deal.ensures.value ∙ ap dealt c.draw.ensures.drawn) in
-    breaks_game c.args.plan.now c.args.cond.now c.loop.counter c.loop.boards _ _ _ c.shuffled-deal.result deal (sym c.if-holds.true ∙ c.holds.ensures)
+    let deal = next_deal c.args.plan.now c.loop.counter c.loop.generator c.draw-deal.result c.loop.invariant.generator c.draw-deal.ensures.value in
+    breaks_game c.args.plan.now c.args.cond.now c.loop.counter c.loop.boards _ _ _ c.draw-deal.result deal (sym c.if-holds.true ∙ c.holds.ensures)
     (λ e. let full : c.is_full.result ≡ true = c.is_full.ensures.1 e in let not_full = c.if-is_full.false in absurd cc)
     (omega (arith, c.count-end.ensures.value)) c.loop.invariant.running
     (at_err _ _ c.put_game.result c.if-is_err-2.ensures.value c.put_game.ensures.bytes)
 
 pub loop-preserved : goal.loop-preserved
 loop-preserved g c =
-    let deal = next_deal c.args.plan.now c.loop.counter c.loop.generator c.shuffled-deal.result c.loop.invariant.generator (c.shuffled-deal.ensures.value ∙ ap dealt c.draw.ensures.drawn) in
-    let generator = next_generator c.args.plan.now.seed (c.args.plan.now.first + c.loop.counter) (c.args.plan.now.first + (c.loop.counter + 1)) c.loop.generator c.draw.new.generator
-    c.loop.invariant.generator c.draw.ensures.stepped (omega arith) in
+    let deal = next_deal c.args.plan.now c.loop.counter c.loop.generator c.draw-deal.result c.loop.invariant.generator c.draw-deal.ensures.value in
+    let generator = next_generator c.args.plan.now.seed (c.args.plan.now.first + c.loop.counter) (c.args.plan.now.first + (c.loop.counter + 1)) c.loop.generator c.draw-deal.new.generator
+    c.loop.invariant.generator c.draw-deal.ensures.stepped (omega arith) in
     elim c.if-holds.branch [
       | then-holds+else-is_err-2 w ↦ record {
-        running = rw (w.boards-is, w.sink-is) (running_next c.args.plan.now c.args.cond.now c.loop.counter c.loop.boards _ (g.S.Sink.bytes c.loop.sink) _ c.shuffled-deal.result deal
+        running = rw (w.boards-is, w.sink-is) (running_next c.args.plan.now c.args.cond.now c.loop.counter c.loop.boards _ (g.S.Sink.bytes c.loop.sink) _ c.draw-deal.result deal
             (sym w.if-holds.true ∙ c.holds.ensures)
             (λ e. let full : c.is_full.result ≡ true = c.is_full.ensures.1 e in let not_full = c.if-is_full.false in absurd cc)
             c.loop.invariant.running
@@ -50,7 +50,7 @@ loop-preserved g c =
         faults = ap g.S.Sink.faults w.sink-is ∙ at_ok _ _ w.put_game.result w.if-is_err-2.ensures.value w.put_game.ensures.faults ∙ c.loop.invariant.faults;
       }
       | else-holds w ↦ record {
-        running = rw (w.boards-is, w.sink-is) (running_skip c.args.plan.now c.args.cond.now c.loop.counter c.loop.boards _ _ c.shuffled-deal.result deal
+        running = rw (w.boards-is, w.sink-is) (running_skip c.args.plan.now c.args.cond.now c.loop.counter c.loop.boards _ _ c.draw-deal.result deal
             (sym w.if-holds.false ∙ c.holds.ensures) c.loop.invariant.running);
         generator = generator;
         faults = ap g.S.Sink.faults w.sink-is ∙ c.loop.invariant.faults;

@@ -1,12 +1,9 @@
-use Rattle.std.proofs.Common.{arith}
-use Rattle.std.proofs.lemmas.List.{length-take-le}
+use Rattle.std.proofs.Common.{◌≡◌, ◌++◌, ◌∙◌, take, ap, arith}
+use Rattle.pbn_text.specs.Games.{hand_text}
 use Rattle.pbn_text.proofs.Suits.{thirteen_of}
 use Rattle.pbn_text.proofs.games.put_hand.Goals as goal
 
-pub put-requires : goal.put-requires
-put-requires c =
-    omega (arith, thirteen_of c.args.deal.now c.args.seat c.hand-hand.result c.hand-hand.ensures.partition c.hand-hand.ensures.value, length-take-le c.write_suit-end-4.result c.write_suit-end-4.new.buffer (omega arith))
-
-pub returns-clause-len : goal.returns-clause-len
-returns-clause-len c =
-    omega (arith, thirteen_of c.args.deal.now c.args.seat c.hand-hand.result c.hand-hand.ensures.partition c.hand-hand.ensures.value, length-take-le c.write_suit-end-4.result c.write_suit-end-4.new.buffer (omega arith))
+pub returns-clause-items : goal.returns-clause-items
+returns-clause-items c =
+    let end : 16 ≡ c.write_hand-end.result = omega (arith, c.write_hand-end.ensures.len, thirteen_of c.args.deal.now c.args.seat c.hand.result c.hand.ensures.partition c.hand.ensures.value) in
+    c.put.ensures.items ∙ ap (λ n. c.args.text.now.items ++ take n c.write_hand-end.new.buffer) end ∙ ap (λ xs. c.args.text.now.items ++ xs) (c.write_hand-end.ensures.written ∙ ap hand_text c.hand.ensures.value)

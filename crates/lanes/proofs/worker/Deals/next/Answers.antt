@@ -6,4 +6,4 @@ use Rattle.lanes.proofs.worker.Deals.next.Goals as goal
 pub returns-clause-generator : goal.returns-clause-generator
 returns-clause-generator c =
     let deals = c.args.self.now in
-    c.apply-self.ensures ∙ ap (λ x. state_after x deals.gap) c.draw-places.ensures.stepped ∙ state_after-add deals.generator 51 deals.gap
+    c.apply-self.ensures ∙ ap (λ x. state_after x deals.gap) c.draw-deal.ensures.stepped ∙ state_after-add deals.generator 51 deals.gap
