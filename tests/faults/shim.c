@@ -206,10 +206,10 @@ static enum kind kind_of(const char *name)
     return NONE;
 }
 
-/* Leaves the address space room to grow by so many bytes; the stack has grown by a megabyte before. */
+/* Leaves the address space room to grow by so many bytes; the stack has grown before by what the deepest condition needs. */
 static void limit_space(rlim_t room)
 {
-    volatile char stack[1 << 20];
+    volatile char stack[3 << 20];
     for (size_t i = 0; i < sizeof stack; i += 4096)
         stack[i] = 0;
     char text[64] = {0};
