@@ -95,6 +95,7 @@ def of_refusals():
         asked("--event", "-x"),
     ):
         yield Case("words: " + " ".join(words), words, 2, err=None)
+    yield Case("words: no text", ["make", b"\xff"], 2, err=b"error: invalid UTF-8 was detected in one or more arguments\n")
     for more, line in (
         (["--first", "1099511627776"], "plan refused: range"),
         (["--workers", "17"], "plan refused: workers"),
@@ -123,7 +124,16 @@ def of_refusals():
             yield Case(line, asked("--where", text), 3, err=line.encode() + b"\n")
 
 
-def every(is_all=True):
-    """The cases; by default without those of three workers but one, which add little to those of one and sixteen."""
+def of_more():
+    """Long texts, over lanes that are nearly always full or hold all, and each number of workers."""
+    for workers in (1, 2, 5, 16):
+        for lane in ("1", "4096"):
+            yield made(f"a longer text, lanes of {lane}", 12000, workers, more=["--lane", lane])
+        yield made("a longer search", 12000, workers, "nested", more=["--boards", "900"], boards=900)
+    for workers in range(2, 16):
+        yield made("more workers", 60, workers, "shapes")
+
+
+def every(is_all):
     chosen = [*of_texts(), *of_make(), *of_refusals()]
-    return [case for case in chosen if is_all or case.workers != 3 or "nested" in case.name]
+    return [*chosen, *of_more()] if is_all else chosen

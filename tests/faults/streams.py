@@ -19,6 +19,7 @@ class Check:
     status: int
     out: bytes = b""
     err: bytes = b""
+    output: str = "read"  # or: broken, a pipe that nobody reads; stuck, one that is full and does not block
 
 
 VALUES = "stream --seed 0 --count 3"
@@ -33,7 +34,8 @@ def of_output():
         yield Check(f"a full disk, {words}", f"$DEALS {words} >/dev/full", 4, err=FAILED)
         yield Check(f"a closed output, {words}", f"$DEALS {words} >&-", 4, err=FAILED)
         yield Check(f"an output that can only be read, {words}", f"$DEALS {words} 1</dev/null", 4, err=FAILED)
-        yield Check(f"nobody reads, {words}", f"$DEALS {words} | exec sleep 0; exit ${{PIPESTATUS[0]}}", None)
+        yield Check(f"nobody reads, {words}", f"exec $DEALS {words}", 4, err=FAILED, output="broken")
+        yield Check(f"nothing more fits, {words}", f"exec $DEALS {words}", 4, err=FAILED, output="stuck")
     for words in (WORDS, "make --seed 7 --candidates 1 --where x"):
         status, line = (2, REFUSED) if words == WORDS else (3, b"condition refused at byte 0: unknown word\n")
         yield Check(f"refused to a full disk, {words}", f"$DEALS {words} >/dev/full", status, err=line)
@@ -49,6 +51,8 @@ def of_readers():
         words += " --where '0==0 and hcp(north)>=0' --lane 4096"
         command = f"$DEALS {words} | head -n 1; exit ${{PIPESTATUS[0]}}"
         yield Check(f"one line is read, {workers} workers and a condition", command, 4, HEADER, FAILED)
+        words = f"make --seed 7 --candidates 2000 --workers {workers}"
+        yield Check(f"a reader that waits, {workers} workers", f"$DEALS {words} | (sleep 0.3; cat)", 0, model.games(7, 2000))
     command = "$DEALS stream --seed 0 --count 1000000000 | head -n 1; exit ${PIPESTATUS[0]}"
     yield Check("one value is read", command, 4, b"366850414\n", FAILED)
 
@@ -71,12 +75,29 @@ def every():
     return [*of_output(), *of_readers(), *of_errors()]
 
 
+def output_of(check):
+    """Where standard output goes, and the end of it that is to stay open."""
+    if check.output == "read":
+        return subprocess.PIPE, None
+    reader, writer = os.pipe()
+    if check.output == "broken":
+        os.close(reader)
+        return writer, None
+    os.set_blocking(writer, False)
+    try:
+        while True:
+            os.write(writer, bytes(4096))
+    except BlockingIOError:
+        return writer, reader
+
+
 def complaint_of(check):
+    output, reader = output_of(check)
     process = subprocess.Popen(
         ["bash", "-c", check.command],
         env={**os.environ, "DEALS": str(harness.PROGRAM)},
         stdin=subprocess.DEVNULL,
-        stdout=subprocess.PIPE,
+        stdout=output,
         stderr=subprocess.PIPE,
         start_new_session=True,
     )
@@ -86,12 +107,13 @@ def complaint_of(check):
         os.killpg(process.pid, 9)
         process.communicate()
         return None, "it did not end"
+    if output != subprocess.PIPE:
+        out = b""
+        os.close(output)
+    if reader is not None:
+        os.close(reader)
     status = process.returncode
-    if check.status is None:
-        # Whether the reader was gone before the write is a matter of the schedule.
-        if (status, out, err) in ((0, b"", b""), (4, b"", FAILED)):
-            return status, None
-    elif (status, out, err) == (check.status, check.out, check.err):
+    if (status, out, err) == (check.status, check.out, check.err):
         return status, None
     return status, f"status {status}, {len(out)} bytes of output, {err!r} on standard error"
 
