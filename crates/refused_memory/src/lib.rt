@@ -1,0 +1,16 @@
+//! Tests of the calls that take memory, where any of it may be refused.
+//!
+//! Each test accepts either outcome, and checks what stands after it. With ample memory every call succeeds;
+//! `tests/memory/run` has each allocation of each test fail in turn.
+#![tactic(auto)]
+
+#[cfg(test)]
+mod conditions;
+#[cfg(test)]
+mod programs;
+#[cfg(test)]
+mod rings;
+#[cfg(test)]
+mod runs;
+#[cfg(test)]
+mod sinks;

@@ -1,0 +1,139 @@
+"""The calls of the program that are made to fail, and what each ends with where nothing fails."""
+
+import dataclasses
+
+import model
+
+
+@dataclasses.dataclass
+class Case:
+    name: str
+    words: list
+    status: int = 0
+    out: bytes | None = b""  # None: whatever it writes undisturbed, as help
+    err: bytes | None = b""
+    workers: int = 0  # how many threads it starts
+
+
+NORTH, EAST, SOUTH, WEST = range(4)
+
+# A condition, and whether it accepts four hands.
+CONDITIONS = {
+    "every deal": (None, lambda d: True),
+    "simple": ("hcp(north)>=15", lambda d: model.points(d[NORTH]) >= 15),
+    "sums": (
+        "hcp(north)+hcp(south)+1>=len(east,spades)+20",
+        lambda d: model.points(d[NORTH]) + model.points(d[SOUTH]) + 1 >= model.lengths(d[EAST])[0] + 20,
+    ),
+    "nested": (
+        "not (hcp(north)<12 and (not balanced(south) or (len(west,clubs)!=3 and not (balanced(east)))))",
+        lambda d: not (
+            model.points(d[NORTH]) < 12
+            and (
+                not model.is_balanced(d[SOUTH])
+                or (model.lengths(d[WEST])[3] != 3 and not model.is_balanced(d[EAST]))
+            )
+        ),
+    ),
+    "shapes": (
+        "pattern(east,5-4-3-1) or shape(north,4-3-3-3) or balanced(west)",
+        lambda d: sorted(model.lengths(d[EAST])) == [1, 3, 4, 5]
+        or model.lengths(d[NORTH]) == [4, 3, 3, 3]
+        or model.is_balanced(d[WEST]),
+    ),
+}
+
+
+def made(name, count, workers, condition="every deal", more=(), **settings):
+    text, accepts = CONDITIONS[condition]
+    words = ["make", "--seed", "7", "--candidates", str(count), "--workers", str(workers), *more]
+    if text is not None:
+        words += ["--where", text]
+    out = model.games(7, count, accepts, **settings)
+    return Case(f"make, {name}, {workers} workers", words, out=out, workers=workers)
+
+
+def of_make():
+    for workers in (1, 3, 16):
+        for condition in CONDITIONS:
+            yield made(condition, 40, workers, condition)
+        yield made("no candidate", 0, workers)
+        yield made("a long text", 3000, workers, more=["--lane", "2"])
+        yield made("some boards", 400, workers, "simple", ["--boards", "5"], boards=5)
+        more = ["--first", "3", "--first-board", "16", "--event", "Club night", "--site", "", "--date", "2024.05.01"]
+        labels = [("Event", "Club night"), ("Site", ""), ("Date", "2024.05.01")]
+        yield made("labels", 20, workers, more=more, first=3, first_board=16, labels=labels)
+    deep = "(" * 509 + "0==0" + ")" * 509
+    yield Case("make, brackets", asked("--where", deep), out=model.games(7, 1), workers=1)
+    yield Case("make, negations", asked("--where", "not " * 255 + "0==0"), out=model.games(7, 0), workers=1)
+
+
+def asked(*more):
+    return ["make", "--seed", "7", "--candidates", "1", *more]
+
+
+def of_texts():
+    yield Case("stream", ["stream", "--seed", "0", "--count", "3"], out=b"366850414\n1610402240\n206956554\n")
+    yield Case("stream, nothing", ["stream", "--seed", "0", "--count", "0"])
+    yield Case("stream, long", ["stream", "--seed", "9", "--count", "20000"], out=model.values(9, 20000))
+    yield Case("version", ["--version"], out=b"deals 0.1.0\n")
+    for words in (["--help"], ["help"], ["help", "make"], ["make", "--help"], ["stream", "-h"]):
+        yield Case(" ".join(words), words, out=None)
+
+
+def of_refusals():
+    for words in (
+        [],
+        ["--frist"],
+        ["deal"],
+        ["stream"],
+        ["stream", "--seed", "0"],
+        ["stream", "--seed", "4294967296", "--count", "1"],
+        ["stream", "--seed", "x", "--count", "1"],
+        ["make", "--seed", "0", "--candidates", "18446744073709551616"],
+        asked("--frist", "3"),
+        asked("--event", "-x"),
+    ):
+        yield Case("words: " + " ".join(words), words, 2, err=None)
+    yield Case("words: no text", ["make", b"\xff"], 2, err=b"error: invalid UTF-8 was detected in one or more arguments\n")
+    for more, line in (
+        (["--first", "1099511627776"], "plan refused: range"),
+        (["--workers", "17"], "plan refused: workers"),
+        (["--lane", "0"], "plan refused: lane capacity"),
+        (["--boards", "0"], "plan refused: boards"),
+        (["--first-board", "0"], "plan refused: first board"),
+        (["--event", 'a"b'], "label refused: event"),
+        (["--site", "a\\b"], "label refused: site"),
+        (["--date", "2024-05-01"], "label refused: date"),
+    ):
+        yield Case(line, asked(*more), 2, err=line.encode() + b"\n")
+    at = "condition refused at byte "
+    for text, line in (
+        (" " * 1025, "condition refused: longer than 1024 bytes"),
+        ("hcp(nord)>=15", at + "4: unknown word"),
+        ("hcp(north)< =15", at + "12: unexpected byte"),
+        ("00005==5", at + "0: number too long"),
+        ("not (1+2==3 and 4==) ", at + "19: syntax"),
+        ("(" * 1024, at + "1024: syntax"),
+        ("not " * 256, at + "1024: syntax"),
+        ("1" + "+1" * 500 + "==" + "1", None),
+    ):
+        if line is None:
+            yield Case("a sum of many", asked("--where", text), out=model.games(7, 0), workers=1)
+        else:
+            yield Case(line, asked("--where", text), 3, err=line.encode() + b"\n")
+
+
+def of_more():
+    """Long texts, over lanes that are nearly always full or hold all, and each number of workers."""
+    for workers in (1, 2, 5, 16):
+        for lane in ("1", "4096"):
+            yield made(f"a longer text, lanes of {lane}", 12000, workers, more=["--lane", lane])
+        yield made("a longer search", 12000, workers, "nested", more=["--boards", "900"], boards=900)
+    for workers in range(2, 16):
+        yield made("more workers", 60, workers, "shapes")
+
+
+def every(is_all):
+    chosen = [*of_texts(), *of_make(), *of_refusals()]
+    return [*chosen, *of_more()] if is_all else chosen
