@@ -1,7 +1,8 @@
 /* Fails what a program asks of the C library, for LD_PRELOAD.
  *
  * FAULT_CALL    alloc: malloc, calloc, realloc and their kin answer NULL; write: write answers -1 with FAULT_ERRNO;
- *               short: write takes FAULT_MOST bytes at most; zero: write takes none; thread: pthread_create answers
+ *               short: write takes FAULT_MOST bytes at most; ragged: the same of every write, and those that fail
+ *               answer -1 with FAULT_ERRNO; zero: write takes none; thread: pthread_create answers
  *               EAGAIN; attr: pthread_attr_init and pthread_attr_setguardsize answer ENOMEM; space: the address space
  *               may grow by FAULT_AT bytes.
  * FAULT_AT      the number of the first call that fails, from 1 on. 0: none.
@@ -33,7 +34,7 @@ extern void *__libc_realloc(void *, size_t);
 extern void *__libc_memalign(size_t, size_t);
 extern void __libc_free(void *);
 
-enum kind { NONE, ALLOC, WRITE, SHORT, ZERO, THREAD, ATTR };
+enum kind { NONE, ALLOC, WRITE, SHORT, RAGGED, ZERO, THREAD, ATTR };
 
 struct report {
     uint64_t calls;
@@ -154,13 +155,13 @@ void free(void *place)
 static ssize_t written(int to, const void *bytes, size_t length)
 {
     if (length != 0 && (descriptor == -1 || to == descriptor)) {
-        if (fails(WRITE)) {
+        if (fails(WRITE) || fails(RAGGED)) {
             errno = number;
             return -1;
         }
         if (fails(ZERO))
             return 0;
-        if (fails(SHORT) && length > most)
+        if ((fails(SHORT) || kind == RAGGED) && length > most)
             length = most;
     }
     return syscall(SYS_write, to, bytes, length);
@@ -199,8 +200,8 @@ static long long setting(const char *name)
 
 static enum kind kind_of(const char *name)
 {
-    static const char *const names[] = {"none", "alloc", "write", "short", "zero", "thread", "attr"};
-    for (int i = 0; i < 7; i++)
+    static const char *const names[] = {"none", "alloc", "write", "short", "ragged", "zero", "thread", "attr"};
+    for (int i = 0; i < 8; i++)
         if (strcmp(name, names[i]) == 0)
             return (enum kind)i;
     return NONE;
