@@ -10,9 +10,6 @@ use std::{env, io};
 /// How much output is gathered before it is passed on.
 const BUFFER: usize = 64 * 1024;
 
-/// What is said of words that are no text: the only cause besides memory for which they can't be read.
-const NOT_TEXT: &[u8] = b"error: invalid UTF-8 was detected in one or more arguments\n";
-
 /// The words that the program was called with, and its buffered output.
 fn start(rt: &HostRuntime) -> Result<(Vec<String>, BufWriter<io::Stdout>)> {
     let words = env::args(rt)?.collect(rt.alloc())?;
@@ -32,9 +29,6 @@ fn main(rt: HostRuntime) -> ExitCode {
             let _ = put_all(&mut err, b"out of memory\n");
             ExitCode::from(5)
         }
-        Err(_) => {
-            let _ = put_all(&mut err, NOT_TEXT);
-            ExitCode::from(2)
-        }
+        Err(_) => ExitCode::from(2),
     }
 }
