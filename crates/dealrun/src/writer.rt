@@ -19,6 +19,9 @@ use std::{hint, thread};
 /// The most spins before a waiting writer leaves its time slice.
 const MOST_SPINS: u32 = 1024;
 
+/// How many spins a verdict of a worker takes, about.
+const SPINS_A_VERDICT: u32 = 4;
+
 /// How far the writer has come: whose turn it is, how many verdicts were taken, and how many games were written.
 #[derive(Drop)]
 pub(crate) struct Progress {
@@ -89,7 +92,7 @@ fn wait_take<R: Wait>(
     ensures some { IfSome result (λ v. lane.new.taken ≡ lane.old.taken ++ v ∷ []) }
     ensures none { IfNone result (lane.new ≡ lane.old) }
 {
-    let mut spins = capacity.saturating_mul(16).min(MOST_SPINS);
+    let mut spins = capacity.saturating_mul(SPINS_A_VERDICT).min(MOST_SPINS);
     for _ in rt.forever() {
         let verdict = lane.take();
         // A load of the stop flag is no event of the core.

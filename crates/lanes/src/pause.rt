@@ -2,8 +2,11 @@
 
 use std::{hint, thread};
 
-/// Most looks at a lane cost more than this many spins.
-const MOST_SPINS: u32 = 1024;
+/// The most spins before a waiting end leaves its time slice.
+const MOST_SPINS: u32 = 4096;
+
+/// How many spins a verdict of the other end takes, about.
+const SPINS_A_VERDICT: u32 = 4;
 
 /// The pauses between the tries for one verdict: first a short spin, so that the other end gets ahead by
 /// about a lane's content, and from then on the rest of the time slice.
@@ -13,10 +16,13 @@ pub(crate) struct Pause {
 }
 
 impl Pause {
-    /// The pauses of an end of a lane with this capacity.
-    pub(crate) fn new(capacity: u32) -> Pause {
+    /// The pauses of a worker on a lane with this capacity, whose writer takes from so many lanes in turn.
+    pub(crate) fn new(capacity: u32, workers: u32) -> Pause {
         Pause {
-            spins: capacity.saturating_mul(16).min(MOST_SPINS),
+            spins: capacity
+                .saturating_mul(workers)
+                .saturating_mul(SPINS_A_VERDICT)
+                .min(MOST_SPINS),
         }
     }
 

@@ -84,7 +84,7 @@ fn send_all<R: Wait, G: Gate>(
             accepted,
             deal,
         };
-        if !send(rt, lane, &verdict, stop) {
+        if !send(rt, lane, &verdict, job.share.workers, stop) {
             return false;
         }
     }
@@ -92,11 +92,17 @@ fn send_all<R: Wait, G: Gate>(
 }
 
 /// Tries to send one verdict until it is sent, or until the stop flag is up.
-fn send<R: Wait>(rt: &R, lane: &mut LaneIn, verdict: &Verdict, stop: &AtomicBool) -> bool
+fn send<R: Wait>(
+    rt: &R,
+    lane: &mut LaneIn,
+    verdict: &Verdict,
+    workers: u32,
+    stop: &AtomicBool,
+) -> bool
     ensures ring { lane.new.ring ≡ lane.old.ring }
     ensures sent { MatchBool result (lane.new.sent ≡ lane.old.sent ++ verdict.now ∷ []) (lane.new.sent ≡ lane.old.sent) }
 {
-    let mut pause = Pause::new(lane.capacity());
+    let mut pause = Pause::new(lane.capacity(), workers);
     for _ in rt.forever() {
         if lane.try_send(*verdict).is_ok() {
             return true;
