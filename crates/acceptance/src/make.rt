@@ -1,8 +1,8 @@
 //! `make`, through the program.
 
 use crate::support::{make_of, outcome_of, words_of};
-use deals_cli::program;
 use dealrun::{Fuse, MemSink};
+use deals_cli::program;
 use std::test::Fail;
 
 /// How many bytes and how many boards are written.
@@ -15,14 +15,42 @@ fn writes_so_many_bytes(rt: HostRuntime) -> Result<(), Fail> {
         (["--candidates", "3"].as_slice(), 381, 3),
         (["--candidates", "200"].as_slice(), 25_052, 200),
         (["--candidates", "1", "--first", "2"].as_slice(), 135, 1),
-        (["--candidates", "1", "--first", "1099511627775"].as_slice(), 135, 1),
-        (["--candidates", "100", "--where", "shape(north,9-9-9-9)"].as_slice(), 10, 0),
+        (
+            ["--candidates", "1", "--first", "1099511627775"].as_slice(),
+            135,
+            1,
+        ),
+        (
+            ["--candidates", "100", "--where", "shape(north,9-9-9-9)"].as_slice(),
+            10,
+            0,
+        ),
         (["--candidates", "20", "--where", SUM].as_slice(), 2_496, 20),
         (["--candidates", "20", "--where", NO_SUM].as_slice(), 10, 0),
         (["--candidates", "200", "--boards", "5"].as_slice(), 628, 5),
-        (["--candidates", "200", "--boards", "200"].as_slice(), 25_052, 200),
-        (["--candidates", "200", "--boards", "201"].as_slice(), 25_052, 200),
-        (["--candidates", "200", "--boards", "5", "--where", "shape(north,9-9-9-9)"].as_slice(), 10, 0),
+        (
+            ["--candidates", "200", "--boards", "200"].as_slice(),
+            25_052,
+            200,
+        ),
+        (
+            ["--candidates", "200", "--boards", "201"].as_slice(),
+            25_052,
+            200,
+        ),
+        (
+            [
+                "--candidates",
+                "200",
+                "--boards",
+                "5",
+                "--where",
+                "shape(north,9-9-9-9)",
+            ]
+            .as_slice(),
+            10,
+            0,
+        ),
     ] {
         let outcome = make_of(&rt, rt.alloc(), options)?;
         assert_eq!(rt; outcome.status, 0);
@@ -51,44 +79,88 @@ fn writes_the_header_alone(rt: HostRuntime) -> Result<(), Fail> {
 #[test]
 fn starts_at_a_later_candidate(rt: HostRuntime) -> Result<(), Fail> {
     let three = make_of(&rt, rt.alloc(), ["--candidates", "3"].as_slice())?;
-    let third = make_of(&rt, rt.alloc(), ["--candidates", "1", "--first", "2"].as_slice())?;
+    let third = make_of(
+        &rt,
+        rt.alloc(),
+        ["--candidates", "1", "--first", "2"].as_slice(),
+    )?;
     let Some(deal) = three.out.bytes().get(381 - 80..) else {
         assert!(rt; false);
         return Ok(());
     };
     assert!(rt; third.out.bytes().ends_with(deal));
     assert!(rt; deal.starts_with(b"[Deal \"N:"));
-    assert!(rt; third.out.bytes().starts_with(b"% PBN 2.1\n[Board \"1\"]\n[Dealer \"N\"]\n"));
+    assert!(rt;
+        third
+            .out
+            .bytes()
+            .starts_with(b"% PBN 2.1\n[Board \"1\"]\n[Dealer \"N\"]\n")
+    );
     Ok(())
 }
 
 #[test]
 fn writes_labels_and_board_numbers(rt: HostRuntime) -> Result<(), Fail> {
-    let options = ["--candidates", "2", "--first-board", "16", "--event", "Club night", "--date", "2024.05.01"];
+    let options = [
+        "--candidates",
+        "2",
+        "--first-board",
+        "16",
+        "--event",
+        "Club night",
+        "--date",
+        "2024.05.01",
+    ];
     let outcome = make_of(&rt, rt.alloc(), options.as_slice())?;
     assert_eq!(rt; outcome.status, 0);
     assert_eq!(rt; outcome.out.bytes().len(), 342);
-    let first = b"% PBN 2.1\n[Event \"Club night\"]\n[Date \"2024.05.01\"]\n[Board \"16\"]\n[Dealer \"W\"]\n[Vulnerable \"EW\"]\n";
+    let first =
+        b"% PBN 2.1\n[Event \"Club night\"]\n[Date \"2024.05.01\"]\n[Board \"16\"]\n[Dealer \"W\"]\n[Vulnerable \"EW\"]\n";
     assert!(rt; outcome.out.bytes().starts_with(first));
-    let second = b"[Event \"Club night\"]\n[Date \"2024.05.01\"]\n[Board \"17\"]\n[Dealer \"N\"]\n[Vulnerable \"None\"]\n";
+    let second =
+        b"[Event \"Club night\"]\n[Date \"2024.05.01\"]\n[Board \"17\"]\n[Dealer \"N\"]\n[Vulnerable \"None\"]\n";
     let Some(rest) = outcome.out.bytes().get(342 - 80 - second.len()..) else {
         assert!(rt; false);
         return Ok(());
     };
     assert!(rt; rest.starts_with(second));
-    let last = make_of(&rt, rt.alloc(), ["--candidates", "1", "--first-board", "1099511627776"].as_slice())?;
+    let last = make_of(
+        &rt,
+        rt.alloc(),
+        ["--candidates", "1", "--first-board", "1099511627776"].as_slice(),
+    )?;
     assert_eq!(rt; last.status, 0);
-    let equals = make_of(&rt, rt.alloc(), ["--candidates", "1", "--event=-x"].as_slice())?;
-    assert!(rt; equals.out.bytes().starts_with(b"% PBN 2.1\n[Event \"-x\"]\n"));
+    let equals = make_of(
+        &rt,
+        rt.alloc(),
+        ["--candidates", "1", "--event=-x"].as_slice(),
+    )?;
+    assert!(rt;
+        equals
+            .out
+            .bytes()
+            .starts_with(b"% PBN 2.1\n[Event \"-x\"]\n")
+    );
     Ok(())
 }
 
 /// A condition and its negation share out the candidates.
 #[test]
 fn shares_out_by_a_condition(rt: HostRuntime) -> Result<(), Fail> {
-    let strong = make_of(&rt, rt.alloc(), ["--candidates", "200", "--where", "hcp(north)>=15"].as_slice())?;
-    let others = make_of(&rt, rt.alloc(), ["--candidates", "200", "--where", "not hcp(north)>=15"].as_slice())?;
-    assert_eq!(rt; games(strong.out.bytes()).saturating_add(games(others.out.bytes())), 200);
+    let strong = make_of(
+        &rt,
+        rt.alloc(),
+        ["--candidates", "200", "--where", "hcp(north)>=15"].as_slice(),
+    )?;
+    let others = make_of(
+        &rt,
+        rt.alloc(),
+        ["--candidates", "200", "--where", "not hcp(north)>=15"].as_slice(),
+    )?;
+    assert_eq!(rt;
+        games(strong.out.bytes()).saturating_add(games(others.out.bytes())),
+        200
+    );
     Ok(())
 }
 

@@ -2,6 +2,7 @@
 
 use cond_lang::{Cond, parse};
 use dealrun::{Fuse, MemSink, PlainFault, Plan, PlanError, run_plain};
+use pbn_text::{Date, Heading, Label};
 use std::test::Fail;
 
 #[test]
@@ -17,7 +18,10 @@ fn refuses_plans_in_order(rt: HostRuntime) {
         (1, 1, 0, PlanError::Capacity),
         (1, 1, 4097, PlanError::Capacity),
     ] {
-        assert_eq!(rt; Plan::new(0, LAST, count, workers, capacity).err(), Some(want));
+        assert_eq!(rt;
+            Plan::new(0, LAST, count, workers, capacity).err(),
+            Some(want)
+        );
     }
 }
 
@@ -25,12 +29,21 @@ fn refuses_plans_in_order(rt: HostRuntime) {
 fn tells_what_it_plans(rt: HostRuntime) -> Result<(), Fail> {
     let plan = Plan::new(7, 5, 10, 4, 64)?.limited(3)?.numbered(19)?;
     assert_eq!(rt; (plan.seed(), plan.first(), plan.count()), (7, 5, 10));
-    assert_eq!(rt; (plan.workers(), plan.capacity(), plan.limit()), (4, 64, Some(3)));
-    assert_eq!(rt; (plan.first_board(), plan.heading().event.is_none()), (19, true));
+    assert_eq!(rt;
+        (plan.workers(), plan.capacity(), plan.limit()),
+        (4, 64, Some(3))
+    );
+    assert_eq!(rt;
+        (plan.first_board(), plan.heading().event.is_none()),
+        (19, true)
+    );
     assert_eq!(rt; plan.limited(0).err(), Some(PlanError::Boards));
     assert_eq!(rt; plan.numbered(0).err(), Some(PlanError::FirstBoard));
     assert!(rt; plan.numbered(1 << 40).is_ok());
-    assert_eq!(rt; plan.numbered((1 << 40) + 1).err(), Some(PlanError::FirstBoard));
+    assert_eq!(rt;
+        plan.numbered((1 << 40) + 1).err(),
+        Some(PlanError::FirstBoard)
+    );
     Ok(())
 }
 
@@ -38,12 +51,38 @@ fn tells_what_it_plans(rt: HostRuntime) -> Result<(), Fail> {
 fn writes_all_deals(rt: HostRuntime) -> Result<(), Fail> {
     let plan = Plan::new(0, 0, 200, 1, 64)?;
     let mut sink = MemSink::new(rt.alloc());
-    assert_eq!(rt; run_plain(&plan, &Cond::any(rt.alloc()), &mut sink), Ok(200));
+    assert_eq!(rt;
+        run_plain(&plan, &Cond::any(rt.alloc()), &mut sink),
+        Ok(200)
+    );
     assert_eq!(rt; sink.bytes().len(), 25_052);
     let mut limited = MemSink::new(rt.alloc());
-    assert_eq!(rt; run_plain(&plan.limited(5)?, &Cond::any(rt.alloc()), &mut limited), Ok(5));
+    assert_eq!(rt;
+        run_plain(&plan.limited(5)?, &Cond::any(rt.alloc()), &mut limited),
+        Ok(5)
+    );
     assert_eq!(rt; limited.bytes().len(), 628);
     assert!(rt; sink.bytes().starts_with(limited.bytes()));
+    Ok(())
+}
+
+#[test]
+fn writes_under_a_heading(rt: HostRuntime) -> Result<(), Fail> {
+    let heading = Heading {
+        event: Label::new(b"Club night"),
+        site: None,
+        date: Date::new(b"2024.05.01"),
+    };
+    let plan = Plan::new(0, 0, 2, 1, 64)?.numbered(16)?.headed(heading);
+    assert!(rt; plan.heading().event.is_some());
+    let mut sink = MemSink::new(rt.alloc());
+    assert_eq!(rt; run_plain(&plan, &Cond::any(rt.alloc()), &mut sink), Ok(2));
+    assert_eq!(rt; sink.bytes().len(), 342);
+    assert!(rt;
+        sink.bytes().starts_with(
+            b"% PBN 2.1\n[Event \"Club night\"]\n[Date \"2024.05.01\"]\n[Board \"16\"]\n"
+        )
+    );
     Ok(())
 }
 
@@ -53,11 +92,17 @@ fn counts_whole_games(rt: HostRuntime) -> Result<(), Fail> {
     let plan = Plan::new(0, 0, 200, 1, 64)?;
     for (fails_at, bytes, boards) in [(1, 0, 0), (10, 9, 0), (135, 134, 0), (136, 135, 1)] {
         let mut sink = Fuse::new(MemSink::new(rt.alloc()), fails_at, 1, true);
-        assert_eq!(rt; run_plain(&plan, &Cond::any(rt.alloc()), &mut sink), Err(PlainFault { boards }));
+        assert_eq!(rt;
+            run_plain(&plan, &Cond::any(rt.alloc()), &mut sink),
+            Err(PlainFault { boards })
+        );
         assert_eq!(rt; sink.bytes().len(), bytes);
     }
     let mut whole = Fuse::new(MemSink::new(rt.alloc()), 0, 1, true);
-    assert_eq!(rt; run_plain(&plan, &Cond::any(rt.alloc()), &mut whole), Ok(200));
+    assert_eq!(rt;
+        run_plain(&plan, &Cond::any(rt.alloc()), &mut whole),
+        Ok(200)
+    );
     assert_eq!(rt; whole.bytes().len(), 25_052);
     Ok(())
 }

@@ -16,9 +16,37 @@ fn refuses_words(rt: HostRuntime) -> Result<(), Fail> {
         ["deals", "stream"].as_slice(),
         ["deals", "stream", "--seed", "0"].as_slice(),
         ["deals", "make", "--seed", "0"].as_slice(),
-        ["deals", "make", "--seed", "0", "--candidates", "18446744073709551616"].as_slice(),
-        ["deals", "make", "--seed", "0", "--candidates", "1", "--boards", "4294967296"].as_slice(),
-        ["deals", "make", "--seed", "0", "--candidates", "1", "--event", "-x"].as_slice(),
+        [
+            "deals",
+            "make",
+            "--seed",
+            "0",
+            "--candidates",
+            "18446744073709551616",
+        ]
+        .as_slice(),
+        [
+            "deals",
+            "make",
+            "--seed",
+            "0",
+            "--candidates",
+            "1",
+            "--boards",
+            "4294967296",
+        ]
+        .as_slice(),
+        [
+            "deals",
+            "make",
+            "--seed",
+            "0",
+            "--candidates",
+            "1",
+            "--event",
+            "-x",
+        ]
+        .as_slice(),
     ] {
         let outcome = outcome_of(&rt, rt.alloc(), words, [].as_slice())?;
         assert_eq!(rt; outcome.status, 2, "{words:?}");
@@ -40,7 +68,12 @@ fn shows_help_and_version(rt: HostRuntime) -> Result<(), Fail> {
         assert_eq!(rt; outcome.status, 0, "{words:?}");
         assert!(rt; !outcome.out.bytes().is_empty() && outcome.err.bytes().is_empty());
     }
-    let outcome = outcome_of(&rt, rt.alloc(), ["deals", "--version"].as_slice(), [].as_slice())?;
+    let outcome = outcome_of(
+        &rt,
+        rt.alloc(),
+        ["deals", "--version"].as_slice(),
+        [].as_slice(),
+    )?;
     assert_eq!(rt; outcome.status, 0);
     assert_eq!(rt; outcome.out.bytes(), b"deals 0.1.0\n".as_slice());
     Ok(())
@@ -50,25 +83,101 @@ fn shows_help_and_version(rt: HostRuntime) -> Result<(), Fail> {
 #[test]
 fn refuses_plans_labels_and_conditions(rt: HostRuntime) -> Result<(), Fail> {
     for (options, status, want) in [
-        (["--candidates", "1099511627777"].as_slice(), 2, "plan refused: range\n"),
-        (["--candidates", "2", "--first", "1099511627775"].as_slice(), 2, "plan refused: range\n"),
-        (["--candidates", "1", "--first", "18446744073709551615"].as_slice(), 2, "plan refused: range\n"),
-        (["--candidates", "1", "--workers", "0"].as_slice(), 2, "plan refused: workers\n"),
-        (["--candidates", "1", "--workers", "17", "--lane", "0"].as_slice(), 2, "plan refused: workers\n"),
-        (["--candidates", "1", "--lane", "4097"].as_slice(), 2, "plan refused: lane capacity\n"),
-        (["--candidates", "1", "--boards", "0", "--first-board", "0"].as_slice(), 2, "plan refused: boards\n"),
-        (["--candidates", "1", "--first-board", "0"].as_slice(), 2, "plan refused: first board\n"),
-        (["--candidates", "1", "--first-board", "1099511627777"].as_slice(), 2, "plan refused: first board\n"),
-        (["--candidates", "1", "--event", "a\"b"].as_slice(), 2, "label refused: event\n"),
-        (["--candidates", "1", "--site", "a\\b", "--date", "x"].as_slice(), 2, "label refused: site\n"),
-        (["--candidates", "1", "--date", "2024-05-01"].as_slice(), 2, "label refused: date\n"),
-        (["--candidates", "1", "--date", "x", "--where", "x"].as_slice(), 2, "label refused: date\n"),
-        (["--candidates", "1", "--lane", "0", "--where", "x"].as_slice(), 2, "plan refused: lane capacity\n"),
-        (["--candidates", "1", "--where", "hcp(nord)>=15 #"].as_slice(), 3, "condition refused at byte 4: unknown word\n"),
-        (["--candidates", "1", "--where", "hcp(north)< =15"].as_slice(), 3, "condition refused at byte 12: unexpected byte\n"),
-        (["--candidates", "1", "--where", "len(north,spades)>=00005"].as_slice(), 3, "condition refused at byte 19: number too long\n"),
-        (["--candidates", "1", "--where", "hcp(north)>=15)"].as_slice(), 3, "condition refused at byte 14: syntax\n"),
-        (["--candidates", "1", "--where", ""].as_slice(), 3, "condition refused at byte 0: syntax\n"),
+        (
+            ["--candidates", "1099511627777"].as_slice(),
+            2,
+            "plan refused: range\n",
+        ),
+        (
+            ["--candidates", "2", "--first", "1099511627775"].as_slice(),
+            2,
+            "plan refused: range\n",
+        ),
+        (
+            ["--candidates", "1", "--first", "18446744073709551615"].as_slice(),
+            2,
+            "plan refused: range\n",
+        ),
+        (
+            ["--candidates", "1", "--workers", "0"].as_slice(),
+            2,
+            "plan refused: workers\n",
+        ),
+        (
+            ["--candidates", "1", "--workers", "17", "--lane", "0"].as_slice(),
+            2,
+            "plan refused: workers\n",
+        ),
+        (
+            ["--candidates", "1", "--lane", "4097"].as_slice(),
+            2,
+            "plan refused: lane capacity\n",
+        ),
+        (
+            ["--candidates", "1", "--boards", "0", "--first-board", "0"].as_slice(),
+            2,
+            "plan refused: boards\n",
+        ),
+        (
+            ["--candidates", "1", "--first-board", "0"].as_slice(),
+            2,
+            "plan refused: first board\n",
+        ),
+        (
+            ["--candidates", "1", "--first-board", "1099511627777"].as_slice(),
+            2,
+            "plan refused: first board\n",
+        ),
+        (
+            ["--candidates", "1", "--event", "a\"b"].as_slice(),
+            2,
+            "label refused: event\n",
+        ),
+        (
+            ["--candidates", "1", "--site", "a\\b", "--date", "x"].as_slice(),
+            2,
+            "label refused: site\n",
+        ),
+        (
+            ["--candidates", "1", "--date", "2024-05-01"].as_slice(),
+            2,
+            "label refused: date\n",
+        ),
+        (
+            ["--candidates", "1", "--date", "x", "--where", "x"].as_slice(),
+            2,
+            "label refused: date\n",
+        ),
+        (
+            ["--candidates", "1", "--lane", "0", "--where", "x"].as_slice(),
+            2,
+            "plan refused: lane capacity\n",
+        ),
+        (
+            ["--candidates", "1", "--where", "hcp(nord)>=15 #"].as_slice(),
+            3,
+            "condition refused at byte 4: unknown word\n",
+        ),
+        (
+            ["--candidates", "1", "--where", "hcp(north)< =15"].as_slice(),
+            3,
+            "condition refused at byte 12: unexpected byte\n",
+        ),
+        (
+            ["--candidates", "1", "--where", "len(north,spades)>=00005"].as_slice(),
+            3,
+            "condition refused at byte 19: number too long\n",
+        ),
+        (
+            ["--candidates", "1", "--where", "hcp(north)>=15)"].as_slice(),
+            3,
+            "condition refused at byte 14: syntax\n",
+        ),
+        (
+            ["--candidates", "1", "--where", ""].as_slice(),
+            3,
+            "condition refused at byte 0: syntax\n",
+        ),
     ] {
         refuses(&rt, rt.alloc(), options, status, want)?;
     }
@@ -102,7 +211,13 @@ fn refuses_a_long_condition(rt: HostRuntime) -> Result<(), Fail> {
         let Some(spaces) = text.as_str().get(..length) else {
             return Ok(());
         };
-        refuses(&rt, rt.alloc(), ["--candidates", "1", "--where", spaces].as_slice(), 3, want)?;
+        refuses(
+            &rt,
+            rt.alloc(),
+            ["--candidates", "1", "--where", spaces].as_slice(),
+            3,
+            want,
+        )?;
     }
     Ok(())
 }

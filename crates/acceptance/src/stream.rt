@@ -1,8 +1,8 @@
 //! `stream`, through the program and alone.
 
 use crate::support::{outcome_of, words_of};
-use deals_cli::program;
 use dealrun::{Fuse, MemSink, put_all, stream};
+use deals_cli::program;
 use std::test::Fail;
 
 #[test]
@@ -39,7 +39,12 @@ fn writes_the_values_into_memory(rt: HostRuntime) -> Result<(), Fail> {
 
 #[test]
 fn refuses_numbers_out_of_range(rt: HostRuntime) -> Result<(), Fail> {
-    for (seed, count) in [("4294967296", "1"), ("0", "1099511627777"), ("-1", "1"), ("0", "x")] {
+    for (seed, count) in [
+        ("4294967296", "1"),
+        ("0", "1099511627777"),
+        ("-1", "1"),
+        ("0", "x"),
+    ] {
         let words = ["deals", "stream", "--seed", seed, "--count", count];
         let outcome = outcome_of(&rt, rt.alloc(), words.as_slice(), [].as_slice())?;
         assert_eq!(rt; outcome.status, 2);

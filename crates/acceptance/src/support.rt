@@ -1,7 +1,7 @@
 //! What the tests share.
 
-use deals_cli::program;
 use dealrun::MemSink;
+use deals_cli::program;
 use std::alloc::{AllocError, Global};
 use std::sync::Wait;
 use std::thread::Threads;
@@ -15,7 +15,11 @@ pub struct Outcome {
 }
 
 /// The words of a command line, in two parts.
-pub fn words_of(alloc: Global, words: &[&str], options: &[&str]) -> Result<Vec<String>, AllocError> {
+pub fn words_of(
+    alloc: Global,
+    words: &[&str],
+    options: &[&str],
+) -> Result<Vec<String>, AllocError> {
     let mut list = Vec::new(alloc);
     for word in words {
         list.push(String::from_str(alloc, word)?)?;
@@ -46,5 +50,10 @@ pub fn make_of<R: Threads + Wait + Clone + Send + 'static>(
     alloc: Global,
     options: &[&str],
 ) -> Result<Outcome, AllocError> {
-    outcome_of(rt, alloc, ["deals", "make", "--seed", "0"].as_slice(), options)
+    outcome_of(
+        rt,
+        alloc,
+        ["deals", "make", "--seed", "0"].as_slice(),
+        options,
+    )
 }
