@@ -5,6 +5,9 @@ use std::{hint, thread};
 /// The most spins before a waiting end leaves its time slice.
 const MOST_SPINS: u32 = 4096;
 
+/// More workers than this are taken to be more than there are cores: whoever waits then lets the others run.
+const FEW_WORKERS: u32 = 3;
+
 /// How many spins a verdict of the other end takes, about.
 const SPINS_A_VERDICT: u32 = 4;
 
@@ -19,10 +22,14 @@ impl Pause {
     /// The pauses of a worker on a lane with this capacity, whose writer takes from so many lanes in turn.
     pub(crate) fn new(capacity: u32, workers: u32) -> Pause {
         Pause {
-            spins: capacity
-                .saturating_mul(workers)
-                .saturating_mul(SPINS_A_VERDICT)
-                .min(MOST_SPINS),
+            spins: if workers > FEW_WORKERS {
+                0
+            } else {
+                capacity
+                    .saturating_mul(workers)
+                    .saturating_mul(SPINS_A_VERDICT)
+                    .min(MOST_SPINS)
+            },
         }
     }
 
