@@ -6,7 +6,7 @@ use std::{hint, thread};
 const MOST_SPINS: u32 = 4096;
 
 /// More workers than this are taken to be more than there are cores: whoever waits then lets the others run.
-const FEW_WORKERS: u32 = 3;
+const FEW_WORKERS: u32 = 4;
 
 /// How many spins a verdict of the other end takes, about.
 const SPINS_A_VERDICT: u32 = 4;
