@@ -101,6 +101,27 @@ mask_settles_at places mask last k all from h bits =
     let e : last + 1 - k ≡ last - 12 = omega arith in
     mask_settles places mask (last - 12) last h (λ c below. bits c below ∙ ap (λ n. cond (stands_within places n last c) 1 0) e)
 
+-- the same of two positions, one below the other
+pub two_settle_at : (places : List ℕ) (mask upper lower last pair : ℕ) → IsPlaces places → 12 ≤ last → last ≤ 51 → pair < 6
+    → upper ≡ card_at places (last - 2 * pair) → lower ≡ card_at places (last - 2 * pair - 1) → upper < 52 → lower < 52
+    → ((c : ℕ) → c < 52 → bit_at mask c ≡ cond (stands_within places (last + 1 - 2 * pair) last c) 1 0)
+    → (c : ℕ) → c < 52 → bit_at (bit_or (bit_or mask (1 * 2 ^ upper % 2 ^ 64)) (1 * 2 ^ lower % 2 ^ 64)) c ≡ cond (stands_within places (last + 1 - 2 * (pair + 1)) last c) 1 0
+two_settle_at places mask upper lower last pair ok from to few first second inside inside' done c h =
+    let e : last - 2 * pair - 1 ≡ last - (2 * pair + 1) = omega arith in
+    let f : last + 1 - (2 * pair + 1 + 1) ≡ last + 1 - 2 * (pair + 1) = omega arith in
+    one_settles_at places (bit_or mask (1 * 2 ^ upper % 2 ^ 64)) lower last (2 * pair + 1) ok from to (omega arith) (second ∙ ap (card_at places) e) inside'
+    (one_settles_at places mask upper last (2 * pair) ok from to (omega arith) first inside done) c h
+    ∙ ap (λ n. cond (stands_within places n last c) 1 0) f
+
+-- the mask of thirteen positions, once twelve are there
+pub mask_of_thirteen : (places : List ℕ) (mask x last pair : ℕ) → IsPlaces places → pair ≡ 6 → 12 ≤ last → last ≤ 51 → x ≡ card_at places (last - 12) → x < 52 → mask < 2 ^ 52
+    → ((c : ℕ) → c < 52 → bit_at mask c ≡ cond (stands_within places (last + 1 - 2 * pair) last c) 1 0)
+    → bit_or mask (1 * 2 ^ x % 2 ^ 64) ≡ mask_l (map (stands_within places (last - 12) last) pack)
+mask_of_thirteen places mask x last pair ok all from to is inside fits done =
+    let e : last + 1 - 2 * pair ≡ last + 1 - 12 = omega arith in
+    mask_settles_at places (bit_or mask (1 * 2 ^ x % 2 ^ 64)) last 13 refl from (mask_fits mask x fits inside)
+    (one_settles_at places mask x last 12 ok from to (omega arith) is inside (λ c h. done c h ∙ ap (λ n. cond (stands_within places n last c) 1 0) e))
+
 within_thirteen : (p q r s : ℕ) → 13 * q + r ≡ p → r < 13 → (nat_le (13 * s) p && nat_le p (13 * s + 12)) ≡ (q == s)
 within_thirteen p q r s e h = grind (arith, nat_tests)
 

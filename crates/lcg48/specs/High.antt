@@ -1,7 +1,8 @@
 -- A state kept in the upper 48 bits of 64: the wrap of 64 bits is then the modulus.
-use Rattle.std.proofs.Common.{◌≡◌, ℕ, ◌+◌, ◌*◌, ◌/◌, ◌%◌, ◌^◌, ◌∙◌, ap, arith}
+use Rattle.std.proofs.Common.{◌≡◌, ℕ, ◌+◌, ◌*◌, ◌/◌, ◌%◌, ◌^◌, ◌∙◌, sym, ap, arith}
 use Rattle.std.proofs.Math.Arith.{mod-mul}
 use Rattle.std.proofs.Math.Nat.{mod-add-mod}
+use Rattle.std.proofs.lemmas.Nat.{mul-mod_second}
 use Rattle.lcg48.specs.Sequence.{step}
 
 -- what stands above sixteen bits that are zero is the number itself
@@ -22,4 +23,23 @@ high-step high new zero is =
     let e : 25214903917 * high + 720896 ≡ (25214903917 * x + 11) * 2 ^ 16 = omega arith in
     is ∙ mod-add-mod (25214903917 * high) (2 ^ 64) 720896 ∙ ap (λ n. n % 2 ^ 64) e ∙ wrapped (25214903917 * x + 11)
 
-pub ruleset high_steps = (high-low, high-step)
+-- two steps as one: (a * a) modulo 2^48 and a * c + c make it
+two_steps : (x : ℕ) → (205749139540585 * x + 277363943098) % 2 ^ 48 ≡ step (step x)
+two_steps x =
+    let once : ℕ = 25214903917 * x + 11 in
+    let twice : 25214903917 * once + 11 ≡ 2258784 * x * 2 ^ 48 + (205749139540585 * x + 277363943098) = omega arith in
+    let whole : (25214903917 * once + 11) % 2 ^ 48 ≡ (205749139540585 * x + 277363943098) % 2 ^ 48 = omega (arith, twice) in
+    sym whole
+    ∙ sym (mod-add-mod (25214903917 * once) (2 ^ 48) 11)
+    ∙ ap (λ n. (n + 11) % 2 ^ 48) (sym (mul-mod_second 25214903917 once (2 ^ 48)))
+    ∙ mod-add-mod (25214903917 * (once % 2 ^ 48)) (2 ^ 48) 11
+
+-- the same of the state above
+pub high-two_steps : (high new : ℕ) → high % 2 ^ 16 ≡ 0 → new ≡ (205749139540585 * high % 2 ^ 64 + 18177323374870528) % 2 ^ 64 → new ≡ step (step (high / 2 ^ 16)) * 2 ^ 16
+high-two_steps high new zero is =
+    let x : ℕ = high / 2 ^ 16 in
+    let e : 205749139540585 * high + 18177323374870528 ≡ (205749139540585 * x + 277363943098) * 2 ^ 16 = omega arith in
+    is ∙ mod-add-mod (205749139540585 * high) (2 ^ 64) 18177323374870528 ∙ ap (λ n. n % 2 ^ 64) e ∙ wrapped (205749139540585 * x + 277363943098)
+    ∙ ap (λ n. n * 2 ^ 16) (two_steps x)
+
+pub ruleset high_steps = (high-low, high-step, high-two_steps)

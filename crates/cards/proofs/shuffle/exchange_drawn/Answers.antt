@@ -1,43 +1,14 @@
-use Rattle.std.proofs.Common.{◌+◌, ◌-◌, ◌<◌, ◌∙◌, get_or, length, sym, ap, arith}
-use Rattle.std.proofs.lemmas.List.Edits.{swap_is, swapped_from_swap}
-use Rattle.std.proofs.lemmas.List.Sorted.{IsPermutation-swap, IsPermutation-trans}
-use Rattle.cards.specs.Shuffle.{place_of, drawn_places}
+use Rattle.std.proofs.Common.{◌-◌, ◌∙◌, get_or, sym, ap, arith}
+use Rattle.cards.specs.Shuffle.{drawn_places}
 use Rattle.cards.proofs.Settling.{settled_card}
-use Rattle.cards.proofs.Dealings.{card-below, dealing_at, dealt_on, drawn_ok}
+use Rattle.cards.proofs.Dealings.{card-below, dealing_at, drawn_ok}
 use Rattle.cards.proofs.shuffle.exchange_drawn.Goals as goal
 
 pub returns-then-position-eq0-clause-below : goal.returns-then-position-eq0-clause-below
 returns-then-position-eq0-clause-below c = card-below c.args.pack.now 0 c.requires.whole (omega arith)
 
-pub returns-then-position-eq0-clause-dealing : goal.returns-then-position-eq0-clause-dealing
-returns-then-position-eq0-clause-dealing c x before = dealing_at x c.args.generator.now c.args.pack.now c.args.position (c.args.position - 1) (omega arith) before
-
 pub returns-then-position-eq0-clause-card : goal.returns-then-position-eq0-clause-card
 returns-then-position-eq0-clause-card c x before =
     ap (λ i. get_or c.args.pack.now i 0) (sym c.if-position-eq0.true)
-    ∙ settled_card (drawn_places x) c.args.pack.now c.args.position (drawn_ok x) c.requires.inside (returns-then-position-eq0-clause-dealing c x before).traced
-
-pub returns-clause-whole : goal.returns-clause-whole
-returns-clause-whole c =
-    let inside : c.args.position < length c.args.pack.now = omega arith in
-    let low : c.from-place.result < length c.args.pack.now = omega arith in
-    IsPermutation-trans _ _ _ c.requires.whole (IsPermutation-swap c.args.pack.now _ c.args.position c.from-place.result inside low (swap_is c.args.pack.now c.args.position c.from-place.result 0 inside low))
-
-pub returns-clause-below : goal.returns-clause-below
-returns-clause-below c = card-below c.args.pack.now c.from-place.result c.requires.whole (omega arith)
-
-pub returns-clause-dealing : goal.returns-clause-dealing
-returns-clause-dealing c x before =
-    let inside : c.args.position < length c.args.pack.now = omega arith in
-    let low : c.from-place.result < length c.args.pack.now = omega arith in
-    let is = swap_is c.args.pack.now c.args.position c.from-place.result 0 inside low in
-    dealt_on x c.args.generator.now c.next.new.self c.args.pack.now _ c.from-place.result c.args.position (omega arith) c.requires.inside c.next.ensures.stepped
-    (c.from-place.ensures ∙ c.place_for.ensures.value ∙ ap (place_of (c.args.position + 1)) c.next.ensures.value) is
-    (IsPermutation-swap c.args.pack.now _ c.args.position c.from-place.result inside low is) before
-
-pub returns-clause-card : goal.returns-clause-card
-returns-clause-card c x before =
-    let inside : c.args.position < length c.args.pack.now = omega arith in
-    let low : c.from-place.result < length c.args.pack.now = omega arith in
-    let is = swap_is c.args.pack.now c.args.position c.from-place.result 0 inside low in
-    omega (arith, (swapped_from_swap c.args.pack.now _ c.args.position c.from-place.result 0 inside low is).0, settled_card (drawn_places x) _ c.args.position (drawn_ok x) c.requires.inside (returns-clause-dealing c x before).traced)
+    ∙ settled_card (drawn_places x) c.args.pack.now c.args.position (drawn_ok x) c.requires.inside
+    (dealing_at x c.args.generator.now c.args.pack.now c.args.position (c.args.position - 1) (omega arith) before).traced

@@ -1,28 +1,27 @@
-use Rattle.std.proofs.Common.{◌+◌, ◌-◌, arith}
+use Rattle.std.proofs.Common.{arith}
 use Rattle.cards.specs.Shuffle.{drawn_places}
-use Rattle.cards.proofs.Settling.{none_settles, one_settles_at, mask_fits, mask_settles_at}
+use Rattle.cards.proofs.Settling.{mask_fits, two_settle_at, mask_of_thirteen}
 use Rattle.cards.proofs.Dealings.{dealing_at, drawn_ok}
 use Rattle.cards.proofs.shuffle.settle_drawn.Goals as goal
 
-pub loop-k-init : goal.loop-k-init
-loop-k-init c = record {
-  whole = c.requires.whole;
-  fits = omega arith;
-  dealing = λ x d. dealing_at x c.args.generator.now c.args.pack.now c.args.last (c.args.last - 0) (omega arith) d;
-  bits = λ x d k h. none_settles (drawn_places x) (c.args.last + 1 - 0) c.args.last k (omega arith);
-}
-
-pub loop-k-preserved : goal.loop-k-preserved
-loop-k-preserved c = record {
-  whole = c.exchange_drawn-card.ensures.whole;
-  fits = mask_fits c.loop-k.mask c.exchange_drawn-card.result c.loop-k.invariant.fits c.exchange_drawn-card.ensures.below;
+pub loop-pair-preserved : goal.loop-pair-preserved
+loop-pair-preserved c = record {
+  whole = c.exchange_two-upper.ensures.whole;
+  fits =
+      mask_fits _ c.exchange_two-upper.result.1
+      (mask_fits c.loop-pair.mask c.exchange_two-upper.result.0 c.loop-pair.invariant.fits c.exchange_two-upper.ensures.below.0)
+      c.exchange_two-upper.ensures.below.1;
   dealing = λ x d.
-      dealing_at x c.exchange_drawn-card.new.generator c.exchange_drawn-card.new.pack _ _ (omega arith)
-      (c.exchange_drawn-card.ensures.dealing x (c.loop-k.invariant.dealing x d));
+      dealing_at x c.exchange_two-upper.new.generator c.exchange_two-upper.new.pack _ _ (omega arith)
+      (c.exchange_two-upper.ensures.dealing x (c.loop-pair.invariant.dealing x d));
   bits = λ x d.
-      one_settles_at (drawn_places x) c.loop-k.mask c.exchange_drawn-card.result c.args.last c.loop-k.k (drawn_ok x) c.requires.from c.requires.to (omega arith)
-      (c.exchange_drawn-card.ensures.card x (c.loop-k.invariant.dealing x d)) c.exchange_drawn-card.ensures.below (c.loop-k.invariant.bits x d);
+      two_settle_at (drawn_places x) c.loop-pair.mask c.exchange_two-upper.result.0 c.exchange_two-upper.result.1 c.args.last c.loop-pair.pair (drawn_ok x) c.requires.from c.requires.to (omega arith)
+      (c.exchange_two-upper.ensures.cards x (c.loop-pair.invariant.dealing x d)).0 (c.exchange_two-upper.ensures.cards x (c.loop-pair.invariant.dealing x d)).1
+      c.exchange_two-upper.ensures.below.0 c.exchange_two-upper.ensures.below.1 (c.loop-pair.invariant.bits x d);
 }
 
 pub returns-clause-mask : goal.returns-clause-mask
-returns-clause-mask c x d = mask_settles_at (drawn_places x) c.loop-k.mask c.args.last c.loop-k.k (omega arith) c.requires.from c.loop-k.invariant.fits (c.loop-k.invariant.bits x d)
+returns-clause-mask c x d =
+    mask_of_thirteen (drawn_places x) c.loop-pair.mask c.exchange_drawn-card.result c.args.last c.loop-pair.pair (drawn_ok x) (omega arith) c.requires.from c.requires.to
+    (c.exchange_drawn-card.ensures.card x (dealing_at x c.loop-pair.generator c.loop-pair.pack _ _ (omega arith) (c.loop-pair.invariant.dealing x d)))
+    c.exchange_drawn-card.ensures.below c.loop-pair.invariant.fits (c.loop-pair.invariant.bits x d)
