@@ -58,6 +58,7 @@ fn exchange(pack: &mut [u8; 52], places: &[u8; 51], position: usize) -> u8
 }
 
 /// As `settle`, with each place drawn when it is needed. Two steps at a time are quicker than one after the other.
+#[inline(always)]
 pub(crate) fn settle_drawn(pack: &mut [u8; 52], generator: &mut Lcg48, last: usize) -> u64
     requires from { 12 ≤ last }
     requires to { last ≤ 51 }
