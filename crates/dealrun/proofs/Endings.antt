@@ -40,7 +40,7 @@ prefix_whole xs zs h = grind (arith, common_steps)
 
 -- some lane, for where a list has none
 no_lane : OutView
-no_lane = record { taken = []; ring = record { words = null_ptr; slots = null_ptr; names = (0, (0, 0)) }; settled = false; left = [] }
+no_lane = record { taken = []; known = 0; ring = record { words = null_ptr; slots = null_ptr; names = (0, (0, 0)) }; settled = false; left = [] }
 
 -- in all as many were taken as there were turns
 pub taken_total : (plan : Planned) (lanes : List OutView) (t : ℕ) → 0 < plan.workers → TakenInTurn plan lanes t → taken_in_all lanes ≡ t

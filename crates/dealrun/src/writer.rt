@@ -80,24 +80,21 @@ impl Progress {
     }
 }
 
-/// Takes a verdict, and tries again until there is one or the flag is up. The first pause lets the worker get
-/// ahead by about a lane's content.
-fn wait_take<R: Wait>(
-    rt: &R,
-    lane: &mut LaneOut,
-    capacity: u32,
-    stop: &AtomicBool,
-) -> Option<Verdict>
-    ensures same { (lane.new.ring ≡ lane.old.ring) × (lane.new.settled ≡ lane.old.settled) }
-    ensures some { IfSome result (λ v. lane.new.taken ≡ lane.old.taken ++ v ∷ []) }
-    ensures none { IfNone result (lane.new ≡ lane.old) }
+/// Waits until a verdict can be taken, or the flag is up. The first pause lets the worker get ahead by about a
+/// lane's content.
+fn wait_for<R: Wait>(rt: &R, lane: &mut LaneOut, capacity: u32, stop: &AtomicBool) -> bool
+    ensures same { (lane.new.ring ≡ lane.old.ring) × (lane.new.settled ≡ lane.old.settled) × (lane.new.taken ≡ lane.old.taken) }
+    ensures some { result ≡ true → 0 < lane.new.known }
+    ensures none { result ≡ false → lane.new ≡ lane.old }
 {
     let mut spins = capacity.saturating_mul(SPINS_A_VERDICT).min(MOST_SPINS);
     for _ in rt.forever() {
-        let verdict = lane.take();
+        if lane.has_verdict() {
+            return true;
+        }
         // A load of the stop flag is no event of the core.
-        if verdict.is_some() || stop.load(Ordering::SeqCst) {
-            return verdict;
+        if stop.load(Ordering::SeqCst) {
+            return false;
         }
         pause(spins);
         spins = 0;
@@ -138,9 +135,10 @@ fn write_beside<R: Wait, S: Sink>(
             return Ok(());
         }
         let lane = &mut lanes[progress.turns.lane() as usize];
-        let Some(verdict) = wait_take(rt, lane, plan.capacity(), stop) else {
+        if !wait_for(rt, lane, plan.capacity(), stop) {
             return Ok(());
-        };
+        }
+        let verdict = lane.take_known();
         progress.write(plan, sink, &verdict)?;
     }
     Ok(())

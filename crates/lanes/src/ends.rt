@@ -4,7 +4,7 @@ ghost use Rattle.std.specs.Prelude.{◌≡◌, ◌+◌, ◌<◌, ◌≤◌, ◌�
 ghost use Rattle.lanes.specs.declared.ends.LaneError.TheVariants.{Capacity, Memory};
 
 use crate::verdict::Verdict;
-use rtrb::{Consumer, Finished, Producer, PushError, RingBuffer};
+use rtrb::{Consumer, Finished, Producer, RingBuffer};
 use std::alloc::Global;
 use std::marker::Model;
 use thiserror::Error;
@@ -54,8 +54,8 @@ impl Model for Closed {
     ghost view = { λ c. record { sent = all_sent c.finished; ring = ring_of_finished c.finished } };
 }
 
-/// The end that the writer takes from. Contracts see what was taken, which ring it is, whether it is settled,
-/// and from then on what is left.
+/// The end that the writer takes from. Contracts see what was taken, how many verdicts are known to wait, which
+/// ring it is, whether it is settled, and from then on what is left.
 #[derive(Drop)]
 pub struct LaneOut {
     consumer: Consumer<Verdict>,
@@ -63,14 +63,14 @@ pub struct LaneOut {
 }
 
 impl Model for LaneOut {
-    ghost use Rattle.std.specs.Prelude.{cond, []};
+    ghost use Rattle.std.specs.Prelude.{cond, [], length};
     ghost use Rattle.rtrb.specs.Ring.{received, known_items};
     ghost use Rattle.lanes.specs.Views.{OutView};
     ghost use Rattle.lanes.specs.Rings.{ring_of_consumer};
 
     ghost Value = { OutView };
 
-    ghost view = { λ l. record { taken = received l.consumer; ring = ring_of_consumer l.consumer; settled = l.settled; left = cond l.settled (known_items l.consumer) [] } };
+    ghost view = { λ l. record { taken = received l.consumer; known = length (known_items l.consumer); ring = ring_of_consumer l.consumer; settled = l.settled; left = cond l.settled (known_items l.consumer) [] } };
 }
 
 /// A lane that holds at most `capacity` verdicts. Refused with `Capacity` exactly where that is not 1 to 4,096,
@@ -101,11 +101,33 @@ impl LaneIn {
         ensures back { IfErr result (λ v. (v ≡ verdict) × (self.new ≡ self.old)) }
         ensures succeeds { 0 < self.old.room → IsOk result }
     {
-        // A push that succeeds is the core's Send; one that fails is no event.
-        match self.producer.push(verdict) {
-            Ok(()) => Ok(()),
-            Err(PushError::Full(back)) => Err(back),
+        if !self.has_room() {
+            return Err(verdict);
         }
+        self.send_reserved(verdict);
+        Ok(())
+    }
+
+    /// Whether the lane has a free slot. It waits for nobody.
+    pub fn has_room(&mut self) -> bool
+        ensures ring { self.new.ring ≡ self.old.ring }
+        ensures sent { self.new.sent ≡ self.old.sent }
+        ensures room { self.old.room ≤ self.new.room }
+        ensures value { IsTrue result ↔ (0 < self.new.room) }
+    {
+        // To look for a free slot is no event of the core.
+        !self.producer.is_full()
+    }
+
+    /// Sends a verdict into a slot that is known to be free. It waits for nobody.
+    pub fn send_reserved(&mut self, verdict: Verdict)
+        requires { 0 < self.old.room }
+        ensures ring { self.new.ring ≡ self.old.ring }
+        ensures sent { self.new.sent ≡ self.old.sent ++ verdict ∷ [] }
+        ensures room { self.old.room ≡ self.new.room + 1 }
+    {
+        // A push is the core's Send.
+        self.producer.push_reserved(verdict);
     }
 
     /// How many verdicts the lane may hold.
@@ -135,15 +157,38 @@ impl LaneOut {
         ensures left { IfSome result (λ v. self.old.settled ≡ true → self.old.left ≡ v ∷ self.new.left) }
         ensures all_left { self.old.settled ≡ true → (IsSome result ↔ (0 < length self.old.left)) }
     {
-        // A pop that succeeds is the core's Take while the run goes on, and no event afterwards; one that
-        // fails is none.
-        if !self.settled {
-            return self.consumer.pop().ok();
-        }
-        if self.consumer.cached_slots() == 0 {
+        if !self.has_verdict() {
             return None;
         }
-        Some(self.consumer.pop_known())
+        Some(self.take_known())
+    }
+
+    /// Whether a verdict waits to be taken. It waits for nobody.
+    pub fn has_verdict(&mut self) -> bool
+        ensures same { (self.new.ring ≡ self.old.ring) × (self.new.settled ≡ self.old.settled) }
+        ensures taken { self.new.taken ≡ self.old.taken }
+        ensures left { self.new.left ≡ self.old.left }
+        ensures some { result ≡ true → 0 < self.new.known }
+        ensures none { result ≡ false → self.new ≡ self.old }
+        ensures all_left { self.old.settled ≡ true → (IsTrue result ↔ (0 < length self.old.left)) }
+    {
+        // To look for a verdict is no event of the core.
+        if self.settled {
+            self.consumer.cached_slots() > 0
+        } else {
+            !self.consumer.is_empty()
+        }
+    }
+
+    /// Takes the next verdict, which is known to wait. It waits for nobody.
+    pub fn take_known(&mut self) -> Verdict
+        requires { 0 < self.old.known }
+        ensures same { (self.new.ring ≡ self.old.ring) × (self.new.settled ≡ self.old.settled) }
+        ensures taken { self.new.taken ≡ self.old.taken ++ result ∷ [] }
+        ensures left { self.old.settled ≡ true → self.old.left ≡ result ∷ self.new.left }
+    {
+        // A pop is the core's Take while the run goes on, and no event afterwards.
+        self.consumer.pop_known()
     }
 
     /// Settles the lane by what its closed end left: how many verdicts are left to take. It waits for nobody.

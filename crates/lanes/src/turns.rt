@@ -9,17 +9,19 @@ use std::marker::Model;
 pub struct Turns {
     turn: u64,
     workers: u32,
+    // The lane whose turn it is, since a division at each turn takes longer.
+    lane: u32,
 }
 
 impl Model for Turns {
-    ghost use Rattle.std.specs.Prelude.{◌≤◌, ◌^◌};
+    ghost use Rattle.std.specs.Prelude.{◌≡◌, ◌%◌, ◌≤◌, ◌^◌};
     ghost use Rattle.lanes.specs.Views.{TurnsView};
 
     ghost Value = { TurnsView };
 
     ghost view = { λ t. record { turn = t.turn; workers = t.workers } };
 
-    ghost invariant = { λ t. (1 ≤ t.workers) × (t.workers ≤ 16) × (t.turn ≤ 2 ^ 40) };
+    ghost invariant = { λ t. (1 ≤ t.workers) × (t.workers ≤ 16) × (t.turn ≤ 2 ^ 40) × (t.lane ≡ t.turn % t.workers) };
 }
 
 impl Turns {
@@ -31,7 +33,11 @@ impl Turns {
         if workers < 1 || workers > 16 {
             return None;
         }
-        Some(Turns { turn: 0, workers })
+        Some(Turns {
+            turn: 0,
+            workers,
+            lane: 0,
+        })
     }
 
     /// The lane whose turn it is.
@@ -39,7 +45,7 @@ impl Turns {
         ensures lane { result ≡ self.now.turn % self.now.workers }
         ensures below { result < self.now.workers }
     {
-        (self.turn % u64::from(self.workers)) as u32
+        self.lane
     }
 
     /// Goes on to the next turn.
@@ -49,5 +55,9 @@ impl Turns {
         ensures workers { self.new.workers ≡ self.old.workers }
     {
         self.turn += 1;
+        self.lane += 1;
+        if self.lane == self.workers {
+            self.lane = 0;
+        }
     }
 }

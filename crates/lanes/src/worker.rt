@@ -104,7 +104,8 @@ fn send<R: Wait>(
 {
     let mut pause = Pause::new(lane.capacity(), workers);
     for _ in rt.forever() {
-        if lane.try_send(*verdict).is_ok() {
+        if lane.has_room() {
+            lane.send_reserved(*verdict);
             return true;
         }
         if stop.load(Ordering::SeqCst) {

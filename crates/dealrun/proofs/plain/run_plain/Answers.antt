@@ -1,6 +1,5 @@
 use Rattle.std.proofs.Common.{◌≡◌, ◌+◌, ◌∙◌, true, refl, arith, ap, sym}
 use Rattle.cards.specs.Candidates.{state_before}
-use Rattle.cards.specs.Deals.{dealt}
 use Rattle.dealrun.proofs.Running.{breaks_game, breaks_header, ended_full, next_deal, next_generator, running_next, running_none, running_skip}
 use Rattle.dealrun.proofs.SinkLemmas.{at_err, at_ok}
 use Rattle.dealrun.proofs.plain.run_plain.Goals as goal

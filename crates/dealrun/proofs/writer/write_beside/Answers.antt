@@ -1,25 +1,26 @@
-use Rattle.std.proofs.Common.{◌≡◌, ◌≢◌, ◌+◌, ◌%◌, ◌∙◌, Some, ap, arith}
+use Rattle.std.proofs.Common.{◌≡◌, ◌≢◌, ◌+◌, ◌%◌, ◌++◌, ◌∷◌, [], ◌∙◌, Some, refl, ap, arith}
 use Rattle.std.proofs.lemmas.Bool.{iff_false}
 use Rattle.std.proofs.Math.Seq.{map-set_same}
 use Rattle.dealrun.proofs.Maps.{on_err}
 use Rattle.dealrun.proofs.Advance.{on_to, broken_to, unchanged}
 use Rattle.dealrun.proofs.writer.write_beside.Goals as goal
 
-pub returns-in_default-clause-written : goal.returns-in_default-clause-written
-returns-in_default-clause-written g c base h =
-    unchanged c.args.plan.now c.loop-taken.lanes.items c.loop-taken.progress.taken c.loop-taken.progress.boards base (g.S.Sink.bytes c.loop-taken.sink) c.index_mut-lane.result.now c.wait_take.new.lane c.lane.result
-    c.index_mut-lane.ensures.value c.in_default.ensures.none (c.loop-taken.invariant.written base h)
+pub returns-then-not-wait_for-clause-written : goal.returns-then-not-wait_for-clause-written
+returns-then-not-wait_for-clause-written g c base h =
+    unchanged c.args.plan.now c.loop-taken.lanes.items c.loop-taken.progress.taken c.loop-taken.progress.boards base (g.S.Sink.bytes c.loop-taken.sink) c.index_mut-lane.result.now c.wait_for.new.lane c.lane.result
+    c.index_mut-lane.ensures.value (c.if-not-wait_for.ensures.none refl) (c.loop-taken.invariant.written base h)
 
 pub returns-in_err-write-clause-same : goal.returns-in_err-write-clause-same
 returns-in_err-write-clause-same g c =
     let i = c.loop-taken.invariant in
     let w = c.lane.result in
     let old = c.index_mut-lane.result.now in
-    let new = c.wait_take.new.lane in
-    let same = c.wait_take.ensures.same in
+    let new = c.take_known-verdict.new.self in
+    let waited = c.if-not-wait_for.ensures.same in
+    let same = c.take_known-verdict.ensures.same in
     let at = c.index_mut-lane.ensures.value in (
-      map-set_same (λ v. v.ring) c.loop-taken.lanes.items w new old (same.0 ∙ ap (λ v. v.ring) at) ∙ i.rings,
-      map-set_same (λ v. v.settled) c.loop-taken.lanes.items w new old (same.1 ∙ ap (λ v. v.settled) at) ∙ i.settled,
+      map-set_same (λ v. v.ring) c.loop-taken.lanes.items w new old (same.0 ∙ waited.0 ∙ ap (λ v. v.ring) at) ∙ i.rings,
+      map-set_same (λ v. v.settled) c.loop-taken.lanes.items w new old (same.1 ∙ waited.1 ∙ ap (λ v. v.settled) at) ∙ i.settled,
     )
 
 pub returns-in_err-write-clause-broken : goal.returns-in_err-write-clause-broken
@@ -31,8 +32,8 @@ returns-in_err-write-clause-broken g c =
     let place : c.lane.result ≡ progress.taken % p.workers = c.lane.ensures.lane ∙ ap (λ n. n % progress.turns.workers) progress.turn ∙ ap (λ k. progress.taken % k) i.workers in
     let less : p.limit ≢ Some progress.boards = iff_false c.is_full.ensures c.if-is_full.false in
     on_err c.from_residual.result _ (λ base h.
-    broken_to p c.loop-taken.lanes.items progress.taken progress.boards base (g.S.Sink.bytes c.loop-taken.sink) c.in-Some.verdict c.index_mut-lane.result.now c.wait_take.new.lane c.lane.result c.write.new.self.taken c.write.new.self.boards (g.S.Sink.bytes c.write.new.sink)
-    (omega (arith, c.lane.ensures.below, i.workers)) (i.written base h) less place c.index_mut-lane.ensures.value c.in-Some.ensures.some c.in_err-write.ensures.taken.0 b.0 b.1 b.2)
+    broken_to p c.loop-taken.lanes.items progress.taken progress.boards base (g.S.Sink.bytes c.loop-taken.sink) c.take_known-verdict.result c.index_mut-lane.result.now c.take_known-verdict.new.self c.lane.result c.write.new.self.taken c.write.new.self.boards (g.S.Sink.bytes c.write.new.sink)
+    (omega (arith, c.lane.ensures.below, i.workers)) (i.written base h) less place c.index_mut-lane.ensures.value (c.take_known-verdict.ensures.taken ∙ ap (λ vs. vs ++ c.take_known-verdict.result ∷ []) c.if-not-wait_for.ensures.same.2) c.in_err-write.ensures.taken.0 b.0 b.1 b.2)
 
 pub loop-taken-preserved : goal.loop-taken-preserved
 loop-taken-preserved g c =
@@ -41,8 +42,9 @@ loop-taken-preserved g c =
     let progress = c.loop-taken.progress in
     let w = c.lane.result in
     let old = c.index_mut-lane.result.now in
-    let new = c.wait_take.new.lane in
-    let same = c.wait_take.ensures.same in
+    let new = c.take_known-verdict.new.self in
+    let waited = c.if-not-wait_for.ensures.same in
+    let same = c.take_known-verdict.ensures.same in
     let at = c.index_mut-lane.ensures.value in
     let place : w ≡ progress.taken % p.workers = c.lane.ensures.lane ∙ ap (λ n. n % progress.turns.workers) progress.turn ∙ ap (λ k. progress.taken % k) i.workers in
     let less : p.limit ≢ Some progress.boards = iff_false c.is_full.ensures c.if-is_full.false in
@@ -51,9 +53,9 @@ loop-taken-preserved g c =
       taken = c.in_ok-write.ensures.taken.0 ∙ ap (λ n. n + 1) i.taken;
       workers = c.in_ok-write.ensures.taken.1 ∙ i.workers;
       len = i.len;
-      rings = map-set_same (λ v. v.ring) c.loop-taken.lanes.items w new old (same.0 ∙ ap (λ v. v.ring) at) ∙ i.rings;
-      settled = map-set_same (λ v. v.settled) c.loop-taken.lanes.items w new old (same.1 ∙ ap (λ v. v.settled) at) ∙ i.settled;
+      rings = map-set_same (λ v. v.ring) c.loop-taken.lanes.items w new old (same.0 ∙ waited.0 ∙ ap (λ v. v.ring) at) ∙ i.rings;
+      settled = map-set_same (λ v. v.settled) c.loop-taken.lanes.items w new old (same.1 ∙ waited.1 ∙ ap (λ v. v.settled) at) ∙ i.settled;
       written = λ base h.
-          on_to p c.loop-taken.lanes.items progress.taken progress.boards base (g.S.Sink.bytes c.loop-taken.sink) c.in-Some.verdict old new w c.write.new.self.taken c.write.new.self.boards (g.S.Sink.bytes c.write.new.sink)
-          (omega (arith, c.lane.ensures.below, i.workers)) (i.written base h) less place at c.in-Some.ensures.some c.in_ok-write.ensures.taken.0 c.in_ok-write.ensures.boards c.in_ok-write.ensures.bytes;
+          on_to p c.loop-taken.lanes.items progress.taken progress.boards base (g.S.Sink.bytes c.loop-taken.sink) c.take_known-verdict.result old new w c.write.new.self.taken c.write.new.self.boards (g.S.Sink.bytes c.write.new.sink)
+          (omega (arith, c.lane.ensures.below, i.workers)) (i.written base h) less place at (c.take_known-verdict.ensures.taken ∙ ap (λ vs. vs ++ c.take_known-verdict.result ∷ []) c.if-not-wait_for.ensures.same.2) c.in_ok-write.ensures.taken.0 c.in_ok-write.ensures.boards c.in_ok-write.ensures.bytes;
     }
