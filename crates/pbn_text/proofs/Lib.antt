@@ -1,3 +1,4 @@
 pub mod Suits
 pub mod Copies
 pub mod Reading
+pub mod Sets

@@ -2,3 +2,4 @@ pub mod Boards
 pub mod Labels
 pub mod Games
 pub mod Lines
+pub mod SuitTexts

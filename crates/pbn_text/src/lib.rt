@@ -8,6 +8,7 @@ mod board;
 mod games;
 mod heading;
 pub mod laws;
+mod suit_texts;
 
 pub use board::{Vul, dealer, vulnerable};
 pub use games::{HEADER, game};
