@@ -52,6 +52,7 @@ whole_text text ranks n end all full few written start =
     let len : get_or (set dotted 15 (end + 1)) 15 0 ≡ end + 1 = get_or-set_same dotted 15 (end + 1) 0 (omega (arith, long)) in
     record {
       room = simp length-set full;
+      most = omega (arith, len);
       len = omega (arith, len, start, ap length letters);
       text = ap (λ k. take k (set dotted 15 (end + 1))) len
           ∙ take-set-le (end + 1) dotted 15 (end + 1) (omega arith)

@@ -3,3 +3,4 @@ pub mod Labels
 pub mod Games
 pub mod Lines
 pub mod SuitTexts
+pub mod Printing

@@ -8,11 +8,15 @@ mod board;
 mod games;
 mod heading;
 pub mod laws;
+mod middles;
+mod printer;
+mod room;
 mod suit_texts;
 
 pub use board::{Vul, dealer, vulnerable};
 pub use games::{HEADER, game};
 pub use heading::{Date, Heading, Label};
+pub use printer::Printer;
 
 #[cfg(test)]
 mod tests;
