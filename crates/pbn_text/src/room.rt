@@ -78,6 +78,7 @@ pub(crate) fn put_hands(room: &mut Room, from: usize, texts: &SuitTexts, deal: &
 }
 
 /// Writes the seat's thirteen cards and the three dots between its suits.
+#[inline(always)]
 fn put_hand(room: &mut Room, from: usize, texts: &SuitTexts, deal: &Deal, seat: Seat)
     requires { from ≤ 451 }
     ensures { take (from + 16) room.new ≡ take from room.old ++ hand_text (hand_of deal.now seat) }
@@ -86,6 +87,7 @@ fn put_hand(room: &mut Room, from: usize, texts: &SuitTexts, deal: &Deal, seat: 
 }
 
 /// Writes the hand's cards with a dot behind each suit, and answers where they end.
+#[inline(always)]
 fn put_suits(room: &mut Room, from: usize, texts: &SuitTexts, hand: &Hand) -> usize
     requires { from ≤ 451 }
     ensures written { take result room.new ≡ take from room.old ++ (hand_text hand.now ++ codes ".") }
@@ -100,13 +102,14 @@ fn put_suits(room: &mut Room, from: usize, texts: &SuitTexts, hand: &Hand) -> us
 }
 
 /// Writes the letters of the hand's ranks in the suit and a dot, and answers where they end.
+#[inline(always)]
 fn put_suit(room: &mut Room, from: usize, texts: &SuitTexts, hand: &Hand, suit: Suit) -> usize
     requires { from ≤ 496 }
     ensures written { take result room.new ≡ take from room.old ++ (suit_text hand.now suit ++ codes ".") }
     ensures len { result ≡ from + (length_of hand.now suit + 1) }
     ensures most { result ≤ from + 14 }
 {
-    let text = texts.of(hand.rank_set(suit));
-    room[from..from + 16].copy_from_slice(text);
+    let text = *texts.of(hand.rank_set(suit));
+    room[from..from + 16].copy_from_slice(&text);
     from + usize::from(text[15])
 }
