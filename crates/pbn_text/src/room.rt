@@ -29,6 +29,8 @@ pub(crate) struct Front {
 }
 
 /// Writes the heading's lines and the opening of the board's line before its number.
+#[cold]
+#[inline(never)]
 pub(crate) fn put_front(room: &mut Room, number: usize, heading: &Heading) -> Front
     requires from { 249 ≤ number }
     requires to { number ≤ 272 }

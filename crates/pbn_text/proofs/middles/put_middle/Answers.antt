@@ -1,8 +1,13 @@
 use Rattle.std.proofs.Common.{ℕ, ◌-◌, ◌%◌, ◌<◌, ◌≤◌, ◌++◌, ◌∙◌, take, get_or, rules, refl, ap, arith}
+use Rattle.std.proofs.lemmas.List.{length-take, length-drop}
 use Rattle.pbn_text.specs.declared.middles.TheConstants.{LENGTHS}
 use Rattle.pbn_text.proofs.Rooms.{take_copied}
-use Rattle.pbn_text.proofs.Cycle.{middle_at}
+use Rattle.pbn_text.proofs.Cycle.{middle_at, length-middle}
 use Rattle.pbn_text.proofs.middles.put_middle.Goals as goal
+
+pub copy_from_slice-requires : goal.copy_from_slice-requires
+copy_from_slice-requires c =
+    simp (length-take, length-drop) (omega (arith, length-middle ((c.args.board - 1) % 16) (omega arith)))
 
 pub returns-clause-written : goal.returns-clause-written
 returns-clause-written c =
