@@ -10,7 +10,7 @@ use lib.Lanes.{mask_l}
 use Rattle.cards.specs.Shuffle.{pack}
 use Rattle.cards.specs.Masks.{cards_of_mask}
 
-test_bit : (b : ℕ) → b < 2 → cond (b == 1) 1 0 ≡ b
+pub test_bit : (b : ℕ) → b < 2 → cond (b == 1) 1 0 ≡ b
 test_bit b h = grind (arith, nat_tests)
 
 -- a bit of a list over the pack

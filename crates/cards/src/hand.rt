@@ -1,6 +1,7 @@
 //! Hands: the cards of one seat, their points, lengths and shape.
 
 ghost use Rattle.std.specs.Prelude.{◌≡◌, ◌<◌, ◌≤◌, ◌^◌, ◌*◌, ◌↔◌, IsTrue};
+ghost use lib.Lanes.{mask_l};
 ghost use Rattle.cards.specs.Pack.{suit_number};
 ghost use Rattle.cards.specs.Hands.{points_of, points_in, length_of, shape_of, is_balanced, ranks_of};
 ghost use Rattle.cards.specs.Masks.{cards_of_mask};
@@ -97,6 +98,15 @@ impl Hand {
             ranks[rank] = (self.cards >> (first + rank)) & 1 == 1;
         }
         ranks
+    }
+
+    /// The suit's thirteen ranks as a set of 13 bits, each set where the hand has the rank: bit 0 is
+    /// the ace, bit 12 the two.
+    pub fn rank_set(&self, suit: Suit) -> u16
+        ensures value { result ≡ mask_l (ranks_of self.now suit) }
+        ensures below { result < 2 ^ 13 }
+    {
+        ((self.cards >> first_card(suit)) & 0x1FFF) as u16
     }
 }
 

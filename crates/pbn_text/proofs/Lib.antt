@@ -1,3 +1,6 @@
 pub mod Suits
 pub mod Copies
 pub mod Reading
+pub mod Sets
+pub mod Rooms
+pub mod Cycle

@@ -2,3 +2,5 @@ pub mod Boards
 pub mod Labels
 pub mod Games
 pub mod Lines
+pub mod SuitTexts
+pub mod Printing

@@ -1,7 +1,11 @@
 -- A tag line by what stands before its value.
 use Rattle.std.specs.Prelude.{ℕ, List, [], ◌++◌, Option, Some, None, codes}
 use Rattle.cards.specs.declared.seat.Seat.{Seat}
-use Rattle.pbn_text.specs.Games.{tag, deal_text}
+use Rattle.cards.specs.declared.seat.Seat.TheVariants.{North, East, South, West}
+use Rattle.cards.specs.Hands.{hand_of}
+use Rattle.pbn_text.specs.declared.board.Vul.{Vul}
+use Rattle.pbn_text.specs.Boards.{dealer_of, vulnerable_of}
+use Rattle.pbn_text.specs.Games.{HeadingView, heading_text, tag, dealer_text, vulnerable_text, hand_text, deal_text}
 
 -- the end of each tag line
 abbrev pub closing : List ℕ
@@ -18,3 +22,27 @@ label_line opening (Some value) = line opening value
 -- the line of the deal and the empty line
 abbrev pub deal_line : List Seat → List ℕ
 deal_line deal = tag (codes "Deal") (deal_text deal) ++ codes "\n"
+
+-- what stands before the board's number
+abbrev pub front_text : HeadingView → List ℕ
+front_text heading = heading_text heading ++ codes "[Board \""
+
+-- what stands between the board's number and the first hand
+abbrev pub middle_text : Seat → Vul → List ℕ
+middle_text dealer sides =
+    closing
+    ++ line (codes "[Dealer \"") (dealer_text dealer)
+    ++ line (codes "[Vulnerable \"") (vulnerable_text sides)
+    ++ codes "[Deal \"N:"
+
+abbrev pub middle_of : ℕ → List ℕ
+middle_of board = middle_text (dealer_of board) (vulnerable_of board)
+
+-- the four hands and the empty line
+abbrev pub hands_text : List Seat → List ℕ
+hands_text deal =
+    hand_text (hand_of deal North) ++ codes " "
+    ++ hand_text (hand_of deal East) ++ codes " "
+    ++ hand_text (hand_of deal South) ++ codes " "
+    ++ hand_text (hand_of deal West)
+    ++ codes "\"]\n\n"

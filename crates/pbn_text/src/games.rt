@@ -23,7 +23,7 @@ const LETTERS: [u8; 13] = *b"AKQJT98765432";
 const ROOM: usize = 64;
 
 /// The text of one game.
-type Text = ArrayVec<u8, 400>;
+pub(crate) type Text = ArrayVec<u8, 400>;
 
 /// The text of the board's game: a line for each label of the heading, the board's number, dealer
 /// and vulnerability, the deal, and an empty line. The board's number is at least 1.
@@ -43,7 +43,7 @@ pub fn game(board: u64, heading: &Heading, deal: &Deal) -> ArrayVec<u8, 400>
 }
 
 /// Appends the lines of the labels that are given.
-fn put_heading(text: &mut Text, heading: &Heading)
+pub(crate) fn put_heading(text: &mut Text, heading: &Heading)
     requires { array_vec_len text.old + 241 ≤ 400 }
     ensures items { text.new.items ≡ text.old.items ++ heading_text heading.now }
     ensures most { array_vec_len text.new ≤ array_vec_len text.old + 241 }
@@ -189,7 +189,7 @@ fn put_line(text: &mut Text, opening: &[u8], value: &[u8])
 }
 
 /// Appends the piece.
-fn put(text: &mut Text, piece: &[u8])
+pub(crate) fn put(text: &mut Text, piece: &[u8])
     requires { array_vec_len text.old + length piece.now ≤ 400 }
     ensures items { text.new.items ≡ text.old.items ++ piece.now }
     ensures len { array_vec_len text.new ≡ array_vec_len text.old + length piece.now }

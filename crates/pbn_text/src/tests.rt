@@ -1,4 +1,5 @@
-//! Tests with outside values: worked games, Law 2's table, and labels that are refused.
+//! Tests with outside values: worked games, Law 2's table, and labels that are refused. A printer's
+//! games are compared with `game` too.
 
 use super::*;
 use cards::{Deal, Places, Seat};
@@ -50,6 +51,62 @@ fn game_of_the_worked_deal(rt: HostRuntime) -> Result<(), Fail> {
     let text = game(2, &Heading::none(), &worked_deal()?);
     assert_eq!(rt; text.as_slice(), SECOND);
     assert_eq!(rt; text.len(), 123);
+    Ok(())
+}
+
+#[test]
+fn printer_of_the_worked_games(rt: HostRuntime) -> Result<(), Fail> {
+    let mut printer = Printer::new(&Heading::none());
+    assert_eq!(rt; printer.text(), b"".as_slice());
+    printer.print(1, &pack_in_order()?);
+    assert_eq!(rt; printer.text(), FIRST);
+    printer.print(2, &worked_deal()?);
+    assert_eq!(rt; printer.text(), SECOND);
+    printer.print(1, &pack_in_order()?);
+    assert_eq!(rt; printer.text(), FIRST);
+    Ok(())
+}
+
+/// The next deal of a plain generator.
+fn next_deal(state: &mut u64) -> Result<Deal, Fail> {
+    let mut places = [0; 51];
+    for i in 0..51u8 {
+        *state = state
+            .wrapping_mul(6_364_136_223_846_793_005)
+            .wrapping_add(1_442_695_040_888_963_407);
+        places[usize::from(i)] = ((*state >> 33) % u64::from(52 - i)) as u8;
+    }
+    Ok(Deal::shuffled(&Places::new(places).ok_or("places")?))
+}
+
+/// A printer's games under the heading are those of `game`: boards 1 to 1,200, and boards of 1 to 20
+/// digits in between.
+fn check_printer(rt: &impl Abort, heading: &Heading) -> Result<(), Fail> {
+    let mut printer = Printer::new(heading);
+    let mut state = 1;
+    for k in 0..1_200 {
+        let deal = next_deal(&mut state)?;
+        printer.print(k + 1, &deal);
+        assert_eq!(rt; printer.text(), game(k + 1, heading, &deal).as_slice());
+        if k % 8 == 0 {
+            let board = (state >> (k / 8 % 64)).max(1);
+            printer.print(board, &deal);
+            assert_eq!(rt; printer.text(), game(board, heading, &deal).as_slice());
+        }
+    }
+    Ok(())
+}
+
+#[test]
+fn games_of_a_printer(rt: HostRuntime) -> Result<(), Fail> {
+    let mut heading = Heading::none();
+    check_printer(&rt, &heading)?;
+    heading.event = Label::new(b"Club night");
+    check_printer(&rt, &heading)?;
+    heading.event = Label::new(&[b'~'; 100]);
+    heading.site = heading.event;
+    heading.date = Date::new(b"2024.05.01");
+    check_printer(&rt, &heading)?;
     Ok(())
 }
 
@@ -105,6 +162,9 @@ fn longest_games(rt: HostRuntime) -> Result<(), Fail> {
         date,
     };
     assert_eq!(rt; game(LARGEST, &heading, &deal).len(), 385);
+    let mut printer = Printer::new(&heading);
+    printer.print(LARGEST, &deal);
+    assert_eq!(rt; printer.text().len(), 385);
     Ok(())
 }
 

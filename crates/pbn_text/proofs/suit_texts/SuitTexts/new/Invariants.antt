@@ -1,0 +1,9 @@
+use Rattle.std.proofs.Common.{◌≡◌, ℕ, ◌<◌, [], get_or, length}
+use Rattle.pbn_text.specs.SuitTexts.{IsSuitText}
+use Rattle.pbn_text.proofs.suit_texts.SuitTexts.new.Given as goal
+
+abbrev pub invariant-loop-set : goal.invariant-loop-set
+invariant-loop-set l = record {
+  done : (k : ℕ) → k < l.set → IsSuitText k (get_or l.texts k []);
+  count : length l.texts ≡ 8192;
+}

@@ -1,0 +1,54 @@
+//! The texts of the sets of a suit's ranks, each ready to be copied.
+
+ghost use Rattle.std.specs.Prelude.{◌<◌, ◌^◌};
+ghost use Rattle.pbn_text.specs.SuitTexts.{IsSuitText, IsSuitTable};
+
+/// How many sets of thirteen ranks there are.
+const SETS: usize = 8192;
+
+/// The letters of the ranks in a set, the ace first, and a dot. The last byte is the number of
+/// these.
+pub(crate) type SuitText = [u8; 16];
+
+/// The ranks of a suit, the ace first.
+static LETTERS: [u8; 13] = *b"AKQJT98765432";
+
+/// The text of each set of a suit's ranks.
+#[derive(Drop)]
+pub(crate) struct SuitTexts {
+    texts: [SuitText; SETS],
+    ghost entries: { IsSuitTable texts },
+}
+
+impl SuitTexts {
+    pub(crate) fn new() -> SuitTexts {
+        let mut texts = [[0; 16]; SETS];
+        for set in 0..SETS {
+            texts[set] = suit_text(set);
+        }
+        SuitTexts { texts }
+    }
+
+    /// The text of the ranks in the set.
+    pub(crate) fn of(&self, set: u16) -> &SuitText
+        requires { set < 2 ^ 13 }
+        ensures { IsSuitText set result.now }
+    {
+        &self.texts[usize::from(set)]
+    }
+}
+
+/// The text of the ranks in the set.
+fn suit_text(set: usize) -> SuitText
+    ensures { IsSuitText set result }
+{
+    let mut text = [0; 16];
+    let mut end = 0;
+    for rank in 0..LETTERS.len() {
+        text[end] = LETTERS[rank];
+        end += (set >> rank) & 1;
+    }
+    text[end] = b'.';
+    text[15] = end as u8 + 1;
+    text
+}
