@@ -11,7 +11,7 @@ use crate::sink::{Sink, SinkFault, put_all};
 use cards::Deal;
 use cond_lang::Cond;
 use lcg48::{Lcg48, Steps, Stride};
-use pbn_text::{HEADER, game};
+use pbn_text::{HEADER, Printer};
 
 /// The sink failed; so many whole games were written before.
 #[derive(Clone, Copy, Debug, PartialEq, Eq)]
@@ -40,17 +40,20 @@ pub(crate) fn is_full(plan: &Plan, boards: u64) -> bool
 /// Writes the game of the next board, where `boards` are written.
 pub(crate) fn put_game<S: Sink>(
     plan: &Plan,
+    printer: &mut Printer,
     boards: u64,
     deal: &Deal,
     sink: &mut S,
 ) -> Result<(), SinkFault>
     requires faults { S.faults sink.old < 2 ^ 64 - 1 }
     requires boards { boards ≤ 2 ^ 40 }
+    requires heading { printer.old.heading ≡ plan.now.heading }
+    ensures heading { printer.new.heading ≡ printer.old.heading }
     ensures bytes { Puts (S.bytes sink.old) (S.bytes sink.new) result (game_of (plan.now.first_board + boards) plan.now.heading deal.now) }
     ensures faults { Counts (S.faults sink.old) (S.faults sink.new) result }
 {
-    let text = game(plan.first_board() + boards, plan.heading(), deal);
-    put_all(sink, text.as_slice())
+    printer.print(plan.first_board() + boards, deal);
+    put_all(sink, printer.text())
 }
 
 /// Tries the plan's candidates one after the other, and writes the header and the games of those that meet the
@@ -70,6 +73,7 @@ pub fn run_plain<S: Sink>(plan: &Plan, cond: &Cond, sink: &mut S) -> Result<u64,
     if put_all(sink, &HEADER).is_err() {
         return Err(PlainFault { boards });
     }
+    let mut printer = Printer::new(plan.heading());
     let mut generator = generator_of(plan);
     for _ in 0..plan.count() {
         if is_full(plan, boards) {
@@ -77,7 +81,7 @@ pub fn run_plain<S: Sink>(plan: &Plan, cond: &Cond, sink: &mut S) -> Result<u64,
         }
         let deal = Deal::draw(&mut generator);
         if cond.holds(&deal) {
-            if put_game(plan, boards, &deal, sink).is_err() {
+            if put_game(plan, &mut printer, boards, &deal, sink).is_err() {
                 return Err(PlainFault { boards });
             }
             boards += 1;

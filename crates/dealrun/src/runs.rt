@@ -174,6 +174,7 @@ fn finish<S: Sink>(
     sink: &mut S,
     progress: Progress,
 ) -> Result<Report, RunFault>
+    requires heading { progress.printer.heading ≡ plan.now.heading }
     requires faults { S.faults sink.old < 2 ^ 64 - 1 }
     requires counts { (vec_len lanes ≡ plan.now.workers) × (progress.turns.workers ≡ plan.now.workers) × (progress.taken ≤ plan.now.count) }
     requires some { 0 < plan.now.workers }

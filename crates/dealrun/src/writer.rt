@@ -11,7 +11,7 @@ use crate::plain::{is_full, put_game};
 use crate::plan::Plan;
 use crate::sink::{Sink, SinkFault, put_all};
 use lanes::{LaneOut, Turns, Verdict};
-use pbn_text::HEADER;
+use pbn_text::{HEADER, Printer};
 use std::sync::Wait;
 use std::sync::atomic::{AtomicBool, Ordering};
 use std::{hint, thread};
@@ -22,9 +22,11 @@ const MOST_SPINS: u32 = 1024;
 /// How many spins a verdict of a worker takes, about.
 const SPINS_A_VERDICT: u32 = 4;
 
-/// How far the writer has come: whose turn it is, how many verdicts were taken, and how many games were written.
+/// How far the writer has come: whose turn it is, how many verdicts were taken, and how many games were written; and
+/// the printer of the games.
 #[derive(Drop)]
 pub(crate) struct Progress {
+    printer: Printer,
     pub(crate) turns: Turns,
     pub(crate) taken: u64,
     pub(crate) boards: u64,
@@ -37,11 +39,13 @@ impl Progress {
     pub(crate) fn new(plan: &Plan) -> Progress
         ensures start { (result.taken ≡ 0) × (result.boards ≡ 0) }
         ensures workers { result.turns.workers ≡ plan.now.workers }
+        ensures heading { result.printer.heading ≡ plan.now.heading }
     {
         let Some(turns) = Turns::new(plan.workers()) else {
             unreachable!()
         };
         Progress {
+            printer: Printer::new(plan.heading()),
             turns,
             taken: 0,
             boards: 0,
@@ -64,6 +68,8 @@ impl Progress {
     ) -> Result<(), SinkFault>
         requires taken { self.old.taken < 2 ^ 40 }
         requires faults { S.faults sink.old < 2 ^ 64 - 1 }
+        requires heading { self.old.printer.heading ≡ plan.now.heading }
+        ensures heading { self.new.printer.heading ≡ self.old.printer.heading }
         ensures taken { (self.new.taken ≡ self.old.taken + 1) × (self.new.turns.workers ≡ self.old.turns.workers) }
         ensures faults { Counts (S.faults sink.old) (S.faults sink.new) result }
         ensures boards { OnOk result (self.new.boards ≡ cond verdict.now.accepted (self.old.boards + 1) self.old.boards) }
@@ -73,7 +79,8 @@ impl Progress {
         self.turns.advance();
         self.taken += 1;
         if verdict.accepted {
-            put_game(plan, self.boards, &verdict.deal, sink)?;
+            let board = self.boards;
+            put_game(plan, &mut self.printer, board, &verdict.deal, sink)?;
             self.boards += 1;
         }
         Ok(())
@@ -123,8 +130,10 @@ fn write_beside<R: Wait, S: Sink>(
     stop: &AtomicBool,
 ) -> Result<(), SinkFault>
     requires faults { S.faults sink.old < 2 ^ 64 - 1 }
+    requires heading { progress.old.printer.heading ≡ plan.now.heading }
     requires counts { (vec_len lanes.old ≡ plan.now.workers) × (progress.old.turns.workers ≡ plan.now.workers) × (progress.old.taken ≤ plan.now.count) }
     ensures same { (map (λ l. l.ring) lanes.new.items ≡ map (λ l. l.ring) lanes.old.items) × (map (λ l. l.settled) lanes.new.items ≡ map (λ l. l.settled) lanes.old.items) }
+    ensures heading { progress.new.printer.heading ≡ progress.old.printer.heading }
     ensures counts { (vec_len lanes.new ≡ vec_len lanes.old) × (progress.new.turns.workers ≡ plan.now.workers) × (progress.new.taken ≤ plan.now.count) }
     ensures faults { Counts (S.faults sink.old) (S.faults sink.new) result }
     ensures broken { OnErr result ((base : Option (List ℕ)) → GoesOn plan.now lanes.old.items progress.old.taken progress.old.boards base (S.bytes sink.old) → GivesUp plan.now lanes.new.items progress.new.taken progress.new.boards base (S.bytes sink.new)) }
@@ -154,9 +163,11 @@ pub(crate) fn write_all<R: Wait, S: Sink>(
     stop: &AtomicBool,
 ) -> Result<(), SinkFault>
     requires faults { S.faults sink.old < 2 ^ 64 - 1 }
+    requires heading { progress.old.printer.heading ≡ plan.now.heading }
     requires counts { (vec_len lanes.old ≡ plan.now.workers) × (progress.old.turns.workers ≡ plan.now.workers) × (progress.old.taken ≡ 0) × (progress.old.boards ≡ 0) }
     requires fresh { (w : ℕ) (e : _) → w < plan.now.workers → (slice_index_or lanes.old.items w e).taken ≡ [] }
     ensures same { (map (λ l. l.ring) lanes.new.items ≡ map (λ l. l.ring) lanes.old.items) × (map (λ l. l.settled) lanes.new.items ≡ map (λ l. l.settled) lanes.old.items) }
+    ensures heading { progress.new.printer.heading ≡ progress.old.printer.heading }
     ensures counts { (vec_len lanes.new ≡ vec_len lanes.old) × (progress.new.turns.workers ≡ plan.now.workers) × (progress.new.taken ≤ plan.now.count) }
     ensures faults { Counts (S.faults sink.old) (S.faults sink.new) result }
     ensures broken { OnErr result (GivesUp plan.now lanes.new.items progress.new.taken progress.new.boards (S.bytes sink.old) (S.bytes sink.new)) }
@@ -175,11 +186,13 @@ pub(crate) fn write_rest<S: Sink>(
     progress: &mut Progress,
 ) -> Result<(), SinkFault>
     requires faults { S.faults sink.old < 2 ^ 64 - 1 }
+    requires heading { progress.old.printer.heading ≡ plan.now.heading }
     requires counts { (vec_len lanes.old ≡ plan.now.workers) × (progress.old.turns.workers ≡ plan.now.workers) × (progress.old.taken ≤ plan.now.count) }
     requires whole { (form : Form) × AllWhole plan.now form lanes.old.items }
     requires begun { (base : Option (List ℕ)) × GoesOn plan.now lanes.old.items progress.old.taken progress.old.boards base (S.bytes sink.old) }
     ensures len { vec_len lanes.new ≡ vec_len lanes.old }
     ensures whole { (form : Form) → AllWhole plan.now form lanes.old.items → AllWhole plan.now form lanes.new.items }
+    ensures heading { progress.new.printer.heading ≡ progress.old.printer.heading }
     ensures counts { progress.new.taken ≤ plan.now.count }
     ensures faults { Counts (S.faults sink.old) (S.faults sink.new) result }
     ensures broken { OnErr result ((base : Option (List ℕ)) → GoesOn plan.now lanes.old.items progress.old.taken progress.old.boards base (S.bytes sink.old) → GivesUp plan.now lanes.new.items progress.new.taken progress.new.boards base (S.bytes sink.new)) }

@@ -13,6 +13,7 @@ pub loop-init : goal.loop-init
 loop-init g c =
     record {
       running = running_none c.args.plan.now c.args.cond.now _ _ _ refl (at_ok _ _ c.put_all.result c.if-is_err.ensures.value c.put_all.ensures.bytes);
+      heading = c.new-printer.ensures.heading ∙ c.heading.ensures;
       generator = c.generator_of-generator.ensures ∙ ap (state_before c.args.plan.now.seed) (omega arith);
       faults = at_ok _ _ c.put_all.result c.if-is_err.ensures.value c.put_all.ensures.faults;
     }
@@ -45,12 +46,14 @@ loop-preserved g c =
             (λ e. let full : c.is_full.result ≡ true = c.is_full.ensures.1 e in let not_full = c.if-is_full.false in absurd cc)
             c.loop.invariant.running
             (at_ok _ _ w.put_game.result w.if-is_err-2.ensures.value w.put_game.ensures.bytes));
+        heading = ap (λ p. p.heading) w.printer-is ∙ w.put_game.ensures.heading ∙ c.loop.invariant.heading;
         generator = generator;
         faults = ap g.S.Sink.faults w.sink-is ∙ at_ok _ _ w.put_game.result w.if-is_err-2.ensures.value w.put_game.ensures.faults ∙ c.loop.invariant.faults;
       }
       | else-holds w ↦ record {
         running = rw (w.boards-is, w.sink-is) (running_skip c.args.plan.now c.args.cond.now c.loop.counter c.loop.boards _ _ c.draw-deal.result deal
             (sym w.if-holds.false ∙ c.holds.ensures) c.loop.invariant.running);
+        heading = ap (λ p. p.heading) w.printer-is ∙ c.loop.invariant.heading;
         generator = generator;
         faults = ap g.S.Sink.faults w.sink-is ∙ c.loop.invariant.faults;
       }

@@ -50,6 +50,7 @@ loop-taken-preserved g c =
     let less : p.limit ≢ Some progress.boards = iff_false c.is_full.ensures c.if-is_full.false in
     record {
       faults = c.in_ok-write.ensures.faults ∙ i.faults;
+      heading = c.in_ok-write.ensures.heading ∙ i.heading;
       taken = c.in_ok-write.ensures.taken.0 ∙ ap (λ n. n + 1) i.taken;
       workers = c.in_ok-write.ensures.taken.1 ∙ i.workers;
       len = i.len;

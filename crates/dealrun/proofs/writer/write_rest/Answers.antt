@@ -46,6 +46,7 @@ loop-taken-preserved g c =
     let left = some_left p c.requires.whole.0 c.loop-taken.lanes.items progress.taken w old some h.in_turn (omega arith) place at (i.whole c.requires.whole.0 c.requires.whole.1) in
     record {
       faults = c.in_ok-write.ensures.faults ∙ i.faults;
+      heading = c.in_ok-write.ensures.heading ∙ i.heading;
       taken = c.in_ok-write.ensures.taken.0 ∙ ap (λ n. n + 1) i.taken;
       workers = c.in_ok-write.ensures.taken.1 ∙ i.workers;
       len = i.len;

@@ -7,6 +7,7 @@ use Rattle.dealrun.proofs.writer.write_rest.Given as goal
 abbrev pub invariant-loop-taken : goal.invariant-loop-taken
 invariant-loop-taken g l = record {
   faults : g.S.Sink.faults l.sink ≡ g.S.Sink.faults l.initial.sink;
+  heading : l.progress.printer.heading ≡ l.plan.heading;
   taken : l.progress.taken ≡ l._taken;
   workers : l.progress.turns.workers ≡ l.plan.workers;
   len : vec_len l.lanes ≡ vec_len l.initial.lanes;
