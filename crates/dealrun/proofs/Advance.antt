@@ -2,7 +2,7 @@
 use Rattle.std.proofs.Common.{◌≡◌, ◌≢◌, ℕ, ◌+◌, ◌-◌, ◌%◌, ◌<◌, ◌≤◌, Bool, true, false, cond, List, [], ◌∷◌, ◌++◌, length, get_or, set, Option, Some, refl, sym, ◌∙◌, ap, subst, arith, inl, inr, append_assoc, length-append}
 use Rattle.std.specs.Option.{ForSome}
 use Rattle.std.proofs.lemmas.Bool.{cases_eq, cases_lt}
-use Rattle.std.proofs.lemmas.List.{get_or-set_same, get_or-set_other, get_or-map, map-set, length-set, length-map, append-nil, get_or_default, set-get_or}
+use Rattle.std.proofs.lemmas.List.{get_or-set_same, get_or-set_other, get_or-map, map-set, length-set, length-map, append-nil, get_or_default}
 use Rattle.cards.specs.declared.seat.Seat.{Seat}
 use Rattle.lanes.specs.declared.verdict.Verdict.{Verdict}
 use Rattle.lanes.specs.Verdicts.{turns}
@@ -217,9 +217,3 @@ begins_broken plan lanes t boards base bytes long fresh t_is boards_is part =
       };
       short = λ i lt. absurd (omega arith);
     }
-
--- a lane that gave nothing is as it was
-pub unchanged : (plan : Planned) (lanes : List OutView) (t boards : ℕ) (base bytes : Option (List ℕ)) (old new : OutView) (place : ℕ) → old ≡ get_or lanes place old → new ≡ old → GoesOn plan lanes t boards base bytes
-    → GoesOn plan (set lanes place new) t boards base bytes
-unchanged plan lanes t boards base bytes old new place old_is same h =
-    subst (λ ls. GoesOn plan ls t boards base bytes) (sym (ap (set lanes place) (same ∙ old_is) ∙ set-get_or lanes place old)) h

@@ -10,17 +10,10 @@ ghost use Rattle.cond_lang.specs.Form.{Form};
 use crate::plain::{is_full, put_game};
 use crate::plan::Plan;
 use crate::sink::{Sink, SinkFault, put_all};
-use lanes::{LaneOut, Turns, Verdict};
+use lanes::{LaneOut, Pause, Turns, Verdict};
 use pbn_text::{HEADER, Printer};
 use std::sync::Wait;
 use std::sync::atomic::{AtomicBool, Ordering};
-use std::{hint, thread};
-
-/// The most spins before a waiting writer leaves its time slice.
-const MOST_SPINS: u32 = 1024;
-
-/// How many spins a verdict of a worker takes, about.
-const SPINS_A_VERDICT: u32 = 4;
 
 /// How far the writer has come: whose turn it is, how many verdicts were taken, and how many games were written; and
 /// the printer of the games.
@@ -87,36 +80,31 @@ impl Progress {
     }
 }
 
-/// Waits until a verdict can be taken, or the flag is up. The first pause lets the worker get ahead by about a
-/// lane's content.
+/// Waits until a verdict can be taken. False where there is none and the flag is up.
 fn wait_for<R: Wait>(rt: &R, lane: &mut LaneOut, capacity: u32, stop: &AtomicBool) -> bool
     ensures same { (lane.new.ring ≡ lane.old.ring) × (lane.new.settled ≡ lane.old.settled) × (lane.new.taken ≡ lane.old.taken) }
     ensures some { result ≡ true → 0 < lane.new.known }
-    ensures none { result ≡ false → lane.new ≡ lane.old }
 {
-    let mut spins = capacity.saturating_mul(SPINS_A_VERDICT).min(MOST_SPINS);
-    for _ in rt.forever() {
-        if lane.has_verdict() {
-            return true;
-        }
-        // A load of the stop flag is no event of the core.
-        if stop.load(Ordering::SeqCst) {
-            return false;
-        }
-        pause(spins);
-        spins = 0;
-    }
-    unreachable!()
+    lane.has_verdict() || pause_for(rt, lane, capacity, stop)
 }
 
-/// Spins so often, or leaves the time slice where that is 0.
-fn pause(spins: u32) {
-    if spins == 0 {
-        thread::yield_now();
+/// As `wait_for`, where no verdict is known yet.
+fn pause_for<R: Wait>(rt: &R, lane: &mut LaneOut, capacity: u32, stop: &AtomicBool) -> bool
+    ensures same { (lane.new.ring ≡ lane.old.ring) × (lane.new.settled ≡ lane.old.settled) × (lane.new.taken ≡ lane.old.taken) }
+    ensures some { result ≡ true → 0 < lane.new.known }
+{
+    let mut pause = Pause::new(capacity as usize, 1);
+    for _ in rt.forever() {
+        // A load of the stop flag is no event of the core.
+        if stop.load(Ordering::SeqCst) {
+            return lane.has_verdict();
+        }
+        pause.wait();
+        if pause.is_enough(lane.count_verdicts()) {
+            return true;
+        }
     }
-    for _ in 0..spins {
-        hint::spin_loop();
-    }
+    unreachable!()
 }
 
 /// Takes the verdicts in turn and writes their games, until all were taken, the limit of boards is met, or there is

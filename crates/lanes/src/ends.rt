@@ -119,6 +119,16 @@ impl LaneIn {
         !self.producer.is_full()
     }
 
+    /// How many slots are free, as the lane stands now. It waits for nobody.
+    pub fn count_room(&mut self) -> usize
+        ensures ring { self.new.ring ≡ self.old.ring }
+        ensures sent { self.new.sent ≡ self.old.sent }
+        ensures value { result ≡ self.new.room }
+    {
+        // To look for a free slot is no event of the core.
+        self.producer.slots()
+    }
+
     /// Sends a verdict into a slot that is known to be free. It waits for nobody.
     pub fn send_reserved(&mut self, verdict: Verdict)
         requires { 0 < self.old.room }
@@ -131,8 +141,8 @@ impl LaneIn {
     }
 
     /// How many verdicts the lane may hold.
-    pub(crate) fn capacity(&self) -> u32 {
-        self.producer.capacity().min(MOST_CAPACITY as usize) as u32
+    pub(crate) fn capacity(&self) -> usize {
+        self.producer.capacity()
     }
 
     /// Closes the lane. `None` where the ring can't say how it ended. It waits for nobody.
@@ -177,6 +187,21 @@ impl LaneOut {
             self.consumer.cached_slots() > 0
         } else {
             !self.consumer.is_empty()
+        }
+    }
+
+    /// How many verdicts wait, as the lane stands now. It waits for nobody.
+    pub fn count_verdicts(&mut self) -> usize
+        ensures same { (self.new.ring ≡ self.old.ring) × (self.new.settled ≡ self.old.settled) }
+        ensures taken { self.new.taken ≡ self.old.taken }
+        ensures left { self.new.left ≡ self.old.left }
+        ensures value { result ≡ self.new.known }
+    {
+        // To look for a verdict is no event of the core.
+        if self.settled {
+            self.consumer.cached_slots()
+        } else {
+            self.consumer.slots()
         }
     }
 

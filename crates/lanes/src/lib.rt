@@ -16,6 +16,7 @@ pub use ends::{Closed, LaneError, LaneIn, LaneOut, lane};
 pub use event::Event;
 pub use gate::{Gate, OpenGate};
 pub use machine::Core;
+pub use pause::Pause;
 pub use share::{Job, Share};
 pub use turns::Turns;
 pub use verdict::Verdict;

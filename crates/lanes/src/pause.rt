@@ -1,47 +1,62 @@
-//! How an end of a lane waits between two tries.
+//! How an end of a lane waits between two looks at the other end.
+
+ghost use Rattle.std.specs.Prelude.{◌≡◌, ◌<◌, true};
 
 use std::{hint, thread};
 
-/// The most spins before a waiting end leaves its time slice.
-const MOST_SPINS: u32 = 4096;
+/// The most spins between two looks.
+const MOST_SPINS: usize = 4096;
 
 /// More workers than this are taken to be more than there are cores: whoever waits then lets the others run.
 const FEW_WORKERS: u32 = 4;
 
 /// How many spins a verdict of the other end takes, about.
-const SPINS_A_VERDICT: u32 = 4;
+const SPINS_A_VERDICT: usize = 4;
 
-/// The pauses between the tries for one verdict: first a short spin, so that the other end gets ahead by
-/// about a lane's content, and from then on the rest of the time slice.
+/// The pauses of an end that waits for many verdicts or slots, so that the two ends don't look at each other for each.
+///
+/// It spins for about a lane's content, and again as long as the other end makes progress. Where that stands still, the
+/// end leaves the rest of its time slice.
 #[derive(Drop)]
-pub(crate) struct Pause {
-    spins: u32,
+pub struct Pause {
+    spins: usize,
+    enough: usize,
+    seen: usize,
+    rests: bool,
 }
 
 impl Pause {
-    /// The pauses of a worker on a lane with this capacity, whose writer takes from so many lanes in turn.
-    pub(crate) fn new(capacity: u32, workers: u32) -> Pause {
+    /// The pauses at a lane of this capacity, where the other end serves so many lanes in turn.
+    pub fn new(capacity: usize, lanes: u32) -> Pause {
         Pause {
-            spins: if workers > FEW_WORKERS {
-                0
-            } else {
-                capacity
-                    .saturating_mul(workers)
-                    .saturating_mul(SPINS_A_VERDICT)
-                    .min(MOST_SPINS)
-            },
+            spins: capacity
+                .saturating_mul(SPINS_A_VERDICT)
+                .saturating_mul(lanes as usize)
+                .min(MOST_SPINS),
+            enough: capacity / 2,
+            seen: 0,
+            rests: lanes > FEW_WORKERS,
         }
     }
 
     /// Waits a little.
-    pub(crate) fn wait(&mut self) {
-        if self.spins == 0 {
+    pub fn wait(&self) {
+        if self.rests {
             thread::yield_now();
             return;
         }
         for _ in 0..self.spins {
             hint::spin_loop();
         }
-        self.spins = 0;
+    }
+
+    /// Whether to go on with so many verdicts or slots: with half a lane's content, or with fewer where no more come.
+    pub fn is_enough(&mut self, count: usize) -> bool
+        ensures { result ≡ true → 0 < count }
+    {
+        let stands_still = count == self.seen;
+        self.seen = count;
+        self.rests = self.rests || stands_still;
+        count > 0 && (stands_still || count >= self.enough)
     }
 }

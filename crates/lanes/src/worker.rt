@@ -1,6 +1,6 @@
 //! A worker: it judges its share of the candidates and sends the verdicts into its lane.
 
-ghost use Rattle.std.specs.Prelude.{◌≡◌, ◌+◌, ◌-◌, ◌*◌, ◌<◌, [], ◌∷◌, ◌++◌, MatchBool};
+ghost use Rattle.std.specs.Prelude.{◌≡◌, ◌+◌, ◌-◌, ◌*◌, ◌<◌, [], ◌∷◌, ◌++◌, MatchBool, true};
 ghost use Rattle.lcg48.specs.Sequence.{state_after};
 ghost use Rattle.cards.specs.Shuffle.{drawn_places};
 ghost use Rattle.cards.specs.Deals.{dealt};
@@ -91,7 +91,7 @@ fn send_all<R: Wait, G: Gate>(
     true
 }
 
-/// Tries to send one verdict until it is sent, or until the stop flag is up.
+/// Sends a verdict as soon as there is room. False where the stop flag is up.
 fn send<R: Wait>(
     rt: &R,
     lane: &mut LaneIn,
@@ -102,16 +102,27 @@ fn send<R: Wait>(
     ensures ring { lane.new.ring ≡ lane.old.ring }
     ensures sent { MatchBool result (lane.new.sent ≡ lane.old.sent ++ verdict.now ∷ []) (lane.new.sent ≡ lane.old.sent) }
 {
+    if !lane.has_room() && !wait_for_room(rt, lane, workers, stop) {
+        return false;
+    }
+    lane.send_reserved(*verdict);
+    true
+}
+
+/// Waits until the lane has room again. False where the stop flag is up.
+fn wait_for_room<R: Wait>(rt: &R, lane: &mut LaneIn, workers: u32, stop: &AtomicBool) -> bool
+    ensures same { (lane.new.ring ≡ lane.old.ring) × (lane.new.sent ≡ lane.old.sent) }
+    ensures room { result ≡ true → 0 < lane.new.room }
+{
     let mut pause = Pause::new(lane.capacity(), workers);
     for _ in rt.forever() {
-        if lane.has_room() {
-            lane.send_reserved(*verdict);
-            return true;
-        }
         if stop.load(Ordering::SeqCst) {
             return false;
         }
         pause.wait();
+        if pause.is_enough(lane.count_room()) {
+            return true;
+        }
     }
     unreachable!()
 }

@@ -1,14 +1,32 @@
-use Rattle.std.proofs.Common.{◌≡◌, ◌≢◌, ◌+◌, ◌%◌, ◌++◌, ◌∷◌, [], ◌∙◌, Some, refl, ap, arith}
+use Rattle.std.proofs.Common.{◌≡◌, ◌≢◌, ◌+◌, ◌%◌, ◌++◌, ◌∷◌, [], ◌∙◌, Some, ap, arith}
 use Rattle.std.proofs.lemmas.Bool.{iff_false}
 use Rattle.std.proofs.Math.Seq.{map-set_same}
 use Rattle.dealrun.proofs.Maps.{on_err}
-use Rattle.dealrun.proofs.Advance.{on_to, broken_to, unchanged}
+use Rattle.dealrun.proofs.Advance.{on_to, broken_to}
+use Rattle.dealrun.proofs.Finals.{goes_on_still}
 use Rattle.dealrun.proofs.writer.write_beside.Goals as goal
+
+pub returns-then-not-wait_for-clause-same : goal.returns-then-not-wait_for-clause-same
+returns-then-not-wait_for-clause-same g c =
+    let i = c.loop-taken.invariant in
+    let w = c.lane.result in
+    let old = c.index_mut-lane.result.now in
+    let new = c.wait_for.new.lane in
+    let same = c.if-not-wait_for.ensures.same in
+    let at = c.index_mut-lane.ensures.value in (
+      map-set_same (λ v. v.ring) c.loop-taken.lanes.items w new old (same.0 ∙ ap (λ v. v.ring) at) ∙ i.rings,
+      map-set_same (λ v. v.settled) c.loop-taken.lanes.items w new old (same.1 ∙ ap (λ v. v.settled) at) ∙ i.settled,
+    )
 
 pub returns-then-not-wait_for-clause-written : goal.returns-then-not-wait_for-clause-written
 returns-then-not-wait_for-clause-written g c base h =
-    unchanged c.args.plan.now c.loop-taken.lanes.items c.loop-taken.progress.taken c.loop-taken.progress.boards base (g.S.Sink.bytes c.loop-taken.sink) c.index_mut-lane.result.now c.wait_for.new.lane c.lane.result
-    c.index_mut-lane.ensures.value (c.if-not-wait_for.ensures.none refl) (c.loop-taken.invariant.written base h)
+    let lanes = c.loop-taken.lanes.items in
+    let progress = c.loop-taken.progress in
+    let old = c.index_mut-lane.result.now in
+    let new = c.wait_for.new.lane in
+    goes_on_still c.args.plan.now lanes _ progress.taken progress.boards base (g.S.Sink.bytes c.loop-taken.sink)
+    (map-set_same (λ v. v.taken) lanes c.lane.result new old (c.if-not-wait_for.ensures.same.2 ∙ ap (λ v. v.taken) c.index_mut-lane.ensures.value))
+    (c.loop-taken.invariant.written base h)
 
 pub returns-in_err-write-clause-same : goal.returns-in_err-write-clause-same
 returns-in_err-write-clause-same g c =
