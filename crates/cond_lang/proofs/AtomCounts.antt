@@ -1,8 +1,8 @@
 -- A value has no more atoms than tokens.
-use Rattle.std.proofs.Common.{ℕ, ◌≤◌, List, [], ◌∷◌, length, length-append, arith}
+use Rattle.std.proofs.Common.{ℕ, ◌<◌, ◌≤◌, List, [], ◌∷◌, length, length-append, arith}
 use Rattle.cond_lang.specs.declared.token.Token.{Token}
 use Rattle.cond_lang.specs.declared.token.Token.TheVariants.{Or, And, Close, Plus, Relation}
-use Rattle.cond_lang.specs.Form.{Amount, Form, any_of, all_of, negation, compare, balanced, shape, pattern}
+use Rattle.cond_lang.specs.Form.{Amount, sum, number, points, suit_points, suit_length, Form, any_of, all_of, negation, compare, balanced, shape, pattern}
 use Rattle.cond_lang.specs.Grammar.{SpellsAtom, SpellsValue, atom, plus, a_number, hcp, hcp_in, len, SpellsCond, both, or, SpellsBoth, unit, and, SpellsUnit, not, brackets, comparison, is_balanced, has_shape, has_pattern, Spells}
 use Rattle.cond_lang.specs.Atoms.{atoms_of, HasAtMostAtoms}
 
@@ -54,3 +54,11 @@ mutual
 -- Each value of a tree that n tokens spell has at most n atoms.
 pub few_atoms : (n : ℕ) (T : List Token) (t : Form) → length T ≤ n → Spells T t → HasAtMostAtoms n t
 few_atoms n T t h s = more_atoms (length T) n t h (cond_count s)
+
+-- a value has an atom
+pub some_atom : (a : Amount) → 0 < atoms_of a
+some_atom (sum a b) = omega (arith, some_atom a)
+some_atom (number n) = omega arith
+some_atom (points q) = omega arith
+some_atom (suit_points q s) = omega arith
+some_atom (suit_length q s) = omega arith
