@@ -1,8 +1,10 @@
 -- A room that is written from some place on: what stands up to the new end.
-use Rattle.std.proofs.Common.{◌≡◌, ℕ, ◌+◌, ◌<◌, ◌≤◌, List, [], ◌∷◌, ◌++◌, length, set, take, drop, refl, sym, ◌∙◌, ap, arith}
+use Rattle.std.proofs.Common.{◌≡◌, ℕ, ◌+◌, ◌-◌, ◌/◌, ◌%◌, ◌^◌, ◌<◌, ◌≤◌, List, [], ◌∷◌, ◌++◌, length, get_or, set, take, drop, decimal, inl, inr, refl, sym, ◌∙◌, ap, arith}
 use Rattle.std.proofs.Math.Seq.{take-append-add}
-use Rattle.std.proofs.lemmas.List.{length-append, length-take-le, take-append-drop, take-append-le, drop-append-le, take-take, take_at, drop_at, take_more_set}
-use Rattle.std.proofs.lemmas.Slice.{take-put_mid}
+use Rattle.std.proofs.lemmas.Bool.{cases_lt}
+use Rattle.std.proofs.lemmas.Fmt.{decimal_digit, decimal_step, decimal_nonempty}
+use Rattle.std.proofs.lemmas.List.{same_from_push, take_more, drop-take, length-append, length-drop, length-take-le, take-append-drop, take-append-le, drop-append-le, take-take, take_at, drop_at, take_more_set}
+use Rattle.std.proofs.lemmas.Slice.{take-put_mid, drop-put_mid}
 use borrow.Rule.Slice.PartMut.{put_mid, post_of}
 
 -- a copy of m bytes or more, and m of them
@@ -28,17 +30,63 @@ pub one_more : (room front : List ℕ) (next n m : ℕ) → n < length room → 
 one_more room front next n m within written is =
     ap (λ k. take k (set room n next)) is ∙ take_more_set room n next within ∙ ap (λ xs. xs ++ next ∷ []) written
 
--- digits that end at `end`, behind what stands before them
-pub with_digits : (room front digits rest : List ℕ) (from number end : ℕ) → number ≤ length room → from ≤ number → end ≡ number + length digits → drop number room ≡ digits ++ rest → drop from (take number room) ≡ front
+-- digits that are written up to `end`
+pub digits_written : (room digits rest : List ℕ) (number end : ℕ) → end ≡ number + length digits → drop number room ≡ digits ++ rest → drop number (take end room) ≡ digits
+digits_written room digits rest number end is after =
+    ap (λ k. drop number (take k room)) is ∙ drop-take number (length digits) room ∙ ap (take (length digits)) after ∙ take_at digits rest (length digits) refl
+
+-- what is written before them leaves them
+pub digits_kept : (room piece digits : List ℕ) (a k number end : ℕ) → a ≤ length room → length piece ≡ k → a + k ≤ number → number ≤ end → drop number (take end room) ≡ digits → drop number (take end (put_mid a k room piece)) ≡ digits
+digits_kept room piece digits a k number end within long before order is =
+    let split : end ≡ number + (end - number) = omega arith in
+    ap (λ n. drop number (take n (put_mid a k room piece))) split
+    ∙ drop-take number (end - number) (put_mid a k room piece)
+    ∙ ap (take (end - number)) (drop-put_mid a k room piece number before within long)
+    ∙ sym (drop-take number (end - number) room)
+    ∙ ap (λ n. drop number (take n room)) (sym split)
+    ∙ is
+
+-- digits, and what stands before them
+pub with_digits : (room front digits : List ℕ) (from number end : ℕ) → number ≤ length room → from ≤ number → number ≤ end → drop number (take end room) ≡ digits → drop from (take number room) ≡ front
     → drop from (take end room) ≡ front ++ digits
-with_digits room front digits rest from number end within order is after before =
+with_digits room front digits from number end within order inside after before =
     let long : length (take number room) ≡ number = length-take-le number room within in
     let whole : take end room ≡ take number room ++ digits =
-    ap (take end) (sym (take-append-drop number room) ∙ ap (λ xs. take number room ++ xs) after)
-    ∙ ap (λ k. take k (take number room ++ (digits ++ rest))) (is ∙ ap (λ k. k + length digits) (sym long))
-    ∙ take-append-add (take number room) (digits ++ rest) (length digits)
-    ∙ ap (λ xs. take number room ++ xs) (take_at digits rest (length digits) refl) in
+    sym (take-append-drop number (take end room)) ∙ ap (λ xs. xs ++ drop number (take end room)) (take-take number end room inside) ∙ ap (λ xs. take number room ++ xs) after in
     ap (drop from) whole ∙ drop-append-le from (take number room) digits (omega (arith, long)) ∙ ap (λ xs. xs ++ digits) before
+
+-- a number has a digit
+pub digits_before : (room : List ℕ) (n number end : ℕ) → n < 2 ^ 64 → end ≤ length room → drop number (take end room) ≡ decimal n → number < end
+digits_before room n number end fits within is = omega (arith, decimal_nonempty n fits, ap length is, length-drop number (take end room), length-take-le end room within)
+
+-- the number that follows one whose last digit is below nine
+next_decimal : (n : ℕ) (front : List ℕ) (last : ℕ) → n + 1 < 2 ^ 64 → last < 57 → decimal n ≡ front ++ last ∷ [] → decimal (n + 1) ≡ front ++ (last + 1) ∷ []
+next_decimal n front last fits below is =
+    elim (cases_lt n 10) [
+      | inl one ↦
+          let parts = same_from_push front [] last (48 + n) (sym is ∙ decimal_digit n one) in
+          decimal_digit (n + 1) (omega (arith, parts.1)) ∙ ap (λ x. x ∷ []) (omega (arith, parts.1)) ∙ ap (λ xs. xs ++ (last + 1) ∷ []) (sym parts.0)
+      | inr more ↦
+          let parts = same_from_push front (decimal (n / 10)) last (48 + n % 10) (sym is ∙ decimal_step n more (omega arith)) in
+          let tens : (n + 1) / 10 ≡ n / 10 = omega (arith, parts.1) in
+          let ones : 48 + (n + 1) % 10 ≡ last + 1 = omega (arith, parts.1) in
+          decimal_step (n + 1) (omega arith) fits
+          ∙ ap (λ k. decimal k ++ (48 + (n + 1) % 10) ∷ []) tens
+          ∙ ap (λ x. decimal (n / 10) ++ x ∷ []) ones
+          ∙ ap (λ xs. xs ++ (last + 1) ∷ []) (sym parts.0)
+    ]
+
+-- its last digit is raised
+pub digit_raised : (room : List ℕ) (n number end : ℕ) → n + 1 < 2 ^ 64 → number ≤ end → end < length room → get_or room end 0 < 57
+    → drop number (take (end + 1) room) ≡ decimal n → drop number (take (end + 1) (set room end (get_or room end 0 + 1))) ≡ decimal (n + 1)
+digit_raised room n number end fits order within below is =
+    let last : ℕ = get_or room end 0 in
+    let long : length (take end room) ≡ end = length-take-le end room (omega arith) in
+    let now : decimal n ≡ drop number (take end room) ++ last ∷ [] =
+    sym is ∙ ap (drop number) (take_more room end 0 within) ∙ drop-append-le number (take end room) (last ∷ []) (omega (arith, long)) in
+    ap (drop number) (take_more_set room end (last + 1) within)
+    ∙ drop-append-le number (take end room) ((last + 1) ∷ []) (omega (arith, long))
+    ∙ sym (next_decimal n (drop number (take end room)) last fits below now)
 
 -- what is written from m on leaves what stands before it
 pub kept_before : (room old rest : List ℕ) (n m to : ℕ) → take to room ≡ take m old ++ rest → n ≤ m → m ≤ length old → n ≤ to → take n room ≡ take n old

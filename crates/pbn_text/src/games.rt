@@ -17,7 +17,7 @@ use itoa::Buffer;
 pub const HEADER: [u8; 10] = *b"% PBN 2.1\n";
 
 /// The ranks of a suit, the ace first.
-const LETTERS: [u8; 13] = *b"AKQJT98765432";
+pub(crate) const LETTERS: [u8; 13] = *b"AKQJT98765432";
 
 /// Room for the cards of a hand, its dots, and the letters that are written over.
 const ROOM: usize = 64;

@@ -40,6 +40,7 @@ pub(crate) fn put_middle(room: &mut Room, board: u64) -> usize
     ensures most { result ≤ 272 + 45 }
 {
     let place = ((board - 1) % 16) as usize;
+    // As for a suit's text.
     let middle = MIDDLES[place];
     room[NUMBER_END..NUMBER_END + 48].copy_from_slice(&middle);
     NUMBER_END + LENGTHS[place]

@@ -5,7 +5,7 @@ ghost use Rattle.std.specs.Prelude.{◌≡◌, ◌+◌, ◌≤◌, ◌++◌, len
 ghost use Rattle.cards.specs.Hands.{hand_of, length_of};
 ghost use Rattle.cards.specs.declared.suit.Suit.TheVariants.{Spades, Hearts, Diamonds, Clubs};
 ghost use Rattle.pbn_text.specs.Games.{hand_text, suit_text};
-ghost use Rattle.pbn_text.specs.Lines.{front_text, hands_text};
+ghost use Rattle.pbn_text.specs.Lines.{hands_text};
 ghost use Rattle.pbn_text.specs.Printing.{IsFront};
 
 use crate::Heading;
@@ -21,52 +21,80 @@ pub(crate) type Room = [u8; 512];
 /// Where a board's number ends: what stands before it has at most 249 bytes, and it at most 20.
 pub(crate) const NUMBER_END: usize = 272;
 
-/// Where the heading's lines begin, and where the board's number begins behind them.
+/// Where the heading's lines begin, where the number of a board begins behind them, and which board
+/// it is.
 #[derive(Clone, Copy, Drop)]
 pub(crate) struct Front {
     pub(crate) from: usize,
     pub(crate) number: usize,
+    pub(crate) board: u64,
 }
 
-/// Writes the heading's lines and the opening of the board's line before its number.
+/// Writes the heading's lines and the opening of the board's line before the board's number.
 #[cold]
 #[inline(never)]
-pub(crate) fn put_front(room: &mut Room, number: usize, heading: &Heading) -> Front
+pub(crate) fn put_front(room: &mut Room, number: usize, heading: &Heading, board: u64) -> Front
     requires from { 249 ≤ number }
     requires to { number ≤ 272 }
-    ensures front { IsFront room.new heading.now result.from result.number }
-    ensures number { result.number ≡ number }
-    ensures kept { drop number room.new ≡ drop number room.old }
+    requires digits { drop number (take 272 room.old) ≡ decimal board }
+    ensures front { IsFront room.new heading.now result.from result.number result.board }
+    ensures board { result.board ≡ board }
 {
     let mut lines = ArrayVec::new();
     put_heading(&mut lines, heading);
     put(&mut lines, b"[Board \"");
     let from = number - lines.len();
     room[from..number].copy_from_slice(lines.as_slice());
-    Front { from, number }
+    Front {
+        from,
+        number,
+        board,
+    }
 }
 
-/// Writes the board's number, and what stands before it where it begins at another place than the
-/// last one.
-pub(crate) fn put_number(room: &mut Room, front: Front, heading: &Heading, board: u64) -> Front
-    requires { IsFront room.old heading.now front.from front.number }
-    ensures front { IsFront room.new heading.now result.from result.number }
-    ensures room { length room.new ≡ 512 }
-    ensures number { drop result.from (take 272 room.new) ≡ front_text heading.now ++ decimal board }
+/// What stands before a board's number, and the number, in a room where nothing stands.
+pub(crate) fn first_front(room: &mut Room, heading: &Heading) -> Front
+    ensures { IsFront room.new heading.now result.from result.number result.board }
 {
-    let number = write_digits(board, room, NUMBER_END);
-    if number == front.number {
-        front
-    } else {
-        put_front(room, number, heading)
+    let number = write_digits(0, room, NUMBER_END);
+    put_front(room, number, heading, 0)
+}
+
+/// Writes the board's number over the last one, and what stands before it where it begins at another
+/// place. Mostly a board follows the last one, and one digit changes.
+#[inline(always)]
+pub(crate) fn put_number(room: &mut Room, last: Front, heading: &Heading, board: u64) -> Front
+    requires board { 1 ≤ board }
+    requires front { IsFront room.old heading.now last.from last.number last.board }
+    ensures front { IsFront room.new heading.now result.from result.number result.board }
+    ensures board { result.board ≡ board }
+    ensures room { length room.new ≡ 512 }
+{
+    let Front { from, number, .. } = last;
+    if board - 1 == last.board && room[NUMBER_END - 1] < b'9' {
+        room[NUMBER_END - 1] += 1;
+        return Front {
+            from,
+            number,
+            board,
+        };
     }
+    let start = write_digits(board, room, NUMBER_END);
+    if start == number {
+        return Front {
+            from,
+            number,
+            board,
+        };
+    }
+    put_front(room, start, heading, board)
 }
 
 /// Writes the four hands, the end of the deal's line and the empty line, and answers where they end.
 pub(crate) fn put_hands(room: &mut Room, from: usize, texts: &SuitTexts, deal: &Deal) -> usize
     requires { from ≤ 400 }
     ensures written { take result room.new ≡ take from room.old ++ hands_text deal.now }
-    ensures most { result ≡ from + 71 }
+    ensures end { result ≡ from + 71 }
 {
     put_hand(room, from, texts, deal, Seat::North);
     room[from + 16] = b' ';
@@ -111,6 +139,7 @@ fn put_suit(room: &mut Room, from: usize, texts: &SuitTexts, hand: &Hand, suit: 
     ensures len { result ≡ from + (length_of hand.now suit + 1) }
     ensures most { result ≤ from + 14 }
 {
+    // A value of its own can't overlap the room, and is copied at once.
     let text = *texts.of(hand.rank_set(suit));
     room[from..from + 16].copy_from_slice(&text);
     from + usize::from(text[15])

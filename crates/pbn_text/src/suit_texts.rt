@@ -3,15 +3,14 @@
 ghost use Rattle.std.specs.Prelude.{◌<◌, ◌^◌};
 ghost use Rattle.pbn_text.specs.SuitTexts.{IsSuitText, IsSuitTable};
 
+use crate::games::LETTERS;
+
 /// How many sets of thirteen ranks there are.
 const SETS: usize = 8192;
 
 /// The letters of the ranks in a set, the ace first, and a dot. The last byte is the number of
 /// these.
 pub(crate) type SuitText = [u8; 16];
-
-/// The ranks of a suit, the ace first.
-static LETTERS: [u8; 13] = *b"AKQJT98765432";
 
 /// The text of each set of a suit's ranks.
 #[derive(Drop)]

@@ -7,7 +7,7 @@ use Rattle.cards.specs.Hands.{hand_of}
 use Rattle.pbn_text.specs.Boards.{dealer_of, vulnerable_of}
 use Rattle.pbn_text.specs.Games.{game as game_of, HeadingView, heading_text, dealer_text, vulnerable_text, hand_text}
 use Rattle.pbn_text.specs.Lines.{front_text, middle_of, hands_text}
-use Rattle.pbn_text.proofs.Rooms.{kept_before}
+use Rattle.pbn_text.proofs.Rooms.{kept_before, with_digits}
 use Rattle.pbn_text.proofs.printer.Printer.print.Goals as goal
 
 -- the pieces of a game, grouped as they are written and as they are defined
@@ -33,17 +33,25 @@ behind first second third front number middle hands from a b c order within w1 w
     ∙ ap (λ xs. xs ++ (middle ++ hands)) start
     ∙ sym (append_assoc (front ++ number) middle hands)
 
+-- what two writes from 272 on leave
+kept : (first second third middle hands : List ℕ) (n b c : ℕ) → n ≤ 272 → 272 ≤ length first → b ≤ length second → 272 ≤ b → b ≤ c → take b second ≡ take 272 first ++ middle → take c third ≡ take b second ++ hands → take n third ≡ take n first
+kept first second third middle hands n b c inside l1 l2 ob oc w1 w2 =
+    kept_before third second hands n b c w2 (omega arith) l2 (omega arith) ∙ kept_before second first middle n 272 b w1 inside l1 (omega arith)
+
 pub invariant_of-self : goal.invariant_of-self
 invariant_of-self c =
+    let first = c.put_number-self-inside.new.room in
+    let second = c.put_middle-hands.new.room in
+    let third = c.put_hands-self-inside.new.room in
     let front = c.put_number-self-inside.ensures.front in
     let number = c.put_number-self-inside.result.number in
+    let same = λ (n : ℕ) (inside : n ≤ 272). kept first second third (middle_of c.args.board) (hands_text c.args.deal.now) n c.put_middle-hands.result c.put_hands-self-inside.result inside (omega arith) (omega arith) (omega arith) (omega arith) c.put_middle-hands.ensures.written c.put_hands-self-inside.ensures.written in
     record {
       front = record {
         order = front.order;
         inside = front.inside;
-        lines = ap (drop c.put_number-self-inside.result.from) (kept_before c.put_hands-self-inside.new.room c.put_middle-hands.new.room (hands_text c.args.deal.now) number c.put_middle-hands.result c.put_hands-self-inside.result c.put_hands-self-inside.ensures.written (omega arith) (omega arith) (omega arith)
-            ∙ kept_before c.put_middle-hands.new.room c.put_number-self-inside.new.room (middle_of c.args.board) number 272 c.put_middle-hands.result c.put_middle-hands.ensures.written front.inside (omega arith) (omega arith))
-            ∙ front.lines;
+        lines = ap (drop c.put_number-self-inside.result.from) (same number front.inside) ∙ front.lines;
+        digits = ap (drop number) (same 272 (omega arith)) ∙ front.digits;
       };
       order = omega (arith, front.order, front.inside);
       inside = omega arith;
@@ -51,7 +59,13 @@ invariant_of-self c =
 
 pub returns-clause-text : goal.returns-clause-text
 returns-clause-text c =
-    behind c.put_number-self-inside.new.room c.put_middle-hands.new.room c.put_hands-self-inside.new.room (front_text c.self.inside.heading) (decimal c.args.board) (middle_of c.args.board) (hands_text c.args.deal.now) c.put_number-self-inside.result.from 272 _ _ (omega (arith, c.put_number-self-inside.ensures.front.order, c.put_number-self-inside.ensures.front.inside)) (omega arith)
-    c.put_middle-hands.ensures.written c.put_hands-self-inside.ensures.written c.put_number-self-inside.ensures.number
+    let first = c.put_number-self-inside.new.room in
+    let front = c.put_number-self-inside.ensures.front in
+    let from = c.put_number-self-inside.result.from in
+    let number = c.put_number-self-inside.result.number in
+    let start : drop from (take 272 first) ≡ front_text c.self.inside.heading ++ decimal c.args.board =
+    with_digits first (front_text c.self.inside.heading) (decimal c.args.board) from number 272 (omega (arith, front.inside)) front.order front.inside (front.digits ∙ ap decimal c.put_number-self-inside.ensures.board) front.lines in
+    behind first c.put_middle-hands.new.room c.put_hands-self-inside.new.room (front_text c.self.inside.heading) (decimal c.args.board) (middle_of c.args.board) (hands_text c.args.deal.now) from 272 _ _ (omega (arith, front.order, front.inside)) (omega arith)
+    c.put_middle-hands.ensures.written c.put_hands-self-inside.ensures.written start
     ∙ joined c.args.board c.self.inside.heading c.args.deal.now
     ∙ ap (λ p. game_of c.args.board p.heading c.args.deal.now) c.self.view_is
