@@ -8,7 +8,7 @@ use std::{hint, thread};
 const MOST_SPINS: usize = 4096;
 
 /// More workers than this are taken to be more than there are cores: whoever waits then lets the others run.
-const FEW_WORKERS: u32 = 4;
+const FEW_WORKERS: u32 = 3;
 
 /// How many spins a verdict of the other end takes, about.
 const SPINS_A_VERDICT: usize = 4;
