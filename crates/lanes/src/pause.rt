@@ -1,7 +1,8 @@
 //! How an end of a lane waits between two looks at the other end.
 
-ghost use Rattle.std.specs.Prelude.{◌≡◌, ◌<◌, true};
+ghost use Rattle.std.specs.Prelude.{◌≡◌, ◌/◌, ◌<◌, ◌≤◌, ◌↔◌, ◌⊎◌, IsTrue};
 
+use std::marker::Model;
 use std::{hint, thread};
 
 /// The most spins between two looks.
@@ -16,7 +17,7 @@ const SPINS_A_VERDICT: usize = 4;
 /// The pauses of an end that waits for many verdicts or slots, so that the two ends don't look at each other for each.
 ///
 /// It spins for about a lane's content, and again as long as the other end makes progress. Where that stands still, the
-/// end leaves the rest of its time slice.
+/// end leaves the rest of its time slice. Contracts see how many are enough, and how many there were at the last look.
 #[derive(Drop)]
 pub struct Pause {
     spins: usize,
@@ -25,9 +26,20 @@ pub struct Pause {
     rests: bool,
 }
 
+impl Model for Pause {
+    ghost use Rattle.lanes.specs.Views.{PauseView};
+
+    ghost Value = { PauseView };
+
+    ghost view = { λ p. record { enough = p.enough; seen = p.seen } };
+}
+
 impl Pause {
     /// The pauses at a lane of this capacity, where the other end serves so many lanes in turn.
-    pub fn new(capacity: usize, lanes: u32) -> Pause {
+    pub fn new(capacity: usize, lanes: u32) -> Pause
+        ensures enough { result.enough ≡ capacity / 2 }
+        ensures seen { result.seen ≡ 0 }
+    {
         Pause {
             spins: capacity
                 .saturating_mul(SPINS_A_VERDICT)
@@ -52,7 +64,9 @@ impl Pause {
 
     /// Whether to go on with so many verdicts or slots: with half a lane's content, or with fewer where no more come.
     pub fn is_enough(&mut self, count: usize) -> bool
-        ensures { result ≡ true → 0 < count }
+        ensures value { IsTrue result ↔ ((0 < count) × ((count ≡ self.old.seen) ⊎ (self.old.enough ≤ count))) }
+        ensures seen { self.new.seen ≡ count }
+        ensures enough { self.new.enough ≡ self.old.enough }
     {
         let stands_still = count == self.seen;
         self.seen = count;

@@ -75,6 +75,36 @@ fn a_lane_of_one_verdict(rt: HostRuntime) -> Result<(), Fail> {
     Ok(())
 }
 
+#[test]
+fn what_is_known_to_wait(rt: HostRuntime) -> Result<(), Fail> {
+    let (mut sender, mut taker) = lane(rt.alloc(), 2)?;
+    assert!(rt; !taker.has_verdict());
+    assert_eq!(rt; sender.count_room(), 2);
+    for number in [3, 4] {
+        assert!(rt; sender.has_room());
+        sender.send_reserved(verdict(number));
+    }
+    assert!(rt; !sender.has_room());
+    assert_eq!(rt; (sender.count_room(), taker.count_verdicts()), (0, 2));
+    for number in [3, 4] {
+        assert!(rt; taker.has_verdict());
+        assert_eq!(rt; taker.take_known().number, number);
+    }
+    assert!(rt; !taker.has_verdict());
+    assert_eq!(rt; (sender.count_room(), taker.count_verdicts()), (2, 0));
+    Ok(())
+}
+
+#[test]
+fn half_a_lane_or_what_stands_still_is_enough(rt: HostRuntime) {
+    let mut pause = Pause::new(8, 1);
+    let answers = [(0, false), (1, false), (3, false), (3, true), (4, true)];
+    for (count, is_enough) in answers {
+        pause.wait();
+        assert_eq!(rt; pause.is_enough(count), is_enough);
+    }
+}
+
 /// Stops at a number.
 #[derive(Drop)]
 struct StopsAt(u64);
