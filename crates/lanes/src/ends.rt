@@ -180,6 +180,7 @@ impl LaneOut {
         ensures left { self.new.left ≡ self.old.left }
         ensures some { result ≡ true → 0 < self.new.known }
         ensures none { result ≡ false → self.new ≡ self.old }
+        ensures none_known { result ≡ false → self.new.known ≡ 0 }
         ensures all_left { self.old.settled ≡ true → (IsTrue result ↔ (0 < length self.old.left)) }
     {
         // To look for a verdict is no event of the core.
