@@ -15,7 +15,7 @@ use Rattle.lanes.specs.declared.verdict.Verdict.{Verdict}
 use Rattle.lanes.specs.Verdicts.{verdict_of}
 use Rattle.dealrun.specs.Plans.{Planned}
 use Rattle.dealrun.specs.Text.{accepted_among, limited, end_of}
-use Rattle.dealrun.specs.Turns.{deals_in}
+use Rattle.dealrun.specs.MergedVerdicts.{deals_in}
 use Rattle.dealrun.proofs.Games.{accepted_among-none, accepted_among-more, accepted_among-parts}
 use Rattle.dealrun.proofs.Printing.{deals_in-push}
 

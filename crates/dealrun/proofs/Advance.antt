@@ -13,8 +13,8 @@ use Rattle.pbn_text.specs.Games.{game, header}
 use Rattle.dealrun.specs.Plans.{Planned}
 use Rattle.dealrun.specs.Sinks.{append_known, AppendsPart}
 use Rattle.dealrun.specs.Text.{games, text_of_deals}
-use Rattle.dealrun.specs.Turns.{in_turn, deals_in, printed, boards_in, taken_lists}
-use Rattle.dealrun.specs.Writing.{game_after, TakenInTurn, StaysShort, GoesOn, GivesUp}
+use Rattle.dealrun.specs.MergedVerdicts.{in_turn, deals_in, printed, boards_in, taken_lists}
+use Rattle.dealrun.specs.internal.Writing.{game_after, TakenInTurn, StaysShort, WriterSoFar, WriterBrokeOff}
 use Rattle.dealrun.proofs.SinkLemmas.{append_known-append}
 use Rattle.dealrun.proofs.Games.{text_of_deals-more}
 use Rattle.dealrun.proofs.Printing.{deals_in-push, in_turn-none, in_turn-kept, in_turn-grown, grown}
@@ -108,8 +108,8 @@ module _ (plan : Planned) (lanes : List OutView) (t : ℕ) (v : Verdict) (new : 
             omega (arith, same, less most limit)
       ]
 
-  pub step_on : (boards : ℕ) (base bytes : Option (List ℕ)) → GoesOn plan lanes t boards base bytes → plan.limit ≢ Some boards
-      → GoesOn plan lanes' (t + 1) (cond v.accepted (boards + 1) boards) base (append_known bytes (cond v.accepted (game_after plan boards v) []))
+  pub step_on : (boards : ℕ) (base bytes : Option (List ℕ)) → WriterSoFar plan lanes t boards base bytes → plan.limit ≢ Some boards
+      → WriterSoFar plan lanes' (t + 1) (cond v.accepted (boards + 1) boards) base (append_known bytes (cond v.accepted (game_after plan boards v) []))
   step_on boards base bytes h less =
       let is = h.written.boards_are in
       let below = not_met plan.limit boards h.within less in record {
@@ -123,8 +123,8 @@ module _ (plan : Planned) (lanes : List OutView) (t : ℕ) (v : Verdict) (new : 
         short = short_more boards is h.short below;
       }
 
-  pub step_broken : (boards : ℕ) (base bytes bytes' : Option (List ℕ)) → GoesOn plan lanes t boards base bytes → plan.limit ≢ Some boards → v.accepted ≡ true
-      → AppendsPart bytes bytes' (game_after plan boards v) → GivesUp plan lanes' (t + 1) boards base bytes'
+  pub step_broken : (boards : ℕ) (base bytes bytes' : Option (List ℕ)) → WriterSoFar plan lanes t boards base bytes → plan.limit ≢ Some boards → v.accepted ≡ true
+      → AppendsPart bytes bytes' (game_after plan boards v) → WriterBrokeOff plan lanes' (t + 1) boards base bytes'
   step_broken boards base bytes bytes' h less accepted part =
       let is = h.written.boards_are in
       let before : List ℕ = printed plan lists t in
@@ -147,16 +147,16 @@ module _ (plan : Planned) (lanes : List OutView) (t : ℕ) (v : Verdict) (new : 
 
 -- the same, with the values as the writer has them
 pub on_to : (plan : Planned) (lanes : List OutView) (t boards : ℕ) (base bytes : Option (List ℕ)) (v : Verdict) (old new : OutView) (place t' boards' : ℕ) (bytes' : Option (List ℕ))
-    → 0 < plan.workers → GoesOn plan lanes t boards base bytes → plan.limit ≢ Some boards → place ≡ t % plan.workers → old ≡ get_or lanes place old → new.taken ≡ old.taken ++ v ∷ []
+    → 0 < plan.workers → WriterSoFar plan lanes t boards base bytes → plan.limit ≢ Some boards → place ≡ t % plan.workers → old ≡ get_or lanes place old → new.taken ≡ old.taken ++ v ∷ []
     → t' ≡ t + 1 → boards' ≡ cond v.accepted (boards + 1) boards → bytes' ≡ append_known bytes (cond v.accepted (game_after plan boards v) [])
-    → GoesOn plan (set lanes place new) t' boards' base bytes'
+    → WriterSoFar plan (set lanes place new) t' boards' base bytes'
 on_to plan lanes t boards base bytes v old new place t' boards' bytes' some h less place_is old_is took t_is boards_is bytes_is =
     let at = taken_at plan lanes t v old new place some h.in_turn place_is old_is took in
     let step = step_on plan lanes t v new some h.in_turn at boards base bytes h less in
-    subst (λ p. GoesOn plan (set lanes p new) t' boards' base bytes') (sym place_is)
-    (subst (λ n. GoesOn plan (set lanes (t % plan.workers) new) n boards' base bytes') (sym t_is)
-    (subst (λ n. GoesOn plan (set lanes (t % plan.workers) new) (t + 1) n base bytes') (sym boards_is)
-    (subst (GoesOn plan (set lanes (t % plan.workers) new) (t + 1) (cond v.accepted (boards + 1) boards) base) (sym bytes_is) step)))
+    subst (λ p. WriterSoFar plan (set lanes p new) t' boards' base bytes') (sym place_is)
+    (subst (λ n. WriterSoFar plan (set lanes (t % plan.workers) new) n boards' base bytes') (sym t_is)
+    (subst (λ n. WriterSoFar plan (set lanes (t % plan.workers) new) (t + 1) n base bytes') (sym boards_is)
+    (subst (WriterSoFar plan (set lanes (t % plan.workers) new) (t + 1) (cond v.accepted (boards + 1) boards) base) (sym bytes_is) step)))
   where
     taken_at : (plan : Planned) (lanes : List OutView) (t : ℕ) (v : Verdict) (old new : OutView) (place : ℕ) → 0 < plan.workers → TakenInTurn plan lanes t → place ≡ t % plan.workers → old ≡ get_or lanes place old → new.taken ≡ old.taken ++ v ∷ []
         → new.taken ≡ (get_or lanes (t % plan.workers) new).taken ++ v ∷ []
@@ -165,16 +165,16 @@ on_to plan lanes t boards base bytes v old new place t' boards' bytes' some h le
         took ∙ ap (λ l. l.taken ++ v ∷ []) (old_is ∙ get_or_default lanes place old new below ∙ ap (λ p. get_or lanes p new) place_is)
 
 pub broken_to : (plan : Planned) (lanes : List OutView) (t boards : ℕ) (base bytes : Option (List ℕ)) (v : Verdict) (old new : OutView) (place t' boards' : ℕ) (bytes' : Option (List ℕ))
-    → 0 < plan.workers → GoesOn plan lanes t boards base bytes → plan.limit ≢ Some boards → place ≡ t % plan.workers → old ≡ get_or lanes place old → new.taken ≡ old.taken ++ v ∷ []
+    → 0 < plan.workers → WriterSoFar plan lanes t boards base bytes → plan.limit ≢ Some boards → place ≡ t % plan.workers → old ≡ get_or lanes place old → new.taken ≡ old.taken ++ v ∷ []
     → t' ≡ t + 1 → v.accepted ≡ true → boards' ≡ boards → AppendsPart bytes bytes' (game_after plan boards v)
-    → GivesUp plan (set lanes place new) t' boards' base bytes'
+    → WriterBrokeOff plan (set lanes place new) t' boards' base bytes'
 broken_to plan lanes t boards base bytes v old new place t' boards' bytes' some h less place_is old_is took t_is accepted boards_is part =
     let below : place < length lanes = omega (arith, some, h.in_turn.long, place_is) in
     let at : new.taken ≡ (get_or lanes (t % plan.workers) new).taken ++ v ∷ [] = took ∙ ap (λ l. l.taken ++ v ∷ []) (old_is ∙ get_or_default lanes place old new below ∙ ap (λ p. get_or lanes p new) place_is) in
     let step = step_broken plan lanes t v new some h.in_turn at boards base bytes bytes' h less accepted part in
-    subst (λ p. GivesUp plan (set lanes p new) t' boards' base bytes') (sym place_is)
-    (subst (λ n. GivesUp plan (set lanes (t % plan.workers) new) n boards' base bytes') (sym t_is)
-    (subst (λ n. GivesUp plan (set lanes (t % plan.workers) new) (t + 1) n base bytes') (sym boards_is) step))
+    subst (λ p. WriterBrokeOff plan (set lanes p new) t' boards' base bytes') (sym place_is)
+    (subst (λ n. WriterBrokeOff plan (set lanes (t % plan.workers) new) n boards' base bytes') (sym t_is)
+    (subst (λ n. WriterBrokeOff plan (set lanes (t % plan.workers) new) (t + 1) n base bytes') (sym boards_is) step))
 
 printed-none : (plan : Planned) (lists : List (List Verdict)) → printed plan lists 0 ≡ header
 unfolding deals_in games
@@ -188,7 +188,7 @@ fresh_turns : (plan : Planned) (lanes : List OutView) → length lanes ≡ plan.
 fresh_turns plan lanes long fresh = record { long = long; turns_are = λ w e lt. ap length (fresh w e lt) ∙ sym (turns-none plan.workers w) }
 
 pub begins : (plan : Planned) (lanes : List OutView) (t boards : ℕ) (base bytes : Option (List ℕ)) → length lanes ≡ plan.workers → ((w : ℕ) (e : OutView) → w < plan.workers → (get_or lanes w e).taken ≡ [])
-    → t ≡ 0 → boards ≡ 0 → bytes ≡ append_known base header → GoesOn plan lanes t boards base bytes
+    → t ≡ 0 → boards ≡ 0 → bytes ≡ append_known base header → WriterSoFar plan lanes t boards base bytes
 begins plan lanes t boards base bytes long fresh t_is boards_is bytes_is =
     let lists = taken_lists lanes in record {
       in_turn = subst (TakenInTurn plan lanes) (sym t_is) (fresh_turns plan lanes long fresh);
@@ -201,7 +201,7 @@ begins plan lanes t boards base bytes long fresh t_is boards_is bytes_is =
     }
 
 pub begins_broken : (plan : Planned) (lanes : List OutView) (t boards : ℕ) (base bytes : Option (List ℕ)) → length lanes ≡ plan.workers → ((w : ℕ) (e : OutView) → w < plan.workers → (get_or lanes w e).taken ≡ [])
-    → t ≡ 0 → boards ≡ 0 → AppendsPart base bytes header → GivesUp plan lanes t boards base bytes
+    → t ≡ 0 → boards ≡ 0 → AppendsPart base bytes header → WriterBrokeOff plan lanes t boards base bytes
 begins_broken plan lanes t boards base bytes long fresh t_is boards_is part =
     let lists = taken_lists lanes in
     let none : t - 1 ≡ 0 = omega arith in record {

@@ -1,14 +1,17 @@
 -- From the lanes as they stand to the text of the candidates.
-use Rattle.std.proofs.Common.{◌≡◌, ◌≢◌, ℕ, zero, suc, ◌+◌, ◌*◌, ◌/◌, ◌%◌, ◌<◌, ◌≤◌, ◌⊎◌, true, false, List, [], ◌++◌, length, get_or, map, take, sum, Option, Some, refl, sym, ◌∙◌, ap, subst, arith, inl, inr, length-append, mul_comm}
-use Rattle.std.specs.List.{range_with_len, cons_option, slice_get}
+use Rattle.std.proofs.Common.{◌≡◌, ◌≢◌, ℕ, zero, suc, ◌+◌, ◌*◌, ◌/◌, ◌%◌, ◌<◌, ◌≤◌, ◌⊎◌, true, false, List, [], ◌++◌, All, length, get_or, map, take, sum, Option, Some, refl, sym, ◌∙◌, ap, subst, arith, inl, inr, length-append, mul_comm}
+use Rattle.std.specs.List.{range_with_len, cons_option, slice_get, enumerate_from}
 use Rattle.std.specs.Option.{ForSome}
 use Rattle.std.proofs.lemmas.Grind.{common_steps}
 use Rattle.std.proofs.lemmas.List.{get_or-map, length-map, get_or-take, take_all, take-take, nil_from_length}
 use Rattle.std.proofs.Math.Seq.{take-append_seam}
-use Rattle.std.proofs.lemmas.List.FromFn.{fill_by_all, get_or-map-range_with_len, map-range_with_len_more}
+use Rattle.std.proofs.lemmas.List.FromFn.{fill_by_all, get_or-map-range_with_len, map-range_with_len_more, get_or-enumerate_from, length-enumerate_from}
 use Rattle.std.proofs.lemmas.Option.{slice_get-get_or}
 use denote.RawPtr.{null_ptr}
 use Rattle.cards.specs.Candidates.{candidate}
+use Rattle.cards.specs.Deals.{IsPartition}
+use Rattle.cards.proofs.Partitions.{candidate_partition}
+use Rattle.std.proofs.lemmas.List.Elements.{All-map}
 use Rattle.cond_lang.specs.Form.{Form}
 use Rattle.lanes.specs.declared.verdict.Verdict.{Verdict}
 use Rattle.lanes.specs.Verdicts.{turns, verdict_of}
@@ -20,10 +23,11 @@ use Rattle.lanes.proofs.VerdictLists.{length-verdicts, verdicts-are}
 use Rattle.dealrun.specs.Plans.{Planned}
 use Rattle.dealrun.specs.Sinks.{append_known}
 use Rattle.dealrun.specs.Text.{accepted_among, accepted, text_of, text_of_deals, text, end_of}
-use Rattle.dealrun.specs.Turns.{verdicts_for, at_turn, in_turn, deals_in, boards_in, taken_lists, taken_in_all}
-use Rattle.dealrun.specs.Joins.{all_of}
-use Rattle.dealrun.specs.Writing.{TakenInTurn, StaysShort, Written, GoesOn}
-use Rattle.dealrun.specs.Stands.{EachLane, AllSettled, PrintsCandidates, LanesStand, Completes}
+use Rattle.dealrun.specs.MergedVerdicts.{verdicts_for, at_turn, in_turn, deals_in, boards_in, taken_lists, taken_in_all}
+use Rattle.dealrun.specs.internal.Joins.{ByNumber}
+use Rattle.dealrun.specs.internal.Ends.{Completes}
+use Rattle.dealrun.specs.internal.Writing.{TakenInTurn, StaysShort, WriterSoFar}
+use Rattle.dealrun.specs.Outcomes.{EachLane, AllSettled, for_each_worker, contents_of, PrintsTaken, PrintsCandidates, AreLanesConsistent, TakesWhatIsOwed, WritesText, StandsComplete}
 use Rattle.dealrun.proofs.Printing.{in_turn-none, in_turn-more}
 use Rattle.dealrun.proofs.Accepting.{deals_are, end_here, needed_here, accepted_here}
 
@@ -39,8 +43,25 @@ pub prefix_whole : (xs zs : List Verdict) → xs ≡ zs → IsPrefix xs zs
 prefix_whole xs zs h = grind (arith, common_steps)
 
 -- some lane, for where a list has none
-no_lane : OutView
+pub no_lane : OutView
 no_lane = record { taken = []; known = 0; ring = record { words = null_ptr; slots = null_ptr; names = (0, (0, 0)) }; settled = false; left = [] }
+
+-- lanes of which a fact holds by their numbers
+pub each_lane : (P : ℕ → OutView → Type 0) (lanes : List OutView) → ((w : ℕ) (e : OutView) → w < length lanes → P w (get_or lanes w e)) → EachLane lanes P
+each_lane P lanes h k d lt =
+    let short : k < length lanes = omega (arith, lt, length-enumerate_from 0 lanes) in
+    let item = get_or-enumerate_from 0 lanes k d short in
+    let number : 0 + k ≡ k = omega arith in
+    subst (λ p. P p.0 p.1) (sym (item ∙ ap (λ n. (n, get_or lanes k d.1)) number)) (h k d.1 short)
+
+pub each_number : (plan : Planned) (P : ℕ → OutView → Type 0) (lanes : List OutView) → length lanes ≡ plan.workers → ByNumber plan lanes P → EachLane lanes P
+each_number plan P lanes long h = each_lane P lanes (λ w e lt. h w e (omega (arith, lt, long)))
+
+-- the lists of what f gives for each lane, by their numbers
+pub for_each_lane : {A : Type 0} (plan : Planned) (f : OutView → A) (g : ℕ → A) (lanes : List OutView) → length lanes ≡ plan.workers → ByNumber plan lanes (λ w l. f l ≡ g w) → map f lanes ≡ for_each_worker plan g
+for_each_lane plan f g lanes long h =
+    fill_by_all g (map f lanes) plan.workers 0 (simp length-map long)
+    (λ k lt. get_or-map f lanes k no_lane (f no_lane) (omega (arith, lt, long)) ∙ h k no_lane lt)
 
 -- in all as many were taken as there were turns
 pub taken_total : (plan : Planned) (lanes : List OutView) (t : ℕ) → 0 < plan.workers → TakenInTurn plan lanes t → taken_in_all lanes ≡ t
@@ -52,7 +73,7 @@ taken_total plan lanes t some h =
     ap sum counts ∙ sum-turn_counts plan.workers t some
 
 module _ (plan : Planned) (form : Form) (lanes : List OutView) (t : ℕ) (some : 0 < plan.workers) (le : t ≤ plan.count) (h : TakenInTurn plan lanes t)
-    (parts : EachLane plan lanes (λ w l. IsPrefix l.taken (verdicts_for plan form w))) where
+    (parts : ByNumber plan lanes (λ w l. IsPrefix l.taken (verdicts_for plan form w))) where
   abbrev at : ℕ → Verdict
   at i = verdict_of plan.seed form (plan.first + i)
 
@@ -105,7 +126,7 @@ module _ (plan : Planned) (form : Form) (lanes : List OutView) (t : ℕ) (some :
   short_candidates short i lt most is = let less : boards_in plan (taken_lists lanes) i < most = short i lt most is in omega (arith, less, boards_taken i (omega arith))
 
   -- as many as were needed, and the text of all
-  module _ (boards : ℕ) (old new : Option (List ℕ)) (written : Written plan lanes t boards old new) (within : ForSome plan.limit (λ most. boards ≤ most)) (short : StaysShort plan lanes t)
+  module _ (boards : ℕ) (old new : Option (List ℕ)) (written : PrintsTaken plan lanes t boards old new) (within : ForSome plan.limit (λ most. boards ≤ most)) (short : StaysShort plan lanes t)
       (ended : (t ≡ plan.count) ⊎ (plan.limit ≡ Some boards)) where
     boards_here : boards ≡ length (accepted_among plan.seed plan.first form t)
     boards_here = written.boards_are ∙ boards_taken t (omega arith)
@@ -128,43 +149,89 @@ module _ (plan : Planned) (form : Form) (lanes : List OutView) (t : ℕ) (some :
     pub all_boards : boards ≡ length (accepted plan form)
     all_boards = boards_here ∙ ap length (sym accepted_is)
 
+-- the accepted deals are partitions, as every candidate is
+partitions : (plan : Planned) (form : Form) → All IsPartition (map (candidate plan.seed) (accepted plan form))
+partitions plan form = All-map IsPartition (candidate plan.seed) (accepted plan form) (λ k d lt. candidate_partition plan.seed (get_or (accepted plan form) k d))
+
+-- the lanes were taken in turn, as lists
+turns_as_lists : (plan : Planned) (lanes : List OutView) (m : ℕ) → TakenInTurn plan lanes m → map (λ l. length l.taken) lanes ≡ for_each_worker plan (λ w. turns plan.workers w m)
+turns_as_lists plan lanes m h = for_each_lane plan (λ l. length l.taken) (λ w. turns plan.workers w m) lanes h.long h.turns_are
+
 -- what stands when the lanes were taken in turn and each settled one holds a beginning
 pub stand : (plan : Planned) (form : Form) (lanes : List OutView) (t : ℕ) → 0 < plan.workers → t ≤ plan.count → TakenInTurn plan lanes t → StaysShort plan lanes t
-    → EachLane plan lanes (λ w l. l.settled ≡ true → IsPrefix (all_of l) (verdicts_for plan form w)) → LanesStand plan form lanes
+    → ByNumber plan lanes (λ w l. l.settled ≡ true → IsPrefix (contents_of l) (verdicts_for plan form w)) → AreLanesConsistent plan form lanes
 stand plan form lanes t some le h short parts =
     let total = taken_total plan lanes t some h in
-    let fronts : AllSettled plan lanes → EachLane plan lanes (λ w l. IsPrefix l.taken (verdicts_for plan form w)) =
-    λ all w e lt. prefix_front (get_or lanes w e).taken (get_or lanes w e).left (verdicts_for plan form w) (parts w e lt (all w e lt)) in
+    let fronts : AllSettled lanes → ByNumber plan lanes (λ w l. IsPrefix l.taken (verdicts_for plan form w)) =
+    λ all w e lt. prefix_front (get_or lanes w e).taken (get_or lanes w e).left (verdicts_for plan form w) (parts w e lt (all w e (omega (arith, lt, h.long)))) in
     record {
-      in_turn = subst (TakenInTurn plan lanes) (sym total) h;
-      parts = parts;
+      in_turn = turns_as_lists plan lanes (taken_in_all lanes) (subst (TakenInTurn plan lanes) (sym total) h);
+      parts = each_number plan (λ w l. l.settled ≡ true → IsPrefix (contents_of l) (verdicts_for plan form w)) lanes h.long parts;
       needed = λ all. subst (λ m. m ≤ end_of plan form) (sym total) (needed_here plan form t le (short_candidates plan form lanes t some le h (fronts all) short));
       candidates = λ all m le'. prints plan form lanes t some le h (fronts all) m (omega (arith, le', total));
     }
 
--- a run that took what was needed completes
-pub complete : (plan : Planned) (form : Form) (lanes : List OutView) (t boards : ℕ) (old new : Option (List ℕ)) → 0 < plan.workers → t ≤ plan.count → GoesOn plan lanes t boards old new
-    → AllSettled plan lanes → EachLane plan lanes (λ w l. l.settled ≡ true → IsPrefix (all_of l) (verdicts_for plan form w)) → ((t ≡ plan.count) ⊎ (plan.limit ≡ Some boards)) → Completes plan form lanes boards old new
-complete plan form lanes t boards old new some le h settled parts ended =
-    let sent : EachLane plan lanes (λ w l. IsPrefix (all_of l) (verdicts_for plan form w)) = λ w e lt. parts w e lt (settled w e lt) in
-    let fronts : EachLane plan lanes (λ w l. IsPrefix l.taken (verdicts_for plan form w)) = λ w e lt. prefix_front (get_or lanes w e).taken (get_or lanes w e).left (verdicts_for plan form w) (sent w e lt) in
-    let end_is = ends plan form lanes t some le h.in_turn fronts boards old new h.written h.within h.short ended in
+-- what was taken was written
+pub stand_complete : (plan : Planned) (form : Form) (lanes : List OutView) (t boards : ℕ) (old new : Option (List ℕ)) → 0 < plan.workers → t ≤ plan.count → WriterSoFar plan lanes t boards old new
+    → ByNumber plan lanes (λ w l. l.settled ≡ true → IsPrefix (contents_of l) (verdicts_for plan form w)) → StandsComplete plan form lanes boards old new
+stand_complete plan form lanes t boards old new some le h parts =
+    let total = taken_total plan lanes t some h.in_turn in
     record {
-      long = h.in_turn.long;
-      taken = λ w e lt. fronts w e lt ∙ ap (λ n. take n (verdicts_for plan form w)) (h.in_turn.turns_are w e lt ∙ ap (turns plan.workers w) (sym end_is));
-      settled = settled;
-      sent = sent;
-      whole = λ less w e lt. whole_lane (get_or lanes w e) w (fronts w e lt) (sent w e lt) (h.in_turn.turns_are w e lt ∙ ap (turns plan.workers w) (all_needed less) ∙ sym (length-verdicts plan.seed plan.first plan.count form plan.workers w));
+      lanes_are = stand plan form lanes t some le h.in_turn h.short parts;
+      printed_is = subst (λ m. PrintsTaken plan lanes m boards old new) (sym total) h.written;
+    }
+
+-- a lane whose worker's verdicts were all taken, as many as were sent
+whole_lane : (plan : Planned) (form : Form) (l : OutView) (w : ℕ) → IsPrefix l.taken (verdicts_for plan form w) → IsPrefix (contents_of l) (verdicts_for plan form w) → length l.taken ≡ length (verdicts_for plan form w) → (l.taken ≡ verdicts_for plan form w) × (l.left ≡ [])
+whole_lane plan form l w front sent same =
+    let short = prefix_short (contents_of l) (verdicts_for plan form w) sent in
+    let none : length l.left ≡ 0 = omega (arith, short, same, length-append l.taken l.left) in
+    (front ∙ take_all (length l.taken) (verdicts_for plan form w) (omega (arith, same)), nil_from_length l.left none)
+
+-- a run that took what was needed completes
+module _ (plan : Planned) (form : Form) (lanes : List OutView) (t boards : ℕ) (old new : Option (List ℕ)) (some : 0 < plan.workers) (le : t ≤ plan.count) (h : WriterSoFar plan lanes t boards old new)
+    (settled : ByNumber plan lanes (λ w l. l.settled ≡ true)) (parts : ByNumber plan lanes (λ w l. l.settled ≡ true → IsPrefix (contents_of l) (verdicts_for plan form w)))
+    (ended : (t ≡ plan.count) ⊎ (plan.limit ≡ Some boards)) where
+  long : length lanes ≡ plan.workers
+  long = h.in_turn.long
+
+  sent : ByNumber plan lanes (λ w l. IsPrefix (contents_of l) (verdicts_for plan form w))
+  sent w e lt = parts w e lt (settled w e lt)
+
+  fronts : ByNumber plan lanes (λ w l. IsPrefix l.taken (verdicts_for plan form w))
+  fronts w e lt = prefix_front (get_or lanes w e).taken (get_or lanes w e).left (verdicts_for plan form w) (sent w e lt)
+
+  end_is : end_of plan form ≡ t
+  end_is = ends plan form lanes t some le h.in_turn fronts boards old new h.written h.within h.short ended
+
+  all_needed : plan.limit ≢ Some boards → t ≡ plan.count
+  all_needed less = elim (ended) [ inl e ↦ e | inr e ↦ absurd (less e) ]
+
+  whole : plan.limit ≢ Some boards → ByNumber plan lanes (λ w l. (l.taken ≡ verdicts_for plan form w) × (l.left ≡ []))
+  whole less w e lt =
+      whole_lane plan form (get_or lanes w e) w (fronts w e lt) (sent w e lt)
+      (h.in_turn.turns_are w e lt ∙ ap (turns plan.workers w) (all_needed less) ∙ sym (length-verdicts plan.seed plan.first plan.count form plan.workers w))
+
+  lanes_complete : TakesWhatIsOwed plan form lanes boards
+  lanes_complete = record {
+    taken =
+        for_each_lane plan (λ l. l.taken) (λ w. take (turns plan.workers w (end_of plan form)) (verdicts_for plan form w)) lanes long
+        (λ w e lt. fronts w e lt ∙ ap (λ n. take n (verdicts_for plan form w)) (h.in_turn.turns_are w e lt ∙ ap (turns plan.workers w) (sym end_is)));
+    settled = λ k d lt. settled k d (omega (arith, lt, long));
+    sent = each_number plan (λ w l. IsPrefix (contents_of l) (verdicts_for plan form w)) lanes long sent;
+    whole = λ less. (
+          for_each_lane plan (λ l. l.taken) (verdicts_for plan form) lanes long (λ w e lt. (whole less w e lt).0),
+          λ k d lt. (whole less k d (omega (arith, lt, long))).1
+        );
+  }
+
+  pub complete : Completes plan form lanes boards old new
+  complete = record {
+    lanes_are = lanes_complete;
+    text_is = record {
       bytes = whole_text plan form lanes t some le h.in_turn fronts boards old new h.written h.within h.short ended;
       boards_are = all_boards plan form lanes t some le h.in_turn fronts boards old new h.written h.within h.short ended;
-      stand = stand plan form lanes t some le h.in_turn h.short parts;
-    }
-  where
-    all_needed : plan.limit ≢ Some boards → t ≡ plan.count
-    all_needed less = elim (ended) [ inl e ↦ e | inr e ↦ absurd (less e) ]
-
-    whole_lane : (l : OutView) (w : ℕ) → IsPrefix l.taken (verdicts_for plan form w) → IsPrefix (all_of l) (verdicts_for plan form w) → length l.taken ≡ length (verdicts_for plan form w) → (l.taken ≡ verdicts_for plan form w) × (l.left ≡ [])
-    whole_lane l w front sent same =
-        let short = prefix_short (all_of l) (verdicts_for plan form w) sent in
-        let none : length l.left ≡ 0 = omega (arith, short, same, length-append l.taken l.left) in
-        (front ∙ take_all (length l.taken) (verdicts_for plan form w) (omega (arith, same)), nil_from_length l.left none)
+      partitions = partitions plan form;
+    };
+    stands = stand_complete plan form lanes t boards old new some le h parts;
+  }

@@ -4,10 +4,7 @@ use Rattle.std.specs.Result.{is_err}
 use Rattle.std.proofs.lemmas.Bool.{cases_lt, both_ways, false≢true, true≢false}
 use Rattle.std.proofs.lemmas.List.{get_or-map, length-map, get_or-take}
 use Rattle.std.proofs.lemmas.List.FromFn.{get_or-map-range_with_len}
-use Rattle.std.proofs.lemmas.List.Elements.{All-map}
-use Rattle.cards.specs.Candidates.{candidate}
-use Rattle.cards.specs.Deals.{IsPartition}
-use Rattle.cards.proofs.Partitions.{candidate_partition}
+use Rattle.std.proofs.lemmas.Option.{slice_get-get_or}
 use Rattle.cond_lang.specs.Form.{Form}
 use Rattle.lanes.specs.declared.verdict.Verdict.{Verdict}
 use Rattle.lanes.specs.Views.{OutView}
@@ -15,14 +12,13 @@ use Rattle.lanes.specs.Work.{IsPrefix, IsProperPrefix}
 use Rattle.lanes.proofs.Places.{turns-none}
 use Rattle.dealrun.specs.Plans.{Planned}
 use Rattle.dealrun.specs.Sinks.{append_known}
-use Rattle.dealrun.specs.Text.{accepted}
-use Rattle.dealrun.specs.Turns.{verdicts_for, taken_in_all, printed, boards_in}
-use Rattle.dealrun.specs.Joins.{all_of, JoinedAs, Below, WholeIfSettled, IsSettled, BeginningAt, UnsettledAt, AllWhole}
-use Rattle.dealrun.specs.Writing.{TakenInTurn, StaysShort, Written, BrokenOff, GoesOn, GivesUp}
-use Rattle.dealrun.specs.Stands.{Owes, EachLane, AllSettled, LanesStand, IsLeastStopped, IsLeastUnclosed, StandsAfter}
+use Rattle.dealrun.specs.MergedVerdicts.{verdicts_for, taken_in_all, printed, boards_in}
+use Rattle.dealrun.specs.internal.Joins.{ByNumber, Owes, JoinedAs, Below, WholeIfSettled, IsSettled, BeginningAt, UnsettledAt, AllWhole}
+use Rattle.dealrun.specs.internal.Writing.{TakenInTurn, StaysShort, WriterSoFar, WriterBrokeOff}
+use Rattle.dealrun.specs.Outcomes.{contents_of, AreLanesConsistent, BreaksOffLastPiece, IsLeastStopped, IsLeastUnclosed, InterruptedOutcome}
 use Rattle.dealrun.specs.declared.cause.Cause.{Cause}
 use Rattle.dealrun.specs.declared.cause.Cause.TheVariants.{Memory, Spawn}
-use Rattle.dealrun.proofs.Endings.{taken_total, stand, prefix_whole}
+use Rattle.dealrun.proofs.Endings.{taken_total, stand, prefix_whole, each_number, each_lane, no_lane}
 
 -- lists that f cannot tell apart have elements that it cannot tell apart
 pub same_at : {A B : Type 0} (f : A → B) (xs ys : List A) (k : ℕ) (d : A) → map f xs ≡ map f ys → k < length ys → f (get_or xs k d) ≡ f (get_or ys k d)
@@ -42,7 +38,7 @@ module _ (plan : Planned) (lanes lanes' : List OutView) (t boards : ℕ) (old ne
   short_still : StaysShort plan lanes t → StaysShort plan lanes' t
   short_still h i lt most is = subst (λ ls. boards_in plan ls i < most) (sym same) (h i lt most is)
 
-  pub goes_on_still : GoesOn plan lanes t boards old new → GoesOn plan lanes' t boards old new
+  pub goes_on_still : WriterSoFar plan lanes t boards old new → WriterSoFar plan lanes' t boards old new
   goes_on_still h = record {
     in_turn = in_turn_still h.in_turn;
     written = record {
@@ -53,7 +49,7 @@ module _ (plan : Planned) (lanes lanes' : List OutView) (t boards : ℕ) (old ne
     short = short_still h.short;
   }
 
-  pub gives_up_still : GivesUp plan lanes t boards old new → GivesUp plan lanes' t boards old new
+  pub gives_up_still : WriterBrokeOff plan lanes t boards old new → WriterBrokeOff plan lanes' t boards old new
   gives_up_still h =
       let b = h.broken in record {
         in_turn = in_turn_still h.in_turn;
@@ -76,15 +72,15 @@ owed_at plan form lists k d owes lt = ap (λ ls. get_or ls k d) owes ∙ get_or-
 -- all workers of a plan were joined
 module _ (plan : Planned) (form : Form) (n : ℕ) (lists : List (List Verdict)) (lanes : List OutView) (s u : Option ℕ) (all : n ≡ plan.workers) (owes : Owes plan form lists)
     (joined : JoinedAs n lists lanes s u) where
-  pub joined_parts : EachLane plan lanes (λ w l. l.settled ≡ true → IsPrefix (all_of l) (verdicts_for plan form w))
-  joined_parts w e lt settled = subst (IsPrefix (all_of (get_or lanes w e))) (owed_at plan form lists w [] owes lt) (joined.parts w [] e (omega (arith, lt, all)) settled)
+  pub joined_parts : ByNumber plan lanes (λ w l. l.settled ≡ true → IsPrefix (contents_of l) (verdicts_for plan form w))
+  joined_parts w e lt settled = subst (IsPrefix (contents_of (get_or lanes w e))) (owed_at plan form lists w [] owes lt) (joined.parts w [] e (omega (arith, lt, all)) settled)
 
-  pub joined_settled : u ≡ None → AllSettled plan lanes
+  pub joined_settled : u ≡ None → ByNumber plan lanes (λ w l. l.settled ≡ true)
   joined_settled none w e lt =
       let h : Below IsSettled n lists lanes = subst (λ o. MatchOption o (Below IsSettled n lists lanes) (λ u. (u < n) × Below IsSettled u lists lanes × UnsettledAt u lanes)) none joined.unclosed_is in
       h w [] e (omega (arith, lt, all))
 
-  pub joined_whole : s ≡ None → EachLane plan lanes (λ w l. l.settled ≡ true → all_of l ≡ verdicts_for plan form w)
+  pub joined_whole : s ≡ None → ByNumber plan lanes (λ w l. l.settled ≡ true → contents_of l ≡ verdicts_for plan form w)
   joined_whole none w e lt settled =
       let h : Below WholeIfSettled n lists lanes = subst (λ o. MatchOption o (Below WholeIfSettled n lists lanes) (λ s. (s < n) × Below WholeIfSettled s lists lanes × BeginningAt s lists lanes)) none joined.stopped_is in
       h w [] e (omega (arith, lt, all)) settled ∙ owed_at plan form lists w [] owes lt
@@ -93,67 +89,70 @@ module _ (plan : Planned) (form : Form) (n : ℕ) (lists : List (List Verdict)) 
   all_whole none_s none_u w e lt =
       let settled = joined_settled none_u w e lt in (settled, joined_whole none_s w e lt settled)
 
-  pub least_stopped : (w : ℕ) → s ≡ Some w → IsLeastStopped plan form lanes w
-  least_stopped w is =
+  pub least_stopped : (w : ℕ) → s ≡ Some w → length lanes ≡ plan.workers → IsLeastStopped plan form lanes w
+  least_stopped w is long =
       let h : (w < n) × Below WholeIfSettled w lists lanes × BeginningAt w lists lanes =
       subst (λ o. MatchOption o (Below WholeIfSettled n lists lanes) (λ s. (s < n) × Below WholeIfSettled s lists lanes × BeginningAt s lists lanes)) is joined.stopped_is in
-      let lt : w < plan.workers = omega (arith, h.0, all) in record {
-        worker = lt;
-        settled = λ e. (h.2 [] e).0;
-        part = λ e. subst (IsProperPrefix (all_of (get_or lanes w e))) (owed_at plan form lists w [] owes lt) (h.2 [] e).1;
-        below = λ v e less settled. h.1 v [] e less settled ∙ owed_at plan form lists v [] owes (omega (arith, less, lt));
+      let lt : w < plan.workers = omega (arith, h.0, all) in
+      let here : w < length lanes = omega (arith, lt, long) in record {
+        lane = get_or lanes w no_lane;
+        at = slice_get-get_or lanes w no_lane here;
+        settled = (h.2 [] no_lane).0;
+        part = subst (IsProperPrefix (contents_of (get_or lanes w no_lane))) (owed_at plan form lists w [] owes lt) (h.2 [] no_lane).1;
+        below = each_lane (λ v l. v < w → l.settled ≡ true → contents_of l ≡ verdicts_for plan form v) lanes
+        (λ v e inside less settled. h.1 v [] e less settled ∙ owed_at plan form lists v [] owes (omega (arith, less, lt)));
       }
 
-  pub least_unclosed : (w boards : ℕ) → u ≡ Some w → (plan.limit ≢ Some boards → EachLane plan lanes (λ v l. l.settled ≡ true → all_of l ≡ verdicts_for plan form v)) → IsLeastUnclosed plan form lanes w boards
-  least_unclosed w boards is whole =
+  pub least_unclosed : (w boards : ℕ) → u ≡ Some w → length lanes ≡ plan.workers → (plan.limit ≢ Some boards → ByNumber plan lanes (λ v l. l.settled ≡ true → contents_of l ≡ verdicts_for plan form v)) → IsLeastUnclosed plan form lanes w boards
+  least_unclosed w boards is long whole =
       let h : (w < n) × Below IsSettled w lists lanes × UnsettledAt w lanes =
       subst (λ o. MatchOption o (Below IsSettled n lists lanes) (λ u. (u < n) × Below IsSettled u lists lanes × UnsettledAt u lanes)) is joined.unclosed_is in
-      let lt : w < plan.workers = omega (arith, h.0, all) in record {
-        worker = lt;
-        unsettled = h.2;
-        below = λ v e less. h.1 v [] e less;
-        whole = whole;
+      let lt : w < plan.workers = omega (arith, h.0, all) in
+      let here : w < length lanes = omega (arith, lt, long) in record {
+        lane = get_or lanes w no_lane;
+        at = slice_get-get_or lanes w no_lane here;
+        unsettled = h.2 no_lane;
+        below = each_lane (λ v l. v < w → l.settled ≡ true) lanes (λ v e inside less. h.1 v [] e less);
+        whole = λ less. each_number plan (λ v l. l.settled ≡ true → contents_of l ≡ verdicts_for plan form v) lanes long (whole less);
       }
 
--- what was written, with the number of all that was taken
-module _ (plan : Planned) (form : Form) (lanes : List OutView) (t boards : ℕ) (old new : Option (List ℕ)) (some : 0 < plan.workers) (le : t ≤ plan.count)
-    (parts : EachLane plan lanes (λ w l. l.settled ≡ true → IsPrefix (all_of l) (verdicts_for plan form w))) where
-  pub stands_written : GoesOn plan lanes t boards old new → LanesStand plan form lanes × Written plan lanes (taken_in_all lanes) boards old new
-  stands_written h =
-      let total = taken_total plan lanes t some h.in_turn in
-      (stand plan form lanes t some le h.in_turn h.short parts, subst (λ m. Written plan lanes m boards old new) (sym total) h.written)
+-- a text that was broken off, with the number of all that was taken
+pub stands_broken : (plan : Planned) (form : Form) (lanes : List OutView) (t boards : ℕ) (old new : Option (List ℕ)) → 0 < plan.workers → t ≤ plan.count
+    → ByNumber plan lanes (λ w l. l.settled ≡ true → IsPrefix (contents_of l) (verdicts_for plan form w))
+    → WriterBrokeOff plan lanes t boards old new → AreLanesConsistent plan form lanes × BreaksOffLastPiece plan lanes (taken_in_all lanes) boards old new
+stands_broken plan form lanes t boards old new some le parts h =
+    let total = taken_total plan lanes t some h.in_turn in
+    (stand plan form lanes t some le h.in_turn h.short parts, subst (λ m. BreaksOffLastPiece plan lanes m boards old new) (sym total) h.broken)
 
-  pub stands_broken : GivesUp plan lanes t boards old new → LanesStand plan form lanes × BrokenOff plan lanes (taken_in_all lanes) boards old new
-  stands_broken h =
-      let total = taken_total plan lanes t some h.in_turn in
-      (stand plan form lanes t some le h.in_turn h.short parts, subst (λ m. BrokenOff plan lanes m boards old new) (sym total) h.broken)
-
-pub whole_parts : (plan : Planned) (form : Form) (lanes : List OutView) → AllWhole plan form lanes → EachLane plan lanes (λ w l. l.settled ≡ true → IsPrefix (all_of l) (verdicts_for plan form w))
-whole_parts plan form lanes whole w e lt settled = prefix_whole (all_of (get_or lanes w e)) (verdicts_for plan form w) (whole w e lt).1
+pub whole_parts : (plan : Planned) (form : Form) (lanes : List OutView) → AllWhole plan form lanes → ByNumber plan lanes (λ w l. l.settled ≡ true → IsPrefix (contents_of l) (verdicts_for plan form w))
+whole_parts plan form lanes whole w e lt settled = prefix_whole (contents_of (get_or lanes w e)) (verdicts_for plan form w) (whole w e lt).1
 
 -- a thread could not be started, when n were
-pub not_started : (plan : Planned) (form : Form) (n : ℕ) (lists all : List (List Verdict)) (idle lanes : List OutView) (s u : Option ℕ) (old : Option (List ℕ)) → 0 < plan.workers → length lanes ≡ plan.workers → n ≤ plan.workers
+pub not_started : (plan : Planned) (form : Form) (n : ℕ) (lists all : List (List Verdict)) (idle lanes : List OutView) (s u : Option ℕ) (old : Option (List ℕ)) → 0 < plan.workers → length lanes ≡ plan.workers → n < plan.workers
     → Owes plan form all → lists ≡ take n all → JoinedAs n lists lanes s u → ((k : ℕ) (e : OutView) → n ≤ k → k < length lanes → (get_or lanes k e).settled ≡ false)
-    → map (λ l. l.taken) lanes ≡ map (λ l. l.taken) idle → All (λ l. (l.taken ≡ []) × (l.settled ≡ false)) idle → StandsAfter plan form Spawn lanes 0 old old
+    → map (λ l. l.taken) lanes ≡ map (λ l. l.taken) idle → All (λ l. (l.taken ≡ []) × (l.settled ≡ false)) idle → InterruptedOutcome plan form Spawn lanes 0 old old
 not_started plan form n lists all idle lanes s u old some long few owes some_of joined rest same fresh =
     let lens : length lanes ≡ length idle = simp length-map at (ap length same) in
     let none : (w : ℕ) (e : OutView) → w < plan.workers → (get_or lanes w e).taken ≡ [] =
     λ w e lt. let short : w < length idle = omega (arith, lt, long, lens) in same_at (λ (l : OutView). l.taken) lanes idle w e same short ∙ (fresh w e short).0 in
     let in_turn : TakenInTurn plan lanes 0 = record { long = long; turns_are = λ w e lt. ap length (none w e lt) ∙ sym (turns-none plan.workers w) } in
     let total = taken_total plan lanes 0 some in_turn in
-    (stand plan form lanes 0 some (omega arith) in_turn (λ i lt. absurd (omega arith)) parts, total, refl, refl)
+    (stand plan form lanes 0 some (omega arith) in_turn (λ i lt. absurd (omega arith)) parts, total, refl, refl, (n, record {
+      worker = few;
+      unsettled = each_lane (λ w l. n ≤ w → l.settled ≡ false) lanes (λ w e inside above. rest w e above inside);
+    }))
   where
-    parts : EachLane plan lanes (λ w l. l.settled ≡ true → IsPrefix (all_of l) (verdicts_for plan form w))
+    parts : ByNumber plan lanes (λ w l. l.settled ≡ true → IsPrefix (contents_of l) (verdicts_for plan form w))
     parts w e lt settled =
         elim (cases_lt w n) [
           | inl started ↦
               let mine : get_or lists w [] ≡ verdicts_for plan form w = ap (λ ls. get_or ls w []) some_of ∙ get_or-take n all w [] started ∙ owed_at plan form all w [] owes lt in
-              subst (IsPrefix (all_of (get_or lanes w e))) mine (joined.parts w [] e started settled)
+              subst (IsPrefix (contents_of (get_or lanes w e))) mine (joined.parts w [] e started settled)
           | inr not_so ↦ absurd (both_ways _ (rest w e not_so (omega (arith, lt, long))) settled)
         ]
 
-pub memory_stands : (plan : Planned) (form : Form) (cause : Cause) (lanes : List OutView) (boards : ℕ) (old : Option (List ℕ)) → cause ≡ Memory → lanes ≡ [] → boards ≡ 0 → StandsAfter plan form cause lanes boards old old
-memory_stands plan form cause lanes boards old is none zero_boards = subst (λ x. StandsAfter plan form x lanes boards old old) (sym is) (none, zero_boards, refl)
+pub memory_stands : (plan : Planned) (form : Form) (cause : Cause) (lanes : List OutView) (boards : ℕ) (old : Option (List ℕ)) → cause ≡ Memory → lanes ≡ [] → boards ≡ 0 → InterruptedOutcome plan form cause lanes boards old old
+memory_stands plan form cause lanes boards old is none zero_boards = subst (λ x. InterruptedOutcome plan form x lanes boards old old) (sym is) (none, zero_boards, refl)
 
 pub on_error : {A E : Type 0} (r : Result A E) (x : E) (P : Type 0) → r ≡ Err x → OnErr r P → P
 on_error r x P is h = subst (λ s. OnErr s P) is h
@@ -176,11 +175,3 @@ given_err (Err e) P is h = h
 pub given_ok : {A E : Type 0} (r : Result A E) (P : Type 0) → is_err r ≡ false → OnOk r P → P
 given_ok (Ok x) P is h = h
 given_ok (Err e) P is h = absurd (true≢false is)
-
-pub always : {A E : Type 0} (r : Result A E) (P : Type 0) → P → IfOk r (λ _. P)
-always (Ok x) P h = h
-always (Err e) P h = tt
-
--- the accepted deals are partitions, as every candidate is
-pub partitions : (plan : Planned) (form : Form) → All IsPartition (map (candidate plan.seed) (accepted plan form))
-partitions plan form = All-map IsPartition (candidate plan.seed) (accepted plan form) (λ k d lt. candidate_partition plan.seed (get_or (accepted plan form) k d))

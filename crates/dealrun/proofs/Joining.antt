@@ -7,7 +7,8 @@ use Rattle.lanes.specs.Views.{OutView}
 use Rattle.lanes.specs.Work.{IsProperPrefix, IsPrefix}
 use Rattle.dealrun.specs.declared.join.Outcome.{Outcome}
 use Rattle.dealrun.specs.declared.join.Outcome.TheVariants.{Done, Stopped, Unclosed}
-use Rattle.dealrun.specs.Joins.{all_of, JoinsAs, Below, PartIfSettled, WholeIfSettled, IsSettled, BeginningAt, UnsettledAt, JoinedAs, stopped_after, unclosed_after}
+use Rattle.dealrun.specs.Outcomes.{contents_of}
+use Rattle.dealrun.specs.internal.Joins.{JoinsAs, Below, PartIfSettled, WholeIfSettled, IsSettled, BeginningAt, UnsettledAt, JoinedAs, stopped_after, unclosed_after}
 
 -- the elements of drop n, one by one
 pub drop_head : {A : Type 0} (xs rest : List A) (n : ℕ) (x : A) → drop n xs ≡ x ∷ rest → (d : A) → get_or xs n d ≡ x
@@ -46,7 +47,7 @@ module _ (n : ℕ) (lists : List (List Verdict)) (lanes : List OutView) (all : L
 
   beginning_kept : (s : ℕ) → s < n → BeginningAt s lists lanes → BeginningAt s lists (set lanes n new)
   beginning_kept s lt h d e =
-      subst (λ l. (l.settled ≡ true) × IsProperPrefix (all_of l) (get_or lists s d)) (sym (get_or-set_other lanes n s new e (omega arith))) (h d e)
+      subst (λ l. (l.settled ≡ true) × IsProperPrefix (contents_of l) (get_or lists s d)) (sym (get_or-set_other lanes n s new e (omega arith))) (h d e)
 
   unsettled_kept : (s : ℕ) → s < n → UnsettledAt s lanes → UnsettledAt s (set lanes n new)
   unsettled_kept s lt h e = subst (λ l. l.settled ≡ false) (sym (get_or-set_other lanes n s new e (omega arith))) (h e)
@@ -58,7 +59,7 @@ module _ (n : ℕ) (lists : List (List Verdict)) (lanes : List OutView) (all : L
   stopped_step Stopped None joins h = (
     omega arith,
     below_kept WholeIfSettled n lists lanes new short n (omega arith) h,
-    λ d e. subst (λ l. (l.settled ≡ true) × IsProperPrefix (all_of l) (get_or lists n d)) (sym (get_or-set_same lanes n new e short)) (joins.0, subst (IsProperPrefix (all_of new)) (sym (at d)) joins.1),
+    λ d e. subst (λ l. (l.settled ≡ true) × IsProperPrefix (contents_of l) (get_or lists n d)) (sym (get_or-set_same lanes n new e short)) (joins.0, subst (IsProperPrefix (contents_of new)) (sym (at d)) joins.1),
   )
   stopped_step Unclosed None joins h = more_below WholeIfSettled n lists lanes new short h (λ d settled. cc)
   stopped_step Done (Some s) joins h = (omega arith, below_kept WholeIfSettled n lists lanes new short s (omega arith) h.1, beginning_kept s h.0 h.2)

@@ -10,7 +10,7 @@ use Rattle.std.proofs.Math.Seq.{get_or-append_seam}
 use Rattle.lanes.specs.declared.verdict.Verdict.{Verdict}
 use Rattle.lanes.specs.Verdicts.{turns}
 use Rattle.lanes.proofs.Places.{range-more, count_even, turns_less}
-use Rattle.dealrun.specs.Turns.{at_turn, in_turn, deals_in}
+use Rattle.dealrun.specs.MergedVerdicts.{at_turn, in_turn, deals_in}
 
 pub deals_in-push : (vs : List Verdict) (v : Verdict) → deals_in (vs ++ v ∷ []) ≡ cond v.accepted (deals_in vs ++ v.deal ∷ []) (deals_in vs)
 unfolding deals_in

@@ -13,7 +13,7 @@ use Rattle.cond_lang.specs.Meaning.{holds}
 use Rattle.pbn_text.specs.Games.{game, header}
 use Rattle.dealrun.specs.Plans.{Planned}
 use Rattle.dealrun.specs.Sinks.{append_known, AppendsAll, AppendsPart}
-use Rattle.dealrun.specs.Text.{BreaksOff, accepted, accepted_among, limited, text, text_of}
+use Rattle.dealrun.specs.Text.{BreaksOffText, accepted, accepted_among, limited, text, text_of}
 use Rattle.dealrun.proofs.SinkLemmas.{append_known-append}
 use Rattle.dealrun.proofs.Games.{IsWithin, accepted_among-more, accepted_among-none, accepted_among-parts, limited-all, limited-full, limited-next, text_of-append, text_of-more, text_of-none, within_more}
 
@@ -121,7 +121,7 @@ header_first plan ys =
     let e : length (text_of plan ys) ≡ length header + length later.more = ap length (later.is ∙ ap (λ l. l ++ later.more) (text_of-none plan)) ∙ length-append header later.more in
     omega arith
 
-pub breaks_header : (plan : Planned) (form : Form) (base new : Option (List ℕ)) (text : List ℕ) → text ≡ header → AppendsPart base new text → BreaksOff base new plan (accepted plan form) 0
+pub breaks_header : (plan : Planned) (form : Form) (base new : Option (List ℕ)) (text : List ℕ) → text ≡ header → AppendsPart base new text → BreaksOffText base new plan (accepted plan form) 0
 breaks_header plan form base new text is part =
     let later = text_of-append plan [] (accepted plan form) in
     let first = header_first plan (take (0 + 1) (accepted plan form)) in
@@ -142,7 +142,7 @@ take_front n xs ys e = ap (λ m. take m (xs ++ ys)) e ∙ take-append_seam xs ys
 
 pub breaks_game : (plan : Planned) (form : Form) (i boards : ℕ) (base now new : Option (List ℕ)) (deal : List Seat) → deal ≡ candidate plan.seed (plan.first + i)
     → true ≡ holds form deal → (plan.limit ≡ Some boards → ⊥) → i < plan.count → Running plan form i boards base now → AppendsPart now new (game (plan.first_board + boards) plan.heading deal)
-    → BreaksOff base new plan (accepted plan form) boards
+    → BreaksOffText base new plan (accepted plan form) boards
 breaks_game plan form i boards base now new deal is test not_full below r part =
     let xs : List ℕ = accepted_among plan.seed plan.first form i in
     let k : ℕ = plan.first + i in

@@ -8,9 +8,10 @@ use Rattle.lanes.specs.Views.{OutView}
 use Rattle.lanes.proofs.Places.{turns_less}
 use Rattle.lanes.proofs.VerdictLists.{length-verdicts}
 use Rattle.dealrun.specs.Plans.{Planned}
-use Rattle.dealrun.specs.Turns.{verdicts_for}
-use Rattle.dealrun.specs.Joins.{all_of, IsWhole}
-use Rattle.dealrun.specs.Writing.{TakenInTurn}
+use Rattle.dealrun.specs.MergedVerdicts.{verdicts_for}
+use Rattle.dealrun.specs.Outcomes.{contents_of}
+use Rattle.dealrun.specs.internal.Joins.{IsWhole}
+use Rattle.dealrun.specs.internal.Writing.{TakenInTurn}
 
 -- a lane of which fewer were taken than were sent has one left
 pub some_left : (plan : Planned) (form : Form) (lanes : List OutView) (t place : ℕ) (l : OutView) → 0 < plan.workers → TakenInTurn plan lanes t → t < plan.count → place ≡ t % plan.workers → l ≡ get_or lanes place l
@@ -27,7 +28,7 @@ some_left plan form lanes t place l some taken less place_is l_is whole =
     let got = ap (λ x. length x.taken) is ∙ taken.turns_are w l rem in
     (mine.0, omega (arith, more, all, length-append l.taken l.left, sent, got))
 
-module _ (W : ℕ) (lists : ℕ → List Verdict) (lanes : List OutView) (place : ℕ) (old new : OutView) (inside : place < length lanes) (old_is : old ≡ get_or lanes place old) (settled : new.settled ≡ old.settled) (all : all_of new ≡ all_of old) where
+module _ (W : ℕ) (lists : ℕ → List Verdict) (lanes : List OutView) (place : ℕ) (old new : OutView) (inside : place < length lanes) (old_is : old ≡ get_or lanes place old) (settled : new.settled ≡ old.settled) (all : contents_of new ≡ contents_of old) where
   pub whole_step : ((w : ℕ) (e : OutView) → w < W → IsWhole (lists w) (get_or lanes w e)) → (w : ℕ) (e : OutView) → w < W → IsWhole (lists w) (get_or (set lanes place new) w e)
   whole_step h w e lt =
       elim (cases_eq w place) [

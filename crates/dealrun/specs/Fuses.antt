@@ -2,13 +2,13 @@
 use Rattle.std.specs.Prelude.{ℕ, ◌+◌, ◌-◌, ◌^◌, ◌==◌, Bool, List, if◌then◌else◌}
 
 -- a sink over memory: what it took, and how many of its calls failed
-pub record Memory : Type 0 where
+pub record MemoryView : Type 0 where
   pub bytes : List ℕ
   pub faults : ℕ
 
 -- a sink over memory that fails on demand: `writes` calls of `write` were made
-pub record Trial : Type 0 where
-  pub memory : Memory
+pub record FuseView : Type 0 where
+  pub memory : MemoryView
   pub fails_at : ℕ
   pub most : ℕ
   pub flush_ok : Bool

@@ -3,7 +3,6 @@ pub mod Fuses
 pub mod Values
 pub mod Plans
 pub mod Text
-pub mod Turns
-pub mod Joins
-pub mod Writing
-pub mod Stands
+pub mod MergedVerdicts
+pub mod Outcomes
+pub mod internal

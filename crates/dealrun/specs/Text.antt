@@ -48,7 +48,7 @@ end_of plan form = ends_at plan.limit
     ends_at (Some most) = position_or_len (λ m. length (accepted_among plan.seed plan.first form m) == most) (range_with_len 0 plan.count)
 
 -- a text was broken off: a proper prefix of it was appended, with this many whole games
-pub record BreaksOff (old new : Option (List ℕ)) (plan : Planned) (numbers : List ℕ) (boards : ℕ) : Type 0 where
+pub record BreaksOffText (old new : Option (List ℕ)) (plan : Planned) (numbers : List ℕ) (boards : ℕ) : Type 0 where
   pub front : List ℕ
   pub rest : List ℕ
   pub is_text : front ++ rest ≡ text_of plan numbers

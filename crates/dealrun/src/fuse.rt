@@ -2,7 +2,7 @@
 
 ghost use Rattle.std.specs.Prelude.{◌≡◌, ◌-◌, ◌≤◌, ◌<◌, ◌^◌, ◌↔◌, ◌==◌, true, IfOk, IsErr, IsOk, IsTrue};
 ghost use Rattle.dealrun.specs.Fuses.{counted};
-ghost use Rattle.dealrun.specs.Sinks.{Counts, IsTaken, Writes};
+ghost use Rattle.dealrun.specs.Sinks.{CountsFault, IsTakenLength, AppendsTaken};
 
 use crate::memory_sink::MemSink;
 use crate::sink::{Sink, SinkFault};
@@ -20,9 +20,9 @@ pub struct Fuse {
 
 impl Model for Fuse {
     ghost use Rattle.std.specs.Prelude.{◌<◌};
-    ghost use Rattle.dealrun.specs.Fuses.{Trial};
+    ghost use Rattle.dealrun.specs.Fuses.{FuseView};
 
-    ghost Value = { Trial };
+    ghost Value = { FuseView };
 
     ghost view = { λ s. record { memory = s.sink; fails_at = s.fails_at; most = s.most; flush_ok = s.flush_ok; writes = s.writes } };
 
@@ -73,9 +73,9 @@ impl Sink for Fuse {
 
     fn write(&mut self, piece: &[u8]) -> Result<usize, SinkFault>
         requires { self.old.memory.faults < 2 ^ 64 - 1 }
-        ensures count { IfOk result (λ n. IsTaken n piece.now) }
-        ensures bytes { Writes (⟦<Fuse as Sink>⟧.bytes self.old) (⟦<Fuse as Sink>⟧.bytes self.new) result piece.now }
-        ensures faults { Counts self.old.memory.faults self.new.memory.faults result }
+        ensures count { IfOk result (λ n. IsTakenLength n piece.now) }
+        ensures bytes { AppendsTaken (⟦<Fuse as Sink>⟧.bytes self.old) (⟦<Fuse as Sink>⟧.bytes self.new) result piece.now }
+        ensures faults { CountsFault self.old.memory.faults self.new.memory.faults result }
         ensures writes { self.new.writes ≡ counted self.old.writes }
         ensures most { IfOk result (λ n. n ≤ self.old.most) }
         ensures fails { self.new.writes ≡ self.old.fails_at → IsErr result }
@@ -93,7 +93,7 @@ impl Sink for Fuse {
         requires { self.old.memory.faults < 2 ^ 64 - 1 }
         ensures flushed { IsOk result ↔ (self.old.flush_ok ≡ true) }
         ensures bytes { self.new.memory.bytes ≡ self.old.memory.bytes }
-        ensures faults { Counts self.old.memory.faults self.new.memory.faults result }
+        ensures faults { CountsFault self.old.memory.faults self.new.memory.faults result }
         ensures writes { self.new.writes ≡ self.old.writes }
         ensures settings { (self.new.fails_at ≡ self.old.fails_at) × (self.new.most ≡ self.old.most) × (self.new.flush_ok ≡ self.old.flush_ok) }
     {

@@ -24,7 +24,7 @@ pub(crate) struct Joined {
 }
 
 impl Joined {
-    ghost use Rattle.dealrun.specs.Joins.{stopped_after, unclosed_after};
+    ghost use Rattle.dealrun.specs.internal.Joins.{stopped_after, unclosed_after};
 
     fn none() -> Joined
         ensures { (result.stopped ≡ None) × (result.unclosed ≡ None) }
@@ -46,7 +46,7 @@ impl Joined {
     }
 }
 
-ghost use Rattle.dealrun.specs.Joins.{JoinsAs, JoinedAs};
+ghost use Rattle.dealrun.specs.internal.Joins.{JoinsAs, JoinedAs};
 
 /// Joins a worker, and settles its lane where it was closed.
 fn join_one<R: Threads>(rt: &R, handle: Started, lane: &mut LaneOut) -> Outcome

@@ -16,9 +16,9 @@ pub struct MemSink {
 }
 
 impl Model for MemSink {
-    ghost use Rattle.dealrun.specs.Fuses.{Memory};
+    ghost use Rattle.dealrun.specs.Fuses.{MemoryView};
 
-    ghost Value = { Memory };
+    ghost Value = { MemoryView };
 
     ghost view = { λ s. record { bytes = s.taken.items; faults = s.faults } };
 }
@@ -35,7 +35,7 @@ impl MemSink {
         }
     }
 
-    /// Counts a fault.
+    /// CountsFault a fault.
     pub(crate) fn note_fault(&mut self)
         requires { self.old.faults < 2 ^ 64 - 1 }
         ensures bytes { self.new.bytes ≡ self.old.bytes }

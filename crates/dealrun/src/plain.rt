@@ -3,8 +3,8 @@
 ghost use Rattle.std.specs.Prelude.{◌≡◌, ◌+◌, ◌-◌, ◌*◌, ◌≤◌, ◌<◌, ◌^◌, ◌↔◌, length, MatchResult, IsTrue, Some};
 ghost use Rattle.cards.specs.Candidates.{state_before};
 ghost use Rattle.pbn_text.specs.Games.{game as game_of};
-ghost use Rattle.dealrun.specs.Sinks.{AppendsAll, Counts, Puts};
-ghost use Rattle.dealrun.specs.Text.{BreaksOff, accepted, text};
+ghost use Rattle.dealrun.specs.Sinks.{AppendsAll, CountsFault, AppendsOrBreaksOff};
+ghost use Rattle.dealrun.specs.Text.{BreaksOffText, accepted, text};
 
 use crate::plan::Plan;
 use crate::sink::{Sink, SinkFault, put_all};
@@ -37,7 +37,7 @@ pub(crate) fn is_full(plan: &Plan, boards: u64) -> bool
     }
 }
 
-/// Writes the game of the next board, where `boards` are written.
+/// AppendsTaken the game of the next board, where `boards` are written.
 pub(crate) fn put_game<S: Sink>(
     plan: &Plan,
     printer: &mut Printer,
@@ -49,8 +49,8 @@ pub(crate) fn put_game<S: Sink>(
     requires boards { boards ≤ 2 ^ 40 }
     requires heading { printer.old.heading ≡ plan.now.heading }
     ensures heading { printer.new.heading ≡ printer.old.heading }
-    ensures bytes { Puts (S.bytes sink.old) (S.bytes sink.new) result (game_of (plan.now.first_board + boards) plan.now.heading deal.now) }
-    ensures faults { Counts (S.faults sink.old) (S.faults sink.new) result }
+    ensures bytes { AppendsOrBreaksOff (S.bytes sink.old) (S.bytes sink.new) result (game_of (plan.now.first_board + boards) plan.now.heading deal.now) }
+    ensures faults { CountsFault (S.faults sink.old) (S.faults sink.new) result }
 {
     printer.print(plan.first_board() + boards, deal);
     put_all(sink, printer.text())
@@ -65,9 +65,9 @@ pub fn run_plain<S: Sink>(plan: &Plan, cond: &Cond, sink: &mut S) -> Result<u64,
     requires { S.faults sink.old < 2 ^ 64 - 1 }
     ensures bytes { MatchResult result
         (λ _. AppendsAll (S.bytes sink.old) (S.bytes sink.new) (text plan.now cond.now))
-        (λ e. BreaksOff (S.bytes sink.old) (S.bytes sink.new) plan.now (accepted plan.now cond.now) e.boards) }
+        (λ e. BreaksOffText (S.bytes sink.old) (S.bytes sink.new) plan.now (accepted plan.now cond.now) e.boards) }
     ensures boards { MatchResult result (λ boards. boards ≡ length (accepted plan.now cond.now)) (λ _. Unit {0}) }
-    ensures faults { Counts (S.faults sink.old) (S.faults sink.new) result }
+    ensures faults { CountsFault (S.faults sink.old) (S.faults sink.new) result }
 {
     let mut boards = 0;
     if put_all(sink, &HEADER).is_err() {

@@ -1,19 +1,13 @@
 //! A run: the workers beside the writer, from the start to what stands at the end.
 
-ghost use Rattle.std.specs.Prelude.{◌≡◌, ◌≢◌, ◌-◌, ◌^◌, ◌<◌, ◌≤◌, ℕ, List, Option, [], Some, true, false, All, IfOk, IfErr, MatchResult, map, length, take, vec_len};
-ghost use Rattle.cards.specs.Candidates.{candidate};
-ghost use Rattle.cards.specs.Deals.{IsPartition};
+ghost use Rattle.std.specs.Prelude.{◌≡◌, ◌-◌, ◌^◌, ◌<◌, ◌≤◌, ℕ, List, Option, [], false, All, IfOk, IfErr, MatchResult, map, vec_len};
 ghost use Rattle.cond_lang.specs.Form.{Form};
 ghost use Rattle.lanes.specs.Jobs.{verdicts_of};
-ghost use Rattle.lanes.specs.Verdicts.{turns};
-ghost use Rattle.lanes.specs.Work.{IsPrefix};
 ghost use Rattle.dealrun.specs.declared.cause.Cause.TheVariants.{Memory};
-ghost use Rattle.dealrun.specs.Sinks.{AppendsAll};
-ghost use Rattle.dealrun.specs.Text.{text, accepted, end_of};
-ghost use Rattle.dealrun.specs.Turns.{verdicts_for};
-ghost use Rattle.dealrun.specs.Joins.{AllWhole, all_of};
-ghost use Rattle.dealrun.specs.Writing.{GoesOn};
-ghost use Rattle.dealrun.specs.Stands.{Owes, EachLane, AllSettled, LanesStand, StandsAfter, Rises, Completes};
+ghost use Rattle.dealrun.specs.Outcomes.{FaultsAfter, InterruptedOutcome, StandsComplete, TakesWhatIsOwed, WritesText};
+ghost use Rattle.dealrun.specs.internal.Ends.{Completes};
+ghost use Rattle.dealrun.specs.internal.Joins.{AllWhole, Owes};
+ghost use Rattle.dealrun.specs.internal.Writing.{WriterSoFar};
 
 use crate::cause::Cause;
 use crate::join::join_all;
@@ -43,7 +37,7 @@ pub struct RunFault {
     pub boards: u64,
 }
 
-/// Writes the games of the accepted candidates of a plan, judged by its workers in threads of their own.
+/// AppendsTaken the games of the accepted candidates of a plan, judged by its workers in threads of their own.
 ///
 /// All memory is taken first. Then one worker starts for each lane, and the caller's thread writes beside them. On Ok
 /// every lane is settled, and the bytes are those of one candidate after another, whatever the number of workers and
@@ -61,17 +55,21 @@ pub fn run<
     gate: Arc<G, Global>,
 ) -> Result<Report, RunFault>
     requires { S.faults sink.old < 2 ^ 64 - 1 }
-    ensures lanes { IfOk result (λ r. length r.lanes.items ≡ plan.now.workers) }
-    ensures taken { IfOk result (λ r. EachLane plan.now r.lanes.items (λ w l. l.taken ≡ take (turns plan.now.workers w (end_of plan.now cond)) (verdicts_for plan.now cond w))) }
-    ensures settled { IfOk result (λ r. AllSettled plan.now r.lanes.items) }
-    ensures sent { IfOk result (λ r. EachLane plan.now r.lanes.items (λ w l. IsPrefix (all_of l) (verdicts_for plan.now cond w))) }
-    ensures nothing_left { IfOk result (λ r. plan.now.limit ≢ Some r.boards → EachLane plan.now r.lanes.items (λ w l. (l.taken ≡ verdicts_for plan.now cond w) × (l.left ≡ []))) }
-    ensures bytes { IfOk result (λ _. AppendsAll (S.bytes sink.old) (S.bytes sink.new) (text plan.now cond)) }
-    ensures boards { IfOk result (λ r. r.boards ≡ length (accepted plan.now cond)) }
-    ensures partitions { IfOk result (λ _. All IsPartition (map (candidate plan.now.seed) (accepted plan.now cond))) }
-    ensures in_turn { IfOk result (λ r. LanesStand plan.now cond r.lanes.items) }
-    ensures stands { IfErr result (λ e. StandsAfter plan.now cond e.cause e.lanes.items e.boards (S.bytes sink.old) (S.bytes sink.new)) }
-    ensures faults { MatchResult result (λ _. S.faults sink.new ≡ S.faults sink.old) (λ e. Rises e.cause (S.faults sink.old) (S.faults sink.new)) }
+    // What was taken from each lane is its worker's verdicts, and all that is needed.
+    ensures lanes { IfOk result (λ r. TakesWhatIsOwed plan.now cond r.lanes.items r.boards) }
+    // The bytes are the games of the accepted deals, within the limit, in order.
+    ensures text {
+        IfOk result (λ r. WritesText plan.now cond r.boards (S.bytes sink.old) (S.bytes sink.new))
+    }
+    // However the run ends: the lanes as they are, and the bytes of what was taken from them.
+    ensures stands { MatchResult result
+        (λ r. StandsComplete plan.now cond r.lanes.items r.boards (S.bytes sink.old) (S.bytes sink.new))
+        (λ e. InterruptedOutcome plan.now cond e.cause e.lanes.items e.boards
+            (S.bytes sink.old) (S.bytes sink.new)) }
+    // The sink failed, once, if and only if the cause is Output.
+    ensures faults { MatchResult result
+        (λ _. S.faults sink.new ≡ S.faults sink.old)
+        (λ e. FaultsAfter e.cause (S.faults sink.old) (S.faults sink.new)) }
 {
     let Ok(stop) = Arc::new(alloc, AtomicBool::new(false)) else {
         return Err(out_of_memory(alloc));
@@ -105,7 +103,7 @@ fn out_of_memory(alloc: Global) -> RunFault
     }
 }
 
-/// Writes beside the workers, joins them, and says how the run ended.
+/// AppendsTaken beside the workers, joins them, and says how the run ended.
 fn oversee<R: Threads + Wait, S: Sink>(
     rt: &R,
     plan: &Plan,
@@ -121,8 +119,8 @@ fn oversee<R: Threads + Wait, S: Sink>(
     requires rings { map (λ h. h.promise.lane.value.ring) handles.items ≡ map (λ l. l.ring) lanes.items }
     requires idle { All (λ l. (l.taken ≡ []) × (l.settled ≡ false)) lanes.items }
     ensures completes { IfOk result (λ r. (form : Form) → Owes plan.now form (map (λ h. verdicts_of h.promise.job.value) handles.items) → Completes plan.now form r.lanes.items r.boards (S.bytes sink.old) (S.bytes sink.new)) }
-    ensures stands { IfErr result (λ e. (form : Form) → Owes plan.now form (map (λ h. verdicts_of h.promise.job.value) handles.items) → StandsAfter plan.now form e.cause e.lanes.items e.boards (S.bytes sink.old) (S.bytes sink.new)) }
-    ensures faults { MatchResult result (λ _. S.faults sink.new ≡ S.faults sink.old) (λ e. Rises e.cause (S.faults sink.old) (S.faults sink.new)) }
+    ensures stands { IfErr result (λ e. (form : Form) → Owes plan.now form (map (λ h. verdicts_of h.promise.job.value) handles.items) → InterruptedOutcome plan.now form e.cause e.lanes.items e.boards (S.bytes sink.old) (S.bytes sink.new)) }
+    ensures faults { MatchResult result (λ _. S.faults sink.new ≡ S.faults sink.old) (λ e. FaultsAfter e.cause (S.faults sink.old) (S.faults sink.new)) }
 {
     let mut lanes = lanes;
     let mut progress = Progress::new(plan);
@@ -179,10 +177,10 @@ fn finish<S: Sink>(
     requires counts { (vec_len lanes ≡ plan.now.workers) × (progress.turns.workers ≡ plan.now.workers) × (progress.taken ≤ plan.now.count) }
     requires some { 0 < plan.now.workers }
     requires whole { (form : Form) × AllWhole plan.now form lanes.items }
-    requires begun { (base : Option (List ℕ)) × GoesOn plan.now lanes.items progress.taken progress.boards base (S.bytes sink.old) }
-    ensures completes { IfOk result (λ r. (form : Form) (base : Option (List ℕ)) → AllWhole plan.now form lanes.items → GoesOn plan.now lanes.items progress.taken progress.boards base (S.bytes sink.old) → Completes plan.now form r.lanes.items r.boards base (S.bytes sink.new)) }
-    ensures stands { IfErr result (λ e. (form : Form) (base : Option (List ℕ)) → AllWhole plan.now form lanes.items → GoesOn plan.now lanes.items progress.taken progress.boards base (S.bytes sink.old) → StandsAfter plan.now form e.cause e.lanes.items e.boards base (S.bytes sink.new)) }
-    ensures faults { MatchResult result (λ _. S.faults sink.new ≡ S.faults sink.old) (λ e. Rises e.cause (S.faults sink.old) (S.faults sink.new)) }
+    requires begun { (base : Option (List ℕ)) × WriterSoFar plan.now lanes.items progress.taken progress.boards base (S.bytes sink.old) }
+    ensures completes { IfOk result (λ r. (form : Form) (base : Option (List ℕ)) → AllWhole plan.now form lanes.items → WriterSoFar plan.now lanes.items progress.taken progress.boards base (S.bytes sink.old) → Completes plan.now form r.lanes.items r.boards base (S.bytes sink.new)) }
+    ensures stands { IfErr result (λ e. (form : Form) (base : Option (List ℕ)) → AllWhole plan.now form lanes.items → WriterSoFar plan.now lanes.items progress.taken progress.boards base (S.bytes sink.old) → InterruptedOutcome plan.now form e.cause e.lanes.items e.boards base (S.bytes sink.new)) }
+    ensures faults { MatchResult result (λ _. S.faults sink.new ≡ S.faults sink.old) (λ e. FaultsAfter e.cause (S.faults sink.old) (S.faults sink.new)) }
 {
     let mut lanes = lanes;
     let mut progress = progress;

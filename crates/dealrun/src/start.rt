@@ -4,7 +4,7 @@ ghost use Rattle.std.specs.Prelude.{◌≡◌, ◌+◌, ◌<◌, ◌≤◌, ℕ,
 ghost use Rattle.std.specs.List.{range_with_len};
 ghost use Rattle.lanes.specs.Jobs.{verdicts_of};
 ghost use Rattle.lanes.specs.Work.{Ends};
-ghost use Rattle.dealrun.specs.Turns.{verdicts_for};
+ghost use Rattle.dealrun.specs.MergedVerdicts.{verdicts_for};
 
 use crate::plan::Plan;
 use cond_lang::Cond;
@@ -133,6 +133,7 @@ pub(crate) fn start_all<
     requires empty { handles.old.items ≡ [] }
     requires room { vec_len assignments ≤ vec_capacity handles.old }
     ensures all { result ≡ true → vec_len handles.new ≡ vec_len assignments }
+    ensures not_all { result ≡ false → vec_len handles.new < vec_len assignments }
     ensures len { vec_len handles.new ≤ vec_len assignments }
     ensures jobs { map (λ h. verdicts_of h.promise.job.value) handles.new.items ≡ take (vec_len handles.new) (map (λ a. verdicts_of a.job) assignments.items) }
     ensures rings { map (λ h. h.promise.lane.value.ring) handles.new.items ≡ take (vec_len handles.new) (map (λ a. a.lane.ring) assignments.items) }

@@ -2,9 +2,9 @@
 
 ghost use Rattle.std.specs.Prelude.{◌≡◌, ◌-◌, ◌+◌, ◌<◌, ◌≤◌, ◌^◌, ◌↔◌, ◌++◌, [], ◌∷◌, ℕ, List, Option, cond, map, vec_len, OnOk, OnErr, MatchResult, IfSome, IfNone, IsTrue, slice_index_or, true, false, Some, ◌⊎◌};
 ghost use Rattle.lanes.specs.declared.verdict.Verdict.{Verdict};
-ghost use Rattle.dealrun.specs.Sinks.{append_known, AppendsPart, Counts};
-ghost use Rattle.dealrun.specs.Writing.{game_after, GoesOn, GivesUp};
-ghost use Rattle.dealrun.specs.Joins.{AllWhole};
+ghost use Rattle.dealrun.specs.Sinks.{append_known, AppendsPart, CountsFault};
+ghost use Rattle.dealrun.specs.internal.Writing.{game_after, WriterSoFar, WriterBrokeOff};
+ghost use Rattle.dealrun.specs.internal.Joins.{AllWhole};
 ghost use Rattle.cond_lang.specs.Form.{Form};
 
 use crate::plain::{is_full, put_game};
@@ -52,7 +52,7 @@ impl Progress {
         is_full(plan, self.boards)
     }
 
-    /// Counts a verdict that was taken, and writes its game where it is accepted.
+    /// CountsFault a verdict that was taken, and writes its game where it is accepted.
     fn write<S: Sink>(
         &mut self,
         plan: &Plan,
@@ -64,7 +64,7 @@ impl Progress {
         requires heading { self.old.printer.heading ≡ plan.now.heading }
         ensures heading { self.new.printer.heading ≡ self.old.printer.heading }
         ensures taken { (self.new.taken ≡ self.old.taken + 1) × (self.new.turns.workers ≡ self.old.turns.workers) }
-        ensures faults { Counts (S.faults sink.old) (S.faults sink.new) result }
+        ensures faults { CountsFault (S.faults sink.old) (S.faults sink.new) result }
         ensures boards { OnOk result (self.new.boards ≡ cond verdict.now.accepted (self.old.boards + 1) self.old.boards) }
         ensures bytes { OnOk result (S.bytes sink.new ≡ append_known (S.bytes sink.old) (cond verdict.now.accepted (game_after plan.now self.old.boards verdict.now) [])) }
         ensures broken { OnErr result ((verdict.now.accepted ≡ true) × (self.new.boards ≡ self.old.boards) × AppendsPart (S.bytes sink.old) (S.bytes sink.new) (game_after plan.now self.old.boards verdict.now)) }
@@ -123,9 +123,9 @@ fn write_beside<R: Wait, S: Sink>(
     ensures same { (map (λ l. l.ring) lanes.new.items ≡ map (λ l. l.ring) lanes.old.items) × (map (λ l. l.settled) lanes.new.items ≡ map (λ l. l.settled) lanes.old.items) }
     ensures heading { progress.new.printer.heading ≡ progress.old.printer.heading }
     ensures counts { (vec_len lanes.new ≡ vec_len lanes.old) × (progress.new.turns.workers ≡ plan.now.workers) × (progress.new.taken ≤ plan.now.count) }
-    ensures faults { Counts (S.faults sink.old) (S.faults sink.new) result }
-    ensures broken { OnErr result ((base : Option (List ℕ)) → GoesOn plan.now lanes.old.items progress.old.taken progress.old.boards base (S.bytes sink.old) → GivesUp plan.now lanes.new.items progress.new.taken progress.new.boards base (S.bytes sink.new)) }
-    ensures written { OnOk result ((base : Option (List ℕ)) → GoesOn plan.now lanes.old.items progress.old.taken progress.old.boards base (S.bytes sink.old) → GoesOn plan.now lanes.new.items progress.new.taken progress.new.boards base (S.bytes sink.new)) }
+    ensures faults { CountsFault (S.faults sink.old) (S.faults sink.new) result }
+    ensures broken { OnErr result ((base : Option (List ℕ)) → WriterSoFar plan.now lanes.old.items progress.old.taken progress.old.boards base (S.bytes sink.old) → WriterBrokeOff plan.now lanes.new.items progress.new.taken progress.new.boards base (S.bytes sink.new)) }
+    ensures written { OnOk result ((base : Option (List ℕ)) → WriterSoFar plan.now lanes.old.items progress.old.taken progress.old.boards base (S.bytes sink.old) → WriterSoFar plan.now lanes.new.items progress.new.taken progress.new.boards base (S.bytes sink.new)) }
 {
     for _taken in progress.taken..plan.count() {
         if progress.is_full(plan) {
@@ -141,7 +141,7 @@ fn write_beside<R: Wait, S: Sink>(
     Ok(())
 }
 
-/// Writes the header, and then the games as `write_beside` does.
+/// AppendsTaken the header, and then the games as `write_beside` does.
 pub(crate) fn write_all<R: Wait, S: Sink>(
     rt: &R,
     plan: &Plan,
@@ -157,9 +157,9 @@ pub(crate) fn write_all<R: Wait, S: Sink>(
     ensures same { (map (λ l. l.ring) lanes.new.items ≡ map (λ l. l.ring) lanes.old.items) × (map (λ l. l.settled) lanes.new.items ≡ map (λ l. l.settled) lanes.old.items) }
     ensures heading { progress.new.printer.heading ≡ progress.old.printer.heading }
     ensures counts { (vec_len lanes.new ≡ vec_len lanes.old) × (progress.new.turns.workers ≡ plan.now.workers) × (progress.new.taken ≤ plan.now.count) }
-    ensures faults { Counts (S.faults sink.old) (S.faults sink.new) result }
-    ensures broken { OnErr result (GivesUp plan.now lanes.new.items progress.new.taken progress.new.boards (S.bytes sink.old) (S.bytes sink.new)) }
-    ensures written { OnOk result (GoesOn plan.now lanes.new.items progress.new.taken progress.new.boards (S.bytes sink.old) (S.bytes sink.new)) }
+    ensures faults { CountsFault (S.faults sink.old) (S.faults sink.new) result }
+    ensures broken { OnErr result (WriterBrokeOff plan.now lanes.new.items progress.new.taken progress.new.boards (S.bytes sink.old) (S.bytes sink.new)) }
+    ensures written { OnOk result (WriterSoFar plan.now lanes.new.items progress.new.taken progress.new.boards (S.bytes sink.old) (S.bytes sink.new)) }
 {
     put_all(sink, &HEADER)?;
     write_beside(rt, plan, lanes, sink, progress, stop)?;
@@ -177,14 +177,14 @@ pub(crate) fn write_rest<S: Sink>(
     requires heading { progress.old.printer.heading ≡ plan.now.heading }
     requires counts { (vec_len lanes.old ≡ plan.now.workers) × (progress.old.turns.workers ≡ plan.now.workers) × (progress.old.taken ≤ plan.now.count) }
     requires whole { (form : Form) × AllWhole plan.now form lanes.old.items }
-    requires begun { (base : Option (List ℕ)) × GoesOn plan.now lanes.old.items progress.old.taken progress.old.boards base (S.bytes sink.old) }
+    requires begun { (base : Option (List ℕ)) × WriterSoFar plan.now lanes.old.items progress.old.taken progress.old.boards base (S.bytes sink.old) }
     ensures len { vec_len lanes.new ≡ vec_len lanes.old }
     ensures whole { (form : Form) → AllWhole plan.now form lanes.old.items → AllWhole plan.now form lanes.new.items }
     ensures heading { progress.new.printer.heading ≡ progress.old.printer.heading }
     ensures counts { progress.new.taken ≤ plan.now.count }
-    ensures faults { Counts (S.faults sink.old) (S.faults sink.new) result }
-    ensures broken { OnErr result ((base : Option (List ℕ)) → GoesOn plan.now lanes.old.items progress.old.taken progress.old.boards base (S.bytes sink.old) → GivesUp plan.now lanes.new.items progress.new.taken progress.new.boards base (S.bytes sink.new)) }
-    ensures written { OnOk result ((base : Option (List ℕ)) → GoesOn plan.now lanes.old.items progress.old.taken progress.old.boards base (S.bytes sink.old) → GoesOn plan.now lanes.new.items progress.new.taken progress.new.boards base (S.bytes sink.new)) }
+    ensures faults { CountsFault (S.faults sink.old) (S.faults sink.new) result }
+    ensures broken { OnErr result ((base : Option (List ℕ)) → WriterSoFar plan.now lanes.old.items progress.old.taken progress.old.boards base (S.bytes sink.old) → WriterBrokeOff plan.now lanes.new.items progress.new.taken progress.new.boards base (S.bytes sink.new)) }
+    ensures written { OnOk result ((base : Option (List ℕ)) → WriterSoFar plan.now lanes.old.items progress.old.taken progress.old.boards base (S.bytes sink.old) → WriterSoFar plan.now lanes.new.items progress.new.taken progress.new.boards base (S.bytes sink.new)) }
     ensures end { OnOk result ((progress.new.taken ≡ plan.now.count) ⊎ (plan.now.limit ≡ Some progress.new.boards)) }
 {
     for _taken in progress.taken..plan.count() {

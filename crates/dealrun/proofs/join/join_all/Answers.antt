@@ -6,7 +6,7 @@ use Rattle.lanes.specs.declared.verdict.Verdict.{Verdict}
 use Rattle.lanes.specs.declared.worker.WorkEnd.{WorkEnd}
 use Rattle.std.specs.declared.thread.PromisedHandle.{PromisedHandle}
 use Rattle.dealrun.specs.declared.start.EndsAsAssigned.{EndsAsAssigned}
-use Rattle.dealrun.specs.Joins.{JoinedAs}
+use Rattle.dealrun.specs.internal.Joins.{JoinedAs}
 use Rattle.dealrun.proofs.Joining.{drop_head, drop_rest, drop_short, join_step_to}
 use Rattle.dealrun.proofs.join.join_all.Goals as goal
 

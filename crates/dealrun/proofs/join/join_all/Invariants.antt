@@ -1,7 +1,7 @@
 use Rattle.std.proofs.Common.{◌≡◌, ◌+◌, ◌≤◌, ◌<◌, ℕ, map, drop, vec_len, slice_index_or, false}
 use Rattle.std.specs.Vec.Iter.{into_iter_items, into_iter_len}
 use Rattle.lanes.specs.Jobs.{verdicts_of}
-use Rattle.dealrun.specs.Joins.{JoinedAs}
+use Rattle.dealrun.specs.internal.Joins.{JoinedAs}
 use Rattle.dealrun.proofs.join.join_all.Given as goal
 
 abbrev pub invariant-loop-handle : goal.invariant-loop-handle

@@ -1,4 +1,5 @@
 use Rattle.std.proofs.Common.{◌≡◌, ◌<◌, ◌∙◌, List, Some, inr, ap, sym, arith, map, length, vec_len}
+use Rattle.std.proofs.lemmas.Bool.{iff_false}
 use Rattle.std.proofs.lemmas.List.{length-map}
 use Rattle.std.specs.declared.thread.PromisedHandle.{PromisedHandle}
 use Rattle.lanes.specs.Views.{OutView}
@@ -6,8 +7,8 @@ use Rattle.lanes.specs.Jobs.{verdicts_of}
 use Rattle.lanes.specs.declared.verdict.Verdict.{Verdict}
 use Rattle.lanes.specs.declared.worker.WorkEnd.{WorkEnd}
 use Rattle.dealrun.specs.declared.start.EndsAsAssigned.{EndsAsAssigned}
-use Rattle.dealrun.proofs.Endings.{complete}
-use Rattle.dealrun.proofs.Finals.{same_at, goes_on_still, gives_up_still, joined_parts, joined_settled, joined_whole, all_whole, least_stopped, least_unclosed, stands_written, stands_broken, given_err, given_ok, if_ok, if_err}
+use Rattle.dealrun.proofs.Endings.{complete, stand_complete}
+use Rattle.dealrun.proofs.Finals.{same_at, goes_on_still, gives_up_still, joined_parts, joined_settled, joined_whole, all_whole, least_stopped, least_unclosed, stands_broken, given_err, given_ok, if_ok, if_err}
 use Rattle.dealrun.proofs.runs.oversee.Goals as goal
 
 -- what the workers with these handles owe
@@ -41,9 +42,9 @@ returns-in-Some-clause-stands g c form owes =
     let wrote = given_ok c.write_all-written.result _ (sym c.is_err-2.ensures.value ∙ c.if-is_err-2.false) c.write_all-written.ensures.written in
     let full : p.limit ≡ Some w.progress.boards = c.is_full-is_full.ensures.0 c.if-is_full-2.true in
     let parts = joined_parts p form (vec_len c.args.handles) (owed c.args.handles.items) lanes _ _ c.requires.counts.0 owes c.join_all-joined.ensures.joined in
-    let stands = stands_written p form lanes w.progress.taken w.progress.boards base (g.S.Sink.bytes w.sink) c.requires.some c.write_all-written.ensures.counts.2 parts
-    (goes_on_still p w.lanes.items lanes w.progress.taken w.progress.boards base (g.S.Sink.bytes w.sink) c.join_all-joined.ensures.taken wrote) in
-    (stands.0, stands.1, least_unclosed p form (vec_len c.args.handles) (owed c.args.handles.items) lanes _ _ c.requires.counts.0 owes c.join_all-joined.ensures.joined c.in-Some.worker w.progress.boards c.in-Some.is (λ less. absurd (less full)))
+    let now = goes_on_still p w.lanes.items lanes w.progress.taken w.progress.boards base (g.S.Sink.bytes w.sink) c.join_all-joined.ensures.taken wrote in
+    let stands = stand_complete p form lanes w.progress.taken w.progress.boards base (g.S.Sink.bytes w.sink) c.requires.some c.write_all-written.ensures.counts.2 now parts in
+    (stands, least_unclosed p form (vec_len c.args.handles) (owed c.args.handles.items) lanes _ _ c.requires.counts.0 owes c.join_all-joined.ensures.joined c.in-Some.worker w.progress.boards c.in-Some.is now.in_turn.long (λ less. absurd (less full)))
 
 pub returns-in-None-clause-completes : goal.returns-in-None-clause-completes
 returns-in-None-clause-completes g c form owes =
@@ -78,9 +79,9 @@ returns-in-Some-default-clause-stands g c form owes =
     let base = g.S.Sink.bytes c.args.sink.now in
     let wrote = given_ok c.write_all-written.result _ (sym c.is_err-2.ensures.value ∙ c.if-is_err-2.false) c.write_all-written.ensures.written in
     let parts = joined_parts p form (vec_len c.args.handles) (owed c.args.handles.items) lanes _ _ c.requires.counts.0 owes c.join_all-joined.ensures.joined in
-    let stands = stands_written p form lanes w.progress.taken w.progress.boards base (g.S.Sink.bytes w.sink) c.requires.some c.write_all-written.ensures.counts.2 parts
-    (goes_on_still p w.lanes.items lanes w.progress.taken w.progress.boards base (g.S.Sink.bytes w.sink) c.join_all-joined.ensures.taken wrote) in
-    (stands.0, stands.1, least_stopped p form (vec_len c.args.handles) (owed c.args.handles.items) lanes _ _ c.requires.counts.0 owes c.join_all-joined.ensures.joined c.in-Some-default.worker c.in-Some-default.is-0)
+    let now = goes_on_still p w.lanes.items lanes w.progress.taken w.progress.boards base (g.S.Sink.bytes w.sink) c.join_all-joined.ensures.taken wrote in
+    let stands = stand_complete p form lanes w.progress.taken w.progress.boards base (g.S.Sink.bytes w.sink) c.requires.some c.write_all-written.ensures.counts.2 now parts in
+    (stands, iff_false c.is_full-is_full.ensures c.if-is_full-2.false, least_stopped p form (vec_len c.args.handles) (owed c.args.handles.items) lanes _ _ c.requires.counts.0 owes c.join_all-joined.ensures.joined c.in-Some-default.worker c.in-Some-default.is-0 now.in_turn.long)
 
 pub returns-in-None-Some-clause-stands : goal.returns-in-None-Some-clause-stands
 returns-in-None-Some-clause-stands g c form owes =
@@ -91,9 +92,9 @@ returns-in-None-Some-clause-stands g c form owes =
     let wrote = given_ok c.write_all-written.result _ (sym c.is_err-2.ensures.value ∙ c.if-is_err-2.false) c.write_all-written.ensures.written in
     let parts = joined_parts p form (vec_len c.args.handles) (owed c.args.handles.items) lanes _ _ c.requires.counts.0 owes c.join_all-joined.ensures.joined in
     let whole = joined_whole p form (vec_len c.args.handles) (owed c.args.handles.items) lanes _ _ c.requires.counts.0 owes c.join_all-joined.ensures.joined c.in-None-Some.is-0 in
-    let stands = stands_written p form lanes w.progress.taken w.progress.boards base (g.S.Sink.bytes w.sink) c.requires.some c.write_all-written.ensures.counts.2 parts
-    (goes_on_still p w.lanes.items lanes w.progress.taken w.progress.boards base (g.S.Sink.bytes w.sink) c.join_all-joined.ensures.taken wrote) in
-    (stands.0, stands.1, least_unclosed p form (vec_len c.args.handles) (owed c.args.handles.items) lanes _ _ c.requires.counts.0 owes c.join_all-joined.ensures.joined c.in-None-Some.worker w.progress.boards c.in-None-Some.is-1 (λ less. whole))
+    let now = goes_on_still p w.lanes.items lanes w.progress.taken w.progress.boards base (g.S.Sink.bytes w.sink) c.join_all-joined.ensures.taken wrote in
+    let stands = stand_complete p form lanes w.progress.taken w.progress.boards base (g.S.Sink.bytes w.sink) c.requires.some c.write_all-written.ensures.counts.2 now parts in
+    (stands, least_unclosed p form (vec_len c.args.handles) (owed c.args.handles.items) lanes _ _ c.requires.counts.0 owes c.join_all-joined.ensures.joined c.in-None-Some.worker w.progress.boards c.in-None-Some.is-1 now.in_turn.long (λ less. whole))
 
 pub returns-in-None-None-clause-completes : goal.returns-in-None-None-clause-completes
 returns-in-None-None-clause-completes g c =

@@ -1,6 +1,6 @@
-use Rattle.std.proofs.Common.{◌≡◌, ◌≤◌, arith, length, vec_len, map}
+use Rattle.std.proofs.Common.{◌≡◌, ◌<◌, arith, length, vec_len, map}
 use Rattle.lanes.specs.Jobs.{verdicts_of}
-use Rattle.dealrun.proofs.Finals.{always, partitions, not_started}
+use Rattle.dealrun.proofs.Finals.{not_started}
 use Rattle.dealrun.proofs.runs.run.Goals as goal
 
 pub returns-then-not-start_all-clause-stands : goal.returns-then-not-start_all-clause-stands
@@ -9,10 +9,7 @@ returns-then-not-start_all-clause-stands g c =
     let lanes = c.join_all.new.lanes in
     let handles = c.start_all.new.handles in
     let len : length lanes.items ≡ p.workers = omega (arith, lanes.ok.0, c.join_all.ensures.len, c.in-Ok-assign_all.ensures.len.1) in
-    let few : vec_len handles ≤ p.workers = omega (arith, c.start_all.ensures.len, c.in-Ok-assign_all.ensures.len.0) in
+    let few : vec_len handles < p.workers = omega (arith, c.start_all.ensures.not_all c.if-not-start_all.true, c.in-Ok-assign_all.ensures.len.0) in
     not_started p c.args.cond (vec_len handles) (map (λ h. verdicts_of h.promise.job.value) handles.items) (map (λ a. verdicts_of a.job) c.in-Ok-assign_all.assignments.items) c.in-Ok-assign_all.lanes.items lanes.items _ _ _
     c.in-Ok-assign_all.ensures.few.0 len few c.in-Ok-assign_all.ensures.jobs c.start_all.ensures.jobs c.join_all.ensures.joined
     (λ k e above below. c.join_all.ensures.rest k e above (omega (arith, below, lanes.ok.0))) c.join_all.ensures.taken c.in-Ok-assign_all.ensures.idle
-
-pub returns-clause-partitions : goal.returns-clause-partitions
-returns-clause-partitions g c = always c.oversee.result _ (partitions c.args.plan.now c.args.cond)

@@ -1,5 +1,5 @@
 use Rattle.std.proofs.Common.{◌≡◌, ℕ, List, Option, map, vec_len}
-use Rattle.dealrun.specs.Writing.{GoesOn}
+use Rattle.dealrun.specs.internal.Writing.{WriterSoFar}
 use Rattle.dealrun.proofs.writer.write_beside.Given as goal
 
 abbrev pub invariant-loop-taken : goal.invariant-loop-taken
@@ -11,5 +11,5 @@ invariant-loop-taken g l = record {
   len : vec_len l.lanes ≡ vec_len l.initial.lanes;
   rings : map (λ v. v.ring) l.lanes.items ≡ map (λ v. v.ring) l.initial.lanes.items;
   settled : map (λ v. v.settled) l.lanes.items ≡ map (λ v. v.settled) l.initial.lanes.items;
-  written : (base : Option (List ℕ)) → GoesOn l.plan l.initial.lanes.items l.initial.progress.taken l.initial.progress.boards base (g.S.Sink.bytes l.initial.sink) → GoesOn l.plan l.lanes.items l.progress.taken l.progress.boards base (g.S.Sink.bytes l.sink);
+  written : (base : Option (List ℕ)) → WriterSoFar l.plan l.initial.lanes.items l.initial.progress.taken l.initial.progress.boards base (g.S.Sink.bytes l.initial.sink) → WriterSoFar l.plan l.lanes.items l.progress.taken l.progress.boards base (g.S.Sink.bytes l.sink);
 }

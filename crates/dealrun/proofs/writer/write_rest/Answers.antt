@@ -1,6 +1,6 @@
 use Rattle.std.proofs.Common.{◌≡◌, ◌≢◌, ◌<◌, ◌+◌, ◌%◌, ◌∙◌, Some, ap, arith, length}
 use Rattle.std.proofs.lemmas.Bool.{iff_false}
-use Rattle.dealrun.specs.Turns.{verdicts_for}
+use Rattle.dealrun.specs.MergedVerdicts.{verdicts_for}
 use Rattle.dealrun.proofs.Maps.{on_err}
 use Rattle.dealrun.proofs.Advance.{on_to, broken_to}
 use Rattle.dealrun.proofs.Wholes.{some_left, whole_step, moved}

@@ -1,7 +1,7 @@
 use Rattle.std.proofs.Common.{◌≡◌, ℕ, List, Option, vec_len}
 use Rattle.cond_lang.specs.Form.{Form}
-use Rattle.dealrun.specs.Joins.{AllWhole}
-use Rattle.dealrun.specs.Writing.{GoesOn}
+use Rattle.dealrun.specs.internal.Joins.{AllWhole}
+use Rattle.dealrun.specs.internal.Writing.{WriterSoFar}
 use Rattle.dealrun.proofs.writer.write_rest.Given as goal
 
 abbrev pub invariant-loop-taken : goal.invariant-loop-taken
@@ -12,5 +12,5 @@ invariant-loop-taken g l = record {
   workers : l.progress.turns.workers ≡ l.plan.workers;
   len : vec_len l.lanes ≡ vec_len l.initial.lanes;
   whole : (form : Form) → AllWhole l.plan form l.initial.lanes.items → AllWhole l.plan form l.lanes.items;
-  written : (base : Option (List ℕ)) → GoesOn l.plan l.initial.lanes.items l.initial.progress.taken l.initial.progress.boards base (g.S.Sink.bytes l.initial.sink) → GoesOn l.plan l.lanes.items l.progress.taken l.progress.boards base (g.S.Sink.bytes l.sink);
+  written : (base : Option (List ℕ)) → WriterSoFar l.plan l.initial.lanes.items l.initial.progress.taken l.initial.progress.boards base (g.S.Sink.bytes l.initial.sink) → WriterSoFar l.plan l.lanes.items l.progress.taken l.progress.boards base (g.S.Sink.bytes l.sink);
 }

@@ -1,22 +1,21 @@
--- What is known of the lanes once their workers were joined.
-use Rattle.std.specs.Prelude.{◌≡◌, ◌<◌, ℕ, true, false, List, ◌++◌, slice_index_or, Option, Some, None, MatchOption}
+-- What is known of the lanes once their workers were joined, lane by lane: item k of a list is said of with any default,
+-- as `slice_index_or lanes k e`, where k is within the list.
+use Rattle.std.specs.Prelude.{◌≡◌, ◌<◌, ℕ, true, false, List, map, slice_index_or, Option, Some, None, MatchOption}
+use Rattle.std.specs.List.{range_with_len}
 use Rattle.lanes.specs.declared.verdict.Verdict.{Verdict}
 use Rattle.lanes.specs.Views.{OutView}
 use Rattle.lanes.specs.Work.{IsPrefix, IsProperPrefix}
 use Rattle.cond_lang.specs.Form.{Form}
 use Rattle.dealrun.specs.Plans.{Planned}
-use Rattle.dealrun.specs.Turns.{verdicts_for}
+use Rattle.dealrun.specs.MergedVerdicts.{verdicts_for}
+use Rattle.dealrun.specs.Outcomes.{contents_of}
 use Rattle.dealrun.specs.declared.join.Outcome.{Outcome}
 use Rattle.dealrun.specs.declared.join.Outcome.TheVariants.{Done, Stopped, Unclosed}
 
--- what was taken from a lane, followed by what is left in it
-abbrev pub all_of : OutView → List Verdict
-all_of l = l.taken ++ l.left
-
 -- the lane of a worker that owed the verdicts `all`, before and after the worker was joined
 abbrev pub JoinsAs : List Verdict → OutView → OutView → Outcome → Type 0
-JoinsAs all old new Done = (new.settled ≡ true) × (all_of new ≡ all)
-JoinsAs all old new Stopped = (new.settled ≡ true) × IsProperPrefix (all_of new) all
+JoinsAs all old new Done = (new.settled ≡ true) × (contents_of new ≡ all)
+JoinsAs all old new Stopped = (new.settled ≡ true) × IsProperPrefix (contents_of new) all
 JoinsAs all old new Unclosed = new ≡ old
 
 -- P holds of each of the first n lanes and its worker's verdicts
@@ -24,17 +23,17 @@ abbrev pub Below : (List Verdict → OutView → Type 0) → ℕ → List (List 
 Below P n lists lanes = (k : ℕ) (d : List Verdict) (e : OutView) → k < n → P (slice_index_or lists k d) (slice_index_or lanes k e)
 
 abbrev pub PartIfSettled : List Verdict → OutView → Type 0
-PartIfSettled all l = l.settled ≡ true → IsPrefix (all_of l) all
+PartIfSettled all l = l.settled ≡ true → IsPrefix (contents_of l) all
 
 abbrev pub WholeIfSettled : List Verdict → OutView → Type 0
-WholeIfSettled all l = l.settled ≡ true → all_of l ≡ all
+WholeIfSettled all l = l.settled ≡ true → contents_of l ≡ all
 
 abbrev pub IsSettled : List Verdict → OutView → Type 0
 IsSettled all l = l.settled ≡ true
 
 -- lane k is settled, and holds less than its worker owed
 abbrev pub BeginningAt : ℕ → List (List Verdict) → List OutView → Type 0
-BeginningAt k lists lanes = (d : List Verdict) (e : OutView) → ((slice_index_or lanes k e).settled ≡ true) × IsProperPrefix (all_of (slice_index_or lanes k e)) (slice_index_or lists k d)
+BeginningAt k lists lanes = (d : List Verdict) (e : OutView) → ((slice_index_or lanes k e).settled ≡ true) × IsProperPrefix (contents_of (slice_index_or lanes k e)) (slice_index_or lists k d)
 
 abbrev pub UnsettledAt : ℕ → List OutView → Type 0
 UnsettledAt k lanes = (e : OutView) → (slice_index_or lanes k e).settled ≡ false
@@ -61,8 +60,16 @@ unclosed_after Unclosed w u = first_of u w
 
 -- a lane that is settled, of a worker that sent all
 abbrev pub IsWhole : List Verdict → OutView → Type 0
-IsWhole all l = (l.settled ≡ true) × (all_of l ≡ all)
+IsWhole all l = (l.settled ≡ true) × (contents_of l ≡ all)
 
--- every lane is
+-- these lists are what the workers of the plan owe
+abbrev pub Owes : Planned → Form → List (List Verdict) → Type 0
+Owes plan form lists = lists ≡ map (verdicts_for plan form) (range_with_len 0 plan.workers)
+
+-- P holds of each lane, at its worker's number
+abbrev pub ByNumber : Planned → List OutView → (ℕ → OutView → Type 0) → Type 0
+ByNumber plan lanes P = (w : ℕ) (e : OutView) → w < plan.workers → P w (slice_index_or lanes w e)
+
+-- every lane is whole
 abbrev pub AllWhole : Planned → Form → List OutView → Type 0
 AllWhole plan form lanes = (w : ℕ) (e : OutView) → w < plan.workers → IsWhole (verdicts_for plan form w) (slice_index_or lanes w e)

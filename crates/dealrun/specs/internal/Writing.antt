@@ -7,7 +7,8 @@ use Rattle.lanes.specs.Verdicts.{turns}
 use Rattle.lanes.specs.Views.{OutView}
 use Rattle.dealrun.specs.Plans.{Planned}
 use Rattle.dealrun.specs.Sinks.{append_known}
-use Rattle.dealrun.specs.Turns.{printed, boards_in, taken_lists}
+use Rattle.dealrun.specs.MergedVerdicts.{boards_in, taken_lists}
+use Rattle.dealrun.specs.Outcomes.{PrintsTaken, BreaksOffLastPiece}
 
 -- the game of a verdict, when so many games stand before it
 abbrev pub game_after : Planned → ℕ → Verdict → List ℕ
@@ -22,31 +23,15 @@ pub record TakenInTurn (plan : Planned) (lanes : List OutView) (m : ℕ) : Type 
 abbrev pub StaysShort : Planned → List OutView → ℕ → Type 0
 StaysShort plan lanes m = (i : ℕ) → i < m → ForSome plan.limit (λ most. boards_in plan (taken_lists lanes) i < most)
 
--- what was taken was written
-pub record Written (plan : Planned) (lanes : List OutView) (m boards : ℕ) (old new : Option (List ℕ)) : Type 0 where
-  pub bytes_are : new ≡ append_known old (printed plan (taken_lists lanes) m)
-  pub boards_are : boards ≡ boards_in plan (taken_lists lanes) m
-
--- what was taken was written, but for the end of the last piece: of the header where nothing was taken, and else of
--- the game of the last verdict
-pub record BrokenOff (plan : Planned) (lanes : List OutView) (m boards : ℕ) (old new : Option (List ℕ)) : Type 0 where
-  pub front : List ℕ
-  pub rest : List ℕ
-  pub is_text : front ++ rest ≡ printed plan (taken_lists lanes) m
-  pub is_proper : 0 < length rest
-  pub appended : new ≡ append_known old front
-  pub last_piece : 0 < m → (more : List ℕ) × (printed plan (taken_lists lanes) (m - 1) ++ more ≡ front)
-  pub boards_are : boards ≡ boards_in plan (taken_lists lanes) (m - 1)
-
 -- the writer goes on
-pub record GoesOn (plan : Planned) (lanes : List OutView) (m boards : ℕ) (old new : Option (List ℕ)) : Type 0 where
+pub record WriterSoFar (plan : Planned) (lanes : List OutView) (m boards : ℕ) (old new : Option (List ℕ)) : Type 0 where
   pub in_turn : TakenInTurn plan lanes m
-  pub written : Written plan lanes m boards old new
+  pub written : PrintsTaken plan lanes m boards old new
   pub within : ForSome plan.limit (λ most. boards ≤ most)
   pub short : StaysShort plan lanes m
 
 -- the writer broke off
-pub record GivesUp (plan : Planned) (lanes : List OutView) (m boards : ℕ) (old new : Option (List ℕ)) : Type 0 where
+pub record WriterBrokeOff (plan : Planned) (lanes : List OutView) (m boards : ℕ) (old new : Option (List ℕ)) : Type 0 where
   pub in_turn : TakenInTurn plan lanes m
-  pub broken : BrokenOff plan lanes m boards old new
+  pub broken : BreaksOffLastPiece plan lanes m boards old new
   pub short : StaysShort plan lanes m

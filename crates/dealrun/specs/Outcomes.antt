@@ -1,0 +1,147 @@
+-- What holds when a run returns. The headline is two records: what was taken from the lanes of a run that ended Ok, and what
+-- was written. Two more say what holds however a run ends: of the lanes, and of the bytes.
+use Rattle.std.specs.Prelude.{ℕ, ◌+◌, ◌-◌, ◌≡◌, ◌≢◌, ◌<◌, ◌≤◌, List, [], ◌++◌, All, length, map, take, Option, Some, true, false, slice_get}
+use Rattle.std.specs.List.{enumerate_from, range_with_len}
+use Rattle.cards.specs.Candidates.{candidate}
+use Rattle.cards.specs.Deals.{IsPartition}
+use Rattle.cond_lang.specs.Form.{Form}
+use Rattle.lanes.specs.declared.verdict.Verdict.{Verdict}
+use Rattle.lanes.specs.Verdicts.{turns}
+use Rattle.lanes.specs.Views.{OutView}
+use Rattle.lanes.specs.Work.{IsPrefix, IsProperPrefix}
+use Rattle.dealrun.specs.declared.cause.Cause.{Cause}
+use Rattle.dealrun.specs.declared.cause.Cause.TheVariants.{Memory, Spawn, Output, Stopped, Unclosed}
+use Rattle.dealrun.specs.Plans.{Planned}
+use Rattle.dealrun.specs.Sinks.{AppendsAll, append_known}
+use Rattle.dealrun.specs.Text.{accepted_among, accepted, text_of, text, end_of}
+use Rattle.dealrun.specs.MergedVerdicts.{verdicts_for, taken_lists, taken_in_all, printed, boards_in}
+
+-- ---- lanes
+
+-- one item for each worker of the plan, by its number
+abbrev pub for_each_worker : {A : Type 0} → Planned → (ℕ → A) → List A
+for_each_worker plan f = map f (range_with_len 0 plan.workers)
+
+-- P holds of each lane and its number
+abbrev pub EachLane : List OutView → (ℕ → OutView → Type 0) → Type 0
+EachLane lanes P = All (λ p. P p.0 p.1) (enumerate_from 0 lanes)
+
+abbrev pub AllSettled : List OutView → Type 0
+AllSettled lanes = All (λ l. l.settled ≡ true) lanes
+
+-- what was taken from a lane, followed by what is left in it
+abbrev pub contents_of : OutView → List Verdict
+contents_of l = l.taken ++ l.left
+
+-- ---- the headline: a run that ended Ok
+
+-- the lanes: what was taken from each is its worker's verdicts, each once, in the order sent, nothing after its close
+pub record TakesWhatIsOwed (plan : Planned) (form : Form) (lanes : List OutView) (boards : ℕ) : Type 0 where
+  -- there is a lane for each worker, and its first verdicts were taken, as many as are needed
+  pub taken :
+      map (λ l. l.taken) lanes
+      ≡ for_each_worker plan (λ w. take (turns plan.workers w (end_of plan form)) (verdicts_for plan form w))
+  -- each lane was closed
+  pub settled : AllSettled lanes
+  -- what is left follows what was taken in its worker's verdicts
+  pub sent : EachLane lanes (λ w l. IsPrefix (contents_of l) (verdicts_for plan form w))
+  -- unless the limit of boards was met, all verdicts were taken and none is left
+  pub whole :
+      plan.limit ≢ Some boards
+      → (map (λ l. l.taken) lanes ≡ for_each_worker plan (verdicts_for plan form)) × All (λ l. l.left ≡ []) lanes
+
+-- the text: the games of the accepted deals of the one candidate sequence, each a partition of the pack
+pub record WritesText (plan : Planned) (form : Form) (boards : ℕ) (old new : Option (List ℕ)) : Type 0 where
+  pub bytes : AppendsAll old new (text plan form)
+  pub boards_are : boards ≡ length (accepted plan form)
+  pub partitions : All IsPartition (map (candidate plan.seed) (accepted plan form))
+
+-- ---- however a run ends
+
+-- what the first m verdicts print is the text of the first m candidates
+abbrev pub PrintsCandidates : Planned → Form → List OutView → ℕ → Type 0
+PrintsCandidates plan form lanes m =
+    printed plan (taken_lists lanes) m ≡ text_of plan (accepted_among plan.seed plan.first form m)
+
+-- the lanes, with m verdicts taken in all
+pub record AreLanesConsistent (plan : Planned) (form : Form) (lanes : List OutView) : Type 0 where
+  -- there is a lane for each worker, and they were taken in turn, none skipped
+  pub in_turn :
+      map (λ l. length l.taken) lanes ≡ for_each_worker plan (λ w. turns plan.workers w (taken_in_all lanes))
+  -- a settled lane's contents are the first of its worker's verdicts
+  pub parts : EachLane lanes (λ w l. l.settled ≡ true → IsPrefix (contents_of l) (verdicts_for plan form w))
+  -- if all lanes are settled, no more was taken than is needed
+  pub needed : AllSettled lanes → taken_in_all lanes ≤ end_of plan form
+  -- and what was taken prints the first m candidates
+  pub candidates : AllSettled lanes → (m : ℕ) → m ≤ taken_in_all lanes → PrintsCandidates plan form lanes m
+
+-- the bytes and the boards are those of the m verdicts that were taken
+pub record PrintsTaken (plan : Planned) (lanes : List OutView) (m boards : ℕ) (old new : Option (List ℕ)) : Type 0 where
+  pub bytes_are : new ≡ append_known old (printed plan (taken_lists lanes) m)
+  pub boards_are : boards ≡ boards_in plan (taken_lists lanes) m
+
+-- the same up to the last piece, of which the end is missing: the header if nothing was taken, else the game of the
+-- last verdict
+pub record BreaksOffLastPiece (plan : Planned) (lanes : List OutView) (m boards : ℕ) (old new : Option (List ℕ)) : Type 0 where
+  pub front : List ℕ
+  pub rest : List ℕ
+  pub is_text : front ++ rest ≡ printed plan (taken_lists lanes) m
+  pub is_proper : 0 < length rest
+  pub appended : new ≡ append_known old front
+  pub last_piece : 0 < m → (more : List ℕ) × (printed plan (taken_lists lanes) (m - 1) ++ more ≡ front)
+  pub boards_are : boards ≡ boards_in plan (taken_lists lanes) (m - 1)
+
+-- worker w ended before it had sent all, and is the least such worker: the settled lanes below are whole
+pub record IsLeastStopped (plan : Planned) (form : Form) (lanes : List OutView) (w : ℕ) : Type 0 where
+  pub lane : OutView
+  pub at : slice_get lanes w ≡ Some lane
+  pub settled : lane.settled ≡ true
+  pub part : IsProperPrefix (contents_of lane) (verdicts_for plan form w)
+  pub below : EachLane lanes (λ v l. v < w → l.settled ≡ true → contents_of l ≡ verdicts_for plan form v)
+
+-- the lane of worker w can't say how it ended, and is the least such lane. Unless the limit of boards was met, each
+-- settled lane is whole
+pub record IsLeastUnclosed (plan : Planned) (form : Form) (lanes : List OutView) (w boards : ℕ) : Type 0 where
+  pub lane : OutView
+  pub at : slice_get lanes w ≡ Some lane
+  pub unsettled : lane.settled ≡ false
+  pub below : EachLane lanes (λ v l. v < w → l.settled ≡ true)
+  pub whole :
+      plan.limit ≢ Some boards
+      → EachLane lanes (λ v l. l.settled ≡ true → contents_of l ≡ verdicts_for plan form v)
+
+-- worker n was not started, nor any after it: their lanes are not settled
+pub record IsFirstNotStarted (plan : Planned) (lanes : List OutView) (n : ℕ) : Type 0 where
+  pub worker : n < plan.workers
+  pub unsettled : EachLane lanes (λ w l. n ≤ w → l.settled ≡ false)
+
+-- however a run ends whose threads all started: the lanes, and the bytes of what was taken
+pub record StandsComplete (plan : Planned) (form : Form) (lanes : List OutView) (boards : ℕ) (old new : Option (List ℕ)) : Type 0 where
+  pub lanes_are : AreLanesConsistent plan form lanes
+  pub printed_is : PrintsTaken plan lanes (taken_in_all lanes) boards old new
+
+-- a run that was interrupted, by its cause
+abbrev pub InterruptedOutcome : Planned → Form → Cause → List OutView → ℕ → Option (List ℕ) → Option (List ℕ) → Type 0
+InterruptedOutcome plan form Memory lanes boards old new = (lanes ≡ []) × (boards ≡ 0) × (new ≡ old)
+InterruptedOutcome plan form Spawn lanes boards old new =
+    AreLanesConsistent plan form lanes
+    × (taken_in_all lanes ≡ 0)
+    × (boards ≡ 0)
+    × (new ≡ old)
+    × ((n : ℕ) × IsFirstNotStarted plan lanes n)
+InterruptedOutcome plan form Output lanes boards old new =
+    AreLanesConsistent plan form lanes × BreaksOffLastPiece plan lanes (taken_in_all lanes) boards old new
+InterruptedOutcome plan form (Stopped w) lanes boards old new =
+    StandsComplete plan form lanes boards old new
+    × (plan.limit ≢ Some boards)
+    × IsLeastStopped plan form lanes w
+InterruptedOutcome plan form (Unclosed w) lanes boards old new =
+    StandsComplete plan form lanes boards old new × IsLeastUnclosed plan form lanes w boards
+
+-- the sink failed once in a run that ended so, or not at all
+abbrev pub FaultsAfter : Cause → ℕ → ℕ → Type 0
+FaultsAfter Memory old new = new ≡ old
+FaultsAfter Spawn old new = new ≡ old
+FaultsAfter Output old new = new ≡ old + 1
+FaultsAfter (Stopped w) old new = new ≡ old
+FaultsAfter (Unclosed w) old new = new ≡ old
