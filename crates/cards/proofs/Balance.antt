@@ -6,14 +6,9 @@ use Rattle.std.specs.Ordering.{nat_cmp, is_lt}
 use Rattle.std.proofs.lemmas.Bool.Decides.{nat_tests}
 use Rattle.std.proofs.lemmas.List.Elements.{All-get_or, All-contains}
 use Rattle.std.proofs.lemmas.List.Sorted.{IsPermutation-sym, IsPermutation-trans, IsPermutation-reverse, All-permutation, Contains-permutation, sum_by-IsPermutation}
-use Rattle.cards.specs.Hands.{is_rearrangement, is_balanced}
+use Rattle.cards.specs.Hands.{is_rearrangement, is_balanced, IsBalanced}
 use Rattle.cards.specs.Even.{IsEven}
 use Rattle.cards.proofs.Rearranging.{rearrangement_is_permutation}
-
--- the three shapes by permutations
-abbrev IsBalanced : List ℕ → Type 0
-IsBalanced shape =
-    IsPermutation shape (4 ∷ 3 ∷ 3 ∷ 3 ∷ []) ⊎ IsPermutation shape (4 ∷ 4 ∷ 3 ∷ 2 ∷ []) ⊎ IsPermutation shape (5 ∷ 3 ∷ 3 ∷ 2 ∷ [])
 
 -- what four numbers in another order keep: the sum, and bounds
 sum_kept : (xs : List ℕ) (a b c d : ℕ) → IsPermutation xs (a ∷ b ∷ c ∷ d ∷ []) → sum_by (λ x. x) xs ≡ a + b + c + d
