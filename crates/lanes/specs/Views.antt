@@ -29,11 +29,6 @@ pub record OutView : Type 0 where
   pub settled : Bool
   pub left : List Verdict
 
--- an end that waits: how many verdicts or slots are enough, and how many it saw when it last looked
-pub record PauseView : Type 0 where
-  pub enough : ℕ
-  pub seen : ℕ
-
 -- whose turn it is
 pub record TurnsView : Type 0 where
   pub turn : ℕ

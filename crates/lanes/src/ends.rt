@@ -15,14 +15,16 @@ const MOST_CAPACITY: u32 = 4096;
 /// Why there is no lane.
 #[derive(Debug, Drop, Error)]
 pub enum LaneError {
+    /// The capacity is not 1 to 4,096.
     #[error("a lane holds 1 to 4096 verdicts")]
     Capacity,
+    /// There was no memory for the ring.
     #[error("out of memory")]
     Memory,
 }
 
-/// The end that a worker sends into. Contracts see what was sent, how many slots are known to be free, and
-/// which ring it is.
+/// The end that a worker sends into. Contracts see all that was sent so far, how many slots are known to be
+/// free, and which ring it is.
 #[derive(Drop)]
 pub struct LaneIn {
     producer: Producer<Verdict>,
@@ -35,10 +37,14 @@ impl Model for LaneIn {
 
     ghost Value = { InView };
 
-    ghost view = { λ l. record { sent = sent l.producer; room = known_free l.producer; ring = ring_of_producer l.producer } };
+    ghost view = { λ l. record {
+      sent = sent l.producer;
+      room = known_free l.producer;
+      ring = ring_of_producer l.producer;
+    } };
 }
 
-/// What a closed end leaves. Contracts see all that was sent, and which ring it is.
+/// What a closed sending end leaves. Contracts see all that was ever sent, and which ring it is.
 #[derive(Drop)]
 pub struct Closed {
     finished: Finished<Verdict>,
@@ -51,11 +57,14 @@ impl Model for Closed {
 
     ghost Value = { ClosedView };
 
-    ghost view = { λ c. record { sent = all_sent c.finished; ring = ring_of_finished c.finished } };
+    ghost view = { λ c. record {
+      sent = all_sent c.finished;
+      ring = ring_of_finished c.finished;
+    } };
 }
 
-/// The end that the writer takes from. Contracts see what was taken, how many verdicts are known to wait, which
-/// ring it is, whether it is settled, and from then on what is left.
+/// The end that the writer takes from. Contracts see all that was taken so far, how many verdicts are known to
+/// wait, which ring it is, whether it is settled, and from then on what is left.
 #[derive(Drop)]
 pub struct LaneOut {
     consumer: Consumer<Verdict>,
@@ -70,11 +79,17 @@ impl Model for LaneOut {
 
     ghost Value = { OutView };
 
-    ghost view = { λ l. record { taken = received l.consumer; known = length (known_items l.consumer); ring = ring_of_consumer l.consumer; settled = l.settled; left = cond l.settled (known_items l.consumer) [] } };
+    ghost view = { λ l. record {
+      taken = received l.consumer;
+      known = length (known_items l.consumer);
+      ring = ring_of_consumer l.consumer;
+      settled = l.settled;
+      left = cond l.settled (known_items l.consumer) [];
+    } };
 }
 
-/// A lane that holds at most `capacity` verdicts. Refused with `Capacity` exactly where that is not 1 to 4,096,
-/// and otherwise with `Memory` where there was none.
+/// Makes a lane that holds at most `capacity` verdicts, and returns its two ends. It returns `Capacity` exactly
+/// if that is not 1 to 4,096, and `Memory` if there is none for the ring.
 pub fn lane(alloc: Global, capacity: u32) -> Result<(LaneIn, LaneOut), LaneError>
     ensures capacity { IsErrOf result Capacity ↔ ((capacity ≡ 0) ⊎ (4096 < capacity)) }
     ensures ring { IfOk result (λ r. r.0.ring ≡ r.1.ring) }
@@ -93,7 +108,7 @@ pub fn lane(alloc: Global, capacity: u32) -> Result<(LaneIn, LaneOut), LaneError
 }
 
 impl LaneIn {
-    /// Sends a verdict, or hands it back where the lane is full. It waits for nobody.
+    /// Sends a verdict, or hands it back if the lane is full. It waits for nobody.
     pub fn try_send(&mut self, verdict: Verdict) -> Result<(), Verdict>
         ensures ring { self.new.ring ≡ self.old.ring }
         ensures sent { OnOk result (self.new.sent ≡ self.old.sent ++ verdict ∷ []) }
@@ -108,7 +123,7 @@ impl LaneIn {
         Ok(())
     }
 
-    /// Whether the lane has a free slot. It waits for nobody.
+    /// Whether the lane has a free slot. It looks at the other end only if none is known. It waits for nobody.
     pub fn has_room(&mut self) -> bool
         ensures ring { self.new.ring ≡ self.old.ring }
         ensures sent { self.new.sent ≡ self.old.sent }
@@ -123,6 +138,7 @@ impl LaneIn {
     pub fn count_room(&mut self) -> usize
         ensures ring { self.new.ring ≡ self.old.ring }
         ensures sent { self.new.sent ≡ self.old.sent }
+        ensures room { self.old.room ≤ self.new.room }
         ensures value { result ≡ self.new.room }
     {
         // To look for a free slot is no event of the core.
@@ -145,7 +161,8 @@ impl LaneIn {
         self.producer.capacity()
     }
 
-    /// Closes the lane. `None` where the ring can't say how it ended. It waits for nobody.
+    /// Closes the lane, and returns what tells all that was sent. It returns `None` if the other end was let go
+    /// before, since the ring then can't say how it ended. It waits for nobody.
     pub fn close(self) -> Option<Closed>
         ensures { IfSome result (λ c. (c.sent ≡ self.sent) × (c.ring ≡ self.ring)) }
     {
@@ -157,13 +174,15 @@ impl LaneIn {
 }
 
 impl LaneOut {
-    /// Takes the next verdict, where there is one. It waits for nobody. Once the lane is settled it gives
-    /// what is left, one after another, and then nothing.
+    /// Takes the next verdict, or returns `None` if none waits. It waits for nobody. Once the lane is settled, it
+    /// returns what is left, one after another, and then `None`.
     pub fn take(&mut self) -> Option<Verdict>
         ensures ring { self.new.ring ≡ self.old.ring }
         ensures settled { self.new.settled ≡ self.old.settled }
         ensures some { IfSome result (λ v. self.new.taken ≡ self.old.taken ++ v ∷ []) }
         ensures none { IfNone result (self.new ≡ self.old) }
+        ensures known { IfSome result (λ _. self.old.known ≤ self.new.known + 1) }
+        ensures succeeds { 0 < self.old.known → IsSome result }
         ensures left { IfSome result (λ v. self.old.settled ≡ true → self.old.left ≡ v ∷ self.new.left) }
         ensures all_left { self.old.settled ≡ true → (IsSome result ↔ (0 < length self.old.left)) }
     {
@@ -173,11 +192,12 @@ impl LaneOut {
         Some(self.take_known())
     }
 
-    /// Whether a verdict waits to be taken. It waits for nobody.
+    /// Whether a verdict waits to be taken. It looks at the other end only if none is known. It waits for nobody.
     pub fn has_verdict(&mut self) -> bool
         ensures same { (self.new.ring ≡ self.old.ring) × (self.new.settled ≡ self.old.settled) }
         ensures taken { self.new.taken ≡ self.old.taken }
         ensures left { self.new.left ≡ self.old.left }
+        ensures known { self.old.known ≤ self.new.known }
         ensures some { result ≡ true → 0 < self.new.known }
         ensures none { result ≡ false → self.new ≡ self.old }
         ensures none_known { result ≡ false → self.new.known ≡ 0 }
@@ -196,14 +216,15 @@ impl LaneOut {
         ensures same { (self.new.ring ≡ self.old.ring) × (self.new.settled ≡ self.old.settled) }
         ensures taken { self.new.taken ≡ self.old.taken }
         ensures left { self.new.left ≡ self.old.left }
+        ensures known { self.old.known ≤ self.new.known }
         ensures value { result ≡ self.new.known }
+        ensures all_left { self.old.settled ≡ true → result ≡ length self.old.left }
     {
         // To look for a verdict is no event of the core.
         if self.settled {
-            self.consumer.cached_slots()
-        } else {
-            self.consumer.slots()
+            return self.consumer.cached_slots();
         }
+        self.consumer.slots()
     }
 
     /// Takes the next verdict, which is known to wait. It waits for nobody.
@@ -211,13 +232,15 @@ impl LaneOut {
         requires { 0 < self.old.known }
         ensures same { (self.new.ring ≡ self.old.ring) × (self.new.settled ≡ self.old.settled) }
         ensures taken { self.new.taken ≡ self.old.taken ++ result ∷ [] }
+        ensures known { self.old.known ≡ self.new.known + 1 }
         ensures left { self.old.settled ≡ true → self.old.left ≡ result ∷ self.new.left }
     {
         // A pop is the core's Take while the run goes on, and no event afterwards.
         self.consumer.pop_known()
     }
 
-    /// Settles the lane by what its closed end left: how many verdicts are left to take. It waits for nobody.
+    /// Settles the lane by what its closed end left, and returns how many verdicts are left to take. It waits for
+    /// nobody.
     pub fn settle(&mut self, closed: &mut Closed) -> u64
         requires { self.old.ring ≡ closed.old.ring }
         ensures closed { closed.new ≡ closed.old }
@@ -225,6 +248,7 @@ impl LaneOut {
         ensures taken { self.new.taken ≡ self.old.taken }
         ensures settled { self.new.settled ≡ true }
         ensures count { result ≡ length self.new.left }
+        ensures known { self.new.known ≡ length self.new.left }
         ensures fifo { self.new.taken ++ self.new.left ≡ closed.old.sent }
     {
         self.settled = true;
@@ -232,10 +256,16 @@ impl LaneOut {
         self.consumer.slots_after(&mut closed.finished) as u64
     }
 
-    /// Whether the lane is settled.
+    /// Whether the lane is settled. Then the verdicts known to wait are those that are left.
     pub fn is_settled(&self) -> bool
-        ensures { result ≡ self.now.settled }
+        ensures value { result ≡ self.now.settled }
+        ensures known { result ≡ true → self.now.known ≡ length self.now.left }
     {
         self.settled
+    }
+
+    /// How many verdicts the lane may hold.
+    pub(crate) fn capacity(&self) -> usize {
+        self.consumer.capacity()
     }
 }

@@ -6,17 +6,16 @@ mod event;
 mod gate;
 pub mod laws;
 mod machine;
-mod pause;
 mod share;
 mod turns;
 mod verdict;
+mod wait;
 mod worker;
 
 pub use ends::{Closed, LaneError, LaneIn, LaneOut, lane};
 pub use event::Event;
 pub use gate::{Gate, OpenGate};
 pub use machine::Core;
-pub use pause::Pause;
 pub use share::{Job, Share};
 pub use turns::Turns;
 pub use verdict::Verdict;

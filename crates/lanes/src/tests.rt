@@ -96,13 +96,19 @@ fn what_is_known_to_wait(rt: HostRuntime) -> Result<(), Fail> {
 }
 
 #[test]
-fn half_a_lane_or_what_stands_still_is_enough(rt: HostRuntime) {
-    let mut pause = Pause::new(8, 1);
-    let answers = [(0, false), (1, false), (3, false), (3, true), (4, true)];
-    for (count, is_enough) in answers {
-        pause.wait();
-        assert_eq!(rt; pause.is_enough(count), is_enough);
-    }
+fn a_wait_for_a_verdict(rt: HostRuntime) -> Result<(), Fail> {
+    let stop = AtomicBool::new(false);
+    let (mut sender, mut taker) = lane(rt.alloc(), 2)?;
+    assert!(rt; sender.try_send(verdict(3)).is_ok());
+    assert!(rt; taker.wait_for_verdict(&rt, &stop));
+    stop.store(true, Ordering::SeqCst);
+    assert!(rt; taker.wait_for_verdict(&rt, &stop));
+    assert!(rt; matches!(taker.take(), Some(taken) if taken.number == 3));
+    assert!(rt; !taker.wait_for_verdict(&rt, &stop));
+    assert!(rt; sender.try_send(verdict(4)).is_ok());
+    assert!(rt; taker.wait_for_verdict(&rt, &stop));
+    assert!(rt; matches!(taker.take(), Some(taken) if taken.number == 4));
+    Ok(())
 }
 
 /// Stops at a number.

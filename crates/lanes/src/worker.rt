@@ -10,7 +10,6 @@ ghost use Rattle.lanes.specs.Work.{IsProperPrefix, Ends};
 
 use crate::ends::{Closed, LaneIn};
 use crate::gate::Gate;
-use crate::pause::Pause;
 use crate::share::{Job, Share};
 use crate::verdict::Verdict;
 use cards::Deal;
@@ -27,14 +26,14 @@ const DRAWS: u64 = 51;
 pub enum WorkEnd {
     /// Its whole share was sent.
     Done(Closed),
-    /// It stopped before that: the gate answered false, or the stop flag was up.
+    /// It stopped before that: the gate returned false, or the stop flag was up.
     Stopped(Closed),
-    /// The lane can't say how it ended.
+    /// The lane can't say how it ended, since the other end was let go before.
     Unclosed,
 }
 
-/// Sends the verdicts of the job's share in order, until all are sent or the work is stopped. The stop flag is
-/// up before the lane of a stopped worker is closed. It may wait.
+/// Sends the verdicts of the job's share in order, until all are sent, the gate returns false or the stop flag
+/// is up. In the last two cases it raises the flag, and then closes the lane. It may wait.
 pub fn work<R: Wait + Drop, G: Gate + Drop>(
     rt: R,
     job: Job,
@@ -58,7 +57,7 @@ pub fn work<R: Wait + Drop, G: Gate + Drop>(
     }
 }
 
-/// True where the whole share was sent.
+/// Returns true when the whole share was sent.
 fn send_all<R: Wait, G: Gate>(
     rt: &R,
     job: &Job,
@@ -68,7 +67,9 @@ fn send_all<R: Wait, G: Gate>(
 ) -> bool
     requires { lane.old.sent ≡ [] }
     ensures ring { lane.new.ring ≡ lane.old.ring }
-    ensures sent { MatchBool result (lane.new.sent ≡ verdicts_of job.now) (IsProperPrefix lane.new.sent (verdicts_of job.now)) }
+    ensures sent { MatchBool result
+        (lane.new.sent ≡ verdicts_of job.now)
+        (IsProperPrefix lane.new.sent (verdicts_of job.now)) }
 {
     let mut deals = Deals::of_share(job.seed, &job.share);
     for place in 0..job.share.len() {
@@ -91,7 +92,7 @@ fn send_all<R: Wait, G: Gate>(
     true
 }
 
-/// Sends a verdict as soon as there is room. False where the stop flag is up.
+/// Sends a verdict as soon as there is room. Returns false, and sends nothing, if the stop flag is up.
 fn send<R: Wait>(
     rt: &R,
     lane: &mut LaneIn,
@@ -100,31 +101,15 @@ fn send<R: Wait>(
     stop: &AtomicBool,
 ) -> bool
     ensures ring { lane.new.ring ≡ lane.old.ring }
-    ensures sent { MatchBool result (lane.new.sent ≡ lane.old.sent ++ verdict.now ∷ []) (lane.new.sent ≡ lane.old.sent) }
+    ensures sent { MatchBool result
+        (lane.new.sent ≡ lane.old.sent ++ verdict.now ∷ [])
+        (lane.new.sent ≡ lane.old.sent) }
 {
-    if !lane.has_room() && !wait_for_room(rt, lane, workers, stop) {
+    if !lane.has_room() && !lane.wait_for_room(rt, workers, stop) {
         return false;
     }
     lane.send_reserved(*verdict);
     true
-}
-
-/// Waits until the lane has room again. False where the stop flag is up.
-fn wait_for_room<R: Wait>(rt: &R, lane: &mut LaneIn, workers: u32, stop: &AtomicBool) -> bool
-    ensures same { (lane.new.ring ≡ lane.old.ring) × (lane.new.sent ≡ lane.old.sent) }
-    ensures room { result ≡ true → 0 < lane.new.room }
-{
-    let mut pause = Pause::new(lane.capacity(), workers);
-    for _ in rt.forever() {
-        if stop.load(Ordering::SeqCst) {
-            return false;
-        }
-        pause.wait();
-        if pause.is_enough(lane.count_room()) {
-            return true;
-        }
-    }
-    unreachable!()
 }
 
 /// The deals of a share, one after another: the generator before the next one's draws, and the stride from
