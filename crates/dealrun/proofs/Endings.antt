@@ -60,7 +60,7 @@ each_number plan P lanes long h = each_lane P lanes (λ w e lt. h w e (omega (ar
 -- the lists of what f gives for each lane, by their numbers
 pub for_each_lane : {A : Type 0} (plan : Planned) (f : OutView → A) (g : ℕ → A) (lanes : List OutView) → length lanes ≡ plan.workers → ByNumber plan lanes (λ w l. f l ≡ g w) → map f lanes ≡ for_each_worker plan g
 for_each_lane plan f g lanes long h =
-    fill_by_all g (map f lanes) plan.workers 0 (simp length-map long)
+    fill_by_all g (map f lanes) plan.workers (f no_lane) (simp length-map long)
     (λ k lt. get_or-map f lanes k no_lane (f no_lane) (omega (arith, lt, long)) ∙ h k no_lane lt)
 
 -- in all as many were taken as there were turns

@@ -1,8 +1,8 @@
 -- From the joins and the writer to what a run promises.
-use Rattle.std.proofs.Common.{◌≡◌, ◌≢◌, ◌<◌, ◌≤◌, ◌-◌, ◌++◌, ℕ, true, false, List, [], All, map, take, length, get_or, Option, None, Some, MatchOption, Result, Ok, Err, OnOk, OnErr, IfOk, IfErr, arith, ap, ◌∙◌, sym, subst, refl, inl, inr}
+use Rattle.std.proofs.Common.{◌≡◌, ◌≢◌, ◌<◌, ◌≤◌, ◌-◌, ◌++◌, ℕ, true, false, List, [], All, map, take, length, get_or, Option, None, Some, MatchOption, Result, Ok, Err, MatchResult, OnOk, OnErr, IfOk, IfErr, arith, ap, ◌∙◌, sym, subst, refl, inl, inr}
 use Rattle.std.specs.Result.{is_err}
 use Rattle.std.proofs.lemmas.Bool.{cases_lt, both_ways, false≢true, true≢false}
-use Rattle.std.proofs.lemmas.List.{get_or-map, length-map, get_or-take}
+use Rattle.std.proofs.lemmas.List.{get_or-map, length-map, get_or-take, take_all}
 use Rattle.std.proofs.lemmas.List.FromFn.{get_or-map-range_with_len}
 use Rattle.std.proofs.lemmas.Option.{slice_get-get_or}
 use Rattle.cond_lang.specs.Form.{Form}
@@ -175,3 +175,12 @@ given_err (Err e) P is h = h
 pub given_ok : {A E : Type 0} (r : Result A E) (P : Type 0) → is_err r ≡ false → OnOk r P → P
 given_ok (Ok x) P is h = h
 given_ok (Err e) P is h = absurd (true≢false is)
+
+-- what holds of a result either way
+pub either : {A E : Type 0} (r : Result A E) (P P' : A → Type 0) (Q Q' : E → Type 0) → ((x : A) → P x → P' x) → ((e : E) → Q e → Q' e) → IfOk r P → IfErr r Q → MatchResult r P' Q'
+either (Ok x) P P' Q Q' f g ok err = f x ok
+either (Err e) P P' Q Q' f g ok err = g e err
+
+-- all workers were started: their handles owe what the plan's workers owe
+pub all_owe : (plan : Planned) (form : Form) (n : ℕ) (lists all : List (List Verdict)) → lists ≡ take n all → n ≡ length all → Owes plan form all → Owes plan form lists
+all_owe plan form n lists all some whole owes = some ∙ take_all n all (omega (arith, whole)) ∙ owes

@@ -1,9 +1,12 @@
-//! Sinks for bytes, and what is written to them: the stream of values.
+//! Plans, sinks, and the runs that write to them: the run over lanes, the reference run on one thread, and the stream
+//! of values.
 #![tactic(auto)]
 
+mod boards;
 mod cause;
 mod fuse;
 mod join;
+pub mod laws;
 mod memory_sink;
 mod piped;
 mod plain;

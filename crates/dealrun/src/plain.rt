@@ -1,17 +1,18 @@
-//! The run on one thread: the definition's plain program.
+//! The reference run: one thread, no lane and no table, written as the definition of the text reads.
 
-ghost use Rattle.std.specs.Prelude.{◌≡◌, ◌+◌, ◌-◌, ◌*◌, ◌≤◌, ◌<◌, ◌^◌, ◌↔◌, length, MatchResult, IsTrue, Some};
-ghost use Rattle.cards.specs.Candidates.{state_before};
+ghost use Rattle.std.specs.Prelude.{◌≡◌, ◌+◌, ◌-◌, ◌*◌, ◌<◌, ◌≤◌, ◌^◌, length, MatchResult};
 ghost use Rattle.pbn_text.specs.Games.{game as game_of};
-ghost use Rattle.dealrun.specs.Sinks.{AppendsAll, CountsFault, AppendsOrBreaksOff};
+ghost use Rattle.cards.specs.Candidates.{state_before};
+ghost use Rattle.dealrun.specs.Sinks.{AppendsAll, AppendsOrBreaksOff, CountsFault};
 ghost use Rattle.dealrun.specs.Text.{BreaksOffText, accepted, text};
 
+use crate::boards::is_full;
 use crate::plan::Plan;
 use crate::sink::{Sink, SinkFault, put_all};
 use cards::Deal;
 use cond_lang::Cond;
 use lcg48::{Lcg48, Steps, Stride};
-use pbn_text::{HEADER, Printer};
+use pbn_text::{HEADER, game};
 
 /// The sink failed; so many whole games were written before.
 #[derive(Clone, Copy, Debug, PartialEq, Eq)]
@@ -27,33 +28,23 @@ fn generator_of(plan: &Plan) -> Lcg48
     before.apply(&Lcg48::seeded(plan.seed()))
 }
 
-/// Whether the plan has its limit of boards.
-pub(crate) fn is_full(plan: &Plan, boards: u64) -> bool
-    ensures { IsTrue result ↔ (plan.now.limit ≡ Some boards) }
-{
-    match plan.limit() {
-        Some(most) => boards == u64::from(most),
-        None => false,
-    }
-}
-
-/// AppendsTaken the game of the next board, where `boards` are written.
-pub(crate) fn put_game<S: Sink>(
+/// Writes the game of the next board, after `boards` of them.
+fn write_game<S: Sink>(
     plan: &Plan,
-    printer: &mut Printer,
     boards: u64,
     deal: &Deal,
     sink: &mut S,
 ) -> Result<(), SinkFault>
     requires faults { S.faults sink.old < 2 ^ 64 - 1 }
     requires boards { boards ≤ 2 ^ 40 }
-    requires heading { printer.old.heading ≡ plan.now.heading }
-    ensures heading { printer.new.heading ≡ printer.old.heading }
-    ensures bytes { AppendsOrBreaksOff (S.bytes sink.old) (S.bytes sink.new) result (game_of (plan.now.first_board + boards) plan.now.heading deal.now) }
+    ensures bytes {
+        AppendsOrBreaksOff (S.bytes sink.old) (S.bytes sink.new) result
+            (game_of (plan.now.first_board + boards) plan.now.heading deal.now)
+    }
     ensures faults { CountsFault (S.faults sink.old) (S.faults sink.new) result }
 {
-    printer.print(plan.first_board() + boards, deal);
-    put_all(sink, printer.text())
+    let text = game(plan.first_board() + boards, plan.heading(), deal);
+    put_all(sink, text.as_slice())
 }
 
 /// Tries the plan's candidates one after the other, and writes the header and the games of those that meet the
@@ -73,7 +64,6 @@ pub fn run_plain<S: Sink>(plan: &Plan, cond: &Cond, sink: &mut S) -> Result<u64,
     if put_all(sink, &HEADER).is_err() {
         return Err(PlainFault { boards });
     }
-    let mut printer = Printer::new(plan.heading());
     let mut generator = generator_of(plan);
     for _ in 0..plan.count() {
         if is_full(plan, boards) {
@@ -81,7 +71,7 @@ pub fn run_plain<S: Sink>(plan: &Plan, cond: &Cond, sink: &mut S) -> Result<u64,
         }
         let deal = Deal::draw(&mut generator);
         if cond.holds(&deal) {
-            if put_game(plan, &mut printer, boards, &deal, sink).is_err() {
+            if write_game(plan, boards, &deal, sink).is_err() {
                 return Err(PlainFault { boards });
             }
             boards += 1;

@@ -74,6 +74,9 @@ pub fn run<
     let Ok(stop) = Arc::new(alloc, AtomicBool::new(false)) else {
         return Err(out_of_memory(alloc));
     };
+    let Ok(mut progress) = Progress::new(alloc, plan) else {
+        return Err(out_of_memory(alloc));
+    };
     let Ok((assignments, mut lanes)) = assign_all(rt, alloc, plan, &cond, &gate, &stop) else {
         return Err(out_of_memory(alloc));
     };
@@ -90,7 +93,7 @@ pub fn run<
             boards: 0,
         });
     }
-    oversee(rt, plan, handles, lanes, sink, &stop)
+    oversee(rt, plan, handles, lanes, &mut progress, sink, &stop)
 }
 
 fn out_of_memory(alloc: Global) -> RunFault
@@ -109,10 +112,14 @@ fn oversee<R: Threads + Wait, S: Sink>(
     plan: &Plan,
     handles: Vec<Started>,
     lanes: Vec<LaneOut>,
+    progress: &mut Progress,
     sink: &mut S,
     stop: &AtomicBool,
 ) -> Result<Report, RunFault>
     requires faults { S.faults sink.old < 2 ^ 64 - 1 }
+    requires start { (progress.old.taken ≡ 0) × (progress.old.boards ≡ 0) }
+    requires turns { progress.old.turns.workers ≡ plan.now.workers }
+    requires heading { progress.old.printer.heading ≡ plan.now.heading }
     requires counts { (vec_len handles ≡ plan.now.workers) × (vec_len lanes ≡ plan.now.workers) × (plan.now.workers ≤ 16) }
     requires some { 0 < plan.now.workers }
     requires owed { (form : Form) × Owes plan.now form (map (λ h. verdicts_of h.promise.job.value) handles.items) }
@@ -123,8 +130,7 @@ fn oversee<R: Threads + Wait, S: Sink>(
     ensures faults { MatchResult result (λ _. S.faults sink.new ≡ S.faults sink.old) (λ e. FaultsAfter e.cause (S.faults sink.old) (S.faults sink.new)) }
 {
     let mut lanes = lanes;
-    let mut progress = Progress::new(plan);
-    let written = write_all(rt, plan, &mut lanes, sink, &mut progress, stop);
+    let written = write_all(rt, plan, &mut lanes, sink, progress, stop);
     let is_full = progress.is_full(plan);
     if written.is_err() || is_full {
         // A store to the stop flag is the core's Stop.
@@ -170,21 +176,20 @@ fn finish<S: Sink>(
     plan: &Plan,
     lanes: Vec<LaneOut>,
     sink: &mut S,
-    progress: Progress,
+    progress: &mut Progress,
 ) -> Result<Report, RunFault>
-    requires heading { progress.printer.heading ≡ plan.now.heading }
+    requires heading { progress.old.printer.heading ≡ plan.now.heading }
     requires faults { S.faults sink.old < 2 ^ 64 - 1 }
-    requires counts { (vec_len lanes ≡ plan.now.workers) × (progress.turns.workers ≡ plan.now.workers) × (progress.taken ≤ plan.now.count) }
+    requires counts { (vec_len lanes ≡ plan.now.workers) × (progress.old.turns.workers ≡ plan.now.workers) × (progress.old.taken ≤ plan.now.count) }
     requires some { 0 < plan.now.workers }
     requires whole { (form : Form) × AllWhole plan.now form lanes.items }
-    requires begun { (base : Option (List ℕ)) × WriterSoFar plan.now lanes.items progress.taken progress.boards base (S.bytes sink.old) }
-    ensures completes { IfOk result (λ r. (form : Form) (base : Option (List ℕ)) → AllWhole plan.now form lanes.items → WriterSoFar plan.now lanes.items progress.taken progress.boards base (S.bytes sink.old) → Completes plan.now form r.lanes.items r.boards base (S.bytes sink.new)) }
-    ensures stands { IfErr result (λ e. (form : Form) (base : Option (List ℕ)) → AllWhole plan.now form lanes.items → WriterSoFar plan.now lanes.items progress.taken progress.boards base (S.bytes sink.old) → InterruptedOutcome plan.now form e.cause e.lanes.items e.boards base (S.bytes sink.new)) }
+    requires begun { (base : Option (List ℕ)) × WriterSoFar plan.now lanes.items progress.old.taken progress.old.boards base (S.bytes sink.old) }
+    ensures completes { IfOk result (λ r. (form : Form) (base : Option (List ℕ)) → AllWhole plan.now form lanes.items → WriterSoFar plan.now lanes.items progress.old.taken progress.old.boards base (S.bytes sink.old) → Completes plan.now form r.lanes.items r.boards base (S.bytes sink.new)) }
+    ensures stands { IfErr result (λ e. (form : Form) (base : Option (List ℕ)) → AllWhole plan.now form lanes.items → WriterSoFar plan.now lanes.items progress.old.taken progress.old.boards base (S.bytes sink.old) → InterruptedOutcome plan.now form e.cause e.lanes.items e.boards base (S.bytes sink.new)) }
     ensures faults { MatchResult result (λ _. S.faults sink.new ≡ S.faults sink.old) (λ e. FaultsAfter e.cause (S.faults sink.old) (S.faults sink.new)) }
 {
     let mut lanes = lanes;
-    let mut progress = progress;
-    match write_rest(plan, &mut lanes, sink, &mut progress) {
+    match write_rest(plan, &mut lanes, sink, progress) {
         Ok(()) => Ok(Report {
             lanes,
             boards: progress.boards,

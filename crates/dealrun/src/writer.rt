@@ -1,19 +1,20 @@
 //! The writer of a run: it takes the verdicts in turn and writes the games of the accepted ones.
 
-ghost use Rattle.std.specs.Prelude.{◌≡◌, ◌-◌, ◌+◌, ◌<◌, ◌≤◌, ◌^◌, ◌↔◌, ◌++◌, [], ◌∷◌, ℕ, List, Option, cond, map, vec_len, OnOk, OnErr, MatchResult, IfSome, IfNone, IsTrue, slice_index_or, true, false, Some, ◌⊎◌};
+ghost use Rattle.std.specs.Prelude.{◌≡◌, ◌-◌, ◌+◌, ◌<◌, ◌≤◌, ◌^◌, ◌↔◌, ◌++◌, [], ◌∷◌, ℕ, List, Option, cond, map, vec_len, OnOk, OnErr, MatchResult, IfOk, IsTrue, slice_index_or, true, Some, ◌⊎◌};
 ghost use Rattle.lanes.specs.declared.verdict.Verdict.{Verdict};
 ghost use Rattle.dealrun.specs.Sinks.{append_known, AppendsPart, CountsFault};
 ghost use Rattle.dealrun.specs.internal.Writing.{game_after, WriterSoFar, WriterBrokeOff};
 ghost use Rattle.dealrun.specs.internal.Joins.{AllWhole};
 ghost use Rattle.cond_lang.specs.Form.{Form};
 
-use crate::plain::{is_full, put_game};
+use crate::boards::{is_full, put_game};
 use crate::plan::Plan;
 use crate::sink::{Sink, SinkFault, put_all};
-use lanes::{LaneOut, Pause, Turns, Verdict};
+use lanes::{LaneOut, Turns, Verdict};
 use pbn_text::{HEADER, Printer};
+use std::alloc::{AllocError, Global};
 use std::sync::Wait;
-use std::sync::atomic::{AtomicBool, Ordering};
+use std::sync::atomic::AtomicBool;
 
 /// How far the writer has come: whose turn it is, how many verdicts were taken, and how many games were written; and
 /// the printer of the games.
@@ -28,21 +29,21 @@ pub(crate) struct Progress {
 }
 
 impl Progress {
-    /// No verdict was taken.
-    pub(crate) fn new(plan: &Plan) -> Progress
-        ensures start { (result.taken ≡ 0) × (result.boards ≡ 0) }
-        ensures workers { result.turns.workers ≡ plan.now.workers }
-        ensures heading { result.printer.heading ≡ plan.now.heading }
+    /// No verdict was taken. `Err` only if the printer's memory can't be had.
+    pub(crate) fn new(alloc: Global, plan: &Plan) -> Result<Progress, AllocError>
+        ensures start { IfOk result (λ p. (p.taken ≡ 0) × (p.boards ≡ 0)) }
+        ensures workers { IfOk result (λ p. p.turns.workers ≡ plan.now.workers) }
+        ensures heading { IfOk result (λ p. p.printer.heading ≡ plan.now.heading) }
     {
         let Some(turns) = Turns::new(plan.workers()) else {
             unreachable!()
         };
-        Progress {
-            printer: Printer::new(plan.heading()),
+        Ok(Progress {
+            printer: Printer::new(alloc, plan.heading())?,
             turns,
             taken: 0,
             boards: 0,
-        }
+        })
     }
 
     /// Whether the plan's limit of boards is met.
@@ -80,33 +81,6 @@ impl Progress {
     }
 }
 
-/// Waits until a verdict can be taken. False where there is none and the flag is up.
-fn wait_for<R: Wait>(rt: &R, lane: &mut LaneOut, capacity: u32, stop: &AtomicBool) -> bool
-    ensures same { (lane.new.ring ≡ lane.old.ring) × (lane.new.settled ≡ lane.old.settled) × (lane.new.taken ≡ lane.old.taken) }
-    ensures some { result ≡ true → 0 < lane.new.known }
-{
-    lane.has_verdict() || pause_for(rt, lane, capacity, stop)
-}
-
-/// As `wait_for`, where no verdict is known yet.
-fn pause_for<R: Wait>(rt: &R, lane: &mut LaneOut, capacity: u32, stop: &AtomicBool) -> bool
-    ensures same { (lane.new.ring ≡ lane.old.ring) × (lane.new.settled ≡ lane.old.settled) × (lane.new.taken ≡ lane.old.taken) }
-    ensures some { result ≡ true → 0 < lane.new.known }
-{
-    let mut pause = Pause::new(capacity as usize, 1);
-    for _ in rt.forever() {
-        // A load of the stop flag is no event of the core.
-        if stop.load(Ordering::SeqCst) {
-            return lane.has_verdict();
-        }
-        pause.wait();
-        if pause.is_enough(lane.count_verdicts()) {
-            return true;
-        }
-    }
-    unreachable!()
-}
-
 /// Takes the verdicts in turn and writes their games, until all were taken, the limit of boards is met, or there is
 /// none and the flag is up.
 fn write_beside<R: Wait, S: Sink>(
@@ -132,7 +106,7 @@ fn write_beside<R: Wait, S: Sink>(
             return Ok(());
         }
         let lane = &mut lanes[progress.turns.lane() as usize];
-        if !wait_for(rt, lane, plan.capacity(), stop) {
+        if !lane.wait_for_verdict(rt, stop) {
             return Ok(());
         }
         let verdict = lane.take_known();

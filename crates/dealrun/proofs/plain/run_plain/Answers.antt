@@ -13,7 +13,6 @@ pub loop-init : goal.loop-init
 loop-init g c =
     record {
       running = running_none c.args.plan.now c.args.cond.now _ _ _ refl (at_ok _ _ c.put_all.result c.if-is_err.ensures.value c.put_all.ensures.bytes);
-      heading = c.new-printer.ensures.heading ∙ c.heading.ensures;
       generator = c.generator_of-generator.ensures ∙ ap (state_before c.args.plan.now.seed) (omega arith);
       faults = at_ok _ _ c.put_all.result c.if-is_err.ensures.value c.put_all.ensures.faults;
     }
@@ -32,7 +31,7 @@ returns-then-is_err-2-clause-bytes g c =
     breaks_game c.args.plan.now c.args.cond.now c.loop.counter c.loop.boards _ _ _ c.draw-deal.result deal (sym c.if-holds.true ∙ c.holds.ensures)
     (λ e. let full : c.is_full.result ≡ true = c.is_full.ensures.1 e in let not_full = c.if-is_full.false in absurd cc)
     (omega (arith, c.count-end.ensures.value)) c.loop.invariant.running
-    (at_err _ _ c.put_game.result c.if-is_err-2.ensures.value c.put_game.ensures.bytes)
+    (at_err _ _ c.write_game.result c.if-is_err-2.ensures.value c.write_game.ensures.bytes)
 
 pub loop-preserved : goal.loop-preserved
 loop-preserved g c =
@@ -45,15 +44,13 @@ loop-preserved g c =
             (sym w.if-holds.true ∙ c.holds.ensures)
             (λ e. let full : c.is_full.result ≡ true = c.is_full.ensures.1 e in let not_full = c.if-is_full.false in absurd cc)
             c.loop.invariant.running
-            (at_ok _ _ w.put_game.result w.if-is_err-2.ensures.value w.put_game.ensures.bytes));
-        heading = ap (λ p. p.heading) w.printer-is ∙ w.put_game.ensures.heading ∙ c.loop.invariant.heading;
+            (at_ok _ _ w.write_game.result w.if-is_err-2.ensures.value w.write_game.ensures.bytes));
         generator = generator;
-        faults = ap g.S.Sink.faults w.sink-is ∙ at_ok _ _ w.put_game.result w.if-is_err-2.ensures.value w.put_game.ensures.faults ∙ c.loop.invariant.faults;
+        faults = ap g.S.Sink.faults w.sink-is ∙ at_ok _ _ w.write_game.result w.if-is_err-2.ensures.value w.write_game.ensures.faults ∙ c.loop.invariant.faults;
       }
       | else-holds w ↦ record {
         running = rw (w.boards-is, w.sink-is) (running_skip c.args.plan.now c.args.cond.now c.loop.counter c.loop.boards _ _ c.draw-deal.result deal
             (sym w.if-holds.false ∙ c.holds.ensures) c.loop.invariant.running);
-        heading = ap (λ p. p.heading) w.printer-is ∙ c.loop.invariant.heading;
         generator = generator;
         faults = ap g.S.Sink.faults w.sink-is ∙ c.loop.invariant.faults;
       }

@@ -6,26 +6,26 @@ use Rattle.dealrun.proofs.Advance.{on_to, broken_to}
 use Rattle.dealrun.proofs.Finals.{goes_on_still}
 use Rattle.dealrun.proofs.writer.write_beside.Goals as goal
 
-pub returns-then-not-wait_for-clause-same : goal.returns-then-not-wait_for-clause-same
-returns-then-not-wait_for-clause-same g c =
+pub returns-then-not-wait_for_verdict-clause-same : goal.returns-then-not-wait_for_verdict-clause-same
+returns-then-not-wait_for_verdict-clause-same g c =
     let i = c.loop-taken.invariant in
     let w = c.lane.result in
     let old = c.index_mut-lane.result.now in
-    let new = c.wait_for.new.lane in
-    let same = c.if-not-wait_for.ensures.same in
+    let new = c.wait_for_verdict.new.self in
+    let same = c.if-not-wait_for_verdict.ensures.same in
     let at = c.index_mut-lane.ensures.value in (
       map-set_same (λ v. v.ring) c.loop-taken.lanes.items w new old (same.0 ∙ ap (λ v. v.ring) at) ∙ i.rings,
       map-set_same (λ v. v.settled) c.loop-taken.lanes.items w new old (same.1 ∙ ap (λ v. v.settled) at) ∙ i.settled,
     )
 
-pub returns-then-not-wait_for-clause-written : goal.returns-then-not-wait_for-clause-written
-returns-then-not-wait_for-clause-written g c base h =
+pub returns-then-not-wait_for_verdict-clause-written : goal.returns-then-not-wait_for_verdict-clause-written
+returns-then-not-wait_for_verdict-clause-written g c base h =
     let lanes = c.loop-taken.lanes.items in
     let progress = c.loop-taken.progress in
     let old = c.index_mut-lane.result.now in
-    let new = c.wait_for.new.lane in
+    let new = c.wait_for_verdict.new.self in
     goes_on_still c.args.plan.now lanes _ progress.taken progress.boards base (g.S.Sink.bytes c.loop-taken.sink)
-    (map-set_same (λ v. v.taken) lanes c.lane.result new old (c.if-not-wait_for.ensures.same.2 ∙ ap (λ v. v.taken) c.index_mut-lane.ensures.value))
+    (map-set_same (λ v. v.taken) lanes c.lane.result new old (c.if-not-wait_for_verdict.ensures.taken ∙ ap (λ v. v.taken) c.index_mut-lane.ensures.value))
     (c.loop-taken.invariant.written base h)
 
 pub returns-in_err-write-clause-same : goal.returns-in_err-write-clause-same
@@ -34,7 +34,7 @@ returns-in_err-write-clause-same g c =
     let w = c.lane.result in
     let old = c.index_mut-lane.result.now in
     let new = c.take_known-verdict.new.self in
-    let waited = c.if-not-wait_for.ensures.same in
+    let waited = c.if-not-wait_for_verdict.ensures.same in
     let same = c.take_known-verdict.ensures.same in
     let at = c.index_mut-lane.ensures.value in (
       map-set_same (λ v. v.ring) c.loop-taken.lanes.items w new old (same.0 ∙ waited.0 ∙ ap (λ v. v.ring) at) ∙ i.rings,
@@ -51,7 +51,7 @@ returns-in_err-write-clause-broken g c =
     let less : p.limit ≢ Some progress.boards = iff_false c.is_full.ensures c.if-is_full.false in
     on_err c.from_residual.result _ (λ base h.
     broken_to p c.loop-taken.lanes.items progress.taken progress.boards base (g.S.Sink.bytes c.loop-taken.sink) c.take_known-verdict.result c.index_mut-lane.result.now c.take_known-verdict.new.self c.lane.result c.write.new.self.taken c.write.new.self.boards (g.S.Sink.bytes c.write.new.sink)
-    (omega (arith, c.lane.ensures.below, i.workers)) (i.written base h) less place c.index_mut-lane.ensures.value (c.take_known-verdict.ensures.taken ∙ ap (λ vs. vs ++ c.take_known-verdict.result ∷ []) c.if-not-wait_for.ensures.same.2) c.in_err-write.ensures.taken.0 b.0 b.1 b.2)
+    (omega (arith, c.lane.ensures.below, i.workers)) (i.written base h) less place c.index_mut-lane.ensures.value (c.take_known-verdict.ensures.taken ∙ ap (λ vs. vs ++ c.take_known-verdict.result ∷ []) c.if-not-wait_for_verdict.ensures.taken) c.in_err-write.ensures.taken.0 b.0 b.1 b.2)
 
 pub loop-taken-preserved : goal.loop-taken-preserved
 loop-taken-preserved g c =
@@ -61,7 +61,7 @@ loop-taken-preserved g c =
     let w = c.lane.result in
     let old = c.index_mut-lane.result.now in
     let new = c.take_known-verdict.new.self in
-    let waited = c.if-not-wait_for.ensures.same in
+    let waited = c.if-not-wait_for_verdict.ensures.same in
     let same = c.take_known-verdict.ensures.same in
     let at = c.index_mut-lane.ensures.value in
     let place : w ≡ progress.taken % p.workers = c.lane.ensures.lane ∙ ap (λ n. n % progress.turns.workers) progress.turn ∙ ap (λ k. progress.taken % k) i.workers in
@@ -76,5 +76,5 @@ loop-taken-preserved g c =
       settled = map-set_same (λ v. v.settled) c.loop-taken.lanes.items w new old (same.1 ∙ waited.1 ∙ ap (λ v. v.settled) at) ∙ i.settled;
       written = λ base h.
           on_to p c.loop-taken.lanes.items progress.taken progress.boards base (g.S.Sink.bytes c.loop-taken.sink) c.take_known-verdict.result old new w c.write.new.self.taken c.write.new.self.boards (g.S.Sink.bytes c.write.new.sink)
-          (omega (arith, c.lane.ensures.below, i.workers)) (i.written base h) less place at (c.take_known-verdict.ensures.taken ∙ ap (λ vs. vs ++ c.take_known-verdict.result ∷ []) c.if-not-wait_for.ensures.same.2) c.in_ok-write.ensures.taken.0 c.in_ok-write.ensures.boards c.in_ok-write.ensures.bytes;
+          (omega (arith, c.lane.ensures.below, i.workers)) (i.written base h) less place at (c.take_known-verdict.ensures.taken ∙ ap (λ vs. vs ++ c.take_known-verdict.result ∷ []) c.if-not-wait_for_verdict.ensures.taken) c.in_ok-write.ensures.taken.0 c.in_ok-write.ensures.boards c.in_ok-write.ensures.bytes;
     }

@@ -1,0 +1,15 @@
+//! Laws of this crate's definitions: functions that do nothing, whose contracts are the laws.
+
+ghost use Rattle.std.specs.Prelude.{◌≡◌, ℕ};
+ghost use Rattle.cond_lang.specs.Form.{Form};
+ghost use Rattle.dealrun.specs.Plans.{Planned};
+ghost use Rattle.dealrun.specs.Text.{accepted, text};
+
+/// The text of a plan, and the candidates that it accepts, are the same for every number of workers and every capacity
+/// of their lanes.
+pub fn other_workers_write_the_same()
+    ensures text { (plan : Planned) (form : Form) (W C : ℕ)
+        → text (record plan { workers = W; capacity = C }) form ≡ text plan form }
+    ensures accepted { (plan : Planned) (form : Form) (W C : ℕ)
+        → accepted (record plan { workers = W; capacity = C }) form ≡ accepted plan form }
+{}
