@@ -3,7 +3,7 @@
 use crate::gates::StopsAt;
 use cond_lang::Cond;
 use dealrun::{Cause, Fuse, MemSink, Plan, run, run_plain};
-use lanes::{Core, Event, OpenGate};
+use lanes::{Core, Event, LaneOut, OpenGate};
 use std::alloc::Global;
 use std::sync::Arc;
 use std::test::Fail;
@@ -127,6 +127,45 @@ fn names_the_first_cause(rt: HostRuntime) -> Result<(), Fail> {
     Ok(())
 }
 
+/// A gate that stops one worker at its fifth candidate: the bytes begin the text of the four before it.
+#[test]
+fn stops_a_lone_worker(rt: HostRuntime) -> Result<(), Fail> {
+    let mut four = MemSink::new(rt.alloc());
+    let before = Plan::new(0, 0, 4, 1, 64)?;
+    assert_eq!(rt;
+        run_plain(&before, &Cond::any(rt.alloc()), &mut four),
+        Ok(4)
+    );
+    let mut sink = MemSink::new(rt.alloc());
+    let gate = Arc::new(rt.alloc(), StopsAt(4))?;
+    let plan = Plan::new(0, 0, 10, 1, 64)?;
+    let ended = run(
+        &rt,
+        rt.alloc(),
+        &plan,
+        Cond::any(rt.alloc()),
+        &mut sink,
+        gate,
+    );
+    assert_eq!(rt;
+        ended.err().map(|fault| fault.cause),
+        Some(Cause::Stopped { worker: 0 })
+    );
+    assert!(rt; four.bytes().starts_with(sink.bytes()));
+    Ok(())
+}
+
+/// How many verdicts the lanes still give, each lane at most so many.
+fn left_in(lanes: &mut Vec<LaneOut>, most: u64) -> u64 {
+    let mut left = 0u64;
+    for lane in lanes.iter_mut() {
+        for _ in 0..most {
+            left = left.saturating_add(u64::from(lane.take().is_some()));
+        }
+    }
+    left
+}
+
 /// What an interrupted run leaves is a state of the core.
 #[test]
 fn replays_on_the_core(rt: HostRuntime) -> Result<(), Fail> {
@@ -145,12 +184,7 @@ fn replays_on_the_core(rt: HostRuntime) -> Result<(), Fail> {
         return Ok(());
     };
     assert_eq!(rt; fault.cause, Cause::Stopped { worker: 0 });
-    let mut left = 0u64;
-    for lane in fault.lanes.iter_mut() {
-        for _ in 0..4 {
-            left = left.saturating_add(u64::from(lane.take().is_some()));
-        }
-    }
+    let left = left_in(&mut fault.lanes, 4);
     assert_eq!(rt; fault.boards.saturating_add(left), 4);
     let core = &mut Core::new(10, 1, 64).ok_or("a core")?;
     for _ in 0..fault.boards {
@@ -162,6 +196,42 @@ fn replays_on_the_core(rt: HostRuntime) -> Result<(), Fail> {
     }
     assert!(rt; core.step(Event::Stop));
     assert!(rt; core.step(Event::Close(0)));
+    assert_eq!(rt; (core.taken(0), core.sent(0)), (fault.boards, 4));
     assert_eq!(rt; core.turn(), fault.boards);
+    Ok(())
+}
+
+/// A writer that stops at its limit raises the flag after its last take: what its worker still sent, and the lane
+/// that it closed then, are events that the core allows.
+#[test]
+fn replays_a_limit_on_the_core(rt: HostRuntime) -> Result<(), Fail> {
+    let plan = Plan::new(0, 0, 10, 1, 64)?.limited(3)?;
+    let mut sink = MemSink::new(rt.alloc());
+    let gate = Arc::new(rt.alloc(), OpenGate)?;
+    let Ok(mut report) = run(
+        &rt,
+        rt.alloc(),
+        &plan,
+        Cond::any(rt.alloc()),
+        &mut sink,
+        gate,
+    ) else {
+        assert!(rt; false);
+        return Ok(());
+    };
+    assert_eq!(rt; report.boards, 3);
+    let left = left_in(&mut report.lanes, 10);
+    let core = &mut Core::new(10, 1, 64).ok_or("a core")?;
+    for _ in 0..3 {
+        assert!(rt; core.step(Event::Send(0)));
+        assert!(rt; core.step(Event::Take));
+    }
+    assert!(rt; core.step(Event::Stop));
+    for _ in 0..left {
+        assert!(rt; core.step(Event::Send(0)));
+    }
+    assert!(rt; core.step(Event::Close(0)));
+    assert!(rt; !core.step(Event::Take));
+    assert_eq!(rt; (core.taken(0), core.sent(0)), (3, left.saturating_add(3)));
     Ok(())
 }

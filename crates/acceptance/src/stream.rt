@@ -26,6 +26,7 @@ fn prints_the_values_of_a_seed(rt: HostRuntime) -> Result<(), Fail> {
 #[test]
 fn writes_the_values_into_memory(rt: HostRuntime) -> Result<(), Fail> {
     for (seed, count, want) in [
+        (0, 0, ""),
         (0, 3, "366850414\n1610402240\n206956554\n"),
         (1, 1, "89400484\n"),
         (4294967295, 1, "644300343\n"),

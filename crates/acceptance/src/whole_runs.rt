@@ -34,10 +34,16 @@ fn writes_the_plain_text(rt: HostRuntime) -> Result<(), Fail> {
     Ok(())
 }
 
+/// A sink that takes one byte a write gets the same bytes, as do more workers than candidates, and a run of none.
 #[test]
-fn counts_bytes_and_boards(rt: HostRuntime) -> Result<(), Fail> {
+fn writes_the_plain_text_byte_by_byte(rt: HostRuntime) -> Result<(), Fail> {
     for (count, workers, boards, bytes) in [(200, 3, 200, 25_052), (3, 16, 3, 381), (0, 1, 0, 10)] {
         let plan = Plan::new(0, 0, count, workers, 64)?;
+        let mut plain = MemSink::new(rt.alloc());
+        assert_eq!(rt;
+            run_plain(&plan, &Cond::any(rt.alloc()), &mut plain),
+            Ok(boards)
+        );
         let mut sink = Fuse::new(MemSink::new(rt.alloc()), 0, 1, true);
         let gate = Arc::new(rt.alloc(), OpenGate)?;
         match run(
@@ -52,7 +58,12 @@ fn counts_bytes_and_boards(rt: HostRuntime) -> Result<(), Fail> {
             Err(_) => assert!(rt; false),
         }
         assert_eq!(rt; sink.bytes().len(), bytes);
+        assert!(rt; sink.bytes() == plain.bytes());
     }
+    let mut none = MemSink::new(rt.alloc());
+    let empty = Plan::new(0, 0, 0, 1, 64)?;
+    assert_eq!(rt; run_plain(&empty, &Cond::any(rt.alloc()), &mut none), Ok(0));
+    assert_eq!(rt; none.bytes(), b"% PBN 2.1\n".as_slice());
     Ok(())
 }
 

@@ -25,6 +25,11 @@ fn checks_fault<R: Abort>(rt: &R, fault: &RunFault, workers: u32, bytes: &[u8]) 
         Cause::Spawn => {
             assert_eq!(rt; fault.lanes.len(), workers as usize);
             assert!(rt; fault.boards == 0 && bytes.is_empty());
+            // The lanes of the workers that were started are settled, and no lane after them.
+            let settled = fault.lanes.iter().take_while(|lane| lane.is_settled());
+            let settled = settled.count();
+            assert!(rt; settled < fault.lanes.len());
+            assert!(rt; !fault.lanes.iter().skip(settled).any(|lane| lane.is_settled()));
         }
         Cause::Output => {
             assert_eq!(rt; fault.lanes.len(), workers as usize);
