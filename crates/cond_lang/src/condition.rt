@@ -3,9 +3,9 @@
 ghost use Rattle.std.specs.Prelude.{◌≡◌, ◌<◌, ◌≤◌, ◌↔◌, length, IfOk, IfErr};
 ghost use Rattle.cond_lang.specs.declared.error.CondError.{CondError as Fault};
 ghost use Rattle.cond_lang.specs.declared.tree.Op.TheVariants.{Equal};
-ghost use Rattle.cond_lang.specs.Atoms.{HasAtMostAtoms};
 ghost use Rattle.cond_lang.specs.Cut.{HasFault};
 ghost use Rattle.cond_lang.specs.Form.{Form, form_of, compare, number};
+ghost use Rattle.cond_lang.specs.Limits.{HasAtMostAtoms, HasNumbersUpTo};
 ghost use Rattle.cond_lang.specs.Meaning.{holds};
 ghost use Rattle.cond_lang.specs.Text.{SpellsTree, IsDue, IsUnlessMemory};
 
@@ -20,7 +20,8 @@ use std::marker::Model;
 
 /// A condition on a deal, which contracts see as its tree's form.
 ///
-/// Each of its values adds up at most 1,024 numbers, points and lengths, so that a sum is a `u32`.
+/// Each of its values adds up at most 1,024 numbers, points and lengths, so that a sum is a `u32`, and each of its
+/// numbers is at most 9,999.
 #[derive(Debug, Drop)]
 pub struct Cond {
     alloc: Global,
@@ -30,7 +31,7 @@ pub struct Cond {
 impl Model for Cond {
     ghost use Rattle.cond_lang.specs.Form.{Form, form_of};
     ghost use Rattle.cond_lang.specs.FormCode.{form_code};
-    ghost use Rattle.cond_lang.specs.Atoms.{HasAtMostAtoms};
+    ghost use Rattle.cond_lang.specs.Limits.{IsWithinLimits};
 
     ghost Value = { Form };
 
@@ -38,7 +39,7 @@ impl Model for Cond {
 
     ghost view = { λ c. form_of c.tree };
 
-    ghost invariant = { λ c. HasAtMostAtoms 1024 (form_of c.tree) };
+    ghost invariant = { λ c. IsWithinLimits (form_of c.tree) };
 }
 
 /// The condition that a text spells.
@@ -96,10 +97,11 @@ impl Cond {
         meaning::holds(&self.tree, deal)
     }
 
-    /// The tree of the condition: each of its values has at most 1,024 atoms.
+    /// The tree of the condition: each of its values has at most 1,024 atoms, and each number is at most 9,999.
     pub fn tree(&self) -> &Tree
         ensures form { form_of result.now ≡ self.now }
         ensures few { HasAtMostAtoms 1024 self.now }
+        ensures small { HasNumbersUpTo 9999 self.now }
     {
         &self.tree
     }
