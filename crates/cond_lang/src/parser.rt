@@ -347,9 +347,7 @@ impl<'a> Parser<'a> {
     /// Both trees.
     #[inline(never)]
     fn all_of(&self, left: Box<Tree>, right: Box<Tree>) -> Result<Box<Tree>, Refusal>
-        ensures ok {
-            IfOk result (λ b. form_of b.value ≡ all_of (form_of left.value) (form_of right.value))
-        }
+        ensures ok { IfOk result (λ b. form_of b.value ≡ all_of (form_of left.value) (form_of right.value)) }
         ensures err { result ≢ Err Refusal.Syntax }
     {
         self.boxed(Tree::AllOf(left, right))
@@ -358,9 +356,7 @@ impl<'a> Parser<'a> {
     /// One of the two trees, or both.
     #[inline(never)]
     fn any_of(&self, left: Box<Tree>, right: Box<Tree>) -> Result<Box<Tree>, Refusal>
-        ensures ok {
-            IfOk result (λ b. form_of b.value ≡ any_of (form_of left.value) (form_of right.value))
-        }
+        ensures ok { IfOk result (λ b. form_of b.value ≡ any_of (form_of left.value) (form_of right.value)) }
         ensures err { result ≢ Err Refusal.Syntax }
     {
         self.boxed(Tree::AnyOf(left, right))
