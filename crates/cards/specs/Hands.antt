@@ -1,6 +1,7 @@
 -- A hand is the list of 52 truth values "this card is the seat's".
-use Rattle.std.specs.Prelude.{ℕ, zero, suc, ◌+◌, ◌*◌, ◌==◌, ◌&&◌, ◌||◌, Bool, false, cond, List, [], ◌∷◌, ◌++◌, map, count_by, slice_index_or}
-use Rattle.std.specs.List.{list_all, range_with_len, sum_by}
+use Rattle.std.specs.Prelude.{ℕ, zero, suc, ◌+◌, ◌*◌, ◌==◌, ◌&&◌, ◌||◌, ◌⊎◌, Bool, true, false, cond, List, [], ◌∷◌, map, count_by, slice_index_or}
+use Rattle.std.specs.List.{flat_map, list_any, range_with_len, sum_by}
+use Rattle.std.specs.List.Sorted.{IsPermutation}
 use Rattle.cards.specs.declared.seat.Seat.{Seat}
 use Rattle.cards.specs.declared.suit.Suit.{Suit}
 use Rattle.cards.specs.declared.suit.Suit.TheVariants.{Spades, Hearts, Diamonds, Clubs}
@@ -37,17 +38,50 @@ length_of hand suit = count_by (λ c. is_in_suit suit c && holds_card hand c) pa
 abbrev pub shape_of : List Bool → List ℕ
 shape_of hand = length_of hand Spades ∷ length_of hand Hearts ∷ length_of hand Diamonds ∷ length_of hand Clubs ∷ []
 
--- the same numbers in some order, each as often as it stands there
-abbrev pub is_rearrangement : List ℕ → List ℕ → Bool
-is_rearrangement xs ys = list_all (λ x. count_by (λ y. y == x) xs == count_by (λ y. y == x) ys) (xs ++ ys)
+-- the number put at each place of the list
+abbrev pub put_anywhere : ℕ → List ℕ → List (List ℕ)
+put_anywhere x [] = (x ∷ []) ∷ []
+put_anywhere x (y ∷ ys) = (x ∷ y ∷ ys) ∷ map (λ zs. y ∷ zs) (put_anywhere x ys)
 
--- in some order 4-3-3-3, 4-4-3-2 or 5-3-3-2
+-- the orders in which the numbers can stand
+abbrev pub orders_of : List ℕ → List (List ℕ)
+orders_of [] = [] ∷ []
+orders_of (x ∷ xs) = flat_map (put_anywhere x) (orders_of xs)
+
+-- the same numbers in the same order
+abbrev pub is_same : List ℕ → List ℕ → Bool
+is_same [] [] = true
+is_same (x ∷ xs) (y ∷ ys) = x == y && is_same xs ys
+is_same _ _ = false
+
+-- the same numbers in some order
+unfoldable pub is_rearrangement : List ℕ → List ℕ → Bool
+is_rearrangement xs ys = list_any (λ zs. is_same zs ys) (orders_of xs)
+
+-- the three shapes of a balanced hand: 4-3-3-3, 4-4-3-2 and 5-3-3-2
+abbrev pub flat : List ℕ
+flat = 4 ∷ 3 ∷ 3 ∷ 3 ∷ []
+
+abbrev pub two_fours : List ℕ
+two_fours = 4 ∷ 4 ∷ 3 ∷ 2 ∷ []
+
+abbrev pub one_five : List ℕ
+one_five = 5 ∷ 3 ∷ 3 ∷ 2 ∷ []
+
+-- one of them in some order
 abbrev pub is_balanced : List ℕ → Bool
 is_balanced shape =
-    is_rearrangement shape (4 ∷ 3 ∷ 3 ∷ 3 ∷ [])
-    || is_rearrangement shape (4 ∷ 4 ∷ 3 ∷ 2 ∷ [])
-    || is_rearrangement shape (5 ∷ 3 ∷ 3 ∷ 2 ∷ [])
+    is_rearrangement shape flat || is_rearrangement shape two_fours || is_rearrangement shape one_five
+
+-- the same as a fact
+abbrev pub IsBalanced : List ℕ → Type 0
+IsBalanced shape =
+    IsPermutation shape flat ⊎ IsPermutation shape two_fours ⊎ IsPermutation shape one_five
+
+-- whether the hand has the rank of the suit
+abbrev pub has_rank : List Bool → Suit → ℕ → Bool
+has_rank hand suit rank = holds_card hand (13 * suit_number suit + rank)
 
 -- which of the suit's thirteen ranks the hand has, the ace first
 abbrev pub ranks_of : List Bool → Suit → List Bool
-ranks_of hand suit = map (λ rank. holds_card hand (13 * suit_number suit + rank)) (range_with_len 0 13)
+ranks_of hand suit = map (has_rank hand suit) (range_with_len 0 13)

@@ -1,6 +1,6 @@
 //! Games under one heading, printed one after the other.
 
-ghost use Rattle.std.specs.Prelude.{◌≡◌, ◌≤◌, []};
+ghost use Rattle.std.specs.Prelude.{◌≡◌, ◌≤◌, [], IfOk};
 ghost use Rattle.pbn_text.specs.Games.{game as game_of};
 
 use crate::Heading;
@@ -8,13 +8,14 @@ use crate::middles::put_middle;
 use crate::room::{Front, Room, first_front, put_hands, put_number};
 use crate::suit_texts::SuitTexts;
 use cards::Deal;
+use std::alloc::{AllocError, Global};
 use std::marker::Model;
 
 /// Prints games under one heading, one after the other. Contracts see the heading and the text that
 /// was printed last.
 ///
-/// It is made for many games: to make one takes the time of some thousand games. It has 129 KiB, and
-/// takes no memory from an allocator.
+/// It is made for many games: to make one takes the time of some thousand games. It takes 128 KiB
+/// of memory once, when it is made, and none to print.
 #[derive(Drop)]
 pub struct Printer {
     heading: Heading,
@@ -36,20 +37,22 @@ impl Model for Printer {
 }
 
 impl Printer {
-    /// A printer of games under the heading, which has printed nothing.
-    pub fn new(heading: &Heading) -> Printer
-        ensures heading { result.heading ≡ heading.now }
-        ensures text { result.text ≡ [] }
+    /// A printer of games under the heading, which has printed nothing. `Err` only if its memory
+    /// can't be had.
+    pub fn new(alloc: Global, heading: &Heading) -> Result<Printer, AllocError>
+        ensures heading { IfOk result (λ p. p.heading ≡ heading.now) }
+        ensures text { IfOk result (λ p. p.text ≡ []) }
     {
+        let texts = SuitTexts::new(alloc)?;
         let mut room = [0; 512];
         let front = first_front(&mut room, heading);
-        Printer {
+        Ok(Printer {
             heading: *heading,
-            texts: SuitTexts::new(),
+            texts,
             room,
             front,
             to: front.from,
-        }
+        })
     }
 
     /// Prints the board's game in place of the last one. The board's number is at least 1.

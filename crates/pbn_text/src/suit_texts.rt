@@ -1,9 +1,10 @@
 //! The texts of the sets of a suit's ranks, each ready to be copied.
 
-ghost use Rattle.std.specs.Prelude.{◌<◌, ◌^◌};
+ghost use Rattle.std.specs.Prelude.{◌≡◌, ◌<◌, ◌^◌, vec_len};
 ghost use Rattle.pbn_text.specs.SuitTexts.{IsSuitText, IsSuitTable};
 
 use crate::games::LETTERS;
+use std::alloc::{AllocError, Global};
 
 /// How many sets of thirteen ranks there are.
 const SETS: usize = 8192;
@@ -12,20 +13,22 @@ const SETS: usize = 8192;
 /// these.
 pub(crate) type SuitText = [u8; 16];
 
-/// The text of each set of a suit's ranks.
+/// The text of each set of a suit's ranks, in memory of its own: 128 KiB.
 #[derive(Drop)]
 pub(crate) struct SuitTexts {
-    texts: [SuitText; SETS],
-    ghost entries: { IsSuitTable texts },
+    texts: Vec<SuitText>,
+    ghost count: { vec_len texts ≡ 2 ^ 13 },
+    ghost entries: { IsSuitTable texts.items },
 }
 
 impl SuitTexts {
-    pub(crate) fn new() -> SuitTexts {
-        let mut texts = [[0; 16]; SETS];
+    /// The texts of all sets; `Err` only if their memory can't be had.
+    pub(crate) fn new(alloc: Global) -> Result<SuitTexts, AllocError> {
+        let mut texts = Vec::with_capacity(alloc, SETS)?;
         for set in 0..SETS {
-            texts[set] = suit_text(set);
+            texts.push_reserved(suit_text(set));
         }
-        SuitTexts { texts }
+        Ok(SuitTexts { texts })
     }
 
     /// The text of the ranks in the set.

@@ -3,6 +3,7 @@
 
 use super::*;
 use cards::{Deal, Places, Seat};
+use std::alloc::Global;
 use std::process::Abort;
 use std::test::Fail;
 
@@ -56,7 +57,7 @@ fn game_of_the_worked_deal(rt: HostRuntime) -> Result<(), Fail> {
 
 #[test]
 fn printer_of_the_worked_games(rt: HostRuntime) -> Result<(), Fail> {
-    let mut printer = Printer::new(&Heading::none());
+    let mut printer = Printer::new(rt.alloc(), &Heading::none())?;
     assert_eq!(rt; printer.text(), b"".as_slice());
     printer.print(1, &pack_in_order()?);
     assert_eq!(rt; printer.text(), FIRST);
@@ -81,8 +82,8 @@ fn next_deal(state: &mut u64) -> Result<Deal, Fail> {
 
 /// A printer's games under the heading are those of `game`: boards 1 to 1,200, and boards of 1 to 20
 /// digits in between.
-fn check_printer(rt: &impl Abort, heading: &Heading) -> Result<(), Fail> {
-    let mut printer = Printer::new(heading);
+fn check_printer(rt: &impl Abort, alloc: Global, heading: &Heading) -> Result<(), Fail> {
+    let mut printer = Printer::new(alloc, heading)?;
     let mut state = 1;
     for k in 0..1_200 {
         let deal = next_deal(&mut state)?;
@@ -100,13 +101,13 @@ fn check_printer(rt: &impl Abort, heading: &Heading) -> Result<(), Fail> {
 #[test]
 fn games_of_a_printer(rt: HostRuntime) -> Result<(), Fail> {
     let mut heading = Heading::none();
-    check_printer(&rt, &heading)?;
+    check_printer(&rt, rt.alloc(), &heading)?;
     heading.event = Label::new(b"Club night");
-    check_printer(&rt, &heading)?;
+    check_printer(&rt, rt.alloc(), &heading)?;
     heading.event = Label::new(&[b'~'; 100]);
     heading.site = heading.event;
     heading.date = Date::new(b"2024.05.01");
-    check_printer(&rt, &heading)?;
+    check_printer(&rt, rt.alloc(), &heading)?;
     Ok(())
 }
 
@@ -162,7 +163,7 @@ fn longest_games(rt: HostRuntime) -> Result<(), Fail> {
         date,
     };
     assert_eq!(rt; game(LARGEST, &heading, &deal).len(), 385);
-    let mut printer = Printer::new(&heading);
+    let mut printer = Printer::new(rt.alloc(), &heading)?;
     printer.print(LARGEST, &deal);
     assert_eq!(rt; printer.text().len(), 385);
     Ok(())
