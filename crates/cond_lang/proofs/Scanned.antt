@@ -120,6 +120,6 @@ ended :
 ended text found at s whole qs c end e h = told_tokens text found (record { pieces = whole; cut = c; found = e ∙ ap (λ L. Ok L) (append-nil found) })
 ended text found at s whole qs c (piece {p} {rest} l i d) e h = absurd (omega (arith, length-append p rest))
 
--- Where nothing is left, what was found are the text's tokens.
+-- When nothing is left, what was found are the text's tokens.
 pub none_left : (text : List ℕ) (found : List Placed) (at : ℕ) (s : List ℕ) → IsLeft text found at s → length s ≡ 0 → HasTokens text found
 none_left text found at s l h = ended text found at s l.whole l.left l.whole_cut l.left_cut l.same h

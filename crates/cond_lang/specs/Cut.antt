@@ -55,7 +55,7 @@ pub record BeginsWithSymbol (q text : List ℕ) : Type 0 where
   pub known : Contains symbols (q, token)
   pub begins : text ≡ q ++ more
 
--- p is a piece of this kind where rest follows it
+-- p is a piece of this kind if rest follows it
 pub data IsPiece : List ℕ → List ℕ → Piece → Type 0 where
   blank : {c : ℕ} {rest : List ℕ} → is_separator c ≡ true → IsPiece (c ∷ []) rest Separator
   word :
@@ -105,7 +105,7 @@ fault_at at UnknownWord = Some (Word at)
 fault_at at LongNumber = Some (NumberFault at)
 fault_at at k = None
 
--- the piece is a token or a separator
+-- the piece has no fault: it is a token or a separator
 abbrev pub IsSound : List ℕ × Piece → Type 0
 IsSound p = (at : ℕ) → fault_at at p.1 ≡ None
 

@@ -1,4 +1,5 @@
--- Reading from the left with one token in sight, as a function of the tokens that are left.
+-- Reading from the left with one token in sight, as a function of the tokens that are left: what the parser's own
+-- functions return. No public clause cites it.
 use Rattle.std.specs.Prelude.{◌≡◌, ℕ, zero, suc, ◌+◌, ◌*◌, List, [], ◌∷◌, length, Result, Ok, Err, Option, Some, None}
 use Rattle.cards.specs.declared.seat.Seat.{Seat as ASeat}
 use Rattle.cards.specs.declared.suit.Suit.{Suit as ASuit}

@@ -46,7 +46,7 @@ impl Model for Cond {
 ///
 /// A text of more than 1,024 bytes is `TooLong`. Otherwise the leftmost faulty piece of the whole text is refused, as
 /// `Byte`, `Word` or `Number` with its offset. A text without one that spells no condition is `Syntax`, at the first
-/// token that no condition goes on with, or at the text's length. `Memory` comes where a growth was refused.
+/// token that no condition goes on with, or at the text's length. `Memory` comes when a growth was refused.
 pub fn parse(alloc: Global, text: &[u8]) -> Result<Cond, CondError>
     ensures too_long { (result ≡ Err CondError.TooLong) ↔ (1024 < length text.now) }
     ensures fault { (e : Fault) → length text.now ≤ 1024 → HasFault text.now e → result ≡ Err e }
@@ -77,7 +77,7 @@ impl Cond {
         Cond { alloc, tree }
     }
 
-    /// An equal condition. Its only refusal is `Memory`, and it comes only where a growth was refused.
+    /// An equal condition. Its only refusal is `Memory`, and it comes only when a growth was refused.
     pub fn try_clone(&self) -> Result<Cond, CondError>
         ensures { IsUnlessMemory result self.now }
     {

@@ -454,7 +454,7 @@ pub(crate) fn parse_tokens(alloc: Global, tokens: &[Placed], end: usize) -> Resu
     }
 }
 
-/// The offset of the token at the index, or `end` where there is none.
+/// The offset of the token at the index, or `end` if there is none.
 fn offset_of(tokens: &[Placed], end: usize, index: usize) -> usize
     ensures { result ≡ offset_of tokens.now end index }
 {

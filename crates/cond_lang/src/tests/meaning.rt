@@ -94,7 +94,7 @@ fn relations(rt: HostRuntime) -> Result<(), Fail> {
 #[test]
 fn any_holds_of_all(rt: HostRuntime) -> Result<(), Fail> {
     let any = Cond::any(rt.alloc());
-    for hands in [SUIT_EACH, TURNED, WORKED] {
+    for hands in [SUIT_EACH, HANDED_ON, WORKED] {
         assert!(rt; any.holds(&deal(hands)?));
     }
     Ok(())
@@ -117,7 +117,7 @@ fn forty_points_in_a_thousand_deals(rt: HostRuntime) -> Result<(), Fail> {
     Ok(())
 }
 
-fn answer_of_sent<C: FnOnce() -> bool + Send>(ask: C) -> bool
+fn result_of_sent<C: FnOnce() -> bool + Send>(ask: C) -> bool
     requires { C.pre ask }
 {
     ask()
@@ -127,6 +127,6 @@ fn answer_of_sent<C: FnOnce() -> bool + Send>(ask: C) -> bool
 fn a_condition_can_be_sent(rt: HostRuntime) -> Result<(), Fail> {
     let cond = condition(rt.alloc(), "hcp(south)==5")?;
     let deal = deal(WORKED)?;
-    assert!(rt; answer_of_sent(move || cond.holds(&deal)));
+    assert!(rt; result_of_sent(move || cond.holds(&deal)));
     Ok(())
 }
