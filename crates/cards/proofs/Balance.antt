@@ -1,5 +1,6 @@
 -- A sorted list of four lengths is one of three lists exactly where some rearrangement is.
-use Rattle.std.proofs.Common.{◌≡◌, ℕ, zero, suc, ◌+◌, ◌≤◌, ◌≢◌, ◌⊎◌, inl, inr, Bool, true, false, ◌||◌, List, [], ◌∷◌, length, refl, sym, arith}
+use Rattle.std.proofs.Common.{◌≡◌, ℕ, zero, suc, ◌+◌, ◌≤◌, ◌≢◌, ◌⊎◌, ◌↔◌, inl, inr, Bool, true, false, ◌||◌, List, [], ◌∷◌, length, refl, sym, arith}
+use Rattle.std.specs.Prelude.{IsTrue}
 use Rattle.std.specs.List.{All, Contains, sum_by}
 use Rattle.std.specs.List.Sorted.{IsPermutation, IsSorted}
 use Rattle.std.specs.Ordering.{nat_cmp, is_lt}
@@ -7,7 +8,7 @@ use Rattle.std.proofs.lemmas.Bool.Decides.{nat_tests}
 use Rattle.std.proofs.lemmas.List.Elements.{All-get_or, All-contains}
 use Rattle.std.proofs.lemmas.List.Sorted.{IsPermutation-sym, IsPermutation-trans, IsPermutation-reverse, All-permutation, Contains-permutation, sum_by-IsPermutation}
 use Rattle.cards.specs.Hands.{is_rearrangement, is_balanced, IsBalanced}
-use Rattle.cards.specs.Even.{IsEven}
+use Rattle.cards.specs.BalancedInOrder.{IsBalancedInOrder}
 use Rattle.cards.proofs.Rearranging.{rearrangement_is_permutation}
 
 -- what four numbers in another order keep: the sum, and bounds
@@ -68,8 +69,8 @@ fives a b c d p q r h =
 le_from : {x y : ℕ} → is_lt (nat_cmp y x) ≡ false → x ≤ y
 le_from {x} {y} h = grind (arith, nat_tests)
 
-even_from_balanced : (shape sorted : List ℕ) → length sorted ≡ 4 → IsPermutation shape sorted → IsSorted nat_cmp sorted → IsBalanced shape → IsEven sorted
-even_from_balanced shape (a ∷ b ∷ c ∷ d ∷ []) count moved up h =
+in_order_from_balanced : (shape sorted : List ℕ) → length sorted ≡ 4 → IsPermutation shape sorted → IsSorted nat_cmp sorted → IsBalanced shape → IsBalancedInOrder sorted
+in_order_from_balanced shape (a ∷ b ∷ c ∷ d ∷ []) count moved up h =
     let p : a ≤ b = le_from (up 0 0 (omega arith) (omega arith)) in
     let q : b ≤ c = le_from (up 1 0 (omega arith) (omega arith)) in
     let r : c ≤ d = le_from (up 2 0 (omega arith) (omega arith)) in
@@ -80,14 +81,14 @@ even_from_balanced shape (a ∷ b ∷ c ∷ d ∷ []) count moved up h =
         | inr x ↦ inr (fives a b c d p q r (IsPermutation-trans _ _ _ (IsPermutation-sym _ _ x) moved))
       ])
     ]
-even_from_balanced shape [] count moved up h = absurd (omega arith)
-even_from_balanced shape (a ∷ []) count moved up h = absurd (omega arith)
-even_from_balanced shape (a ∷ b ∷ []) count moved up h = absurd (omega arith)
-even_from_balanced shape (a ∷ b ∷ c ∷ []) count moved up h = absurd (omega arith)
-even_from_balanced shape (a ∷ b ∷ c ∷ d ∷ e ∷ xs) count moved up h = absurd (omega arith)
+in_order_from_balanced shape [] count moved up h = absurd (omega arith)
+in_order_from_balanced shape (a ∷ []) count moved up h = absurd (omega arith)
+in_order_from_balanced shape (a ∷ b ∷ []) count moved up h = absurd (omega arith)
+in_order_from_balanced shape (a ∷ b ∷ c ∷ []) count moved up h = absurd (omega arith)
+in_order_from_balanced shape (a ∷ b ∷ c ∷ d ∷ e ∷ xs) count moved up h = absurd (omega arith)
 
-balanced_from_even : (shape sorted : List ℕ) → IsPermutation shape sorted → IsEven sorted → IsBalanced shape
-balanced_from_even shape sorted moved h =
+balanced_from_order : (shape sorted : List ℕ) → IsPermutation shape sorted → IsBalancedInOrder sorted → IsBalanced shape
+balanced_from_order shape sorted moved h =
     elim h [
       | inl e ↦ inl (IsPermutation-trans _ _ _ (rw e at moved) (IsPermutation-reverse (3 ∷ 3 ∷ 3 ∷ 4 ∷ [])))
       | inr y ↦ inr (elim y [
@@ -138,9 +139,13 @@ test_from_balanced shape h =
       ]
     ]
 
+-- the test and the fact
+pub balanced_is : (shape : List ℕ) → IsTrue (is_balanced shape) ↔ IsBalanced shape
+balanced_is shape = (balanced_from_test shape, test_from_balanced shape)
+
 -- a test of the sorted lengths is the test of the shape
-pub balanced_by_sorting : (shape sorted : List ℕ) (even : Bool) → length sorted ≡ 4 → IsPermutation shape sorted → IsSorted nat_cmp sorted → (even ≡ true → IsEven sorted) × (IsEven sorted → even ≡ true) → even ≡ is_balanced shape
-balanced_by_sorting shape sorted even count moved up test =
-    same_truth even (is_balanced shape)
-    (λ e. test_from_balanced shape (balanced_from_even shape sorted moved (test.0 e)))
-    (λ b. test.1 (even_from_balanced shape sorted count moved up (balanced_from_test shape b)))
+pub balanced_by_sorting : (shape sorted : List ℕ) (answer : Bool) → length sorted ≡ 4 → IsPermutation shape sorted → IsSorted nat_cmp sorted → (answer ≡ true → IsBalancedInOrder sorted) × (IsBalancedInOrder sorted → answer ≡ true) → answer ≡ is_balanced shape
+balanced_by_sorting shape sorted answer count moved up test =
+    same_truth answer (is_balanced shape)
+    (λ e. test_from_balanced shape (balanced_from_order shape sorted moved (test.0 e)))
+    (λ b. test.1 (in_order_from_balanced shape sorted count moved up (balanced_from_test shape b)))

@@ -21,8 +21,8 @@ use Rattle.cards.specs.Masks.{cards_of_mask, mask_of_suit}
 use Rattle.cards.specs.MaskBits.{bit_at_pack, mask-pack-lt, same_masks, mask_of_cards}
 
 -- the cards of a rank
-abbrev pub has_rank : ℕ → ℕ → Bool
-has_rank rank c = rank_of c == rank
+abbrev pub is_of_rank : ℕ → ℕ → Bool
+is_of_rank rank c = rank_of c == rank
 
 -- what a mask shows of a card
 pub card_at_mask : (mask c : ℕ) → mask < 2 ^ 52 → holds_card (cards_of_mask mask) c ≡ (bit_at mask c == 1)
@@ -129,16 +129,16 @@ by_rank (suc (suc (suc zero))) false = refl
 by_rank (suc (suc (suc (suc r)))) b = no_points_above (suc (suc (suc (suc r)))) b (omega arith) ∙ no_honour (suc (suc (suc (suc r)))) b (omega arith)
 
 sum_by_ranks : (b : ℕ → Bool) (xs : List ℕ) → sum_by (λ c. cond (b c) (points_of_rank (c % 13)) 0) xs
-    ≡ 4 * count_by (λ c. has_rank 0 c && b c) xs + 3 * count_by (λ c. has_rank 1 c && b c) xs + 2 * count_by (λ c. has_rank 2 c && b c) xs + count_by (λ c. has_rank 3 c && b c) xs
+    ≡ 4 * count_by (λ c. is_of_rank 0 c && b c) xs + 3 * count_by (λ c. is_of_rank 1 c && b c) xs + 2 * count_by (λ c. is_of_rank 2 c && b c) xs + count_by (λ c. is_of_rank 3 c && b c) xs
 sum_by_ranks b [] = refl
 sum_by_ranks b (x ∷ xs) =
     omega (
       arith,
       sum_by-cons (λ c. cond (b c) (points_of_rank (c % 13)) 0) x xs,
-      sum_by-cons (λ c. cond (has_rank 0 c && b c) 1 0) x xs,
-      sum_by-cons (λ c. cond (has_rank 1 c && b c) 1 0) x xs,
-      sum_by-cons (λ c. cond (has_rank 2 c && b c) 1 0) x xs,
-      sum_by-cons (λ c. cond (has_rank 3 c && b c) 1 0) x xs,
+      sum_by-cons (λ c. cond (is_of_rank 0 c && b c) 1 0) x xs,
+      sum_by-cons (λ c. cond (is_of_rank 1 c && b c) 1 0) x xs,
+      sum_by-cons (λ c. cond (is_of_rank 2 c && b c) 1 0) x xs,
+      sum_by-cons (λ c. cond (is_of_rank 3 c && b c) 1 0) x xs,
       by_rank (x % 13) (b x),
       sum_by_ranks b xs,
     )
@@ -149,7 +149,7 @@ ones_of mask m q h e =
     ap (λ t. count_ones (bit_and mask t)) e ∙ ones_under mask q h
     ∙ sum_by_same (λ c. cond (q c && (bit_at mask c == 1)) 1 0) (λ c. cond (q c && holds_card (cards_of_mask mask) c) 1 0) (λ c. ap (λ b. cond (q c && b) 1 0) (sym (card_at_mask mask c h))) pack
 
-rank_masks : (0x8004002001 ≡ mask_l (map (has_rank 0) pack)) × (0x10008004002 ≡ mask_l (map (has_rank 1) pack)) × (0x20010008004 ≡ mask_l (map (has_rank 2) pack)) × (0x40020010008 ≡ mask_l (map (has_rank 3) pack))
+rank_masks : (0x8004002001 ≡ mask_l (map (is_of_rank 0) pack)) × (0x10008004002 ≡ mask_l (map (is_of_rank 1) pack)) × (0x20010008004 ≡ mask_l (map (is_of_rank 2) pack)) × (0x40020010008 ≡ mask_l (map (is_of_rank 3) pack))
 unfolding pack
 rank_masks = (refl, refl, refl, refl)
 
@@ -163,10 +163,10 @@ points_by_masks mask a k q j h ea ek eq ej =
       ek,
       eq,
       ej,
-      ones_of mask 0x8004002001 (has_rank 0) h rank_masks.0,
-      ones_of mask 0x10008004002 (has_rank 1) h rank_masks.1,
-      ones_of mask 0x20010008004 (has_rank 2) h rank_masks.2,
-      ones_of mask 0x40020010008 (has_rank 3) h rank_masks.3,
+      ones_of mask 0x8004002001 (is_of_rank 0) h rank_masks.0,
+      ones_of mask 0x10008004002 (is_of_rank 1) h rank_masks.1,
+      ones_of mask 0x20010008004 (is_of_rank 2) h rank_masks.2,
+      ones_of mask 0x40020010008 (is_of_rank 3) h rank_masks.3,
       sum_by_ranks (holds_card (cards_of_mask mask)) pack,
     )
 

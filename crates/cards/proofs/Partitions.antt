@@ -1,16 +1,17 @@
 -- The deal of any list of places, and so each candidate, is a partition.
-use Rattle.std.proofs.Common.{◌≡◌, ℕ, zero, suc, ◌+◌, ◌-◌, ◌*◌, ◌^◌, ◌<◌, ◌≤◌, List, get_or, refl, subst, arith}
+use Rattle.std.proofs.Common.{◌≡◌, ℕ, zero, suc, ◌+◌, ◌-◌, ◌*◌, ◌^◌, ◌<◌, ◌≤◌, List, get_or, map, refl, sym, ap, ◌∙◌, subst, arith}
 use Rattle.std.specs.List.{swap}
 use Rattle.std.specs.List.Sorted.{IsPermutation}
 use Rattle.std.proofs.lemmas.List.Sorted.{IsPermutation-swap}
-use Rattle.std.proofs.lemmas.List.FromFn.{length-map-range_with_len, get_or-map-range_with_len}
+use Rattle.std.proofs.lemmas.List.FromFn.{fill_by_all, length-map-range_with_len, get_or-map-range_with_len}
 use Rattle.std.proofs.lemmas.Nat.{mod_below}
 use Rattle.std.proofs.Math.Nat.{mul-le-mul_left}
 use Rattle.lcg48.specs.Sequence.{state_after}
-use Rattle.cards.specs.Shuffle.{IsPlaces, place_of, drawn_places, pack}
+use Rattle.cards.specs.Shuffle.{IsPlaces, card_at, place_of, drawn_places, pack}
 use Rattle.cards.specs.Deals.{IsPartition, dealt}
 use Rattle.cards.specs.Candidates.{candidate, state_before}
 use Rattle.cards.specs.Exchanges.{IsTraced}
+use Rattle.cards.proofs.Tracing.{traced-none}
 use Rattle.cards.proofs.Settling.{long, traced_at_first, traced_on, dealt_is_partition}
 
 -- the cards after the first n exchanges
@@ -28,6 +29,16 @@ exchanged places ok (suc n) le =
 
 pub dealt_partition : (places : List ℕ) → IsPlaces places → IsPartition (dealt places)
 dealt_partition places ok = let all = exchanged places ok 51 (omega arith) in dealt_is_partition places all.0 0 refl all.1
+
+-- the cards at the positions are the pack's
+pub positions_whole : (places : List ℕ) → IsPlaces places → IsPermutation pack (map (card_at places) pack)
+unfolding pack
+positions_whole places ok =
+    let all = exchanged places ok 51 (omega arith) in
+    let cards : List ℕ = all.0 in
+    let traced : IsTraced places cards 0 = all.1 in
+    let at : (i : ℕ) → i < 52 → get_or cards i 0 ≡ card_at places i = λ i h. ap (λ x. get_or cards x 0) (sym (traced-none places i 0 refl)) ∙ traced.card i h in
+    subst (IsPermutation pack) (fill_by_all (card_at places) cards 52 0 (long places cards 0 traced) at) traced.whole
 
 state_below : (x n : ℕ) → state_after x (suc n) < 2 ^ 48
 unfolding state_after

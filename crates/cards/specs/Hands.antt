@@ -78,6 +78,10 @@ abbrev pub IsBalanced : List ℕ → Type 0
 IsBalanced shape =
     IsPermutation shape flat ⊎ IsPermutation shape two_fours ⊎ IsPermutation shape one_five
 
+-- whether the hand has the rank of the suit
+abbrev pub has_rank : List Bool → Suit → ℕ → Bool
+has_rank hand suit rank = holds_card hand (13 * suit_number suit + rank)
+
 -- which of the suit's thirteen ranks the hand has, the ace first
 abbrev pub ranks_of : List Bool → Suit → List Bool
-ranks_of hand suit = map (λ rank. holds_card hand (13 * suit_number suit + rank)) (range_with_len 0 13)
+ranks_of hand suit = map (has_rank hand suit) (range_with_len 0 13)

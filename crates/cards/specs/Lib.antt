@@ -5,5 +5,5 @@ pub mod Hands
 pub mod Candidates
 pub mod Masks
 pub mod MaskBits
-pub mod Even
+pub mod BalancedInOrder
 pub mod Exchanges

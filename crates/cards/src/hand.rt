@@ -1,11 +1,12 @@
 //! Hands: the cards of one seat, their points, lengths and shape.
 
-ghost use Rattle.std.specs.Prelude.{◌≡◌, ◌<◌, ◌≤◌, ◌^◌, ◌*◌, ◌↔◌, IsTrue};
-ghost use lib.Lanes.{mask_l};
+ghost use Rattle.std.specs.Prelude.{◌≡◌, ℕ, ◌<◌, ◌≤◌, ◌^◌, ◌*◌, ◌↔◌, IsTrue};
+ghost use Rattle.std.specs.Int.{bit_at};
 ghost use Rattle.cards.specs.Pack.{suit_number};
-ghost use Rattle.cards.specs.Hands.{points_of, points_in, length_of, shape_of, is_balanced, ranks_of};
+ghost use Rattle.cards.specs.Hands.{points_of, points_in, length_of, shape_of, is_balanced, IsBalanced};
+ghost use Rattle.cards.specs.Hands.{has_rank, ranks_of};
 ghost use Rattle.cards.specs.Masks.{cards_of_mask};
-ghost use Rattle.cards.specs.Even.{IsEven};
+ghost use Rattle.cards.specs.BalancedInOrder.{IsBalancedInOrder};
 
 use crate::Suit;
 use crate::masks::{points_of_mask, suit_mask};
@@ -81,11 +82,12 @@ impl Hand {
 
     /// Whether the four lengths are 4-3-3-3, 4-4-3-2 or 5-3-3-2 in some order.
     pub fn balanced(&self) -> bool
-        ensures { result ≡ is_balanced (shape_of self.now) }
+        ensures value { result ≡ is_balanced (shape_of self.now) }
+        ensures shapes { IsTrue result ↔ IsBalanced (shape_of self.now) }
     {
         let mut shape = self.shape();
         shape.sort_unstable();
-        is_even(&shape)
+        is_balanced_in_order(&shape)
     }
 
     /// Which of the suit's thirteen ranks the hand has, from the ace down to the two.
@@ -100,10 +102,12 @@ impl Hand {
         ranks
     }
 
-    /// The suit's thirteen ranks as a set of 13 bits, each set where the hand has the rank: bit 0 is
+    /// The suit's thirteen ranks as 13 bits: a bit is 1 exactly if the hand has the rank. Bit 0 is
     /// the ace, bit 12 the two.
     pub fn rank_set(&self, suit: Suit) -> u16
-        ensures value { result ≡ mask_l (ranks_of self.now suit) }
+        ensures bits { (rank : ℕ)
+            → rank < 13
+            → (bit_at result rank ≡ 1) ↔ IsTrue (has_rank self.now suit rank) }
         ensures below { result < 2 ^ 13 }
     {
         ((self.cards >> first_card(suit)) & 0x1FFF) as u16
@@ -119,8 +123,8 @@ fn first_card(suit: Suit) -> usize
 }
 
 /// Whether these four lengths, in ascending order, are those of a balanced hand.
-fn is_even(lengths: &[u8; 4]) -> bool
-    ensures { IsTrue result ↔ IsEven lengths.now }
+fn is_balanced_in_order(lengths: &[u8; 4]) -> bool
+    ensures { IsTrue result ↔ IsBalancedInOrder lengths.now }
 {
     *lengths == [3, 3, 3, 4] || *lengths == [2, 3, 4, 4] || *lengths == [2, 3, 3, 5]
 }

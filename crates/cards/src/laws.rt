@@ -1,17 +1,39 @@
-//! Laws of this crate's definitions: functions that do nothing, whose contracts are the laws.
+//! Laws of this crate's definitions: functions whose contracts are the laws. But for `equality`, which
+//! compares, they do nothing.
 
-ghost use Rattle.std.specs.Prelude.{ℕ, List, ◌↔◌, IsTrue};
+ghost use Rattle.std.specs.Prelude.{◌≡◌, ℕ, List, map, ◌↔◌, IsTrue};
 ghost use Rattle.std.specs.List.Sorted.{IsPermutation};
-ghost use Rattle.cards.specs.Hands.{is_rearrangement};
+ghost use Rattle.cards.specs.Shuffle.{IsPlaces, card_at, pack};
+ghost use Rattle.cards.specs.Hands.{is_rearrangement, is_balanced, IsBalanced};
+ghost use Rattle.cards.specs.Candidates.{candidate};
+ghost use Rattle.cards.specs.Deals.{IsPartition};
 
-/// Two lists of numbers are rearrangements of each other exactly where one is a permutation of the
-/// other, so a balanced hand is one whose four lengths are, in some order, one of the three shapes.
+use crate::Deal;
+
+/// One list of numbers is a rearrangement of another exactly if it is a permutation of it.
 pub fn rearrangement()
     ensures { (xs ys : List ℕ) → IsTrue (is_rearrangement xs ys) ↔ IsPermutation xs ys }
 {}
 
-ghost use Rattle.cards.specs.Candidates.{candidate};
-ghost use Rattle.cards.specs.Deals.{IsPartition};
+/// The test of a balanced shape says that it is a permutation of 4-3-3-3, 4-4-3-2 or 5-3-3-2.
+pub fn balanced()
+    ensures { (shape : List ℕ) → IsTrue (is_balanced shape) ↔ IsBalanced shape }
+{}
+
+/// After the exchanges each position has one card, and each card one position: the cards at the
+/// positions 0 to 51 are a permutation of the pack.
+pub fn positions()
+    ensures { (places : List ℕ) → IsPlaces places → IsPermutation pack (map (card_at places) pack) }
+{}
+
+/// Two deals are equal exactly if each card has the same seat in both.
+pub fn equality(a: &Deal, b: &Deal) -> bool
+    ensures { IsTrue result ↔ (a.now ≡ b.now) }
+{
+    a.keep_partition();
+    b.keep_partition();
+    a == b
+}
 
 /// Every candidate of every seed is a partition of the pack into four hands of thirteen.
 pub fn candidates()

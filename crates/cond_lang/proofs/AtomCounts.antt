@@ -4,7 +4,7 @@ use Rattle.cond_lang.specs.declared.token.Token.{Token}
 use Rattle.cond_lang.specs.declared.token.Token.TheVariants.{Or, And, Close, Plus, Relation}
 use Rattle.cond_lang.specs.Form.{Amount, sum, number, points, suit_points, suit_length, Form, any_of, all_of, negation, compare, balanced, shape, pattern}
 use Rattle.cond_lang.specs.Grammar.{SpellsAtom, SpellsValue, atom, plus, a_number, hcp, hcp_in, len, SpellsCond, both, or, SpellsBoth, unit, and, SpellsUnit, not, brackets, comparison, is_balanced, has_shape, has_pattern, Spells}
-use Rattle.cond_lang.specs.Atoms.{atoms_of, HasAtMostAtoms}
+use Rattle.cond_lang.specs.Limits.{atoms_of, HasAtMostAtoms}
 
 atom_count : {T : List Token} {a : Amount} → SpellsAtom T a → atoms_of a ≤ 1
 atom_count a_number = omega arith

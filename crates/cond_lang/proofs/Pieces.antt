@@ -8,7 +8,7 @@ use Rattle.cond_lang.specs.declared.tree.Op.TheVariants.{Less, AtMost, More, AtL
 use Rattle.cond_lang.specs.declared.token.Token.{Token}
 use Rattle.cond_lang.specs.declared.token.Token.TheVariants.{Number, Relation}
 use Rattle.cond_lang.specs.declared.token.Piece.{Piece}
-use Rattle.cond_lang.specs.declared.token.Piece.TheVariants.{Separator, Token as PToken, Byte as PByte, Word as PWord, Number as PNumber}
+use Rattle.cond_lang.specs.declared.token.Piece.TheVariants.{Separator, Token as TokenPiece, StrayByte, UnknownWord, LongNumber}
 use Rattle.cond_lang.specs.Cut.{words, symbols, is_separator, IsRun, decimal, BeginsWithSymbol, IsPiece, blank, word, no_word, number, long, symbol, stray}
 use Rattle.cond_lang.specs.Scanning.{token_of, run, begins_with, symbol_after, token_or, word_piece, number_piece, symbol_piece, piece_at}
 use Rattle.cond_lang.proofs.Tables.{pick, words_apart, token_of-entry, entry_of, at_entry}
@@ -48,20 +48,20 @@ IsLongest p rest = (q : List ℕ) → BeginsWithSymbol q (p ++ rest) → length 
 longer : (q : List ℕ) (t : Token) (text : List ℕ) → token_of symbols q ≡ Some t → (more : List ℕ) → text ≡ q ++ more → BeginsWithSymbol q text
 longer q t text e more b = record { token = t; more = more; known = entry_of symbols q t e; begins = b }
 
-only_symbol : (p : List ℕ) (t : Token) → Contains symbols (p, t) → (rest : List ℕ) → IsLongest p rest → piece_at (p ++ rest) ≡ (PToken t, length p)
+only_symbol : (p : List ℕ) (t : Token) → Contains symbols (p, t) → (rest : List ℕ) → IsLongest p rest → piece_at (p ++ rest) ≡ (TokenPiece t, length p)
 only_symbol =
-    at_entry (λ p t. (rest : List ℕ) → IsLongest p rest → piece_at (p ++ rest) ≡ (PToken t, length p)) symbols
+    at_entry (λ p t. (rest : List ℕ) → IsLongest p rest → piece_at (p ++ rest) ≡ (TokenPiece t, length p)) symbols
     (λ r l. refl, (λ r l. refl, (λ r l. refl, (λ r l. refl, (λ r l. refl, (λ r l. refl, (λ r l. refl, (less, (λ r l. refl, (more, (λ r l. refl, tt)))))))))))
   where
-    less : (rest : List ℕ) → IsLongest (60 ∷ []) rest → piece_at (60 ∷ rest) ≡ (PToken (Relation Less), 1)
+    less : (rest : List ℕ) → IsLongest (60 ∷ []) rest → piece_at (60 ∷ rest) ≡ (TokenPiece (Relation Less), 1)
     less rest l =
-        pick (λ o. symbol_piece o ≡ (PToken (Relation Less), 1)) (begins_with 61 rest) _ _
+        pick (λ o. symbol_piece o ≡ (TokenPiece (Relation Less), 1)) (begins_with 61 rest) _ _
         (λ h. let m = goes_on 61 rest h in absurd (omega (arith, l (60 ∷ 61 ∷ []) (longer _ (Relation AtMost) _ refl m.0 (ap (λ s. 60 ∷ s) m.1)))))
         (λ h. refl)
 
-    more : (rest : List ℕ) → IsLongest (62 ∷ []) rest → piece_at (62 ∷ rest) ≡ (PToken (Relation More), 1)
+    more : (rest : List ℕ) → IsLongest (62 ∷ []) rest → piece_at (62 ∷ rest) ≡ (TokenPiece (Relation More), 1)
     more rest l =
-        pick (λ o. symbol_piece o ≡ (PToken (Relation More), 1)) (begins_with 61 rest) _ _
+        pick (λ o. symbol_piece o ≡ (TokenPiece (Relation More), 1)) (begins_with 61 rest) _ _
         (λ h. let m = goes_on 61 rest h in absurd (omega (arith, l (62 ∷ 61 ∷ []) (longer _ (Relation AtLeast) _ refl m.0 (ap (λ s. 62 ∷ s) m.1)))))
         (λ h. refl)
 
@@ -71,7 +71,7 @@ no_symbol c s (Some x) h n = absurd (n (take x.1 (c ∷ s)) (longer _ x.0 _ h.0 
 
 only_stray :
     (c : ℕ) (s : List ℕ) → is_separator c ≡ false → is_ascii_lowercase c ≡ false → is_ascii_digit c ≡ false
-    → ((q : List ℕ) → BeginsWithSymbol q (c ∷ s) → ⊥) → piece_at (c ∷ s) ≡ (PByte, 1)
+    → ((q : List ℕ) → BeginsWithSymbol q (c ∷ s) → ⊥) → piece_at (c ∷ s) ≡ (StrayByte, 1)
 only_stray c s separator lower digit n =
     let none : symbol_after c s ≡ None = no_symbol c s (symbol_after c s) (symbol_is c s) n in
     cond-false (is_separator c) _ _ separator
@@ -83,10 +83,10 @@ no_entry : (p : List ℕ) (o : Option Token) → token_of words p ≡ o → ((t 
 no_entry p None e n = refl
 no_entry p (Some t) e n = absurd (n t (entry_of words p t e))
 
-short_number : (p : List ℕ) → length p ≤ 4 → number_piece p ≡ PToken (Number (decimal p))
+short_number : (p : List ℕ) → length p ≤ 4 → number_piece p ≡ TokenPiece (Number (decimal p))
 short_number p few = let h : leb (length p) 4 ≡ true = le-leb (length p) 4 few in rw h refl
 
-long_number : (p : List ℕ) → 4 < length p → number_piece p ≡ PNumber
+long_number : (p : List ℕ) → 4 < length p → number_piece p ≡ LongNumber
 long_number p many = let h : leb (length p) 4 ≡ false = lt-leb (length p) 4 many in rw h refl
 
 as_piece : (k j : Piece) (n : ℕ) → k ≡ j → (let x : Piece × ℕ = (k, n) in x) ≡ (j, n)
@@ -94,8 +94,8 @@ as_piece k j n e = ap (λ k. let x : Piece × ℕ = (k, n) in x) e
 
 pub only_piece : {p rest : List ℕ} {k : Piece} → IsPiece p rest k → piece_at (p ++ rest) ≡ (k, length p)
 only_piece (blank {c} {rest} h) = rw h refl
-only_piece (word {p} {rest} {t} r m) = only_word p rest r ∙ as_piece _ _ (length p) (ap (token_or PWord) (token_of-entry words p t words_apart m))
-only_piece (no_word {p} {rest} r n) = only_word p rest r ∙ as_piece _ _ (length p) (ap (token_or PWord) (no_entry p (token_of words p) refl n))
+only_piece (word {p} {rest} {t} r m) = only_word p rest r ∙ as_piece _ _ (length p) (ap (token_or UnknownWord) (token_of-entry words p t words_apart m))
+only_piece (no_word {p} {rest} r n) = only_word p rest r ∙ as_piece _ _ (length p) (ap (token_or UnknownWord) (no_entry p (token_of words p) refl n))
 only_piece (number {p} {rest} r few) = only_number p rest r ∙ as_piece _ _ (length p) (short_number p few)
 only_piece (long {p} {rest} r many) = only_number p rest r ∙ as_piece _ _ (length p) (long_number p many)
 only_piece (symbol {p} {rest} {t} m l) = only_symbol p t m rest l
@@ -112,11 +112,11 @@ pub record FirstPiece (s : List ℕ) : Type 0 where
   pub is : IsPiece p rest kind
 
 known_word : (p rest : List ℕ) (o : Option Token) → IsRun is_ascii_lowercase p rest → token_of words p ≡ o → (k : Piece) × IsPiece p rest k
-known_word p rest None r e = (PWord, no_word r (λ t m. let h = token_of-entry words p t words_apart m in cc))
-known_word p rest (Some t) r e = (PToken t, word r (entry_of words p t e))
+known_word p rest None r e = (UnknownWord, no_word r (λ t m. let h = token_of-entry words p t words_apart m in cc))
+known_word p rest (Some t) r e = (TokenPiece t, word r (entry_of words p t e))
 
 known_number : (p rest : List ℕ) → IsRun is_ascii_digit p rest → (k : Piece) × IsPiece p rest k
-known_number p rest r = elim (cases_lt 4 (length p)) [ inl many ↦ (PNumber, long r many) | inr few ↦ (PToken (Number (decimal p)), number r few) ]
+known_number p rest r = elim (cases_lt 4 (length p)) [ inl many ↦ (LongNumber, long r many) | inr few ↦ (TokenPiece (Number (decimal p)), number r few) ]
 
 first_run : (f : ℕ → Bool) (c : ℕ) (s : List ℕ) → f c ≡ true → ((p rest : List ℕ) → IsRun f p rest → (k : Piece) × IsPiece p rest k) → FirstPiece (c ∷ s)
 first_run f c s h known =
@@ -136,7 +136,7 @@ first_symbol c s None e h a b d =
     record {
       p = c ∷ [];
       rest = s;
-      kind = PByte;
+      kind = StrayByte;
       split = refl;
       some = omega arith;
       is = stray a b d (λ q f. subst (λ o. IsAtLeast (length q) o (c ∷ s)) e (fits q (c ∷ s) f));
@@ -147,7 +147,7 @@ first_symbol c s (Some x) e h a b d =
     record {
       p = p;
       rest = drop x.1 (c ∷ s);
-      kind = PToken x.0;
+      kind = TokenPiece x.0;
       split = sym back;
       some = taken_some x.1 c s h.1;
       is =

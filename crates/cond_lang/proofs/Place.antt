@@ -23,7 +23,7 @@ unfolding ends_with
 reads_ended a [] = gets_at_end _ (ended a) a (refl, refl) refl
 reads_ended a (c ∷ S) = stops_at _ c (ended a) S ([], a, (refl, refl)) (λ X. refl)
 
--- reading the whole, by a suit_length of steps
+-- reading the whole, by a number of steps
 by_steps : ℕ → Reader Form
 by_steps n S = after (steps n a_cond S) ended
 
@@ -51,7 +51,7 @@ whole_right T t e =
     let c : T ≡ h.done = h.cut ∙ append-nil h.done in
     subst (λ L. Spells L t) (sym c) h.right
 
--- where reading stops, by any suit_length of steps that is enough
+-- where reading stops, by any number of steps that is enough
 stuck_reads : (n : ℕ) (T R : List Token) → 4 + 5 * length T < n → whole T ≡ stuck R → Reads Spells (by_steps n) T (stuck R)
 stuck_reads n T R h e =
     let i : by_steps n T ≡ stuck R = sym (whole-by_steps n T h) ∙ e in

@@ -23,13 +23,13 @@ value_reads (plus {L} {R} {a} {b} l r) B =
     ∙ reads (sums a) (Plus ∷ (R ++ B))
     ∙ ap (λ o. after o (λ b R. reading (sums (sum a b)) R)) (atom_reads r B)
 
--- a chain of `+` ends where none follows
+-- a chain of `+` ends if none follows
 sums_stop : (a : Amount) (B : List Token) → front B ≢ Some Plus → reading (sums a) B ≡ got a B
 sums_stop a [] h = reads (sums a) []
 sums_stop a (Plus ∷ B) h = absurd (h refl)
 sums_stop a (c ∷ B) h = reads (sums a) (c ∷ B)
 
--- a chain of `and` ends where none follows
+-- a chain of `and` ends if none follows
 ands_stop : (a : Form) (B : List Token) → front B ≢ Some And → reading (ands a) B ≡ got a B
 ands_stop a [] h = reads (ands a) []
 ands_stop a (And ∷ B) h = absurd (h refl)

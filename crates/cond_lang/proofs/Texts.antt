@@ -1,27 +1,46 @@
 -- What a text tells, it tells once.
-use Rattle.std.proofs.Common.{◌≡◌, ℕ, ◌+◌, ◌≤◌, ◌<◌, List, [], ◌∷◌, length, Result, Ok, Err, IfErr, MatchResult, sym, ap, ◌∙◌, subst, arith}
+use Rattle.std.proofs.Common.{◌≡◌, ℕ, ◌≤◌, ◌<◌, List, length, Result, Err, Some, IfErr, MatchResult, sym, ap, ◌∙◌, subst, arith}
 use Rattle.std.proofs.lemmas.List.{length-map}
 use Rattle.cond_lang.specs.declared.token.Placed.{Placed}
 use Rattle.cond_lang.specs.declared.token.Piece.{Piece}
-use Rattle.cond_lang.specs.declared.token.Piece.TheVariants.{Separator, Token as PToken, Byte as PByte, Word as PWord, Number as PNumber}
+use Rattle.cond_lang.specs.declared.token.Piece.TheVariants.{Separator, Token as TokenPiece, StrayByte, UnknownWord, LongNumber}
 use Rattle.cond_lang.specs.declared.error.CondError.{CondError}
 use Rattle.cond_lang.specs.declared.error.CondError.TheVariants.{TooLong, Byte, Word, Number, Syntax, Memory}
 use Rattle.cond_lang.specs.Form.{Form}
 use Rattle.cond_lang.specs.Grammar.{Spells}
 use Rattle.cond_lang.specs.Place.{kinds}
-use Rattle.cond_lang.specs.Cut.{Pieces, tokens_from, with_piece, and_then_more, HasTokens, HasFault}
+use Rattle.cond_lang.specs.Cut.{fault_at, bytes_of, HasTokens, HasFault}
 use Rattle.cond_lang.specs.Text.{SpellsTree, IsDue}
 use Rattle.cond_lang.proofs.Cuts.{one_cut}
 use Rattle.cond_lang.proofs.Spelled.{one_tree}
+use Rattle.cond_lang.proofs.Told.{told_from, tokens_told, fault_told}
 
 pub one_fault : (text : List ℕ) (e f : CondError) → HasFault text e → HasFault text f → e ≡ f
-one_fault text e f h k = let same : tokens_from 0 h.pieces ≡ tokens_from 0 k.pieces = ap (tokens_from 0) (one_cut text h.pieces k.pieces h.cut k.cut) in let a = h.found in let b = k.found in cc
+one_fault text e f h k =
+    let x = fault_told text e h in
+    let y = fault_told text f k in
+    let same : told_from 0 x.pieces ≡ told_from 0 y.pieces = ap (told_from 0) (one_cut text x.pieces y.pieces x.cut y.cut) in
+    let a = x.found in
+    let b = y.found in
+    cc
 
 pub one_tokens : (text : List ℕ) (xs ys : List Placed) → HasTokens text xs → HasTokens text ys → xs ≡ ys
-one_tokens text xs ys h k = let same : tokens_from 0 h.pieces ≡ tokens_from 0 k.pieces = ap (tokens_from 0) (one_cut text h.pieces k.pieces h.cut k.cut) in let a = h.found in let b = k.found in cc
+one_tokens text xs ys h k =
+    let x = tokens_told text xs h in
+    let y = tokens_told text ys k in
+    let same : told_from 0 x.pieces ≡ told_from 0 y.pieces = ap (told_from 0) (one_cut text x.pieces y.pieces x.cut y.cut) in
+    let a = x.found in
+    let b = y.found in
+    cc
 
 pub no_tokens : (text : List ℕ) (e : CondError) (xs : List Placed) → HasFault text e → HasTokens text xs → ⊥
-no_tokens text e xs h k = let same : tokens_from 0 h.pieces ≡ tokens_from 0 k.pieces = ap (tokens_from 0) (one_cut text h.pieces k.pieces h.cut k.cut) in let a = h.found in let b = k.found in cc
+no_tokens text e xs h k =
+    let x = fault_told text e h in
+    let y = tokens_told text xs k in
+    let same : told_from 0 x.pieces ≡ told_from 0 y.pieces = ap (told_from 0) (one_cut text x.pieces y.pieces x.cut y.cut) in
+    let a = x.found in
+    let b = y.found in
+    cc
 
 -- the fault of a piece
 abbrev pub IsOfPiece : CondError → Type 0
@@ -30,27 +49,15 @@ IsOfPiece (Word at) = Unit {0}
 IsOfPiece (Number at) = Unit {0}
 IsOfPiece e = ⊥
 
-abbrev IsOfPieceIfErr : Result (List Placed) CondError → Type 0
-IsOfPieceIfErr (Ok ts) = Unit {0}
-IsOfPieceIfErr (Err e) = IsOfPiece e
-
-of_more : (t : Placed) (r : Result (List Placed) CondError) → IsOfPieceIfErr r → IsOfPieceIfErr (and_then_more t r)
-of_more t (Ok ts) h = h
-of_more t (Err e) h = h
-
-of_with : (k : Piece) (at : ℕ) (r : Result (List Placed) CondError) → IsOfPieceIfErr r → IsOfPieceIfErr (with_piece k at r)
-of_with Separator at r h = h
-of_with (PToken t) at r h = of_more _ r h
-of_with PByte at r h = tt
-of_with PWord at r h = tt
-of_with PNumber at r h = tt
-
-of_pieces : (at : ℕ) (ps : Pieces) → IsOfPieceIfErr (tokens_from at ps)
-of_pieces at [] = tt
-of_pieces at (p ∷ ps) = of_with p.1 at (tokens_from (at + length p.0) ps) (of_pieces (at + length p.0) ps)
+of_piece : (k : Piece) (at : ℕ) (e : CondError) → fault_at at k ≡ Some e → IsOfPiece e
+of_piece Separator at e h = absurd (cc)
+of_piece (TokenPiece t) at e h = absurd (cc)
+of_piece StrayByte at e h = let f : Byte at ≡ e = cc in subst IsOfPiece f tt
+of_piece UnknownWord at e h = let f : Word at ≡ e = cc in subst IsOfPiece f tt
+of_piece LongNumber at e h = let f : Number at ≡ e = cc in subst IsOfPiece f tt
 
 pub fault_of_piece : (text : List ℕ) (e : CondError) → HasFault text e → IsOfPiece e
-fault_of_piece text e h = subst IsOfPieceIfErr h.found (of_pieces 0 h.pieces)
+fault_of_piece text e h = of_piece h.faulty.1 (bytes_of h.before) e h.found
 
 due : (text : List ℕ) (e : CondError) → HasFault text e → IsOfPiece e → IsDue text e
 due text TooLong h k = absurd k

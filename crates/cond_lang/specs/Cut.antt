@@ -1,7 +1,7 @@
 -- A text is cut into pieces, each the longest that fits at its place: words, numbers, symbols, separators, and bytes
 -- that begin none of these.
-use Rattle.std.specs.Prelude.{◌≡◌, ℕ, ◌+◌, ◌*◌, ◌-◌, ◌<◌, ◌≤◌, Bool, true, false, ◌||◌, ◌==◌, List, [], ◌∷◌, ◌++◌, length, codes, fold, Result, Ok, Err, Contains}
-use Rattle.std.specs.List.{AllByRecursion}
+use Rattle.std.specs.Prelude.{◌≡◌, ℕ, ◌+◌, ◌*◌, ◌-◌, ◌<◌, ◌≤◌, Bool, true, false, ◌||◌, ◌==◌, List, [], ◌∷◌, ◌++◌, length, codes, fold, Option, Some, None, All, Contains}
+use Rattle.std.specs.List.{AllByRecursion, filter_map, sum_by}
 use Rattle.std.specs.Char.{is_ascii_lowercase, is_ascii_digit}
 use Rattle.cards.specs.declared.seat.Seat.TheVariants.{North, East, South, West}
 use Rattle.cards.specs.declared.suit.Suit.TheVariants.{Spades, Hearts, Diamonds, Clubs}
@@ -10,9 +10,9 @@ use Rattle.cond_lang.specs.declared.token.Token.{Token}
 use Rattle.cond_lang.specs.declared.token.Token.TheVariants.{Or, And, Not, Balanced, Shape, Pattern, Hcp, Len, Seat, Suit, Number, Open, Close, Comma, Dash, Plus, Relation}
 use Rattle.cond_lang.specs.declared.token.Placed.{Placed}
 use Rattle.cond_lang.specs.declared.token.Piece.{Piece}
-use Rattle.cond_lang.specs.declared.token.Piece.TheVariants.{Separator, Token as PToken, Byte as PByte, Word as PWord, Number as PNumber}
+use Rattle.cond_lang.specs.declared.token.Piece.TheVariants.{Separator, Token as TokenPiece, StrayByte, UnknownWord, LongNumber}
 use Rattle.cond_lang.specs.declared.error.CondError.{CondError}
-use Rattle.cond_lang.specs.declared.error.CondError.TheVariants.{Byte, Word, Number as LongNumber}
+use Rattle.cond_lang.specs.declared.error.CondError.TheVariants.{Byte, Word, Number as NumberFault}
 
 -- the sixteen words, each with its token
 abbrev pub words : List (List ℕ × Token)
@@ -55,27 +55,27 @@ pub record BeginsWithSymbol (q text : List ℕ) : Type 0 where
   pub known : Contains symbols (q, token)
   pub begins : text ≡ q ++ more
 
--- p is a piece of this kind where rest follows it
+-- p is a piece of this kind if rest follows it
 pub data IsPiece : List ℕ → List ℕ → Piece → Type 0 where
   blank : {c : ℕ} {rest : List ℕ} → is_separator c ≡ true → IsPiece (c ∷ []) rest Separator
   word :
       {p rest : List ℕ} {t : Token} → IsRun is_ascii_lowercase p rest → Contains words (p, t)
-      → IsPiece p rest (PToken t)
+      → IsPiece p rest (TokenPiece t)
   no_word :
       {p rest : List ℕ} → IsRun is_ascii_lowercase p rest → ((t : Token) → Contains words (p, t) → ⊥)
-      → IsPiece p rest PWord
+      → IsPiece p rest UnknownWord
   number :
       {p rest : List ℕ} → IsRun is_ascii_digit p rest → length p ≤ 4
-      → IsPiece p rest (PToken (Number (decimal p)))
-  long : {p rest : List ℕ} → IsRun is_ascii_digit p rest → 4 < length p → IsPiece p rest PNumber
+      → IsPiece p rest (TokenPiece (Number (decimal p)))
+  long : {p rest : List ℕ} → IsRun is_ascii_digit p rest → 4 < length p → IsPiece p rest LongNumber
   symbol :
       {p rest : List ℕ} {t : Token} → Contains symbols (p, t)
       → ((q : List ℕ) → BeginsWithSymbol q (p ++ rest) → length q ≤ length p)
-      → IsPiece p rest (PToken t)
+      → IsPiece p rest (TokenPiece t)
   stray :
       {c : ℕ} {rest : List ℕ} → is_separator c ≡ false → is_ascii_lowercase c ≡ false → is_ascii_digit c ≡ false
       → ((q : List ℕ) → BeginsWithSymbol q (c ∷ rest) → ⊥)
-      → IsPiece (c ∷ []) rest PByte
+      → IsPiece (c ∷ []) rest StrayByte
 
 -- pieces of a text, and what each of them is
 abbrev pub Pieces : Type 0
@@ -88,32 +88,47 @@ pub data IsCut : List ℕ → Pieces → Type 0 where
       {p rest : List ℕ} {k : Piece} {ps : Pieces} → 0 < length p → IsPiece p rest k → IsCut rest ps
       → IsCut (p ++ rest) ((p, k) ∷ ps)
 
--- one token more in front of those that follow, unless there is a fault among these
-abbrev pub and_then_more : Placed → Result (List Placed) CondError → Result (List Placed) CondError
-and_then_more t (Ok ts) = Ok (t ∷ ts)
-and_then_more t (Err e) = Err e
+-- each piece's kind with the offset of its first byte, for pieces that begin at the offset `at`
+abbrev pub placed_from : ℕ → Pieces → List (ℕ × Piece)
+placed_from at [] = []
+placed_from at (p ∷ ps) = (at, p.1) ∷ placed_from (at + length p.0) ps
 
--- a piece in front of what the later ones tell: a fault hides all that follows
-abbrev pub with_piece : Piece → ℕ → Result (List Placed) CondError → Result (List Placed) CondError
-with_piece Separator at r = r
-with_piece (PToken t) at r = and_then_more (record { token = t; at = at }) r
-with_piece PByte at r = Err (Byte at)
-with_piece PWord at r = Err (Word at)
-with_piece PNumber at r = Err (LongNumber at)
+-- a piece that is a token gives it with its offset, and no other gives one
+abbrev pub token_at : ℕ → Piece → Option Placed
+token_at at (TokenPiece t) = Some (record { token = t; at = at })
+token_at at k = None
 
--- the tokens of the pieces, each with its offset, or the leftmost fault
-abbrev pub tokens_from : ℕ → Pieces → Result (List Placed) CondError
-tokens_from at [] = Ok []
-tokens_from at (p ∷ ps) = with_piece p.1 at (tokens_from (at + length p.0) ps)
+-- a faulty piece gives its fault with its offset, and no other gives one
+abbrev pub fault_at : ℕ → Piece → Option CondError
+fault_at at StrayByte = Some (Byte at)
+fault_at at UnknownWord = Some (Word at)
+fault_at at LongNumber = Some (NumberFault at)
+fault_at at k = None
 
--- the text is cut into tokens and separators, and these are the tokens
+-- the piece has no fault: it is a token or a separator
+abbrev pub IsSound : List ℕ × Piece → Type 0
+IsSound p = (at : ℕ) → fault_at at p.1 ≡ None
+
+-- the tokens of sound pieces, each with its offset
+abbrev pub tokens_of : Pieces → List Placed
+tokens_of ps = filter_map (λ p. token_at p.0 p.1) (placed_from 0 ps)
+
+-- how many bytes the pieces have together
+abbrev pub bytes_of : Pieces → ℕ
+bytes_of ps = sum_by (λ p. length p.0) ps
+
+-- no piece of the text is faulty, and these are its tokens
 pub record HasTokens (text : List ℕ) (tokens : List Placed) : Type 0 where
   pub pieces : Pieces
   pub cut : IsCut text pieces
-  pub found : tokens_from 0 pieces ≡ Ok tokens
+  pub clean : All IsSound pieces
+  pub found : tokens ≡ tokens_of pieces
 
--- the text has a faulty piece, and this is the leftmost one's fault
+-- some pieces of the text are sound, and the one behind them has this fault
 pub record HasFault (text : List ℕ) (fault : CondError) : Type 0 where
-  pub pieces : Pieces
-  pub cut : IsCut text pieces
-  pub found : tokens_from 0 pieces ≡ Err fault
+  pub before : Pieces
+  pub faulty : List ℕ × Piece
+  pub after : Pieces
+  pub cut : IsCut text (before ++ faulty ∷ after)
+  pub clean : All IsSound before
+  pub found : fault_at (bytes_of before) faulty.1 ≡ Some fault

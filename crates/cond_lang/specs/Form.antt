@@ -1,4 +1,4 @@
--- A condition's tree without the addresses that its boxes have in memory: two trees are equal where their forms are.
+-- A condition's tree without the addresses that its boxes have in memory: two trees are equal if their forms are.
 use Rattle.std.specs.Prelude.{ℕ, List}
 use Rattle.cards.specs.declared.seat.Seat.{Seat}
 use Rattle.cards.specs.declared.suit.Suit.{Suit}

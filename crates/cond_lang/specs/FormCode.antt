@@ -1,4 +1,5 @@
--- How a form is stored: as a tree of numbers that gives it back, by which proofs tell two forms apart.
+-- How a form is stored: as a tree of numbers that gives it back, by which proofs tell two forms apart. No public clause
+-- cites it.
 use Rattle.std.specs.Prelude.{◌≡◌, ℕ, zero, suc, List, [], ◌∷◌, refl}
 use Rattle.std.proofs.Common.{sym, ap, ◌∙◌}
 use base.Stored.{Gv, gnil, gnum, gcons, Coded}

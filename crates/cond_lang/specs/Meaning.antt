@@ -1,7 +1,7 @@
 -- What a tree means of a deal.
-use Rattle.std.specs.Prelude.{ℕ, ◌+◌, Bool, true, false, not, ◌&&◌, ◌||◌, ◌==◌, nat_lt, nat_le, List, [], ◌∷◌}
+use Rattle.std.specs.Prelude.{ℕ, ◌+◌, Bool, not, ◌&&◌, ◌||◌, ◌==◌, nat_lt, nat_le, List}
 use Rattle.cards.specs.declared.seat.Seat.{Seat}
-use Rattle.cards.specs.Hands.{hand_of, points_of, points_in, length_of, shape_of, is_balanced, is_rearrangement}
+use Rattle.cards.specs.Hands.{hand_of, points_of, points_in, length_of, shape_of, is_balanced, is_same, is_rearrangement}
 use Rattle.cond_lang.specs.declared.tree.Op.{Op}
 use Rattle.cond_lang.specs.declared.tree.Op.TheVariants.{Equal, NotEqual, Less, AtMost, More, AtLeast}
 use Rattle.cond_lang.specs.Form.{Amount, sum, number, points, suit_points, suit_length, Form, any_of, all_of, negation, compare, balanced, shape, pattern}
@@ -22,12 +22,6 @@ is_related Less a b = nat_lt a b
 is_related AtMost a b = nat_le a b
 is_related More a b = nat_lt b a
 is_related AtLeast a b = nat_le b a
-
--- the same numbers in the same order
-abbrev pub is_same : List ℕ → List ℕ → Bool
-is_same [] [] = true
-is_same (x ∷ xs) (y ∷ ys) = x == y && is_same xs ys
-is_same _ _ = false
 
 -- whether the tree is true of the deal
 abbrev pub holds : Form → List Seat → Bool

@@ -1,4 +1,5 @@
--- Reading from the left with one token in sight, as a function of the tokens that are left.
+-- Reading from the left with one token in sight, as a function of the tokens that are left: what the parser's own
+-- functions return. No public clause cites it.
 use Rattle.std.specs.Prelude.{◌≡◌, ℕ, zero, suc, ◌+◌, ◌*◌, List, [], ◌∷◌, length, Result, Ok, Err, Option, Some, None}
 use Rattle.cards.specs.declared.seat.Seat.{Seat as ASeat}
 use Rattle.cards.specs.declared.suit.Suit.{Suit as ASuit}
@@ -114,13 +115,17 @@ abbrev pub sums_by : Readers → Amount → Reader Amount
 sums_by r a (Plus ∷ S) = after (atom_of S) (λ b R. r (sums (sum a b)) R)
 sums_by r a S = got a S
 
+-- a test with no `not` and no bracket before it
+abbrev pub test_by : Readers → Reader Form
+test_by r (Balanced ∷ S) = after (opened_seat S) (λ q R. closing (balanced q) R)
+test_by r (Shape ∷ S) = after (seat_and_lengths S) (λ p R. got (shape p.0 p.1) R)
+test_by r (Pattern ∷ S) = after (seat_and_lengths S) (λ p R. got (pattern p.0 p.1) R)
+test_by r S = comparing_by r S
+
 abbrev pub unit_by : Readers → Reader Form
 unit_by r (Not ∷ S) = after (r a_unit S) (λ t R. got (negation t) R)
 unit_by r (Open ∷ S) = after (r a_cond S) closing
-unit_by r (Balanced ∷ S) = after (opened_seat S) (λ q R. closing (balanced q) R)
-unit_by r (Shape ∷ S) = after (seat_and_lengths S) (λ p R. got (shape p.0 p.1) R)
-unit_by r (Pattern ∷ S) = after (seat_and_lengths S) (λ p R. got (pattern p.0 p.1) R)
-unit_by r S = comparing_by r S
+unit_by r S = test_by r S
 
 abbrev pub ors_by : Readers → Form → Reader Form
 ors_by r a (Or ∷ S) = after (r a_both S) (λ b R. r (ors (any_of a b)) R)

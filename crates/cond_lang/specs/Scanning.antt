@@ -1,20 +1,13 @@
--- What the scanner's own functions return.
-use Rattle.std.specs.Prelude.{ℕ, suc, ◌==◌, nat_le, Bool, false, List, [], ◌∷◌, ◌++◌, length, take, Result, Ok, Err, Option, Some, None, if◌then◌else◌}
+-- What the scanner's own functions return. No public clause cites it.
+use Rattle.std.specs.Prelude.{ℕ, suc, ◌==◌, nat_le, Bool, false, List, [], ◌∷◌, length, take, Option, Some, None, if◌then◌else◌}
 use Rattle.std.specs.Str.{bytes_eq}
 use Rattle.std.specs.Char.{is_ascii_lowercase, is_ascii_digit}
 use Rattle.cond_lang.specs.declared.tree.Op.TheVariants.{Equal, NotEqual, Less, AtMost, More, AtLeast}
 use Rattle.cond_lang.specs.declared.token.Token.{Token}
 use Rattle.cond_lang.specs.declared.token.Token.TheVariants.{Number, Open, Close, Comma, Dash, Plus, Relation}
-use Rattle.cond_lang.specs.declared.token.Placed.{Placed}
 use Rattle.cond_lang.specs.declared.token.Piece.{Piece}
-use Rattle.cond_lang.specs.declared.token.Piece.TheVariants.{Separator, Token as PToken, Byte as PByte, Word as PWord, Number as PNumber}
-use Rattle.cond_lang.specs.declared.error.CondError.{CondError}
+use Rattle.cond_lang.specs.declared.token.Piece.TheVariants.{Separator, Token as TokenPiece, StrayByte, UnknownWord, LongNumber}
 use Rattle.cond_lang.specs.Cut.{words, is_separator, decimal}
-
--- more tokens in front
-abbrev pub prepended : List Placed → Result (List Placed) CondError → Result (List Placed) CondError
-prepended ts (Ok more) = Ok (ts ++ more)
-prepended ts (Err e) = Err e
 
 -- the token of the table's entry with this text
 abbrev pub token_of : List (List ℕ × Token) → List ℕ → Option Token
@@ -50,23 +43,23 @@ symbol_at (c ∷ s) = symbol_after c s
 
 abbrev pub token_or : Piece → Option Token → Piece
 token_or other None = other
-token_or other (Some t) = PToken t
+token_or other (Some t) = TokenPiece t
 
 -- what a run of letters is
 abbrev pub word_piece : List ℕ → Piece
-word_piece p = token_or PWord (token_of words p)
+word_piece p = token_or UnknownWord (token_of words p)
 
 -- what a run of digits is
 abbrev pub number_piece : List ℕ → Piece
-number_piece p = if nat_le (length p) 4 then PToken (Number (decimal p)) else PNumber
+number_piece p = if nat_le (length p) 4 then TokenPiece (Number (decimal p)) else LongNumber
 
 abbrev pub symbol_piece : Option (Token × ℕ) → Piece × ℕ
-symbol_piece None = (PByte, 1)
-symbol_piece (Some s) = (PToken s.0, s.1)
+symbol_piece None = (StrayByte, 1)
+symbol_piece (Some s) = (TokenPiece s.0, s.1)
 
 -- the first piece of a text that isn't empty, and its length
 abbrev pub piece_at : List ℕ → Piece × ℕ
-piece_at [] = (PByte, 0)
+piece_at [] = (StrayByte, 0)
 piece_at (c ∷ s) =
     if is_separator c then (Separator, 1)
     else (if is_ascii_lowercase c then (word_piece (take (run is_ascii_lowercase (c ∷ s)) (c ∷ s)), run is_ascii_lowercase (c ∷ s))

@@ -20,7 +20,7 @@ pub record HasSyntaxFault (text : List ℕ) (at : ℕ) : Type 0 where
   pub cut : HasTokens text tokens
   pub place : IsPlace tokens (length text) at
 
--- a refusal is given only where it is due; memory can run out at any text
+-- a refusal is given only when it is due; memory can run out at any text
 abbrev pub IsDue : List ℕ → CondError → Type 0
 IsDue text TooLong = 1024 < length text
 IsDue text (Byte at) = HasFault text (Byte at)

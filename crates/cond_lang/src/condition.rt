@@ -3,9 +3,9 @@
 ghost use Rattle.std.specs.Prelude.{◌≡◌, ◌<◌, ◌≤◌, ◌↔◌, length, IfOk, IfErr};
 ghost use Rattle.cond_lang.specs.declared.error.CondError.{CondError as Fault};
 ghost use Rattle.cond_lang.specs.declared.tree.Op.TheVariants.{Equal};
-ghost use Rattle.cond_lang.specs.Atoms.{HasAtMostAtoms};
 ghost use Rattle.cond_lang.specs.Cut.{HasFault};
 ghost use Rattle.cond_lang.specs.Form.{Form, form_of, compare, number};
+ghost use Rattle.cond_lang.specs.Limits.{HasAtMostAtoms, HasNumbersUpTo};
 ghost use Rattle.cond_lang.specs.Meaning.{holds};
 ghost use Rattle.cond_lang.specs.Text.{SpellsTree, IsDue, IsUnlessMemory};
 
@@ -20,7 +20,8 @@ use std::marker::Model;
 
 /// A condition on a deal, which contracts see as its tree's form.
 ///
-/// Each of its values adds up at most 1,024 numbers, points and lengths, so that a sum is a `u32`.
+/// Each of its values adds up at most 1,024 numbers, points and lengths, so that a sum is a `u32`, and each of its
+/// numbers is at most 9,999.
 #[derive(Debug, Drop)]
 pub struct Cond {
     alloc: Global,
@@ -30,7 +31,7 @@ pub struct Cond {
 impl Model for Cond {
     ghost use Rattle.cond_lang.specs.Form.{Form, form_of};
     ghost use Rattle.cond_lang.specs.FormCode.{form_code};
-    ghost use Rattle.cond_lang.specs.Atoms.{HasAtMostAtoms};
+    ghost use Rattle.cond_lang.specs.Limits.{IsWithinLimits};
 
     ghost Value = { Form };
 
@@ -38,14 +39,14 @@ impl Model for Cond {
 
     ghost view = { λ c. form_of c.tree };
 
-    ghost invariant = { λ c. HasAtMostAtoms 1024 (form_of c.tree) };
+    ghost invariant = { λ c. IsWithinLimits (form_of c.tree) };
 }
 
 /// The condition that a text spells.
 ///
 /// A text of more than 1,024 bytes is `TooLong`. Otherwise the leftmost faulty piece of the whole text is refused, as
 /// `Byte`, `Word` or `Number` with its offset. A text without one that spells no condition is `Syntax`, at the first
-/// token that no condition goes on with, or at the text's length. `Memory` comes where a growth was refused.
+/// token that no condition goes on with, or at the text's length. `Memory` comes when a growth was refused.
 pub fn parse(alloc: Global, text: &[u8]) -> Result<Cond, CondError>
     ensures too_long { (result ≡ Err CondError.TooLong) ↔ (1024 < length text.now) }
     ensures fault { (e : Fault) → length text.now ≤ 1024 → HasFault text.now e → result ≡ Err e }
@@ -76,7 +77,7 @@ impl Cond {
         Cond { alloc, tree }
     }
 
-    /// An equal condition. Its only refusal is `Memory`, and it comes only where a growth was refused.
+    /// An equal condition. Its only refusal is `Memory`, and it comes only when a growth was refused.
     pub fn try_clone(&self) -> Result<Cond, CondError>
         ensures { IsUnlessMemory result self.now }
     {
@@ -96,10 +97,11 @@ impl Cond {
         meaning::holds(&self.tree, deal)
     }
 
-    /// The tree of the condition: each of its values has at most 1,024 atoms.
+    /// The tree of the condition: each of its values has at most 1,024 atoms, and each number is at most 9,999.
     pub fn tree(&self) -> &Tree
         ensures form { form_of result.now ≡ self.now }
         ensures few { HasAtMostAtoms 1024 self.now }
+        ensures small { HasNumbersUpTo 9999 self.now }
     {
         &self.tree
     }

@@ -2,12 +2,12 @@
 
 ghost use Rattle.std.specs.Prelude.{◌≡◌, ◌≢◌, ◌≤◌, ◌⊎◌, ℕ, List, ◌∷◌, length, IfOk, IfErr, Err};
 ghost use Rattle.cond_lang.specs.declared.token.Token.{Token as AToken};
-ghost use Rattle.cond_lang.specs.Form.{Form, amount_of, form_of};
+ghost use Rattle.cond_lang.specs.Form.{Form, amount_of, form_of, any_of, all_of, negation};
 ghost use Rattle.cond_lang.specs.Grammar.{Spells};
 ghost use Rattle.cond_lang.specs.Place.{kinds, offset_of, IsPlace};
 ghost use Rattle.cond_lang.specs.Reading.{Gives, front, opened, closed, comma, dash, seat, suit, digits, relation};
 ghost use Rattle.cond_lang.specs.Reading.{opened_seat, and_suit, maybe_suit, lengths, seat_and_lengths, atom_of};
-ghost use Rattle.cond_lang.specs.Reading.{reading, a_value, comparing_by, a_unit, a_both, a_cond, whole};
+ghost use Rattle.cond_lang.specs.Reading.{reading, a_value, comparing_by, test_by, a_unit, a_both, a_cond, whole};
 
 use crate::error::CondError;
 use crate::token::{Placed, Token};
@@ -257,6 +257,7 @@ impl<'a> Parser<'a> {
     }
 
     /// The tree on the heap.
+    #[inline(never)]
     fn boxed(&self, tree: Tree) -> Result<Box<Tree>, Refusal>
         ensures ok { IfOk result (λ b. b.value ≡ tree) }
         ensures err { result ≢ Err Refusal.Syntax }
@@ -298,25 +299,12 @@ impl<'a> Parser<'a> {
         Ok(Tree::Compare { left, op, right })
     }
 
-    /// One test.
-    #[cycle(conditions)]
-    #[tactic(auto, using(crate::proofs::Enough::reads))]
-    fn unit(&mut self) -> Result<Tree, Refusal>
-        ensures gives { Gives form_of result self.new (reading a_unit self.old) }
+    /// One test with no `not` and no bracket before it.
+    fn test(&mut self) -> Result<Tree, Refusal>
+        ensures gives { Gives form_of result self.new (test_by reading self.old) }
         ensures shorter { length self.new ≤ length self.old }
     {
         match self.peek() {
-            Some(Token::Not) => {
-                self.advance();
-                let inner = self.unit()?;
-                Ok(Tree::Negation(self.boxed(inner)?))
-            }
-            Some(Token::Open) => {
-                self.advance();
-                let inner = self.cond()?;
-                self.close()?;
-                Ok(inner)
-            }
             Some(Token::Balanced) => {
                 self.advance();
                 let seat = self.opened_seat()?;
@@ -337,18 +325,81 @@ impl<'a> Parser<'a> {
         }
     }
 
+    /// The same on the heap.
+    #[inline(never)]
+    fn boxed_test(&mut self) -> Result<Box<Tree>, Refusal>
+        ensures gives { Gives (λ b. form_of b.value) result self.new (test_by reading self.old) }
+        ensures shorter { length self.new ≤ length self.old }
+    {
+        let tree = self.test()?;
+        self.boxed(tree)
+    }
+
+    /// The tree's negation.
+    #[inline(never)]
+    fn negation(&self, inner: Box<Tree>) -> Result<Box<Tree>, Refusal>
+        ensures ok { IfOk result (λ b. form_of b.value ≡ negation (form_of inner.value)) }
+        ensures err { result ≢ Err Refusal.Syntax }
+    {
+        self.boxed(Tree::Negation(inner))
+    }
+
+    /// Both trees.
+    #[inline(never)]
+    fn all_of(&self, left: Box<Tree>, right: Box<Tree>) -> Result<Box<Tree>, Refusal>
+        ensures ok { IfOk result (λ b. form_of b.value ≡ all_of (form_of left.value) (form_of right.value)) }
+        ensures err { result ≢ Err Refusal.Syntax }
+    {
+        self.boxed(Tree::AllOf(left, right))
+    }
+
+    /// One of the two trees, or both.
+    #[inline(never)]
+    fn any_of(&self, left: Box<Tree>, right: Box<Tree>) -> Result<Box<Tree>, Refusal>
+        ensures ok { IfOk result (λ b. form_of b.value ≡ any_of (form_of left.value) (form_of right.value)) }
+        ensures err { result ≢ Err Refusal.Syntax }
+    {
+        self.boxed(Tree::AnyOf(left, right))
+    }
+
+    // A text has up to 1,024 opening brackets, and each keeps a frame of the next three functions on the stack. So they
+    // carry trees in boxes, and leave the rest to functions that aren't inlined.
+
+    /// One test.
+    #[cycle(conditions)]
+    #[tactic(auto, using(crate::proofs::Enough::reads))]
+    fn unit(&mut self) -> Result<Box<Tree>, Refusal>
+        ensures gives { Gives (λ b. form_of b.value) result self.new (reading a_unit self.old) }
+        ensures shorter { length self.new ≤ length self.old }
+    {
+        match self.peek() {
+            Some(Token::Not) => {
+                self.advance();
+                let inner = self.unit()?;
+                self.negation(inner)
+            }
+            Some(Token::Open) => {
+                self.advance();
+                let inner = self.cond()?;
+                self.close()?;
+                Ok(inner)
+            }
+            _ => self.boxed_test(),
+        }
+    }
+
     /// Tests with `and` between them.
     #[cycle(conditions)]
     #[tactic(auto, using(crate::proofs::Enough::reads))]
-    fn both(&mut self) -> Result<Tree, Refusal>
-        ensures gives { Gives form_of result self.new (reading a_both self.old) }
+    fn both(&mut self) -> Result<Box<Tree>, Refusal>
+        ensures gives { Gives (λ b. form_of b.value) result self.new (reading a_both self.old) }
         ensures shorter { length self.new ≤ length self.old }
     {
         let mut left = self.unit()?;
         while let Some(Token::And) = self.peek() {
             self.advance();
             let right = self.unit()?;
-            left = Tree::AllOf(self.boxed(left)?, self.boxed(right)?);
+            left = self.all_of(left, right)?;
         }
         Ok(left)
     }
@@ -356,15 +407,15 @@ impl<'a> Parser<'a> {
     /// What `and` joins, with `or` between.
     #[cycle(conditions)]
     #[tactic(auto, using(crate::proofs::Enough::reads))]
-    fn cond(&mut self) -> Result<Tree, Refusal>
-        ensures gives { Gives form_of result self.new (reading a_cond self.old) }
+    fn cond(&mut self) -> Result<Box<Tree>, Refusal>
+        ensures gives { Gives (λ b. form_of b.value) result self.new (reading a_cond self.old) }
         ensures shorter { length self.new ≤ length self.old }
     {
         let mut left = self.both()?;
         while let Some(Token::Or) = self.peek() {
             self.advance();
             let right = self.both()?;
-            left = Tree::AnyOf(self.boxed(left)?, self.boxed(right)?);
+            left = self.any_of(left, right)?;
         }
         Ok(left)
     }
@@ -379,7 +430,7 @@ impl<'a> Parser<'a> {
         if self.peek().is_some() {
             return Err(Refusal::Syntax);
         }
-        Ok(tree)
+        Ok(Box::into_inner(tree))
     }
 }
 
@@ -403,7 +454,7 @@ pub(crate) fn parse_tokens(alloc: Global, tokens: &[Placed], end: usize) -> Resu
     }
 }
 
-/// The offset of the token at the index, or `end` where there is none.
+/// The offset of the token at the index, or `end` if there is none.
 fn offset_of(tokens: &[Placed], end: usize, index: usize) -> usize
     ensures { result ≡ offset_of tokens.now end index }
 {

@@ -30,9 +30,9 @@ pub(crate) fn scan(text: &[u8]) -> Result<ArrayVec<Placed, 1024>, CondError>
         match piece {
             Piece::Separator => {}
             Piece::Token(token) => tokens.push(Placed { token, at }),
-            Piece::Byte => return Err(CondError::Byte { at }),
-            Piece::Word => return Err(CondError::Word { at }),
-            Piece::Number => return Err(CondError::Number { at }),
+            Piece::StrayByte => return Err(CondError::Byte { at }),
+            Piece::UnknownWord => return Err(CondError::Word { at }),
+            Piece::LongNumber => return Err(CondError::Number { at }),
         }
         rest = rest.split_at(len).1;
         at += len;
@@ -59,7 +59,7 @@ fn first_piece(text: &[u8]) -> (Piece, usize)
     } else {
         match symbol(text) {
             Some((token, count)) => (Piece::Token(token), count),
-            None => (Piece::Byte, 1),
+            None => (Piece::StrayByte, 1),
         }
     }
 }
@@ -102,7 +102,7 @@ fn word_piece(letters: &[u8]) -> Piece
 {
     match word(letters) {
         Some(token) => Piece::Token(token),
-        None => Piece::Word,
+        None => Piece::UnknownWord,
     }
 }
 
@@ -114,7 +114,7 @@ fn number_piece(digits: &[u8]) -> Piece
     if digits.len() <= 4 {
         Piece::Token(Token::Number(decimal(digits)))
     } else {
-        Piece::Number
+        Piece::LongNumber
     }
 }
 

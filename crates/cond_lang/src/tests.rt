@@ -16,7 +16,7 @@ use std::test::Fail;
 const SUIT_EACH: &[u8] = b"AKQJT98765432... .AKQJT98765432.. ..AKQJT98765432. ...AKQJT98765432";
 
 /// The same with each seat's highest card handed on to the seat before.
-const TURNED: &[u8] = b"KQJT98765432.A.. .KQJT98765432.A. ..KQJT98765432.A A...KQJT98765432";
+const HANDED_ON: &[u8] = b"KQJT98765432.A.. .KQJT98765432.A. ..KQJT98765432.A A...KQJT98765432";
 
 /// A deal with 13, 12, 5 and 10 points.
 const WORKED: &[u8] = b".63.AKQ987.A9732 A8654.KQ5.T.QJT6 J973.J98742.3.K4 KQT2.AT.J6542.85";

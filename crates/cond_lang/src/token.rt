@@ -39,9 +39,9 @@ pub enum Piece {
     Separator,
     Token(Token),
     /// A byte that begins nothing.
-    Byte,
+    StrayByte,
     /// Letters that aren't one of the sixteen words.
-    Word,
+    UnknownWord,
     /// A run of five or more digits.
-    Number,
+    LongNumber,
 }

@@ -4,15 +4,42 @@ use super::random::Dice;
 use super::*;
 use cards::Places;
 
+/// The deal of all places `j - 1`, which leaves the pack in order.
+fn in_order() -> Result<Deal, Fail> {
+    let mut places = [0; 51];
+    for i in 0..51u8 {
+        places[usize::from(i)] = 51 - i;
+    }
+    Ok(Deal::shuffled(&Places::new(places).ok_or("places")?))
+}
+
+/// The text's condition and a clone of it, each asked on the deal that is in order and on the worked one.
+fn asked(alloc: Global, text: &str) -> Result<[bool; 4], Fail> {
+    let cond = condition(alloc, text)?;
+    let clone = cond.try_clone()?;
+    let (first, second) = (in_order()?, deal(WORKED)?);
+    Ok([
+        cond.holds(&first),
+        cond.holds(&second),
+        clone.holds(&first),
+        clone.holds(&second),
+    ])
+}
+
 #[test]
 fn or_binds_looser_than_and(rt: HostRuntime) -> Result<(), Fail> {
     let text = "not hcp(north)>=15 or balanced(north) and len(north,spades)==0";
+    assert_eq!(rt; asked(rt.alloc(), text)?, [true; 4]);
     assert!(rt; holds(rt.alloc(), text, &deal(SUIT_EACH)?)?);
-    assert!(rt; holds(rt.alloc(), text, &deal(WORKED)?)?);
+    Ok(())
+}
+
+#[test]
+fn not_binds_tighter_than_or(rt: HostRuntime) -> Result<(), Fail> {
     let text = "not len(north,spades)==13 or hcp(north)==10";
-    assert!(rt; holds(rt.alloc(), text, &deal(SUIT_EACH)?)?);
-    let clone = condition(rt.alloc(), text)?.try_clone()?;
-    assert!(rt; clone.holds(&deal(SUIT_EACH)?));
+    assert_eq!(rt; asked(rt.alloc(), text)?, [true; 4]);
+    let text = "not (len(north,spades)==13 or hcp(north)==10)";
+    assert_eq!(rt; asked(rt.alloc(), text)?, [false, true, false, true]);
     Ok(())
 }
 
@@ -67,7 +94,7 @@ fn relations(rt: HostRuntime) -> Result<(), Fail> {
 #[test]
 fn any_holds_of_all(rt: HostRuntime) -> Result<(), Fail> {
     let any = Cond::any(rt.alloc());
-    for hands in [SUIT_EACH, TURNED, WORKED] {
+    for hands in [SUIT_EACH, HANDED_ON, WORKED] {
         assert!(rt; any.holds(&deal(hands)?));
     }
     Ok(())
@@ -90,7 +117,7 @@ fn forty_points_in_a_thousand_deals(rt: HostRuntime) -> Result<(), Fail> {
     Ok(())
 }
 
-fn answer_of_sent<C: FnOnce() -> bool + Send>(ask: C) -> bool
+fn result_of_sent<C: FnOnce() -> bool + Send>(ask: C) -> bool
     requires { C.pre ask }
 {
     ask()
@@ -100,6 +127,6 @@ fn answer_of_sent<C: FnOnce() -> bool + Send>(ask: C) -> bool
 fn a_condition_can_be_sent(rt: HostRuntime) -> Result<(), Fail> {
     let cond = condition(rt.alloc(), "hcp(south)==5")?;
     let deal = deal(WORKED)?;
-    assert!(rt; answer_of_sent(move || cond.holds(&deal)));
+    assert!(rt; result_of_sent(move || cond.holds(&deal)));
     Ok(())
 }

@@ -1,4 +1,4 @@
-//! Random texts: whatever they are, an answer comes, and a refusal stands where the definition says.
+//! Random texts: whatever they are, `parse` returns, and a refusal stands at the place that the definition says.
 
 ghost use Rattle.std.specs.Prelude.{◌<◌};
 
@@ -73,7 +73,7 @@ const TOKENS: [&[u8]; 40] = [
     b"not (",
 ];
 
-/// What must hold of an answer: where a text is refused as syntax, the part before the fault is refused nowhere but at its
+/// What must hold of a result: if a text is refused as syntax, the part before the fault is refused nowhere but at its
 /// own end.
 fn expect_sound(rt: &(impl Abort + AllocGlobal), text: &[u8]) {
     let Err(CondError::Syntax { at }) = parse(rt.alloc(), text) else {

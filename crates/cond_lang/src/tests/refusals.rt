@@ -64,13 +64,24 @@ fn too_long(rt: HostRuntime) {
 }
 
 #[test]
+fn as_long_as_may_be(rt: HostRuntime) -> Result<(), Fail> {
+    let whole = repeated(rt.alloc(), b" ", 1020, b"0==0")?;
+    assert!(rt; parse(rt.alloc(), &whole)?.holds(&deal(SUIT_EACH)?));
+    let longer = repeated(rt.alloc(), b" ", 1021, b"0==0")?;
+    expect_refusal(&rt, &longer, CondError::TooLong);
+    Ok(())
+}
+
+#[test]
 fn deep_brackets(rt: HostRuntime) -> Result<(), Fail> {
     expect_syntax(&rt, &[b'('; 1024], 1024);
     let closed = repeated(rt.alloc(), b"(", 1023, b")")?;
     expect_syntax(&rt, &closed, 1023);
     let mut whole = repeated(rt.alloc(), b"(", 510, b"0==0")?;
     whole.extend_from_slice(&[b')'; 510])?;
-    assert!(rt; parse(rt.alloc(), &whole)?.holds(&deal(SUIT_EACH)?));
+    let cond = parse(rt.alloc(), &whole)?;
+    assert!(rt; cond.holds(&deal(SUIT_EACH)?));
+    assert!(rt; cond.try_clone()?.holds(&deal(SUIT_EACH)?));
     Ok(())
 }
 
@@ -79,7 +90,9 @@ fn many_negations(rt: HostRuntime) -> Result<(), Fail> {
     let open = repeated(rt.alloc(), b"not ", 256, b"")?;
     expect_syntax(&rt, &open, 1024);
     let whole = repeated(rt.alloc(), b"not ", 255, b"0==0")?;
-    assert!(rt; !parse(rt.alloc(), &whole)?.holds(&deal(SUIT_EACH)?));
+    let cond = parse(rt.alloc(), &whole)?;
+    assert!(rt; !cond.holds(&deal(SUIT_EACH)?));
+    assert!(rt; !cond.try_clone()?.holds(&deal(SUIT_EACH)?));
     Ok(())
 }
 
@@ -92,6 +105,8 @@ fn long_chains(rt: HostRuntime) -> Result<(), Fail> {
     let sum = repeated(rt.alloc(), b"9999+", 200, b"0!=1999800")?;
     expect_refusal(&rt, &sum, CondError::Number { at: 1003 });
     let sum = repeated(rt.alloc(), b"9+", 500, b"0==4500")?;
-    assert!(rt; parse(rt.alloc(), &sum)?.holds(&deal(SUIT_EACH)?));
+    let cond = parse(rt.alloc(), &sum)?;
+    assert!(rt; cond.holds(&deal(SUIT_EACH)?));
+    assert!(rt; cond.try_clone()?.holds(&deal(SUIT_EACH)?));
     Ok(())
 }

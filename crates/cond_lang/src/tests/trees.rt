@@ -22,6 +22,41 @@ fn worked_trees(rt: HostRuntime) -> Result<(), Fail> {
     )?;
     expect_tree(
         &rt,
+        "0==0 or 1==1 and 2==2",
+        "AnyOf(Compare { left: Number(0), op: Equal, right: Number(0) }, \
+        AllOf(Compare { left: Number(1), op: Equal, right: Number(1) }, \
+        Compare { left: Number(2), op: Equal, right: Number(2) }))",
+    )?;
+    expect_tree(
+        &rt,
+        "0==0 or 1==1 or 2==2",
+        "AnyOf(AnyOf(Compare { left: Number(0), op: Equal, right: Number(0) }, \
+        Compare { left: Number(1), op: Equal, right: Number(1) }), \
+        Compare { left: Number(2), op: Equal, right: Number(2) })",
+    )?;
+    expect_tree(
+        &rt,
+        "not 0==0 and 1==1",
+        "AllOf(Negation(Compare { left: Number(0), op: Equal, right: Number(0) }), \
+        Compare { left: Number(1), op: Equal, right: Number(1) })",
+    )?;
+    expect_tree(
+        &rt,
+        "not (0==0 and 1==1)",
+        "Negation(AllOf(Compare { left: Number(0), op: Equal, right: Number(0) }, \
+        Compare { left: Number(1), op: Equal, right: Number(1) }))",
+    )?;
+    expect_tree(
+        &rt,
+        "pattern ( east , 5 - 4 - 3 - 1 )",
+        "Pattern(East, [5, 4, 3, 1])",
+    )
+}
+
+#[test]
+fn trees_of_balanced_hands(rt: HostRuntime) -> Result<(), Fail> {
+    expect_tree(
+        &rt,
         "balanced(north) or balanced(east) and balanced(south)",
         "AnyOf(Balanced(North), AllOf(Balanced(East), Balanced(South)))",
     )?;
@@ -39,11 +74,6 @@ fn worked_trees(rt: HostRuntime) -> Result<(), Fail> {
         &rt,
         "not (balanced(north) and balanced(east))",
         "Negation(AllOf(Balanced(North), Balanced(East)))",
-    )?;
-    expect_tree(
-        &rt,
-        "pattern ( east , 5 - 4 - 3 - 1 )",
-        "Pattern(East, [5, 4, 3, 1])",
     )
 }
 

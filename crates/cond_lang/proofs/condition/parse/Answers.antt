@@ -4,6 +4,7 @@ use Rattle.cond_lang.specs.Form.{form_of}
 use Rattle.cond_lang.specs.Place.{kinds}
 use Rattle.cond_lang.proofs.Texts.{piece_too_long, piece_refused, piece_fault, piece_spelled, no_tokens, one_text_tree, its_tokens_spell, few_kinds}
 use Rattle.cond_lang.proofs.AtomCounts.{few_atoms}
+use Rattle.cond_lang.proofs.SmallNumbers.{small_numbers}
 use Rattle.cond_lang.proofs.condition.parse.Goals as goal
 
 pub returns-in_err-tokens-clause-too_long : goal.returns-in_err-tokens-clause-too_long
@@ -36,8 +37,15 @@ returns-in_err-tree-clause-spelled c = λ t few h.
 
 pub invariant_of-result : goal.invariant_of-result
 invariant_of-result c =
-    few_atoms 1024 (kinds c.as_slice.result.now) (form_of c.in_ok-tree.tree)
-    (few_kinds c.in_ok-tokens.tokens.items c.as_slice.result.now 1024 c.as_slice.ensures.value c.in_ok-tokens.ensures.few) c.in_ok-tree.ensures.spelled
+    let text = c.args.text.now in
+    let tokens = c.in_ok-tokens.tokens.items in
+    let read = c.as_slice.result.now in
+    let tree = form_of c.in_ok-tree.tree in
+    let few = few_kinds tokens read 1024 c.as_slice.ensures.value c.in_ok-tokens.ensures.few in
+    record {
+      few = few_atoms 1024 (kinds read) tree few c.in_ok-tree.ensures.spelled;
+      small = small_numbers text tokens read tree c.in_ok-tokens.ensures.tokens c.as_slice.ensures.value c.in_ok-tree.ensures.spelled;
+    }
 
 pub returns-clause-fault : goal.returns-clause-fault
 returns-clause-fault c = λ e few h. absurd (no_tokens c.args.text.now e c.in_ok-tokens.tokens.items h c.in_ok-tokens.ensures.tokens)

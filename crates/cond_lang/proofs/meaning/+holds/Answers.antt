@@ -3,7 +3,7 @@ use Rattle.cards.specs.Hands.{shape_of, is_balanced, is_rearrangement}
 use Rattle.cond_lang.proofs.meaning.+holds.Goals as goal
 
 pub returns-in-Balanced : goal.returns-in-Balanced
-returns-in-Balanced t c = rw c.in-Balanced.is (c.balanced.ensures ∙ ap (λ hand. is_balanced (shape_of hand)) c.hand.ensures.value)
+returns-in-Balanced t c = rw c.in-Balanced.is (c.balanced.ensures.value ∙ ap (λ hand. is_balanced (shape_of hand)) c.hand.ensures.value)
 
 pub returns-in-Pattern : goal.returns-in-Pattern
 returns-in-Pattern t c =

@@ -1,5 +1,5 @@
 use Rattle.std.proofs.Common.{◌+◌, ◌*◌, ◌-◌}
-use Rattle.cond_lang.specs.Atoms.{atoms_of}
+use Rattle.cond_lang.specs.Limits.{atoms_of}
 use Rattle.cond_lang.specs.Form.{amount_of}
 use Rattle.cond_lang.proofs.meaning.+sums.Given as goal
 

@@ -1,0 +1,125 @@
+-- A number of four digits is at most 9,999, and so are the numbers of the trees that tokens spell.
+use Rattle.std.proofs.Common.{◌≡◌, ℕ, ◌+◌, ◌-◌, ◌≤◌, true, List, [], ◌∷◌, ◌++◌, length, sym, subst, arith}
+use Rattle.std.proofs.lemmas.Bool.Decides.{nat_tests}
+use Rattle.std.specs.Prelude.{All, Contains}
+use Rattle.std.specs.List.{AllByRecursion, filter_map}
+use Rattle.std.proofs.lemmas.List.Elements.{All-from_recursion}
+use Rattle.std.specs.Char.{is_ascii_digit}
+use Rattle.cond_lang.specs.declared.token.Token.{Token}
+use Rattle.cond_lang.specs.declared.token.Token.TheVariants.{Or, And, Number, Close, Plus, Relation}
+use Rattle.cond_lang.specs.declared.token.Placed.{Placed}
+use Rattle.cond_lang.specs.declared.token.Piece.{Piece}
+use Rattle.cond_lang.specs.declared.token.Piece.TheVariants.{Separator, Token as TokenPiece, StrayByte, UnknownWord, LongNumber}
+use Rattle.cond_lang.specs.Cut.{words, symbols, decimal, IsPiece, blank, word, no_word, number as number_piece, long, symbol, stray, Pieces, IsCut, end, piece, placed_from, token_at, HasTokens}
+use Rattle.cond_lang.specs.Form.{Amount, Form}
+use Rattle.cond_lang.specs.Grammar.{SpellsAtom, SpellsValue, atom, plus, a_number, hcp, hcp_in, len, SpellsCond, both, or, SpellsBoth, unit, and, SpellsUnit, not, brackets, comparison, is_balanced, has_shape, has_pattern, Spells}
+use Rattle.cond_lang.specs.Limits.{AddsNumbersUpTo, HasNumbersUpTo}
+use Rattle.cond_lang.specs.Place.{kinds}
+use Rattle.cond_lang.proofs.Tables.{at_entry}
+
+-- a number among the tokens is at most 9,999
+abbrev IsSmall : Token → Type 0
+IsSmall (Number n) = n ≤ 9999
+IsSmall t = Unit {0}
+
+abbrev AreSmall : List Token → Type 0
+AreSmall T = AllByRecursion IsSmall T
+
+-- Tokens.
+
+digit : (c : ℕ) → is_ascii_digit c ≡ true → c - 48 ≤ 9
+digit c h = grind (arith, nat_tests)
+
+small_decimal : (p : List ℕ) → AllByRecursion (λ c. is_ascii_digit c ≡ true) p → length p ≤ 4 → decimal p ≤ 9999
+small_decimal [] a h = omega arith
+small_decimal (b ∷ []) a h = omega (arith, digit b a.0)
+small_decimal (b ∷ c ∷ []) a h = omega (arith, digit b a.0, digit c a.1.0)
+small_decimal (b ∷ c ∷ d ∷ []) a h = omega (arith, digit b a.0, digit c a.1.0, digit d a.1.1.0)
+small_decimal (b ∷ c ∷ d ∷ e ∷ []) a h = omega (arith, digit b a.0, digit c a.1.0, digit d a.1.1.0, digit e a.1.1.1.0)
+small_decimal (b ∷ c ∷ d ∷ e ∷ f ∷ more) a h = absurd (omega arith)
+
+small_word : (p : List ℕ) (t : Token) → Contains words (p, t) → IsSmall t
+small_word =
+    at_entry (λ p t. IsSmall t) words
+    (tt, (tt, (tt, (tt, (tt, (tt, (tt, (tt, (tt, (tt, (tt, (tt, (tt, (tt, (tt, (tt, tt))))))))))))))))
+
+small_symbol : (p : List ℕ) (t : Token) → Contains symbols (p, t) → IsSmall t
+small_symbol = at_entry (λ p t. IsSmall t) symbols (tt, (tt, (tt, (tt, (tt, (tt, (tt, (tt, (tt, (tt, (tt, tt)))))))))))
+
+abbrev IsSmallPiece : Piece → Type 0
+IsSmallPiece (TokenPiece t) = IsSmall t
+IsSmallPiece k = Unit {0}
+
+small_piece : {p rest : List ℕ} {k : Piece} → IsPiece p rest k → IsSmallPiece k
+small_piece (blank h) = tt
+small_piece (word {p} {t = t} r m) = small_word p t m
+small_piece (no_word r n) = tt
+small_piece (number_piece {p} r few) = small_decimal p r.all few
+small_piece (long r many) = tt
+small_piece (symbol {p} {t = t} m l) = small_symbol p t m
+small_piece (stray a b d n) = tt
+
+small_pieces : {s : List ℕ} {ps : Pieces} → IsCut s ps → AllByRecursion (λ p. IsSmallPiece p.1) ps
+small_pieces end = tt
+small_pieces (piece l i c) = (small_piece i, small_pieces c)
+
+small_placed :
+    (at : ℕ) (ps : Pieces) → AllByRecursion (λ p. IsSmallPiece p.1) ps
+    → AreSmall (kinds (filter_map (λ p. token_at p.0 p.1) (placed_from at ps)))
+small_placed at [] a = tt
+small_placed at ((w, Separator) ∷ ps) a = small_placed (at + length w) ps a.1
+small_placed at ((w, TokenPiece t) ∷ ps) a = (a.0, small_placed (at + length w) ps a.1)
+small_placed at ((w, StrayByte) ∷ ps) a = small_placed (at + length w) ps a.1
+small_placed at ((w, UnknownWord) ∷ ps) a = small_placed (at + length w) ps a.1
+small_placed at ((w, LongNumber) ∷ ps) a = small_placed (at + length w) ps a.1
+
+small_tokens : (text : List ℕ) (ts : List Placed) → HasTokens text ts → AreSmall (kinds ts)
+small_tokens text ts h = subst (λ L. AreSmall (kinds L)) (sym h.found) (small_placed 0 h.pieces (small_pieces h.cut))
+
+-- Trees.
+
+left_small : (L R : List Token) → AreSmall (L ++ R) → AreSmall L
+left_small [] R a = tt
+left_small (c ∷ L) R a = (a.0, left_small L R a.1)
+
+right_small : (L R : List Token) → AreSmall (L ++ R) → AreSmall R
+right_small [] R a = a
+right_small (c ∷ L) R a = right_small L R a.1
+
+behind_small : (L : List Token) (c : Token) (R : List Token) → AreSmall (L ++ c ∷ R) → AreSmall R
+behind_small L c R a = (right_small L (c ∷ R) a).1
+
+small_atom : {T : List Token} {a : Amount} → SpellsAtom T a → AreSmall T → AddsNumbersUpTo 9999 a
+small_atom a_number s = s.0
+small_atom hcp s = tt
+small_atom hcp_in s = tt
+small_atom len s = tt
+
+small_value : {T : List Token} {a : Amount} → SpellsValue T a → AreSmall T → AddsNumbersUpTo 9999 a
+small_value (atom h) s = small_atom h s
+small_value (plus {L} {R} l r) s = (small_value l (left_small L (Plus ∷ R) s), small_atom r (behind_small L Plus R s))
+
+small_four : (a b c d : ℕ) → a ≤ 9999 → b ≤ 9999 → c ≤ 9999 → d ≤ 9999 → All (λ n. n ≤ 9999) (a ∷ b ∷ c ∷ d ∷ [])
+small_four a b c d h i j k = All-from_recursion (λ n. n ≤ 9999) (a ∷ b ∷ c ∷ d ∷ []) (h, (i, (j, (k, tt))))
+
+mutual
+  small_cond : {T : List Token} {t : Form} → SpellsCond T t → AreSmall T → HasNumbersUpTo 9999 t
+  small_cond (both h) s = small_both h s
+  small_cond (or {L} {R} l r) s = (small_cond l (left_small L (Or ∷ R) s), small_both r (behind_small L Or R s))
+
+  small_both : {T : List Token} {t : Form} → SpellsBoth T t → AreSmall T → HasNumbersUpTo 9999 t
+  small_both (unit h) s = small_unit h s
+  small_both (and {L} {R} l r) s = (small_both l (left_small L (And ∷ R) s), small_unit r (behind_small L And R s))
+
+  small_unit : {T : List Token} {t : Form} → SpellsUnit T t → AreSmall T → HasNumbersUpTo 9999 t
+  small_unit (not h) s = small_unit h s.1
+  small_unit (brackets {T} h) s = small_cond h (left_small T (Close ∷ []) s.1)
+  small_unit (comparison {L} {R} {o = o} l r) s =
+      (small_value l (left_small L (Relation o ∷ R) s), small_value r (behind_small L (Relation o) R s))
+  small_unit is_balanced s = tt
+  small_unit (has_shape {q} {a} {b} {c} {d}) s = small_four a b c d s.1.1.1.1.0 s.1.1.1.1.1.1.0 s.1.1.1.1.1.1.1.1.0 s.1.1.1.1.1.1.1.1.1.1.0
+  small_unit (has_pattern {q} {a} {b} {c} {d}) s = small_four a b c d s.1.1.1.1.0 s.1.1.1.1.1.1.0 s.1.1.1.1.1.1.1.1.0 s.1.1.1.1.1.1.1.1.1.1.0
+
+-- The numbers of a text's tree are at most 9,999.
+pub small_numbers : (text : List ℕ) (ts us : List Placed) (t : Form) → HasTokens text ts → us ≡ ts → Spells (kinds us) t → HasNumbersUpTo 9999 t
+small_numbers text ts us t h e s = small_cond s (subst (λ L. AreSmall (kinds L)) (sym e) (small_tokens text ts h))
