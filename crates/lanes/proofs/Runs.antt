@@ -95,15 +95,15 @@ takes_in_order (e ∷ events) m kept =
     let rest = takes_in_order events n (kept_after m e kept) in
     elim (takes_next m e kept) [
       | inl takes ↦ record {
-          more = suc rest.more;
-          to_is = omega (arith, rest.to_is, takes.1);
-          items_are = ap (λ xs. xs ++ items_taken n events) takes.0 ∙ ap (λ xs. m.turn ∷ xs) (rest.items_are ∙ ap (λ t. range_with_len t rest.more) takes.1);
-        }
+        more = suc rest.more;
+        to_is = omega (arith, rest.to_is, takes.1);
+        items_are = ap (λ xs. xs ++ items_taken n events) takes.0 ∙ ap (λ xs. m.turn ∷ xs) (rest.items_are ∙ ap (λ t. range_with_len t rest.more) takes.1);
+      }
       | inr none ↦ record {
-          more = rest.more;
-          to_is = rest.to_is ∙ ap (λ t. t + rest.more) none.1;
-          items_are = ap (λ xs. xs ++ items_taken n events) none.0 ∙ rest.items_are ∙ ap (λ t. range_with_len t rest.more) none.1;
-        }
+        more = rest.more;
+        to_is = rest.to_is ∙ ap (λ t. t + rest.more) none.1;
+        items_are = ap (λ xs. xs ++ items_taken n events) none.0 ∙ rest.items_are ∙ ap (λ t. range_with_len t rest.more) none.1;
+      }
     ]
 
 pub taken_from_new : (events : List Event) (m : Machine) → Kept m → m.turn ≡ 0 → items_taken m events ≡ range_with_len 0 (after_all m events).turn
@@ -142,9 +142,9 @@ unfolding SendsNext
 sends_next w m (Send v) kept lt =
     elim (cases_Bool (is_allowed m (Send v))) [
       | inl allowed ↦ elim (cases_eq v w) [
-          | inl is ↦ sends_own w v m kept lt allowed is
-          | inr ne ↦ sends_none w v m (false_from_ne_true _ (λ h. ne (eqb-true v w (and_parts _ _ h).1))) (none_sent w m (Send v) (get_or-set_other m.sent v w (sent_of m v + 1) 0 (λ e. ne (sym e))))
-        ]
+        | inl is ↦ sends_own w v m kept lt allowed is
+        | inr ne ↦ sends_none w v m (false_from_ne_true _ (λ h. ne (eqb-true v w (and_parts _ _ h).1))) (none_sent w m (Send v) (get_or-set_other m.sent v w (sent_of m v + 1) 0 (λ e. ne (sym e))))
+      ]
       | inr refused ↦ sends_none w v m (false_from_ne_true _ (λ h. both_ways _ refused (and_parts _ _ h).0)) (ap (λ n. sent_of n w) (sym (after_refused m (Send v) refused)))
     ]
 sends_next w m Take kept lt = inr (refl, none_sent w m Take refl)
@@ -165,18 +165,18 @@ sends_in_order w W (e ∷ events) m kept is lt =
     let rest = sends_in_order w W events n (kept_after m e kept) ((same_after m e).workers ∙ is) lt in
     elim (sends_next w m e kept (omega arith)) [
       | inl sends ↦ record {
-          more = suc rest.more;
-          to_is = omega (arith, rest.to_is, sends.1);
-          items_are =
+        more = suc rest.more;
+        to_is = omega (arith, rest.to_is, sends.1);
+        items_are =
             ap (λ xs. xs ++ items_sent w n events) sends.0
             ∙ ap (λ k. item_of k w (sent_of m w) ∷ items_sent w n events) is
             ∙ ap (λ xs. item_of W w (sent_of m w) ∷ xs) (rest.items_are ∙ ap (λ t. map (item_of W w) (range_with_len t rest.more)) sends.1);
-        }
+      }
       | inr none ↦ record {
-          more = rest.more;
-          to_is = rest.to_is ∙ ap (λ t. t + rest.more) none.1;
-          items_are = ap (λ xs. xs ++ items_sent w n events) none.0 ∙ rest.items_are ∙ ap (λ t. map (item_of W w) (range_with_len t rest.more)) none.1;
-        }
+        more = rest.more;
+        to_is = rest.to_is ∙ ap (λ t. t + rest.more) none.1;
+        items_are = ap (λ xs. xs ++ items_sent w n events) none.0 ∙ rest.items_are ∙ ap (λ t. map (item_of W w) (range_with_len t rest.more)) none.1;
+      }
     ]
 
 pub sent_from_new : (w : ℕ) (events : List Event) (m : Machine) → Kept m → w < m.workers → sent_of m w ≡ 0 → items_sent w m events ≡ map (item_of m.workers w) (range_with_len 0 (sent_of (after_all m events) w))

@@ -1,8 +1,12 @@
 -- What a list of events does to the core, one event after another, and which items go through its lanes.
-use Rattle.std.specs.Prelude.{ℕ, ◌+◌, ◌*◌, ◌&&◌, ◌==◌, ◌++◌, cond, List, [], ◌∷◌}
+use Rattle.std.specs.Prelude.{ℕ, ◌≡◌, ◌+◌, ◌*◌, ◌&&◌, ◌==◌, ◌++◌, cond, List, [], ◌∷◌}
 use Rattle.lanes.specs.declared.event.Event.{Event}
 use Rattle.lanes.specs.declared.event.Event.TheVariants.{Send, Take, Close, Stop}
 use Rattle.lanes.specs.Machine.{Machine, after, is_allowed, next_lane, sent_of, taken_of}
+
+-- the candidates, the workers and the capacity stay
+abbrev pub IsSameRun : Machine → Machine → Type 0
+IsSameRun m n = (n.count ≡ m.count) × (n.workers ≡ m.workers) × (n.capacity ≡ m.capacity)
 
 -- the core after all of these events
 abbrev pub after_all : Machine → List Event → Machine
@@ -24,7 +28,7 @@ sent_in w m Stop = []
 abbrev pub taken_in : Machine → Event → List ℕ
 taken_in m (Send v) = []
 taken_in m Take =
-  cond (is_allowed m Take) (item_of m.workers (next_lane m) (taken_of m (next_lane m)) ∷ []) []
+    cond (is_allowed m Take) (item_of m.workers (next_lane m) (taken_of m (next_lane m)) ∷ []) []
 taken_in m (Close v) = []
 taken_in m Stop = []
 

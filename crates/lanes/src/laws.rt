@@ -35,8 +35,8 @@ pub fn every_run_is_sound()
 pub fn no_run_is_stuck()
     ensures { (count workers capacity : ℕ) (events : List Event) → 1 ≤ workers → 1 ≤ capacity
         → let m = after_all (new_machine count workers capacity) events in
-            m.turn < count → m.stopped ≡ false
-            → (is_allowed m Take ≡ true) ⊎ (is_allowed m (Send (m.turn % workers)) ≡ true) }
+        m.turn < count → m.stopped ≡ false
+        → (is_allowed m Take ≡ true) ⊎ (is_allowed m (Send (m.turn % workers)) ≡ true) }
 {}
 
 /// After any list of events the next Take is from lane `turn mod workers`, of the item that this worker
@@ -44,29 +44,29 @@ pub fn no_run_is_stuck()
 pub fn each_turn_takes_its_item()
     ensures { (count workers capacity : ℕ) (events : List Event) → 1 ≤ workers
         → let m = after_all (new_machine count workers capacity) events in
-            let lane = m.turn % workers in
-            (taken_of m lane ≡ m.turn / workers) × (item_of workers lane (taken_of m lane) ≡ m.turn) }
+        let lane = m.turn % workers in
+        (taken_of m lane ≡ m.turn / workers) × (item_of workers lane (taken_of m lane) ≡ m.turn) }
 {}
 
 /// The items taken in any list of events are the first candidates in order, one for each turn.
 pub fn items_are_taken_in_order()
     ensures { (count workers capacity : ℕ) (events : List Event) → 1 ≤ workers
         → let m = new_machine count workers capacity in
-            items_taken m events ≡ range_with_len 0 (after_all m events).turn }
+        items_taken m events ≡ range_with_len 0 (after_all m events).turn }
 {}
 
 /// The items that a worker sends in any list of events are the first ones of its share in order.
 pub fn items_are_sent_in_order()
     ensures { (count workers capacity w : ℕ) (events : List Event) → w < workers
         → let m = new_machine count workers capacity in
-            items_sent w m events
-            ≡ map (item_of workers w) (range_with_len 0 (sent_of (after_all m events) w)) }
+        items_sent w m events
+        ≡ map (item_of workers w) (range_with_len 0 (sent_of (after_all m events) w)) }
 {}
 
 /// Once a lane was closed, its worker may not send any more, whatever happens.
 pub fn a_closed_lane_sends_nothing()
     ensures { (count workers capacity w : ℕ) (before later : List Event) → 1 ≤ workers
         → let m = after_all (new_machine count workers capacity) before in
-            is_allowed m (Close w) ≡ true
-            → is_allowed (after_all m (Close w ∷ later)) (Send w) ≡ false }
+        is_allowed m (Close w) ≡ true
+        → is_allowed (after_all m (Close w ∷ later)) (Send w) ≡ false }
 {}
