@@ -5,3 +5,4 @@ pub mod Prefixes
 pub mod Sums
 pub mod Steps
 pub mod Fields
+pub mod Runs

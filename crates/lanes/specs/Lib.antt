@@ -6,3 +6,4 @@ pub mod Work
 pub mod Machine
 pub mod Sound
 pub mod Cores
+pub mod Runs

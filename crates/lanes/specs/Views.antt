@@ -1,5 +1,5 @@
 -- What contracts see of a lane's ends and of the turns.
-use Rattle.std.specs.Prelude.{ℕ, Bool, List}
+use Rattle.std.specs.Prelude.{◌≡◌, ℕ, Bool, true, List, ◌∷◌}
 use denote.RawPtr.{Ptr}
 use Rattle.rtrb.specs.Shared.{Names}
 use Rattle.lanes.specs.declared.verdict.Verdict.{Verdict}
@@ -33,3 +33,7 @@ pub record OutView : Type 0 where
 pub record TurnsView : Type 0 where
   pub turn : ℕ
   pub workers : ℕ
+
+-- on a settled lane this verdict was the next of those that were left
+abbrev pub TakesOfLeft : OutView → Verdict → OutView → Type 0
+TakesOfLeft before v after = before.settled ≡ true → before.left ≡ v ∷ after.left

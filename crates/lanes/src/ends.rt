@@ -174,6 +174,8 @@ impl LaneIn {
 }
 
 impl LaneOut {
+    ghost use Rattle.lanes.specs.Views.{TakesOfLeft};
+
     /// Takes the next verdict, or returns `None` if none waits. It waits for nobody. Once the lane is settled, it
     /// returns what is left, one after another, and then `None`.
     pub fn take(&mut self) -> Option<Verdict>
@@ -183,7 +185,7 @@ impl LaneOut {
         ensures none { IfNone result (self.new ≡ self.old) }
         ensures known { IfSome result (λ _. self.old.known ≤ self.new.known + 1) }
         ensures succeeds { 0 < self.old.known → IsSome result }
-        ensures left { IfSome result (λ v. self.old.settled ≡ true → self.old.left ≡ v ∷ self.new.left) }
+        ensures left { IfSome result (λ v. TakesOfLeft self.old v self.new) }
         ensures all_left { self.old.settled ≡ true → (IsSome result ↔ (0 < length self.old.left)) }
     {
         if !self.has_verdict() {
@@ -233,7 +235,7 @@ impl LaneOut {
         ensures same { (self.new.ring ≡ self.old.ring) × (self.new.settled ≡ self.old.settled) }
         ensures taken { self.new.taken ≡ self.old.taken ++ result ∷ [] }
         ensures known { self.old.known ≡ self.new.known + 1 }
-        ensures left { self.old.settled ≡ true → self.old.left ≡ result ∷ self.new.left }
+        ensures left { TakesOfLeft self.old result self.new }
     {
         // A pop is the core's Take while the run goes on, and no event afterwards.
         self.consumer.pop_known()

@@ -13,8 +13,8 @@ const MOST_WORKERS: u32 = 16;
 
 const MOST_CAPACITY: u32 = 4096;
 
-/// The counters of a run's lanes, one flag and the turn. Contracts see the machine over as many lanes as there
-/// are workers.
+/// The counters of a run's lanes, one flag and the turn. Contracts see the machine, with an entry for each
+/// worker's lane.
 #[derive(Drop)]
 pub struct Core {
     count: u64,
@@ -40,13 +40,17 @@ impl Model for Core {
 }
 
 impl Core {
-    ghost use Rattle.lanes.specs.Machine.{new_machine, sent_of, taken_of, is_closed, share_of, is_allowed, after, changes_made, next_lane as lane_in_turn};
+    ghost use Rattle.lanes.specs.Machine.{new_machine, sent_of, taken_of, is_closed, share_of};
+    ghost use Rattle.lanes.specs.Machine.{is_allowed, after, changes_made, next_lane as lane_in_turn};
+    ghost use Rattle.lanes.specs.Runs.{IsSameRun};
     ghost use Rattle.lanes.specs.Sound.{IsSound};
 
-    /// The core of a run over `count` candidates, by 1 to 16 workers, with lanes of 1 to 4,096 items. `None`
-    /// where a number is out of its range, or where `count` is above 2^40.
+    /// Returns the core of a run over at most 2^40 candidates, by 1 to 16 workers, with lanes of 1 to 4,096
+    /// items: nothing was sent or taken yet. It returns `None` if a number is out of its range.
     pub fn new(count: u64, workers: u32, capacity: u32) -> Option<Core>
-        ensures range { IsSome result ↔ ((count ≤ 2 ^ 40) × (1 ≤ workers) × (workers ≤ 16) × (1 ≤ capacity) × (capacity ≤ 4096)) }
+        ensures range { IsSome result
+            ↔ ((count ≤ 2 ^ 40) × (1 ≤ workers) × (workers ≤ 16)
+            × (1 ≤ capacity) × (capacity ≤ 4096)) }
         ensures start { IfSome result (λ c. c ≡ new_machine count workers capacity) }
     {
         let in_range = count <= MOST_COUNT && workers <= MOST_WORKERS && capacity <= MOST_CAPACITY;
@@ -65,13 +69,14 @@ impl Core {
         })
     }
 
-    /// Whether the event is allowed; it happens where it is, and nothing changes where it isn't.
+    /// Returns whether the event is allowed. If it is, it happens; if not, nothing changes.
     pub fn step(&mut self, event: Event) -> bool
         ensures allowed { result ≡ is_allowed self.old event }
         ensures after { self.new ≡ after self.old event }
-        ensures one_change { (self.new ≡ self.old) ⊎ (changes_made self.new ≡ changes_made self.old + 1) }
+        ensures one_change { (self.new ≡ self.old)
+            ⊎ (changes_made self.new ≡ changes_made self.old + 1) }
         ensures closed_stays { (w : ℕ) → is_closed self.old w ≡ true → is_closed self.new w ≡ true }
-        ensures same_run { (self.new.count ≡ self.old.count) × (self.new.workers ≡ self.old.workers) × (self.new.capacity ≡ self.old.capacity) }
+        ensures same_run { IsSameRun self.old self.new }
         ensures sound { IsSound self.new }
     {
         match event {

@@ -24,11 +24,14 @@ pub struct Share {
 }
 
 impl Share {
-    /// The share of worker `worker` of `workers`, from 0. `None` where there are not 1 to 16 workers, where
-    /// `worker` is not below `workers`, or where `first + count` is above 2^40.
+    /// The share of worker `worker` of `workers`, from 0. `None` if there are not 1 to 16 workers, if `worker`
+    /// is not below `workers`, or if `first + count` is above 2^40.
     pub fn new(first: u64, count: u64, workers: u32, worker: u32) -> Option<Share>
-        ensures range { IsSome result ↔ ((first + count ≤ 2 ^ 40) × (1 ≤ workers) × (workers ≤ 16) × (worker < workers)) }
-        ensures numbers { IfSome result (λ s. (s.first ≡ first) × (s.count ≡ count) × (s.workers ≡ workers) × (s.worker ≡ worker)) }
+        ensures range { IsSome result
+            ↔ ((first + count ≤ 2 ^ 40) × (1 ≤ workers) × (workers ≤ 16) × (worker < workers)) }
+        ensures numbers { IfSome result (λ s.
+            (s.first ≡ first) × (s.count ≡ count)
+            × (s.workers ≡ workers) × (s.worker ≡ worker)) }
     {
         let in_range = first <= END && count <= END - first;
         if !in_range || workers > MOST_WORKERS || worker >= workers {

@@ -159,7 +159,7 @@ fn a_stopped_share(rt: HostRuntime) -> Result<(), Fail> {
     Ok(())
 }
 
-/// Each event is answered as the table beside it says.
+/// Each event is allowed or not as the table beside it says.
 fn replay(rt: &impl Abort, core: &mut Core, events: &[(Event, bool)])
     ensures { core.new.workers ≡ core.old.workers }
 {
@@ -207,11 +207,64 @@ fn a_core_to_its_end(rt: HostRuntime) -> Result<(), Fail> {
         Event::Stop,
     ];
     for event in all {
-        assert!(rt; core.step(event), "{event:?}");
+        replay(&rt, core, &[(event, true)]);
     }
-    assert!(rt; core.step(Event::Stop));
-    assert!(rt; !core.step(Event::Take));
-    assert_eq!(rt; (core.turn(), core.stopped()), (3, true));
+    for _again in 0..2 {
+        assert_eq!(rt; (core.sent(0), core.sent(1)), (2, 1));
+        assert_eq!(rt; (core.taken(0), core.taken(1)), (2, 1));
+        assert!(rt; core.closed(0) && core.closed(1));
+        assert_eq!(rt; (core.turn(), core.stopped()), (3, true));
+        assert_eq!(rt; changes_made(core), 9);
+        replay(&rt, core, &[(Event::Stop, true), (Event::Take, false)]);
+    }
+    Ok(())
+}
+
+/// All sent and taken, the closed lanes and the flag, of two lanes.
+fn changes_made(core: &Core) -> u64
+    requires { core.now.workers ≡ 2 }
+{
+    let mut sum = u64::from(core.stopped());
+    for worker in 0..2 {
+        let (sent, taken) = (core.sent(worker), core.taken(worker));
+        let lane = sent.wrapping_add(taken);
+        sum = sum
+            .wrapping_add(lane)
+            .wrapping_add(u64::from(core.closed(worker)));
+    }
+    sum
+}
+
+/// The writer meets its limit of boards with its second Take, and stops the run. Each worker may be about to send,
+/// and sends; then it sees the flag, and closes its lane.
+#[test]
+fn a_core_whose_writer_stops_at_its_limit(rt: HostRuntime) -> Result<(), Fail> {
+    let mut core = Core::new(8, 2, 2).ok_or("a core")?;
+    replay(
+        &rt,
+        &mut core,
+        &[
+            (Event::Send(0), true),
+            (Event::Send(1), true),
+            (Event::Take, true),
+            (Event::Take, true),
+            (Event::Close(0), false),
+            (Event::Stop, true),
+            (Event::Take, false),
+            (Event::Send(1), true),
+            (Event::Close(1), true),
+            (Event::Send(0), true),
+            (Event::Send(1), false),
+            (Event::Close(0), true),
+            (Event::Send(0), false),
+            (Event::Take, false),
+        ],
+    );
+    assert_eq!(rt; (core.sent(0), core.sent(1)), (2, 2));
+    assert_eq!(rt; (core.taken(0), core.taken(1)), (1, 1));
+    assert!(rt; core.closed(0) && core.closed(1));
+    assert_eq!(rt; (core.turn(), core.stopped()), (2, true));
+    assert_eq!(rt; changes_made(&core), 9);
     Ok(())
 }
 

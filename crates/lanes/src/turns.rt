@@ -21,7 +21,9 @@ impl Model for Turns {
 
     ghost view = { λ t. record { turn = t.turn; workers = t.workers } };
 
-    ghost invariant = { λ t. (1 ≤ t.workers) × (t.workers ≤ 16) × (t.turn ≤ 2 ^ 40) × (t.lane ≡ t.turn % t.workers) };
+    ghost invariant = { λ t.
+        (1 ≤ t.workers) × (t.workers ≤ 16) × (t.turn ≤ 2 ^ 40)
+        × (t.lane ≡ t.turn % t.workers) };
 }
 
 impl Turns {

@@ -122,7 +122,8 @@ struct Deals {
 
 impl Deals {
     fn of_share(seed: u32, share: &Share) -> Deals
-        ensures generator { result.generator ≡ state_before seed (share.now.first + share.now.worker) }
+        ensures generator { result.generator
+            ≡ state_before seed (share.now.first + share.now.worker) }
         ensures gap { result.gap ≡ 51 * (share.now.workers - 1) }
     {
         let mut steps = Steps::new();
@@ -136,7 +137,8 @@ impl Deals {
 
     fn next(&mut self) -> Deal
         ensures deal { result ≡ dealt (drawn_places self.old.generator) }
-        ensures generator { self.new.generator ≡ state_after self.old.generator (51 + self.old.gap) }
+        ensures generator { self.new.generator
+            ≡ state_after self.old.generator (51 + self.old.gap) }
         ensures gap { self.new.gap ≡ self.old.gap }
     {
         let deal = Deal::draw(&mut self.generator);
