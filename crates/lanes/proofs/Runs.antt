@@ -1,17 +1,17 @@
 -- What holds after a list of events.
-use Rattle.std.proofs.Common.{◌≡◌, ℕ, zero, suc, ◌+◌, ◌*◌, ◌/◌, ◌%◌, ◌==◌, ◌&&◌, ◌<◌, ◌≤◌, ◌⊎◌, Bool, true, false, cond, List, [], ◌∷◌, ◌++◌, length, get_or, set, map, refl, sym, ◌∙◌, ap, subst, arith, inl, inr}
+use Rattle.std.proofs.Common.{◌≡◌, ℕ, suc, ◌+◌, ◌*◌, ◌/◌, ◌%◌, ◌==◌, ◌&&◌, ◌<◌, ◌≤◌, ◌⊎◌, true, false, List, [], ◌∷◌, ◌++◌, get_or, set, map, refl, sym, ◌∙◌, ap, subst, arith, inl, inr}
 use Rattle.std.specs.List.{range_with_len}
 use Rattle.std.proofs.lemmas.Grind.{common_steps}
-use Rattle.std.proofs.lemmas.Bool.{cases_eq, cases_Bool, and_parts, and_from, ltb-true, lt-ltb, eqb-true, eq-eqb, ne_eqb, cond-true, cond-false, both_ways, true≢false, false_from_ne_true}
-use Rattle.std.proofs.lemmas.List.{get_or-set_same, get_or-set_other, length-set}
+use Rattle.std.proofs.lemmas.Bool.{cases_eq, cases_Bool, and_parts, and_from, eqb-true, eq-eqb, cond-true, cond-false, both_ways, false_from_ne_true}
+use Rattle.std.proofs.lemmas.List.{get_or-set_same, get_or-set_other}
 use Rattle.lanes.specs.declared.event.Event.{Event}
 use Rattle.lanes.specs.declared.event.Event.TheVariants.{Send, Take, Close, Stop}
 use Rattle.lanes.specs.Verdicts.{turns}
-use Rattle.lanes.specs.Machine.{Machine, new_machine, sent_of, taken_of, is_closed, next_lane, is_allowed, changed, after}
-use Rattle.lanes.specs.Sound.{HasLanes, IsLaneSound, IsSound}
+use Rattle.lanes.specs.Machine.{Machine, sent_of, taken_of, is_closed, next_lane, is_allowed, changed, after}
+use Rattle.lanes.specs.Sound.{IsSound}
 use Rattle.lanes.specs.Runs.{after_all, item_of, sent_in, taken_in, items_sent, items_taken}
 use Rattle.lanes.proofs.Places.{bounds, same_place, count_even}
-use Rattle.lanes.proofs.Steps.{Kept, kept_new, kept_after, sound, after_allowed, after_refused, may_send, may_take, may_close}
+use Rattle.lanes.proofs.Steps.{Kept, kept_after, sound, after_allowed, after_refused, may_send, may_close}
 
 -- the numbers of the run stay
 pub record SameRun (m n : Machine) : Type 0 where

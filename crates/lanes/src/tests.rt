@@ -194,30 +194,37 @@ fn a_core_of_two_lanes(rt: HostRuntime) -> Result<(), Fail> {
 
 #[test]
 fn a_core_to_its_end(rt: HostRuntime) -> Result<(), Fail> {
-    let core = &mut Core::new(3, 2, 1).ok_or("a core")?;
-    let all = [
-        Event::Send(0),
-        Event::Take,
-        Event::Send(1),
-        Event::Take,
-        Event::Send(0),
-        Event::Take,
-        Event::Close(0),
-        Event::Close(1),
-        Event::Stop,
-    ];
-    for event in all {
-        replay(&rt, core, &[(event, true)]);
-    }
-    for _again in 0..2 {
-        assert_eq!(rt; (core.sent(0), core.sent(1)), (2, 1));
-        assert_eq!(rt; (core.taken(0), core.taken(1)), (2, 1));
-        assert!(rt; core.closed(0) && core.closed(1));
-        assert_eq!(rt; (core.turn(), core.stopped()), (3, true));
-        assert_eq!(rt; changes_made(core), 9);
-        replay(&rt, core, &[(Event::Stop, true), (Event::Take, false)]);
-    }
+    let mut core = Core::new(3, 2, 1).ok_or("a core")?;
+    replay(
+        &rt,
+        &mut core,
+        &[
+            (Event::Send(0), true),
+            (Event::Take, true),
+            (Event::Send(1), true),
+            (Event::Take, true),
+            (Event::Send(0), true),
+            (Event::Take, true),
+            (Event::Close(0), true),
+            (Event::Close(1), true),
+            (Event::Stop, true),
+        ],
+    );
+    is_at_its_end(&rt, &core);
+    replay(&rt, &mut core, &[(Event::Stop, true), (Event::Take, false)]);
+    is_at_its_end(&rt, &core);
     Ok(())
+}
+
+/// Three items went through the two lanes, both are closed, and the run is stopped.
+fn is_at_its_end(rt: &impl Abort, core: &Core)
+    requires { core.now.workers ≡ 2 }
+{
+    assert_eq!(rt; (core.sent(0), core.sent(1)), (2, 1));
+    assert_eq!(rt; (core.taken(0), core.taken(1)), (2, 1));
+    assert!(rt; core.closed(0) && core.closed(1));
+    assert_eq!(rt; (core.turn(), core.stopped()), (3, true));
+    assert_eq!(rt; changes_made(core), 9);
 }
 
 /// All sent and taken, the closed lanes and the flag, of two lanes.

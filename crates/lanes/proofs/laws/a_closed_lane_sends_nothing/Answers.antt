@@ -1,4 +1,3 @@
-use Rattle.std.proofs.Common.{arith}
 use Rattle.lanes.specs.declared.event.Event.TheVariants.{Close}
 use Rattle.lanes.specs.Machine.{new_machine, after}
 use Rattle.lanes.specs.Runs.{after_all}
