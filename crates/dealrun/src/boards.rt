@@ -19,7 +19,7 @@ pub(crate) fn is_full(plan: &Plan, boards: u64) -> bool
     }
 }
 
-/// AppendsTaken the game of the next board, where `boards` are written.
+/// Writes the game of the next board, where `boards` are written.
 pub(crate) fn put_game<S: Sink>(
     plan: &Plan,
     printer: &mut Printer,

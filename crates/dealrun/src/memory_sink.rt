@@ -35,7 +35,7 @@ impl MemSink {
         }
     }
 
-    /// CountsFault a fault.
+    /// Counts a fault.
     pub(crate) fn note_fault(&mut self)
         requires { self.old.faults < 2 ^ 64 - 1 }
         ensures bytes { self.new.bytes ≡ self.old.bytes }

@@ -1,6 +1,6 @@
 //! The reference run: one thread, no lane and no table, written as the definition of the text reads.
 
-ghost use Rattle.std.specs.Prelude.{◌≡◌, ◌+◌, ◌-◌, ◌*◌, ◌<◌, ◌≤◌, ◌^◌, length, MatchResult};
+ghost use Rattle.std.specs.Prelude.{◌≡◌, ◌+◌, ◌-◌, ◌*◌, ◌<◌, ◌≤◌, ◌^◌, length, IfOk, MatchResult};
 ghost use Rattle.pbn_text.specs.Games.{game as game_of};
 ghost use Rattle.cards.specs.Candidates.{state_before};
 ghost use Rattle.dealrun.specs.Sinks.{AppendsAll, AppendsOrBreaksOff, CountsFault};
@@ -14,7 +14,7 @@ use cond_lang::Cond;
 use lcg48::{Lcg48, Steps, Stride};
 use pbn_text::{HEADER, game};
 
-/// The sink failed; so many whole games were written before.
+/// The sink failed, after this many whole games.
 #[derive(Clone, Copy, Debug, PartialEq, Eq)]
 pub struct PlainFault {
     pub boards: u64,
@@ -40,17 +40,20 @@ fn write_game<S: Sink>(plan: &Plan, boards: u64, deal: &Deal, sink: &mut S) -> R
     put_all(sink, text.as_slice())
 }
 
-/// Tries the plan's candidates one after the other, and writes the header and the games of those that meet the
-/// condition, at most the plan's limit of them. It takes no memory.
+/// Tries the plan's candidates in order, and writes the header and the games of those that meet the condition, at most
+/// the plan's limit of them. It takes no memory. Returns how many games were written.
 ///
-/// Answers how many games were written. On a fault of the sink a proper prefix of that text is written, and the
-/// fault has the number of whole games in it.
+/// # Errors
+///
+/// `PlainFault` if the sink failed: a proper prefix of that text is written, and the fault has the number of whole
+/// games in it.
 pub fn run_plain<S: Sink>(plan: &Plan, cond: &Cond, sink: &mut S) -> Result<u64, PlainFault>
     requires { S.faults sink.old < 2 ^ 64 - 1 }
     ensures bytes { MatchResult result
         (λ _. AppendsAll (S.bytes sink.old) (S.bytes sink.new) (text plan.now cond.now))
-        (λ e. BreaksOffText (S.bytes sink.old) (S.bytes sink.new) plan.now (accepted plan.now cond.now) e.boards) }
-    ensures boards { MatchResult result (λ boards. boards ≡ length (accepted plan.now cond.now)) (λ _. Unit {0}) }
+        (λ e. BreaksOffText (S.bytes sink.old) (S.bytes sink.new) plan.now
+        (accepted plan.now cond.now) e.boards) }
+    ensures boards { IfOk result (λ boards. boards ≡ length (accepted plan.now cond.now)) }
     ensures faults { CountsFault (S.faults sink.old) (S.faults sink.new) result }
 {
     let mut boards = 0;

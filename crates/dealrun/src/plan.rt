@@ -73,7 +73,9 @@ impl Plan {
         workers: u32,
         capacity: u32,
     ) -> Result<Plan, PlanError>
-        ensures in_range { IsOk result ↔ ((first + count ≤ 2 ^ 40) × ((0 < workers) × (workers ≤ 16)) × ((0 < capacity) × (capacity ≤ 4096))) }
+        ensures in_range { IsOk result ↔ ((first + count ≤ 2 ^ 40)
+            × ((0 < workers) × (workers ≤ 16))
+            × ((0 < capacity) × (capacity ≤ 4096))) }
         ensures made { IfOk result (λ p. p ≡ record { seed = seed; first = first; count = count; workers = workers; capacity = capacity; limit = None; first_board = 1; heading = no_heading }) }
         ensures refused { IfErr result (λ e. e ≡ refusal_of first count workers) }
     {

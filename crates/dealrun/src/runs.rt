@@ -29,7 +29,7 @@ pub struct Report {
     pub boards: u64,
 }
 
-/// A run that was interrupted: why, its lanes as they stand, and the number of whole games.
+/// A run that was interrupted: why, its lanes as they are, and the number of whole games.
 #[derive(Drop)]
 pub struct RunFault {
     pub cause: Cause,
@@ -37,11 +37,18 @@ pub struct RunFault {
     pub boards: u64,
 }
 
-/// AppendsTaken the games of the accepted candidates of a plan, judged by its workers in threads of their own.
+/// Writes the games of the accepted candidates of a plan, judged by its workers in threads of their own.
 ///
-/// All memory is taken first. Then one worker starts for each lane, and the caller's thread writes beside them. On Ok
-/// every lane is settled, and the bytes are those of one candidate after another, whatever the number of workers and
-/// the capacity of their lanes. On a fault the report says what stands. It may wait for its workers.
+/// All memory is taken first: a lane and a clone of the condition for each worker, and 128 KiB for the printer. So the
+/// calling thread needs little stack: 80 KiB in the program `deals`, all in all. Then one worker starts for each lane,
+/// and the caller's thread writes while they run. It may wait for its workers.
+///
+/// # Errors
+///
+/// The first of these that is due. `Memory`: an allocation failed, before any thread started. `Spawn`: a thread could
+/// not be started; those that were are stopped and joined. `Output`: the sink failed. `Stopped`: a worker ended before
+/// it had sent all, since its gate answered false, and the limit of boards was not met. `Unclosed`: a lane can't say
+/// how it ended.
 pub fn run<
     R: Threads + Wait + Clone + Send + 'static,
     G: Gate + Drop + Send + Sync + 'static,
@@ -58,10 +65,12 @@ pub fn run<
     // What was taken from each lane is its worker's verdicts, and all that is needed.
     ensures lanes { IfOk result (λ r. TakesWhatIsOwed plan.now cond r.lanes.items r.boards) }
     // The bytes are the games of the accepted deals, within the limit, in order.
-    ensures text { IfOk result (λ r. WritesText plan.now cond r.boards (S.bytes sink.old) (S.bytes sink.new)) }
+    ensures text { IfOk result (λ r. WritesText plan.now cond r.boards
+        (S.bytes sink.old) (S.bytes sink.new)) }
     // However the run ends: the lanes as they are, and the bytes of what was taken from them.
     ensures stands { MatchResult result
-        (λ r. StandsComplete plan.now cond r.lanes.items r.boards (S.bytes sink.old) (S.bytes sink.new))
+        (λ r. StandsComplete plan.now cond r.lanes.items r.boards
+        (S.bytes sink.old) (S.bytes sink.new))
         (λ e. InterruptedOutcome plan.now cond e.cause e.lanes.items e.boards
         (S.bytes sink.old) (S.bytes sink.new)) }
     // The sink failed, once, if and only if the cause is Output.
@@ -104,7 +113,7 @@ fn out_of_memory(alloc: Global) -> RunFault
     }
 }
 
-/// AppendsTaken beside the workers, joins them, and says how the run ended.
+/// Writes beside the workers, joins them, and says how the run ended.
 fn oversee<R: Threads + Wait, S: Sink>(
     rt: &R,
     plan: &Plan,

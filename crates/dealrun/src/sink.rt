@@ -31,7 +31,7 @@ pub trait Sink {
         ensures faults { CountsFault (faults self.old) (faults self.new) result };
 }
 
-/// AppendsTaken the whole piece. After a fault a proper prefix of it is written, and nothing more.
+/// Writes the whole piece. After a fault a proper prefix of it is written, and nothing more.
 pub fn put_all<S: Sink>(sink: &mut S, piece: &[u8]) -> Result<(), SinkFault>
     requires { S.faults sink.old < 2 ^ 64 - 1 }
     ensures bytes { AppendsOrBreaksOff (S.bytes sink.old) (S.bytes sink.new) result piece.now }

@@ -20,7 +20,7 @@ fn line_of(value: u32) -> ArrayVec<u8, 11>
     text
 }
 
-/// AppendsTaken the first `count` values of a seed (POSIX `nrand48` after `srand48`), in decimal, a line each.
+/// Writes the first `count` values of a seed (POSIX `nrand48` after `srand48`), in decimal, a line each.
 ///
 /// On a fault of the sink a proper prefix of that text is written.
 pub fn stream<S: Sink>(seed: u32, count: u64, sink: &mut S) -> Result<(), SinkFault>

@@ -53,7 +53,7 @@ impl Progress {
         is_full(plan, self.boards)
     }
 
-    /// CountsFault a verdict that was taken, and writes its game where it is accepted.
+    /// Counts a verdict that was taken, and writes its game where it is accepted.
     fn write<S: Sink>(
         &mut self,
         plan: &Plan,
@@ -115,7 +115,7 @@ fn write_beside<R: Wait, S: Sink>(
     Ok(())
 }
 
-/// AppendsTaken the header, and then the games as `write_beside` does.
+/// Writes the header, and then the games as `write_beside` does.
 pub(crate) fn write_all<R: Wait, S: Sink>(
     rt: &R,
     plan: &Plan,
