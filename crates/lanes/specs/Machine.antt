@@ -69,7 +69,7 @@ after m e = cond (is_allowed m e) (changed m e) m
 abbrev pub changes_made : Machine → ℕ
 changes_made m = sum m.sent + sum m.taken + count_by (λ c. c) m.closed + cond m.stopped 1 0
 
--- an event changes something where it is allowed and is no second Stop
+-- an event changes something if it is allowed and is no second Stop
 abbrev pub does_change : Machine → Event → Bool
 does_change m (Send w) = is_allowed m (Send w)
 does_change m Take = is_allowed m Take

@@ -27,7 +27,7 @@ impl Model for Turns {
 }
 
 impl Turns {
-    /// The turns of this many lanes, from turn 0. `None` where there are not 1 to 16 lanes.
+    /// The turns of this many lanes, from turn 0. It returns `None` if there are not 1 to 16 lanes.
     pub fn new(workers: u32) -> Option<Turns>
         ensures range { IsSome result ↔ ((1 ≤ workers) × (workers ≤ 16)) }
         ensures start { IfSome result (λ t. (t.turn ≡ 0) × (t.workers ≡ workers)) }
