@@ -1,7 +1,7 @@
 //! Why the program did nothing, or not all: its statuses and texts.
 
 ghost use Rattle.std.specs.Prelude.{◌≡◌, ◌-◌, ◌^◌, ◌<◌};
-ghost use Rattle.dealrun.specs.Sinks.{Counts};
+ghost use Rattle.dealrun.specs.Sinks.{CountsFault};
 ghost use Rattle.deals_cli.specs.Program.{failure_by, failure_of, status_of};
 ghost use Rattle.deals_cli.specs.declared.failure.Failure.TheVariants.{Memory, Output};
 
@@ -172,7 +172,7 @@ impl Failure {
     /// Says it to the user, in one line but for clap's texts.
     pub fn say<E: Sink>(&self, err: &mut E) -> Result<(), SinkFault>
         requires { E.faults err.old < 2 ^ 64 - 1 }
-        ensures { Counts (E.faults err.old) (E.faults err.new) result }
+        ensures { CountsFault (E.faults err.old) (E.faults err.new) result }
     {
         let message = self.message();
         put_all(err, message.before.as_bytes())?;
