@@ -1,19 +1,15 @@
 -- A suit's thirteen bits of a hand's mask are the set of its ranks.
-use Rattle.std.proofs.Common.{◌≡◌, ℕ, ◌+◌, ◌*◌, ◌/◌, ◌%◌, ◌^◌, ◌<◌, ◌==◌, ◌↔◌, min, Bool, cond, List, false, sym, ◌∙◌, ap, arith}
+use Rattle.std.proofs.Common.{◌≡◌, ℕ, ◌+◌, ◌*◌, ◌/◌, ◌%◌, ◌^◌, ◌<◌, ◌==◌, ◌↔◌, min, Bool, List, sym, ◌∙◌, ap, arith}
 use Rattle.std.specs.Prelude.{IsTrue}
 use Rattle.std.specs.Int.{bit_at}
 use Rattle.std.specs.Int.RustNames.{bit_and}
 use Rattle.std.proofs.lemmas.Bool.Decides.{nat_tests}
-use Rattle.std.proofs.lemmas.List.FromFn.{get_or-map-range_with_len}
-use Rattle.std.proofs.lemmas.Nat.{and_le_r, shr-shr}
-use Rattle.std.proofs.lemmas.Nat.Bits.{bit_at-lt, bit_at_and, bit_at_ones, same_from_bits_below}
-use Rattle.std.proofs.lemmas.Simd.{mask_l-lt, bit_mask_l}
-use lib.Lanes.{mask_l}
+use Rattle.std.proofs.lemmas.Nat.{shr-shr}
+use Rattle.std.proofs.lemmas.Nat.Bits.{bit_at-lt, bit_at_and, bit_at_ones}
 use Rattle.cards.specs.declared.suit.Suit.{Suit}
 use Rattle.cards.specs.Pack.{suit_number}
 use Rattle.cards.specs.Hands.{holds_card, has_rank}
 use Rattle.cards.specs.Masks.{cards_of_mask}
-use Rattle.cards.specs.MaskBits.{test_bit}
 use Rattle.cards.proofs.MaskCounts.{card_at_mask}
 
 min_one : (x : ℕ) → x < 2 → min x 1 ≡ x

@@ -1,4 +1,4 @@
--- A set of cards as a number: bit c is set where card c is in the set. Four of them are a deal.
+-- A set of cards as a number: bit c is set if card c is in the set. Four of them are a deal.
 use Rattle.std.specs.Prelude.{◌≡◌, ℕ, ◌-◌, ◌^◌, ◌==◌, Bool, List, map, if◌then◌else◌}
 use Rattle.std.proofs.Common.{sym}
 use Rattle.std.specs.Int.{bit_at}

@@ -3,8 +3,8 @@
 ghost use Rattle.std.specs.Prelude.{◌≡◌, ℕ, ◌<◌, ◌≤◌, ◌^◌, ◌*◌, ◌↔◌, IsTrue};
 ghost use Rattle.std.specs.Int.{bit_at};
 ghost use Rattle.cards.specs.Pack.{suit_number};
-ghost use Rattle.cards.specs.Hands.{points_of, points_in, length_of, shape_of, is_balanced, IsBalanced};
-ghost use Rattle.cards.specs.Hands.{has_rank, ranks_of};
+ghost use Rattle.cards.specs.Hands.{points_of, points_in, length_of, shape_of};
+ghost use Rattle.cards.specs.Hands.{is_balanced, IsBalanced, has_rank, ranks_of};
 ghost use Rattle.cards.specs.Masks.{cards_of_mask};
 ghost use Rattle.cards.specs.BalancedInOrder.{IsBalancedInOrder};
 

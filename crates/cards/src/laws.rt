@@ -1,5 +1,5 @@
-//! Laws of this crate's definitions: functions whose contracts are the laws. But for `equality`, which
-//! compares, they do nothing.
+//! Laws of this crate's definitions: functions whose contracts are the laws. They do nothing, but
+//! for `equality`, which compares.
 
 ghost use Rattle.std.specs.Prelude.{◌≡◌, ℕ, List, map, ◌↔◌, IsTrue};
 ghost use Rattle.std.specs.List.Sorted.{IsPermutation};

@@ -1,4 +1,4 @@
-//! Sets of cards as masks of 52 bits: bit c is set where card c is in the set.
+//! Sets of cards as masks of 52 bits: bit c is set if card c is in the set.
 
 ghost use Rattle.std.specs.Prelude.{◌≡◌, ◌<◌, ◌≤◌, ◌^◌, ◌==◌};
 ghost use Rattle.cards.specs.Pack.{seat_number};

@@ -57,7 +57,8 @@ fn exchange(pack: &mut [u8; 52], places: &[u8; 51], position: usize) -> u8
     card
 }
 
-/// As `settle`, with each place drawn when it is needed. Two steps at a time are quicker than one after the other.
+/// As `settle`, with each place drawn when it is needed. Two steps at a time are quicker than one
+/// after the other.
 #[inline(always)]
 pub(crate) fn settle_drawn(pack: &mut [u8; 52], generator: &mut Lcg48, last: usize) -> u64
     requires from { 12 ≤ last }
@@ -94,7 +95,8 @@ fn exchange_two(pack: &mut [u8; 52], generator: &mut Lcg48, position: usize) -> 
         → IsDealing x generator.new pack.new (position - 2) }
     ensures cards { (x : ℕ)
         → IsDealing x generator.old pack.old position
-        → (result.0 ≡ card_at (drawn_places x) position) × (result.1 ≡ card_at (drawn_places x) (position - 1)) }
+        → (result.0 ≡ card_at (drawn_places x) position)
+        × (result.1 ≡ card_at (drawn_places x) (position - 1)) }
 {
     let (first, second) = generator.next_two();
     let upper = exchange_by(pack, first, position);

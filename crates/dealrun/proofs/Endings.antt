@@ -1,6 +1,6 @@
 -- From the lanes as they stand to the text of the candidates.
 use Rattle.std.proofs.Common.{◌≡◌, ◌≢◌, ℕ, zero, suc, ◌+◌, ◌*◌, ◌/◌, ◌%◌, ◌<◌, ◌≤◌, ◌⊎◌, true, false, List, [], ◌++◌, All, length, get_or, map, take, sum, Option, Some, refl, sym, ◌∙◌, ap, subst, arith, inl, inr, length-append, mul_comm}
-use Rattle.std.specs.List.{range_with_len, cons_option, slice_get, enumerate_from}
+use Rattle.std.specs.List.{range_with_len, cons_option, slice_get}
 use Rattle.std.specs.Option.{ForSome}
 use Rattle.std.proofs.lemmas.Grind.{common_steps}
 use Rattle.std.proofs.lemmas.List.{get_or-map, length-map, get_or-take, take_all, take-take, nil_from_length}
@@ -27,7 +27,7 @@ use Rattle.dealrun.specs.MergedVerdicts.{verdicts_for, at_turn, in_turn, deals_i
 use Rattle.dealrun.specs.internal.Joins.{ByNumber}
 use Rattle.dealrun.specs.internal.Ends.{Completes}
 use Rattle.dealrun.specs.internal.Writing.{TakenInTurn, StaysShort, WriterSoFar}
-use Rattle.dealrun.specs.Outcomes.{EachLane, AllSettled, for_each_worker, contents_of, PrintsTaken, PrintsCandidates, AreLanesConsistent, TakesWhatIsOwed, WritesText, StandsComplete}
+use Rattle.dealrun.specs.Outcomes.{EachLane, AllSettled, for_each_worker, contents_of, PrintsTaken, PrintsCandidates, AreLanesConsistent, TakesWhatIsOwed, StandsComplete}
 use Rattle.dealrun.proofs.Printing.{in_turn-none, in_turn-more}
 use Rattle.dealrun.proofs.Accepting.{deals_are, end_here, needed_here, accepted_here}
 
@@ -220,9 +220,9 @@ module _ (plan : Planned) (form : Form) (lanes : List OutView) (t boards : ℕ) 
     settled = λ k d lt. settled k d (omega (arith, lt, long));
     sent = each_number plan (λ w l. IsPrefix (contents_of l) (verdicts_for plan form w)) lanes long sent;
     whole = λ less. (
-          for_each_lane plan (λ l. l.taken) (verdicts_for plan form) lanes long (λ w e lt. (whole less w e lt).0),
-          λ k d lt. (whole less k d (omega (arith, lt, long))).1
-        );
+      for_each_lane plan (λ l. l.taken) (verdicts_for plan form) lanes long (λ w e lt. (whole less w e lt).0),
+      λ k d lt. (whole less k d (omega (arith, lt, long))).1,
+    );
   }
 
   pub complete : Completes plan form lanes boards old new

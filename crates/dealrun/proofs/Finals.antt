@@ -100,7 +100,7 @@ module _ (plan : Planned) (form : Form) (n : ℕ) (lists : List (List Verdict)) 
         settled = (h.2 [] no_lane).0;
         part = subst (IsProperPrefix (contents_of (get_or lanes w no_lane))) (owed_at plan form lists w [] owes lt) (h.2 [] no_lane).1;
         below = each_lane (λ v l. v < w → l.settled ≡ true → contents_of l ≡ verdicts_for plan form v) lanes
-        (λ v e inside less settled. h.1 v [] e less settled ∙ owed_at plan form lists v [] owes (omega (arith, less, lt)));
+            (λ v e inside less settled. h.1 v [] e less settled ∙ owed_at plan form lists v [] owes (omega (arith, less, lt)));
       }
 
   pub least_unclosed : (w boards : ℕ) → u ≡ Some w → length lanes ≡ plan.workers → (plan.limit ≢ Some boards → ByNumber plan lanes (λ v l. l.settled ≡ true → contents_of l ≡ verdicts_for plan form v)) → IsLeastUnclosed plan form lanes w boards
@@ -136,11 +136,19 @@ not_started plan form n lists all idle lanes s u old some long few owes some_of 
     let none : (w : ℕ) (e : OutView) → w < plan.workers → (get_or lanes w e).taken ≡ [] =
     λ w e lt. let short : w < length idle = omega (arith, lt, long, lens) in same_at (λ (l : OutView). l.taken) lanes idle w e same short ∙ (fresh w e short).0 in
     let in_turn : TakenInTurn plan lanes 0 = record { long = long; turns_are = λ w e lt. ap length (none w e lt) ∙ sym (turns-none plan.workers w) } in
-    let total = taken_total plan lanes 0 some in_turn in
-    (stand plan form lanes 0 some (omega arith) in_turn (λ i lt. absurd (omega arith)) parts, total, refl, refl, (n, record {
-      worker = few;
-      unsettled = each_lane (λ w l. n ≤ w → l.settled ≡ false) lanes (λ w e inside above. rest w e above inside);
-    }))
+    let total = taken_total plan lanes 0 some in_turn in (
+      stand plan form lanes 0 some (omega arith) in_turn (λ i lt. absurd (omega arith)) parts,
+      total,
+      refl,
+      refl,
+      (
+        n,
+        record {
+          worker = few;
+          unsettled = each_lane (λ w l. n ≤ w → l.settled ≡ false) lanes (λ w e inside above. rest w e above inside);
+        },
+      ),
+    )
   where
     parts : ByNumber plan lanes (λ w l. l.settled ≡ true → IsPrefix (contents_of l) (verdicts_for plan form w))
     parts w e lt settled =

@@ -29,18 +29,11 @@ fn generator_of(plan: &Plan) -> Lcg48
 }
 
 /// Writes the game of the next board, after `boards` of them.
-fn write_game<S: Sink>(
-    plan: &Plan,
-    boards: u64,
-    deal: &Deal,
-    sink: &mut S,
-) -> Result<(), SinkFault>
+fn write_game<S: Sink>(plan: &Plan, boards: u64, deal: &Deal, sink: &mut S) -> Result<(), SinkFault>
     requires faults { S.faults sink.old < 2 ^ 64 - 1 }
     requires boards { boards ≤ 2 ^ 40 }
-    ensures bytes {
-        AppendsOrBreaksOff (S.bytes sink.old) (S.bytes sink.new) result
-            (game_of (plan.now.first_board + boards) plan.now.heading deal.now)
-    }
+    ensures bytes { AppendsOrBreaksOff (S.bytes sink.old) (S.bytes sink.new) result
+        (game_of (plan.now.first_board + boards) plan.now.heading deal.now) }
     ensures faults { CountsFault (S.faults sink.old) (S.faults sink.new) result }
 {
     let text = game(plan.first_board() + boards, plan.heading(), deal);

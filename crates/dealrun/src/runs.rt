@@ -58,14 +58,12 @@ pub fn run<
     // What was taken from each lane is its worker's verdicts, and all that is needed.
     ensures lanes { IfOk result (λ r. TakesWhatIsOwed plan.now cond r.lanes.items r.boards) }
     // The bytes are the games of the accepted deals, within the limit, in order.
-    ensures text {
-        IfOk result (λ r. WritesText plan.now cond r.boards (S.bytes sink.old) (S.bytes sink.new))
-    }
+    ensures text { IfOk result (λ r. WritesText plan.now cond r.boards (S.bytes sink.old) (S.bytes sink.new)) }
     // However the run ends: the lanes as they are, and the bytes of what was taken from them.
     ensures stands { MatchResult result
         (λ r. StandsComplete plan.now cond r.lanes.items r.boards (S.bytes sink.old) (S.bytes sink.new))
         (λ e. InterruptedOutcome plan.now cond e.cause e.lanes.items e.boards
-            (S.bytes sink.old) (S.bytes sink.new)) }
+        (S.bytes sink.old) (S.bytes sink.new)) }
     // The sink failed, once, if and only if the cause is Output.
     ensures faults { MatchResult result
         (λ _. S.faults sink.new ≡ S.faults sink.old)

@@ -1,5 +1,6 @@
 pub mod Suits
 pub mod Copies
+pub mod Dates
 pub mod Reading
 pub mod Sets
 pub mod Rooms

@@ -1,17 +1,16 @@
 -- The text of a set of ranks: how it is written, and that it is the text of a hand's suit.
-use Rattle.std.proofs.Common.{◌≡◌, ℕ, zero, suc, ◌+◌, ◌*◌, ◌/◌, ◌<◌, ◌≤◌, ◌^◌, ◌==◌, Bool, true, false, cond, List, [], ◌∷◌, ◌++◌, length, get_or, set, take, inl, inr, ◌⊎◌, refl, sym, ◌∙◌, ap, arith}
-use Rattle.std.specs.Prelude.{slice_index}
+use Rattle.std.proofs.Common.{◌≡◌, ℕ, zero, suc, ◌+◌, ◌*◌, ◌/◌, ◌<◌, ◌≤◌, ◌^◌, ◌==◌, ◌↔◌, Bool, true, false, List, [], ◌∷◌, ◌++◌, length, get_or, set, take, inl, inr, ◌⊎◌, refl, sym, ◌∙◌, ap, arith}
+use Rattle.std.specs.Prelude.{slice_index, IsTrue}
 use Rattle.std.specs.Int.{bit_at}
 use Rattle.std.specs.Int.RustNames.{bit_and}
+use Rattle.std.proofs.lemmas.Bool.Decides.{nat_tests}
 use Rattle.std.proofs.lemmas.List.{length-set, take_more_set, take-set-le, get_or-set_same}
 use Rattle.std.proofs.lemmas.List.FromFn.{get_or-map-range_with_len, fill_by_all}
 use Rattle.std.proofs.lemmas.Nat.Bits.{shr_and_one, bit_at-lt}
-use Rattle.std.proofs.lemmas.Simd.{bit_mask_l}
-use lib.Lanes.{mask_l}
 use Rattle.cards.specs.declared.suit.Suit.{Suit}
 use Rattle.cards.specs.declared.suit.Suit.TheVariants.{Spades}
 use Rattle.cards.specs.Pack.{suit_number}
-use Rattle.cards.specs.Hands.{holds_card, ranks_of}
+use Rattle.cards.specs.Hands.{holds_card, has_rank, ranks_of}
 use Rattle.pbn_text.specs.Games.{letters, suit_text}
 use Rattle.pbn_text.specs.SuitTexts.{ranks_in, set_text, IsSuitText}
 use Rattle.pbn_text.proofs.Suits.{first_ranks, first_ranks-all, one_written, one_passed}
@@ -25,10 +24,6 @@ one_or_none : (b : ℕ) → b < 2 → (b ≡ 1) ⊎ (b ≡ 0)
 one_or_none zero h = inr refl
 one_or_none (suc zero) h = inl refl
 one_or_none (suc (suc b)) h = absurd (omega arith)
-
-bit_is : (b : Bool) → (cond b 1 0 == 1) ≡ b
-bit_is true = refl
-bit_is false = refl
 
 -- the letters of a set's ranks below n, after the next one is written, and counted where the set has it
 pub next_rank : (text : List ℕ) (ranks n end new : ℕ) → n < 13 → end < length text → new ≡ end + bit_and (ranks / 2 ^ n) 1
@@ -61,14 +56,20 @@ whole_text text ranks n end all full few written start =
     }
 
 -- a set of ranks that a hand has in a suit
-ranks_back : (hand : List Bool) (suit : Suit) → ranks_in (mask_l (ranks_of hand suit)) ≡ ranks_of hand suit
+test_is : (bit : ℕ) (held : Bool) → (bit ≡ 1) ↔ IsTrue held → held ≡ (bit == 1)
+test_is bit true h = sym (ap (λ b. b == 1) (h.1 refl))
+test_is bit false h = grind (arith, nat_tests, h.0)
+
+ranks_back : (ranks : ℕ) (hand : List Bool) (suit : Suit) → ((rank : ℕ) → rank < 13 → (bit_at ranks rank ≡ 1) ↔ IsTrue (has_rank hand suit rank)) → ranks_in ranks ≡ ranks_of hand suit
 unfolding ranks_in
-ranks_back hand suit = sym (fill_by_all (λ rank. bit_at (mask_l (ranks_of hand suit)) rank == 1) (ranks_of hand suit) 13 false refl (λ k h. sym (ap (λ b. b == 1) (bit_mask_l (ranks_of hand suit) k) ∙ bit_is (get_or (ranks_of hand suit) k false))))
+ranks_back ranks hand suit is =
+    sym (fill_by_all (λ rank. bit_at ranks rank == 1) (ranks_of hand suit) 13 false refl
+    (λ k h. get_or-map-range_with_len (has_rank hand suit) 0 13 k k false h (omega arith) ∙ test_is (bit_at ranks k) (has_rank hand suit k) (is k h)))
 
 alone : (hand : List Bool) (suit : Suit) → suit_text (ranks_of hand suit) Spades ≡ suit_text hand suit
 unfolding suit_text
 alone hand suit = refl
 
 -- the text of the set of ranks that a hand has in a suit is the suit's
-pub set_text-of : (ranks : ℕ) (hand : List Bool) (suit : Suit) → ranks ≡ mask_l (ranks_of hand suit) → set_text ranks ≡ suit_text hand suit
-set_text-of ranks hand suit is = ap set_text is ∙ ap (λ xs. suit_text xs Spades) (ranks_back hand suit) ∙ alone hand suit
+pub set_text-of : (ranks : ℕ) (hand : List Bool) (suit : Suit) → ((rank : ℕ) → rank < 13 → (bit_at ranks rank ≡ 1) ↔ IsTrue (has_rank hand suit rank)) → set_text ranks ≡ suit_text hand suit
+set_text-of ranks hand suit is = ap (λ xs. suit_text xs Spades) (ranks_back ranks hand suit is) ∙ alone hand suit

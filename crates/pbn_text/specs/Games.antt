@@ -15,7 +15,7 @@ use Rattle.pbn_text.specs.Boards.{dealer_of, vulnerable_of}
 abbrev pub header : List ℕ
 header = codes "% PBN 2.1\n"
 
--- the labels of a game: event, site and date, each the bytes of its text where it is given
+-- the labels of a game: event, site and date, each the bytes of its text if it is given
 abbrev pub HeadingView : Type 0
 HeadingView = Heading
 
@@ -26,7 +26,7 @@ no_heading = record { event = None; site = None; date = None }
 abbrev pub tag : List ℕ → List ℕ → List ℕ
 tag name value = codes "[" ++ name ++ codes " \"" ++ value ++ codes "\"]\n"
 
--- a label's line, where it is given
+-- a label's line, if it is given
 abbrev pub label : List ℕ → Option (List ℕ) → List ℕ
 label name None = []
 label name (Some text) = tag name text

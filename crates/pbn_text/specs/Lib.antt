@@ -1,5 +1,6 @@
 pub mod Boards
 pub mod Labels
+pub mod LabelBytes
 pub mod Games
 pub mod Lines
 pub mod SuitTexts

@@ -14,7 +14,7 @@ closing = codes "\"]\n"
 abbrev pub line : List ℕ → List ℕ → List ℕ
 line opening value = opening ++ value ++ closing
 
--- the line of a label, where it is given
+-- the line of a label, if it is given
 abbrev pub label_line : List ℕ → Option (List ℕ) → List ℕ
 label_line opening None = []
 label_line opening (Some value) = line opening value

@@ -1,7 +1,9 @@
 //! The text of a game, line by line.
 
-ghost use Rattle.std.specs.Prelude.{◌≡◌, ◌≤◌, ◌+◌, ◌++◌, length, take};
+ghost use Rattle.std.specs.Prelude.{◌≡◌, ◌≤◌, ◌+◌, List, ◌++◌, length, take};
 ghost use Rattle.arrayvec.specs.ArrayVec.{array_vec_len};
+ghost use Rattle.cards.specs.declared.seat.Seat.{Seat};
+ghost use Rattle.cards.specs.Deals.{IsPartition};
 ghost use Rattle.cards.specs.Hands.{hand_of, length_of};
 ghost use Rattle.cards.specs.declared.suit.Suit.TheVariants.{Spades, Hearts, Diamonds, Clubs};
 ghost use Rattle.pbn_text.specs.Games.{game as game_of, no_heading, heading_text, board_text};
@@ -28,12 +30,17 @@ pub(crate) type Text = ArrayVec<u8, 400>;
 /// The text of the board's game: a line for each label of the heading, the board's number, dealer
 /// and vulnerability, the deal, and an empty line. The board's number is at least 1.
 ///
-/// It has at most 385 bytes, and at most 144 without a heading.
+/// It has at most 385 bytes, and at most 144 without a heading. At one board and heading no other
+/// deal has this text.
 pub fn game(board: u64, heading: &Heading, deal: &Deal) -> ArrayVec<u8, 400>
     requires { 1 ≤ board }
     ensures value { result.items ≡ game_of board heading.now deal.now }
     ensures most { array_vec_len result ≤ 385 }
     ensures plain { heading.now ≡ no_heading → array_vec_len result ≤ 144 }
+    ensures one_deal { (other : List Seat)
+        → length other ≡ 52
+        → game_of board heading.now other ≡ result.items
+        → other ≡ deal.now }
 {
     let mut text = ArrayVec::new();
     put_heading(&mut text, heading);
@@ -113,6 +120,7 @@ fn vulnerable_word(sides: Vul) -> &'static [u8]
 /// Appends the line of the deal and the empty line.
 fn put_deal(text: &mut Text, deal: &Deal)
     requires { array_vec_len text.old + 80 ≤ 400 }
+    ensures partition { IsPartition deal.now }
     ensures items { text.new.items ≡ text.old.items ++ deal_line deal.now }
     ensures len { array_vec_len text.new ≡ array_vec_len text.old + 80 }
 {
@@ -130,6 +138,7 @@ fn put_deal(text: &mut Text, deal: &Deal)
 /// Appends the seat's thirteen cards and the three dots between its suits.
 fn put_hand(text: &mut Text, deal: &Deal, seat: Seat)
     requires { array_vec_len text.old + 16 ≤ 400 }
+    ensures partition { IsPartition deal.now }
     ensures items { text.new.items ≡ text.old.items ++ hand_text (hand_of deal.now seat) }
     ensures len { array_vec_len text.new ≡ array_vec_len text.old + 16 }
 {
@@ -139,7 +148,7 @@ fn put_hand(text: &mut Text, deal: &Deal, seat: Seat)
     put(text, &buffer[..16]);
 }
 
-/// Writes the hand's cards and the three dots to the front of the buffer, and answers where they
+/// Writes the hand's cards and the three dots to the front of the buffer, and returns where they
 /// end.
 fn write_hand(buffer: &mut [u8; ROOM], hand: &Hand) -> usize
     ensures written { take result buffer.new ≡ hand_text hand.now }
@@ -157,10 +166,10 @@ fn write_hand(buffer: &mut [u8; ROOM], hand: &Hand) -> usize
     write_suit(buffer, end + 1, hand, Suit::Clubs)
 }
 
-/// Writes the letters of the hand's ranks in the suit from this place on, and answers where they
+/// Writes the letters of the hand's ranks in the suit from this place on, and returns where they
 /// end.
 ///
-/// Each letter is written, and the next one over it where the hand hasn't the rank: that is quicker
+/// Each letter is written, and the next one over it when the hand hasn't the rank: that is quicker
 /// than to ask for each.
 fn write_suit(buffer: &mut [u8; ROOM], from: usize, hand: &Hand, suit: Suit) -> usize
     requires { from ≤ 42 }
@@ -181,7 +190,8 @@ fn write_suit(buffer: &mut [u8; ROOM], from: usize, hand: &Hand, suit: Suit) -> 
 fn put_line(text: &mut Text, opening: &[u8], value: &[u8])
     requires { array_vec_len text.old + length opening.now + length value.now + 3 ≤ 400 }
     ensures items { text.new.items ≡ text.old.items ++ line opening.now value.now }
-    ensures len { array_vec_len text.new ≡ array_vec_len text.old + length opening.now + length value.now + 3 }
+    ensures len { array_vec_len text.new
+        ≡ array_vec_len text.old + length opening.now + length value.now + 3 }
 {
     put(text, opening);
     put(text, value);

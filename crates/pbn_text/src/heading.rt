@@ -1,7 +1,8 @@
 //! The labels that may stand above a board: event, site and date.
 
-ghost use Rattle.std.specs.Prelude.{◌≡◌, ◌↔◌, None, IsTrue, IsSome, IfSome};
-ghost use Rattle.pbn_text.specs.Labels.{IsLabel, IsLabelByte, IsDate, FitsDate};
+ghost use Rattle.std.specs.Prelude.{◌≡◌, ◌↔◌, length, None, IsTrue, IsSome, IfSome};
+ghost use Rattle.pbn_text.specs.Labels.{IsLabel, IsLabelByte, IsDate};
+ghost use Rattle.pbn_text.specs.LabelBytes.{FitsDate};
 
 use std::marker::Model;
 
@@ -19,7 +20,7 @@ pub struct Label {
 
 impl Model for Label {
     ghost use Rattle.std.specs.Prelude.{List, ℕ, take, length, refl};
-    ghost use Rattle.pbn_text.specs.Labels.{IsPadded, padded_label};
+    ghost use Rattle.pbn_text.specs.LabelBytes.{IsPadded, padded_label};
 
     ghost Value = { List ℕ };
 
@@ -90,7 +91,7 @@ impl Model for Date {
 }
 
 impl Date {
-    /// The date of this text, or `None` exactly where the text isn't four digits, `.`, two digits,
+    /// The date of this text, or `None` exactly if the text isn't four digits, `.`, two digits,
     /// `.`, two digits.
     pub fn new(text: &[u8]) -> Option<Date>
         ensures sound { IsSome result ↔ IsDate text.now }
@@ -113,6 +114,7 @@ impl Date {
     pub(crate) fn as_bytes(&self) -> &[u8]
         ensures value { result.now ≡ self.now }
         ensures date { IsDate self.now }
+        ensures ten { length result.now ≡ 10 }
     {
         &self.bytes
     }

@@ -3,9 +3,9 @@
 //! A text is `HEADER` and then one game after the other. A game has a line for each label of its
 //! heading, the board's number, its dealer and vulnerability, and the deal.
 //!
-//! `game` makes one game. A `Printer` prints many under one heading, each in a fraction of the time:
-//! the texts of a suit stand ready for each set of ranks, the lines of dealer and vulnerability for
-//! each of sixteen boards, and the heading's lines stay where they are.
+//! `game` makes one game. A `Printer` prints many under one heading, each in a fraction of the
+//! time: the texts of a suit stand ready for each set of ranks, the lines of dealer and
+//! vulnerability for each of sixteen boards, and the heading's lines stay where they are.
 #![tactic(auto)]
 
 mod board;

@@ -32,7 +32,7 @@ static LENGTHS: [usize; 16] = [
 ];
 
 /// Writes the lines of the dealer and the vulnerability behind the board's number, and the opening
-/// of the deal's line. Answers where they end.
+/// of the deal's line. Returns where they end.
 pub(crate) fn put_middle(room: &mut Room, board: u64) -> usize
     requires { 1 ≤ board }
     ensures written { take result room.new ≡ take 272 room.old ++ middle_of board }

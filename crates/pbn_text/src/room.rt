@@ -52,7 +52,7 @@ pub(crate) fn put_front(room: &mut Room, number: usize, heading: &Heading, board
     }
 }
 
-/// What stands before a board's number, and the number, in a room where nothing stands.
+/// What stands before a board's number, and the number, in a room with nothing in it.
 pub(crate) fn first_front(room: &mut Room, heading: &Heading) -> Front
     ensures { IsFront room.new heading.now result.from result.number result.board }
 {
@@ -60,7 +60,7 @@ pub(crate) fn first_front(room: &mut Room, heading: &Heading) -> Front
     put_front(room, number, heading, 0)
 }
 
-/// Writes the board's number over the last one, and what stands before it where it begins at another
+/// Writes the board's number over the last one, and what stands before it if it begins at another
 /// place. Mostly a board follows the last one, and one digit changes.
 #[inline(always)]
 pub(crate) fn put_number(room: &mut Room, last: Front, heading: &Heading, board: u64) -> Front
@@ -90,7 +90,8 @@ pub(crate) fn put_number(room: &mut Room, last: Front, heading: &Heading, board:
     put_front(room, start, heading, board)
 }
 
-/// Writes the four hands, the end of the deal's line and the empty line, and answers where they end.
+/// Writes the four hands, the end of the deal's line and the empty line, and returns where they
+/// end.
 pub(crate) fn put_hands(room: &mut Room, from: usize, texts: &SuitTexts, deal: &Deal) -> usize
     requires { from ≤ 400 }
     ensures written { take result room.new ≡ take from room.old ++ hands_text deal.now }
@@ -116,11 +117,12 @@ fn put_hand(room: &mut Room, from: usize, texts: &SuitTexts, deal: &Deal, seat: 
     let _end = put_suits(room, from, texts, &deal.hand(seat));
 }
 
-/// Writes the hand's cards with a dot behind each suit, and answers where they end.
+/// Writes the hand's cards with a dot behind each suit, and returns where they end.
 #[inline(always)]
 fn put_suits(room: &mut Room, from: usize, texts: &SuitTexts, hand: &Hand) -> usize
     requires { from ≤ 451 }
-    ensures written { take result room.new ≡ take from room.old ++ (hand_text hand.now ++ codes ".") }
+    ensures written { take result room.new
+        ≡ take from room.old ++ (hand_text hand.now ++ codes ".") }
     ensures len { result
         ≡ from + (length_of hand.now Spades + length_of hand.now Hearts
         + length_of hand.now Diamonds + length_of hand.now Clubs + 4) }
@@ -131,11 +133,12 @@ fn put_suits(room: &mut Room, from: usize, texts: &SuitTexts, hand: &Hand) -> us
     put_suit(room, end, texts, hand, Suit::Clubs)
 }
 
-/// Writes the letters of the hand's ranks in the suit and a dot, and answers where they end.
+/// Writes the letters of the hand's ranks in the suit and a dot, and returns where they end.
 #[inline(always)]
 fn put_suit(room: &mut Room, from: usize, texts: &SuitTexts, hand: &Hand, suit: Suit) -> usize
     requires { from ≤ 496 }
-    ensures written { take result room.new ≡ take from room.old ++ (suit_text hand.now suit ++ codes ".") }
+    ensures written { take result room.new
+        ≡ take from room.old ++ (suit_text hand.now suit ++ codes ".") }
     ensures len { result ≡ from + (length_of hand.now suit + 1) }
     ensures most { result ≤ from + 14 }
 {

@@ -80,8 +80,8 @@ fn next_deal(state: &mut u64) -> Result<Deal, Fail> {
     Ok(Deal::shuffled(&Places::new(places).ok_or("places")?))
 }
 
-/// A printer's games under the heading are those of `game`: boards 1 to 1,200, and boards of 1 to 20
-/// digits in between.
+/// A printer's games under the heading are those of `game`: boards 1 to 1,200, and boards of 1 to
+/// 20 digits in between.
 fn check_printer(rt: &impl Abort, alloc: Global, heading: &Heading) -> Result<(), Fail> {
     let mut printer = Printer::new(alloc, heading)?;
     let mut state = 1;

@@ -1,12 +1,11 @@
 -- How far a writer has come that takes verdicts in turn and writes the games of the accepted ones.
-use Rattle.std.specs.Prelude.{ℕ, ◌≡◌, ◌+◌, ◌-◌, ◌<◌, ◌≤◌, List, ◌++◌, length, Option, slice_index_or}
+use Rattle.std.specs.Prelude.{ℕ, ◌≡◌, ◌+◌, ◌<◌, ◌≤◌, List, length, Option, slice_index_or}
 use Rattle.std.specs.Option.{ForSome}
 use Rattle.pbn_text.specs.Games.{game}
 use Rattle.lanes.specs.declared.verdict.Verdict.{Verdict}
 use Rattle.lanes.specs.Verdicts.{turns}
 use Rattle.lanes.specs.Views.{OutView}
 use Rattle.dealrun.specs.Plans.{Planned}
-use Rattle.dealrun.specs.Sinks.{append_known}
 use Rattle.dealrun.specs.MergedVerdicts.{boards_in, taken_lists}
 use Rattle.dealrun.specs.Outcomes.{PrintsTaken, BreaksOffLastPiece}
 

@@ -1,7 +1,6 @@
 use Rattle.std.proofs.Common.{◌≡◌, ◌<◌, arith, length, vec_len, map}
 use Rattle.lanes.specs.Jobs.{verdicts_of}
 use Rattle.std.proofs.lemmas.List.{length-map}
-use Rattle.dealrun.specs.internal.Joins.{Owes}
 use Rattle.dealrun.proofs.Finals.{not_started, if_ok, either, all_owe}
 use Rattle.dealrun.proofs.runs.run.Goals as goal
 

@@ -2,6 +2,7 @@ use Rattle.std.proofs.Common.{◌≡◌, ◌∙◌, ◌++◌, List, [], length, 
 use Rattle.std.specs.Prelude.{ℕ, codes}
 use Rattle.std.proofs.lemmas.List.{append_assoc}
 use Rattle.pbn_text.specs.Games.{game as game_of, heading_text, board_text, tag, deal_text}
+use Rattle.pbn_text.proofs.Reading.{deal_from_game}
 use Rattle.pbn_text.proofs.games.game.Goals as goal
 
 joined : (a b c d e f g h : List ℕ) → a ≡ [] → b ≡ a ++ e → c ≡ b ++ f → d ≡ c ++ (g ++ h) → d ≡ e ++ f ++ g ++ h
@@ -18,3 +19,7 @@ returns-clause-plain c e =
     let none : c.put_heading.new.text.items ≡ [] = c.put_heading.ensures.items ∙ rw (c.new-text.ensures) (ap heading_text e) in
     let empty : length c.put_heading.new.text.items ≡ 0 = ap length none in
     omega (arith, empty)
+
+pub returns-clause-one_deal : goal.returns-clause-one_deal
+returns-clause-one_deal c other count same =
+    deal_from_game c.args.board c.args.heading.now other c.args.deal.now count c.put_deal.ensures.partition.count (same ∙ returns-clause-value c)

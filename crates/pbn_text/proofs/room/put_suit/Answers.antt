@@ -11,9 +11,9 @@ returns-clause-written c =
     let text = c.of.result.now in
     take_copied c.args.room.now c.copy_from_slice.new.self c.args.from _ (get_or text 15 0) _ (omega arith) (omega arith) (ap (λ n. c.args.from + n) c.from.ensures)
     ∙ ap (λ xs. take c.args.from c.args.room.now ++ take (get_or text 15 0) xs) c.copy_from_slice.ensures.after
-    ∙ ap (λ xs. take c.args.from c.args.room.now ++ xs) (c.of.ensures.text ∙ ap (λ xs. xs ++ 0x2E ∷ []) (set_text-of c.rank_set.result c.args.hand.now c.args.suit c.rank_set.ensures.value))
+    ∙ ap (λ xs. take c.args.from c.args.room.now ++ xs) (c.of.ensures.text ∙ ap (λ xs. xs ++ 0x2E ∷ []) (set_text-of c.rank_set.result c.args.hand.now c.args.suit c.rank_set.ensures.bits))
 
 pub returns-clause-len : goal.returns-clause-len
 returns-clause-len c =
-    let count : length (set_text c.rank_set.result) ≡ length_of c.args.hand.now c.args.suit = ap length (set_text-of c.rank_set.result c.args.hand.now c.args.suit c.rank_set.ensures.value) ∙ length-suit_text c.args.hand.now c.args.suit in
+    let count : length (set_text c.rank_set.result) ≡ length_of c.args.hand.now c.args.suit = ap length (set_text-of c.rank_set.result c.args.hand.now c.args.suit c.rank_set.ensures.bits) ∙ length-suit_text c.args.hand.now c.args.suit in
     omega (arith, count)

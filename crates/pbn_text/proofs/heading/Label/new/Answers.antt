@@ -1,7 +1,9 @@
 use Rattle.std.proofs.Common.{◌≡◌, ℕ, ◌-◌, ◌∙◌, ◌++◌, List, length, take, refl, sym, ap, arith, below_more, subst}
 use Rattle.std.specs.Prelude.{replicate}
 use Rattle.std.proofs.lemmas.List.{length-set}
-use Rattle.pbn_text.specs.Labels.{IsLabel, IsPadded}
+use Rattle.std.proofs.lemmas.List.Elements.{All-from_get_or}
+use Rattle.pbn_text.specs.Labels.{IsLabel, IsLabelByte}
+use Rattle.pbn_text.specs.LabelBytes.{IsPadded}
 use Rattle.pbn_text.proofs.Copies.{zeros, copy_more, copied_all, front}
 use Rattle.pbn_text.proofs.heading.Label.new.Goals as goal
 
@@ -31,7 +33,7 @@ padded bytes text e ok =
 pub invariant_of-result : goal.invariant_of-result
 invariant_of-result c =
     padded c.loop-i.bytes c.args.text.now (copied_all c.loop-i.bytes c.args.text.now 100 c.loop-i.i c.loop-i.invariant.count (omega arith) (omega arith) c.loop-i.invariant.copied)
-    record { short = omega arith; printable = λ i h. c.loop-i.invariant.printable i (omega arith) }
+    record { short = omega arith; printable = All-from_get_or IsLabelByte c.args.text.now 0 (λ i h. c.loop-i.invariant.printable i (omega arith)) }
 
 pub returns-clause-kept : goal.returns-clause-kept
 returns-clause-kept c =
