@@ -15,7 +15,7 @@ use Rattle.clap.specs.declared.error.kind.ErrorKind.TheVariants.{OutOfMemory}
 use Rattle.clap.specs.declared.parser.matches.ArgMatches.{ArgMatches}
 use Rattle.clap.specs.declared.parser.matches.ArgMatches.TheViews.{out-ArgMatches, out-SubCommand}
 use Rattle.clap.specs.declared.parser.matches.SubCommand.{SubCommand}
-use Rattle.deals_cli.specs.CommandLine.{asked, deals, making_in, stream_wish, unless_fault, wish_by}
+use Rattle.deals_cli.specs.CommandLine.{asked, deals, kinds_for, making_in, stream_wish, unless_fault, wish_by}
 use Rattle.deals_cli.specs.Readings.{MakeValues, StreamValues}
 use Rattle.deals_cli.specs.Requests.{make}
 use Rattle.deals_cli.proofs.Commands.{make_built, make_values, stream_built, stream_values}
@@ -67,7 +67,7 @@ pub no_fault : (app : App) (words : List Text) → app ≡ deals → (is_simple_
 no_fault app words is h = subst (λ (a : App). (is_simple_and_free a ≡ true → fault_of a words ≡ []) → fault_of deals words ≡ []) (sym is) (λ k. k refl) h
 
 pub err_kind : (app : App) (words : List Text) (e : Error) → app ≡ deals → (is_simple_and_free app ≡ true → HasKind (fault_of app words) e) → IsSome (asked words) → kind_of e ≡ OutOfMemory
-unfolding asked
+unfolding asked kinds_for
 err_kind app words e is h some =
     go (fault_of deals words) (subst (λ (a : App). (is_simple_and_free a ≡ true → HasKind (fault_of a words) e) → HasKind (fault_of deals words) e) (sym is) (λ k. k refl) h) some
   where
@@ -109,11 +109,11 @@ met app words m sub name rows is has names all named =
     met_by m sub name rows names all ((at refl).1 ∙ named)
 
 pub asked_stream : (words : List Text) → fault_of deals words ≡ [] → (n : NamesStream words) → asked words ≡ Some (stream_wish n.rows)
-unfolding asked
+unfolding asked kinds_for
 asked_stream words f n = ap (λ (k : Kinds). unless_fault k (option_map wish_by (subcommand_of deals words))) f ∙ ap (option_map wish_by) n.named
 
 pub asked_make : (words : List Text) → fault_of deals words ≡ [] → (n : NamesMake words) → asked words ≡ Some (make (making_in n.rows))
-unfolding asked
+unfolding asked kinds_for
 asked_make words f n = ap (λ (k : Kinds). unless_fault k (option_map wish_by (subcommand_of deals words))) f ∙ ap (option_map wish_by) n.named
 
 -- what the words ask for, by the name of the subcommand that was met
@@ -149,3 +149,8 @@ chosen app words m sub p is has none names rows sub_is =
       | inl n ↦ from_met words sub p (codes "stream") n.rows sub_is (met app words m sub (codes "stream") n.rows is has names rows n.named) (chosen_stream words f n)
       | inr n ↦ from_met words sub p (codes "make") n.rows sub_is (met app words m sub (codes "make") n.rows is has names rows n.named) (chosen_make words f n)
     ]
+
+-- the kind of an error is one of those that clap may give for the words
+pub error_kind : (app : App) (words : List Text) (e : Error) → app ≡ deals → (is_simple_and_free app ≡ true → HasKind (fault_of app words) e) → HasKind (kinds_for words) e
+unfolding kinds_for
+error_kind app words e is h = subst (λ (a : App). (is_simple_and_free a ≡ true → HasKind (fault_of a words) e) → HasKind (fault_of deals words) e) (sym is) (λ k. k refl) h

@@ -6,3 +6,4 @@ pub mod Entered
 pub mod Commands
 pub mod Numbers
 pub mod Asked
+pub mod Statuses

@@ -103,6 +103,10 @@ abbrev pub unless_fault : Kinds → Option Wish → Option Wish
 unless_fault [] wish = wish
 unless_fault (k ∷ kinds) wish = None
 
+-- the kinds of error of which clap gives one for these words: none where they ask for something
+unfoldable pub kinds_for : List Text → Kinds
+kinds_for words = fault_of deals words
+
 -- what the words ask for, where nothing but want of memory can fail their parse
 unfoldable pub asked : List Text → Option Wish
-asked words = unless_fault (fault_of deals words) (option_map wish_by (subcommand_of deals words))
+asked words = unless_fault (kinds_for words) (option_map wish_by (subcommand_of deals words))

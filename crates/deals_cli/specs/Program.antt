@@ -1,5 +1,9 @@
 -- What the program does for a wish, and how it ends.
-use Rattle.std.specs.Prelude.{◌≡◌, ◌≤◌, ◌<◌, ◌^◌, ◌+◌, ℕ, Bool, true, false, List, [], ◌∷◌, Contains, Option, None, Some, Result, Err, length, unwrap_or}
+use Rattle.std.specs.Prelude.{◌≡◌, ◌⊎◌, ◌≤◌, ◌<◌, ◌^◌, ◌+◌, ℕ, Bool, true, false, List, [], ◌∷◌, Contains, Option, None, Some, Result, Ok, Err, length, unwrap_or}
+use Rattle.clap.specs.Kinds.{IsAmong}
+use Rattle.clap.specs.Walk.{Text}
+use Rattle.clap.specs.declared.error.kind.ErrorKind.{ErrorKind}
+use Rattle.clap.specs.declared.error.kind.ErrorKind.TheVariants as kind
 use Rattle.cond_lang.specs.Form.{Form, compare, number}
 use Rattle.cond_lang.specs.Text.{SpellsTree}
 use Rattle.cond_lang.specs.declared.error.CondError.{CondError}
@@ -12,6 +16,7 @@ use Rattle.dealrun.specs.Plans.{Planned}
 use Rattle.dealrun.specs.Sinks.{AppendsAll}
 use Rattle.dealrun.specs.Text.{text}
 use Rattle.dealrun.specs.Values.{lines}
+use Rattle.deals_cli.specs.CommandLine.{kinds_for}
 use Rattle.deals_cli.specs.Requests.{Making, Wish, stream, make}
 use Rattle.deals_cli.specs.declared.failure.Failure.{Failure}
 use Rattle.deals_cli.specs.declared.failure.Failure.TheVariants.{CommandLine, Plan, Label, Condition, Output, Memory, Spawn, Stopped, Unclosed}
@@ -104,6 +109,55 @@ failure_by cause.Spawn = Spawn
 failure_by cause.Output = Output
 failure_by (cause.Stopped worker) = Stopped worker
 failure_by (cause.Unclosed worker) = Unclosed worker
+
+-- the status of a result
+abbrev pub status_in : {T : Type 0} → Result T Failure → ℕ
+status_in (Ok value) = 0
+status_in (Err failure) = status_of failure
+
+-- what the program's status says of a wish; want of memory, 5, can end each
+pub record IsStatusOf (w : Wish) (status : ℕ) : Type 0 where
+  -- done, or the output, a thread or a worker failed: all of the wish was accepted
+  pub accepted : (status ≡ 0) ⊎ (status ≡ 4) ⊎ (status ≡ 6) → HasPlan w × HasMeaning w
+  -- the plan or a label is refused
+  pub unplanned : status ≡ 2 → HasPlan w → ⊥
+  -- the condition is refused, and the plan stands
+  pub meaningless : status ≡ 3 → HasPlan w × (HasMeaning w → ⊥)
+  -- only a run over lanes has threads and workers
+  pub threads : status ≡ 6 → HasRun w
+
+-- clap shows its help and its version; any other kind is a mistake in the words
+abbrev pub is_shown : ErrorKind → Bool
+is_shown kind.DisplayHelp = true
+is_shown kind.DisplayVersion = true
+is_shown _ = false
+
+-- what the program's status says of an error of this kind
+pub record IsStatusOfKind (k : ErrorKind) (status : ℕ) : Type 0 where
+  pub shown : (status ≡ 0) ⊎ (status ≡ 4) → is_shown k ≡ true
+  pub refused : status ≡ 2 → is_shown k ≡ false
+  pub neither : (status ≡ 3) ⊎ (status ≡ 6) → ⊥
+
+-- clap may show something for these words
+pub record MayShow (words : List Text) : Type 0 where
+  pub kind : ErrorKind
+  pub among : IsAmong kind (kinds_for words)
+  pub shown : is_shown kind ≡ true
+
+-- clap may refuse these words
+pub record MayRefuse (words : List Text) : Type 0 where
+  pub kind : ErrorKind
+  pub among : IsAmong kind (kinds_for words)
+  pub refused : is_shown kind ≡ false
+
+-- what the program's status says of words that ask for nothing; want of memory, 5, can end each
+pub record IsStatusOfNone (words : List Text) (status : ℕ) : Type 0 where
+  -- help or the version was asked for, and the output took it or failed
+  pub shown : (status ≡ 0) ⊎ (status ≡ 4) → MayShow words
+  -- the words are refused
+  pub refused : status ≡ 2 → MayRefuse words
+  -- there is no condition, and no run
+  pub neither : (status ≡ 3) ⊎ (status ≡ 6) → ⊥
 
 -- how many faults of the output stand behind a result
 abbrev pub faults_in : {T : Type 0} → Result T Failure → ℕ

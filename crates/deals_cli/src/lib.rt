@@ -4,7 +4,11 @@
 mod command;
 mod entry;
 mod failure;
+pub mod laws;
 mod make;
 mod request;
 
 pub use entry::program;
+
+#[cfg(test)]
+mod tests;

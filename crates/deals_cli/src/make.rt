@@ -4,7 +4,7 @@ ghost use Rattle.std.specs.Prelude.{◌≡◌, ◌≢◌, ◌⊎◌, ◌-◌, �
 ghost use Rattle.cond_lang.specs.Form.{Form};
 ghost use Rattle.pbn_text.specs.Games.{no_heading};
 ghost use Rattle.pbn_text.specs.Labels.{IsDate, IsLabel};
-ghost use Rattle.deals_cli.specs.Program.{Appends, HasLabels, HasMeaning, HasNumbers, IsPlanned, Means, faults_in, is_untouched, plan_of, status_of};
+ghost use Rattle.deals_cli.specs.Program.{Appends, HasLabels, HasMeaning, HasNumbers, IsPlanned, IsStatusOf, Means, faults_in, is_untouched, plan_of, status_in, status_of};
 ghost use Rattle.deals_cli.specs.Requests.{make as wish, making_of};
 
 use crate::failure::{Failure, LabelName};
@@ -106,6 +106,7 @@ fn condition_of(alloc: Global, request: &MakeRequest<'_>) -> Result<Cond, Failur
 }
 
 /// Writes the games that the options ask for, judged by their workers.
+#[tactic(auto, using(crate::proofs::Statuses::no_memory, crate::proofs::Statuses::refused_plan, crate::proofs::Statuses::refused_meaning, crate::proofs::Statuses::served, crate::proofs::Statuses::interrupted))]
 pub fn make<R: Threads + Wait + Clone + Send + 'static, O: Sink>(
     rt: &R,
     alloc: Global,
@@ -114,9 +115,7 @@ pub fn make<R: Threads + Wait + Clone + Send + 'static, O: Sink>(
 ) -> Result<(), Failure>
     requires { O.faults out.old < 2 ^ 64 - 1 }
     ensures text { OnOk result (Appends (wish (making_of request.now)) (O.bytes out.old) (O.bytes out.new)) }
-    ensures planned { IsPlanned (making_of request.now) → IfErr result (λ e. status_of e ≢ 2) }
-    ensures meant { HasMeaning (wish (making_of request.now)) → IfErr result (λ e. status_of e ≢ 3) }
-    ensures order { IfErr result (λ e. status_of e ≡ 3 → IsPlanned (making_of request.now)) }
+    ensures status { IsStatusOf (wish (making_of request.now)) (status_in result) }
     ensures untouched { IfErr result (λ e. is_untouched e ≡ true → O.bytes out.new ≡ O.bytes out.old) }
     ensures faults { O.faults out.new ≡ O.faults out.old + faults_in result }
 {

@@ -1,9 +1,9 @@
 //! What the words of a command line ask for.
 
-ghost use Rattle.std.specs.Prelude.{◌≡◌, ◌≤◌, ◌^◌, ◌∷◌, [], Some, codes, IfErr, IfOk, IsSome, map, option_map, string_bytes};
-ghost use Rattle.clap.specs.Words.{first_of, found_of, kind_of, rows_of};
-ghost use Rattle.deals_cli.specs.CommandLine.{asked, making_in, number_in, number_or};
-ghost use Rattle.deals_cli.specs.Requests.{IsInRange, making_of, stream, wish_of};
+ghost use Rattle.std.specs.Prelude.{◌≡◌, ◌≤◌, ◌^◌, Some, codes, IfErr, IfOk, IsSome, map, option_map, string_bytes};
+ghost use Rattle.clap.specs.Words.{HasKind, first_of, found_of, kind_of, rows_of};
+ghost use Rattle.deals_cli.specs.CommandLine.{asked, kinds_for, making_in, number_in, number_or};
+ghost use Rattle.deals_cli.specs.Requests.{IsInRange, making_of, wish_of};
 ghost use Rattle.deals_cli.specs.Readings.{MakeValues, MayGive32, MayGive64, StreamValues};
 
 use crate::command::command;
@@ -107,7 +107,9 @@ fn make_request<'a>(matches: &ArgMatches<'a>) -> MakeRequest<'a>
 pub fn read_words<'a>(alloc: Global, words: &'a [String]) -> Result<Request<'a>, Error>
     ensures ok { IfOk result (λ r. asked (map string_bytes words.entry.now) ≡ Some (wish_of r)) }
     ensures range { IfOk result IsInRange }
-    ensures err { IfErr result (λ e. IsSome (asked (map string_bytes words.entry.now)) → kind_of e ≡ ErrorKind.OutOfMemory) }
+    ensures err { IfErr result (λ e.
+        IsSome (asked (map string_bytes words.entry.now)) → kind_of e ≡ ErrorKind.OutOfMemory) }
+    ensures kinds { IfErr result (λ e. HasKind (kinds_for (map string_bytes words.entry.now)) e) }
 {
     let matches = command(alloc)?.try_get_matches_from(words)?;
     let (name, inner) = matches.subcommand().unwrap();
@@ -117,9 +119,3 @@ pub fn read_words<'a>(alloc: Global, words: &'a [String]) -> Result<Request<'a>,
         Ok(Request::Make(make_request(inner)))
     }
 }
-
-/// Six words that ask for the first three values of seed 0.
-pub fn example_of_stream()
-    ensures { asked (codes "deals" ∷ codes "stream" ∷ codes "--seed" ∷ codes "0" ∷ codes "--count" ∷ codes "3" ∷ [])
-        ≡ Some (stream 0 3) }
-{}

@@ -1,13 +1,18 @@
 use Rattle.std.proofs.Common.{◌∙◌, ap, ap₂, sym, map, string_bytes, Some}
 use Rattle.std.proofs.lemmas.Result.{err_from_is_err_and}
 use Rattle.deals_cli.specs.Requests.{make, stream}
-use Rattle.deals_cli.proofs.Asked.{chosen, err_kind}
+use Rattle.deals_cli.proofs.Asked.{chosen, err_kind, error_kind}
 use Rattle.deals_cli.proofs.request.read_words.Goals as goal
 
 pub returns-in_err-matches-clause-err : goal.returns-in_err-matches-clause-err
 returns-in_err-matches-clause-err c =
     let p = err_from_is_err_and c.from_residual-in_err-matches.result c.from_residual-in_err-matches.ensures.1 in
     rw (p.1, p.2) (err_kind _ (map string_bytes c.args.words.now) c.in_err-matches.field-0.0 c.in_ok-command.ensures c.in_err-matches.ensures.kinds)
+
+pub returns-in_err-matches-clause-kinds : goal.returns-in_err-matches-clause-kinds
+returns-in_err-matches-clause-kinds c =
+    let p = err_from_is_err_and c.from_residual-in_err-matches.result c.from_residual-in_err-matches.ensures.1 in
+    rw (p.1, p.2) (error_kind _ (map string_bytes c.args.words.now) c.in_err-matches.field-0.0 c.in_ok-command.ensures c.in_err-matches.ensures.kinds)
 
 pub stream_request-requires : goal.stream_request-requires
 stream_request-requires c =

@@ -1,0 +1,164 @@
+-- What the statuses say.
+use Rattle.std.proofs.Common.{◌≡◌, ◌⊎◌, ℕ, Bool, true, false, List, refl, sym, ap, subst, inl, inr, arith}
+use Rattle.clap.specs.Kinds.{HasKind, IsAmong}
+use Rattle.clap.specs.Values.{kind_of}
+use Rattle.clap.specs.Walk.{Text}
+use Rattle.clap.specs.declared.error.Error.{Error}
+use Rattle.clap.specs.declared.error.kind.ErrorKind.{ErrorKind}
+use Rattle.clap.specs.declared.error.kind.ErrorKind.TheVariants.{InvalidValue, UnknownArgument, InvalidSubcommand, NoEquals, ValueValidation, TooManyValues, TooFewValues, WrongNumberOfValues, ArgumentConflict, MissingRequiredArgument, MissingSubcommand, DisplayHelp, DisplayHelpOnMissingArgumentOrSubcommand, DisplayVersion, Io, Format, OutOfMemory}
+use Rattle.dealrun.specs.declared.cause.Cause.{Cause}
+use Rattle.dealrun.specs.declared.cause.Cause.TheVariants as cause
+use Rattle.deals_cli.specs.CommandLine.{kinds_for}
+use Rattle.deals_cli.specs.Program.{HasMeaning, HasPlan, HasRun, IsStatusOf, IsStatusOfKind, IsStatusOfNone, MayShow, MayRefuse, failure_by, is_shown, status_of}
+use Rattle.deals_cli.specs.Requests.{Wish}
+
+-- ---- of a wish
+
+pub no_memory : (w : Wish) (s : ℕ) → s ≡ 5 → IsStatusOf w s
+no_memory w s is = record {
+  accepted = λ h. absurd (elim h [ inl a ↦ omega arith | inr (inl a) ↦ omega arith | inr (inr a) ↦ omega arith ]);
+  unplanned = λ h. absurd (omega arith);
+  meaningless = λ h. absurd (omega arith);
+  threads = λ h. absurd (omega arith);
+}
+
+pub refused_plan : (w : Wish) (s : ℕ) → s ≡ 2 → (HasPlan w → ⊥) → IsStatusOf w s
+refused_plan w s is not_so = record {
+  accepted = λ h. absurd (elim h [ inl a ↦ omega arith | inr (inl a) ↦ omega arith | inr (inr a) ↦ omega arith ]);
+  unplanned = λ h. not_so;
+  meaningless = λ h. absurd (omega arith);
+  threads = λ h. absurd (omega arith);
+}
+
+pub refused_meaning : (w : Wish) (s : ℕ) → s ≡ 3 → HasPlan w → (HasMeaning w → ⊥) → IsStatusOf w s
+refused_meaning w s is plan not_so = record {
+  accepted = λ h. absurd (elim h [ inl a ↦ omega arith | inr (inl a) ↦ omega arith | inr (inr a) ↦ omega arith ]);
+  unplanned = λ h. absurd (omega arith);
+  meaningless = λ h. (plan, not_so);
+  threads = λ h. absurd (omega arith);
+}
+
+-- done, or the output failed
+pub served : (w : Wish) (s : ℕ) → (s ≡ 0) ⊎ (s ≡ 4) → HasPlan w → HasMeaning w → IsStatusOf w s
+served w s (inl is) plan meaning = record {
+  accepted = λ h. (plan, meaning);
+  unplanned = λ h. absurd (omega arith);
+  meaningless = λ h. absurd (omega arith);
+  threads = λ h. absurd (omega arith);
+}
+served w s (inr is) plan meaning = record {
+  accepted = λ h. (plan, meaning);
+  unplanned = λ h. absurd (omega arith);
+  meaningless = λ h. absurd (omega arith);
+  threads = λ h. absurd (omega arith);
+}
+
+failed_run : (w : Wish) (s : ℕ) → s ≡ 6 → HasPlan w → HasMeaning w → HasRun w → IsStatusOf w s
+failed_run w s is plan meaning run = record {
+  accepted = λ h. (plan, meaning);
+  unplanned = λ h. absurd (omega arith);
+  meaningless = λ h. absurd (omega arith);
+  threads = λ h. run;
+}
+
+-- a run was interrupted
+pub interrupted : (w : Wish) (c : Cause) → HasPlan w → HasMeaning w → HasRun w → IsStatusOf w (status_of (failure_by c))
+interrupted w cause.Memory plan meaning run = no_memory w 5 refl
+interrupted w cause.Spawn plan meaning run = failed_run w 6 refl plan meaning run
+interrupted w cause.Output plan meaning run = served w 4 (inr refl) plan meaning
+interrupted w (cause.Stopped worker) plan meaning run = failed_run w 6 refl plan meaning run
+interrupted w (cause.Unclosed worker) plan meaning run = failed_run w 6 refl plan meaning run
+
+-- the output fails after all was done
+pub flush_failed : (w : Wish) → IsStatusOf w 0 → IsStatusOf w 4
+flush_failed w h = let both = h.accepted (inl refl) in served w 4 (inr refl) both.0 both.1
+
+-- ---- of an error of clap
+
+pub mistake : (k : ErrorKind) → (k ≡ DisplayHelp → ⊥) → (k ≡ DisplayVersion → ⊥) → is_shown k ≡ false
+mistake InvalidValue h v = refl
+mistake UnknownArgument h v = refl
+mistake InvalidSubcommand h v = refl
+mistake NoEquals h v = refl
+mistake ValueValidation h v = refl
+mistake TooManyValues h v = refl
+mistake TooFewValues h v = refl
+mistake WrongNumberOfValues h v = refl
+mistake ArgumentConflict h v = refl
+mistake MissingRequiredArgument h v = refl
+mistake MissingSubcommand h v = refl
+mistake DisplayHelp h v = absurd (h refl)
+mistake DisplayHelpOnMissingArgumentOrSubcommand h v = refl
+mistake DisplayVersion h v = absurd (v refl)
+mistake Io h v = refl
+mistake Format h v = refl
+mistake OutOfMemory h v = refl
+
+pub no_mistake : (k : ErrorKind) → ((k ≡ DisplayHelp → ⊥) × (k ≡ DisplayVersion → ⊥) → ⊥) → is_shown k ≡ true
+no_mistake InvalidValue h = absurd (h ((λ e. cc), (λ e. cc)))
+no_mistake UnknownArgument h = absurd (h ((λ e. cc), (λ e. cc)))
+no_mistake InvalidSubcommand h = absurd (h ((λ e. cc), (λ e. cc)))
+no_mistake NoEquals h = absurd (h ((λ e. cc), (λ e. cc)))
+no_mistake ValueValidation h = absurd (h ((λ e. cc), (λ e. cc)))
+no_mistake TooManyValues h = absurd (h ((λ e. cc), (λ e. cc)))
+no_mistake TooFewValues h = absurd (h ((λ e. cc), (λ e. cc)))
+no_mistake WrongNumberOfValues h = absurd (h ((λ e. cc), (λ e. cc)))
+no_mistake ArgumentConflict h = absurd (h ((λ e. cc), (λ e. cc)))
+no_mistake MissingRequiredArgument h = absurd (h ((λ e. cc), (λ e. cc)))
+no_mistake MissingSubcommand h = absurd (h ((λ e. cc), (λ e. cc)))
+no_mistake DisplayHelp h = refl
+no_mistake DisplayHelpOnMissingArgumentOrSubcommand h = absurd (h ((λ e. cc), (λ e. cc)))
+no_mistake DisplayVersion h = refl
+no_mistake Io h = absurd (h ((λ e. cc), (λ e. cc)))
+no_mistake Format h = absurd (h ((λ e. cc), (λ e. cc)))
+no_mistake OutOfMemory h = absurd (h ((λ e. cc), (λ e. cc)))
+
+pub kind_no_memory : (k : ErrorKind) (s : ℕ) → s ≡ 5 → IsStatusOfKind k s
+kind_no_memory k s is = record {
+  shown = λ h. absurd (elim h [ inl a ↦ omega arith | inr a ↦ omega arith ]);
+  refused = λ h. absurd (omega arith);
+  neither = λ h. elim h [ inl a ↦ omega arith | inr a ↦ omega arith ];
+}
+
+pub kind_refused : (k : ErrorKind) (s : ℕ) → s ≡ 2 → is_shown k ≡ false → IsStatusOfKind k s
+kind_refused k s is refused = record {
+  shown = λ h. absurd (elim h [ inl a ↦ omega arith | inr a ↦ omega arith ]);
+  refused = λ h. refused;
+  neither = λ h. elim h [ inl a ↦ omega arith | inr a ↦ omega arith ];
+}
+
+pub kind_shown : (k : ErrorKind) (s : ℕ) → (s ≡ 0) ⊎ (s ≡ 4) → is_shown k ≡ true → IsStatusOfKind k s
+kind_shown k s (inl is) shown = record {
+  shown = λ h. shown;
+  refused = λ h. absurd (omega arith);
+  neither = λ h. elim h [ inl a ↦ omega arith | inr a ↦ omega arith ];
+}
+kind_shown k s (inr is) shown = record {
+  shown = λ h. shown;
+  refused = λ h. absurd (omega arith);
+  neither = λ h. elim h [ inl a ↦ omega arith | inr a ↦ omega arith ];
+}
+
+-- ---- of words that ask for nothing
+
+none_no_memory : (words : List Text) (s : ℕ) → s ≡ 5 → IsStatusOfNone words s
+none_no_memory words s is = record {
+  shown = λ h. absurd (elim h [ inl a ↦ omega arith | inr a ↦ omega arith ]);
+  refused = λ h. absurd (omega arith);
+  neither = λ h. elim h [ inl a ↦ omega arith | inr a ↦ omega arith ];
+}
+
+pub of_error : (words : List Text) (e : Error) (s : ℕ) → HasKind (kinds_for words) e → (kind_of e ≡ OutOfMemory → s ≡ 5) → IsStatusOfKind (kind_of e) s → IsStatusOfNone words s
+of_error words e s (inl memory) no_memory h = none_no_memory words s (no_memory memory)
+of_error words e s (inr among) no_memory h = record {
+  shown = λ is. record { kind = kind_of e; among = among; shown = h.shown is };
+  refused = λ is. record { kind = kind_of e; among = among; refused = h.refused is };
+  neither = h.neither;
+}
+
+pub none_flush_failed : (words : List Text) → IsStatusOfNone words 0 → IsStatusOfNone words 4
+none_flush_failed words h = let may = h.shown (inl refl) in record {
+  shown = λ is. may;
+  refused = λ is. absurd (omega arith);
+  neither = λ is. elim is [ inl a ↦ omega arith | inr a ↦ omega arith ];
+}
