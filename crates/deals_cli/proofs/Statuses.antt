@@ -1,6 +1,6 @@
 -- What the statuses say.
-use Rattle.std.proofs.Common.{◌≡◌, ◌⊎◌, ℕ, Bool, true, false, List, refl, sym, ap, subst, inl, inr, arith}
-use Rattle.clap.specs.Kinds.{HasKind, IsAmong}
+use Rattle.std.proofs.Common.{◌≡◌, ◌⊎◌, ℕ, true, false, List, refl, inl, inr, arith}
+use Rattle.clap.specs.Kinds.{HasKind}
 use Rattle.clap.specs.Values.{kind_of}
 use Rattle.clap.specs.Walk.{Text}
 use Rattle.clap.specs.declared.error.Error.{Error}
@@ -9,7 +9,7 @@ use Rattle.clap.specs.declared.error.kind.ErrorKind.TheVariants.{InvalidValue, U
 use Rattle.dealrun.specs.declared.cause.Cause.{Cause}
 use Rattle.dealrun.specs.declared.cause.Cause.TheVariants as cause
 use Rattle.deals_cli.specs.CommandLine.{kinds_for}
-use Rattle.deals_cli.specs.Program.{HasMeaning, HasPlan, HasRun, IsStatusOf, IsStatusOfKind, IsStatusOfNone, MayShow, MayRefuse, failure_by, is_shown, status_of}
+use Rattle.deals_cli.specs.Program.{HasMeaning, HasPlan, HasRun, IsStatusOf, IsStatusOfKind, IsStatusOfNone, failure_by, is_shown, status_of}
 use Rattle.deals_cli.specs.Requests.{Wish}
 
 -- ---- of a wish

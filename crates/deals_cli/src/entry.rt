@@ -23,7 +23,8 @@ fn show<O: Sink>(alloc: Global, error: &Error, out: &mut O) -> Result<(), Failur
     requires { O.faults out.old < 2 ^ 64 - 1 }
     ensures memory { kind_of error.now ≡ ErrorKind.OutOfMemory → IsErrOf result Failure.Memory }
     ensures status { IsStatusOfKind (kind_of error.now) (status_in result) }
-    ensures untouched { IfErr result (λ e. is_untouched e ≡ true → O.bytes out.new ≡ O.bytes out.old) }
+    ensures untouched { IfErr result (λ e. is_untouched e ≡ true
+        → O.bytes out.new ≡ O.bytes out.old) }
     ensures faults { O.faults out.new ≡ O.faults out.old + faults_in result }
 {
     if error.kind() == ErrorKind::OutOfMemory {
@@ -51,7 +52,8 @@ fn serve<R: Threads + Wait + Clone + Send + 'static, O: Sink>(
         → IsStatusOf w (status_in result) }
     ensures unasked { asked (map string_bytes words.now) ≡ None
         → IsStatusOfNone (map string_bytes words.now) (status_in result) }
-    ensures untouched { IfErr result (λ e. is_untouched e ≡ true → O.bytes out.new ≡ O.bytes out.old) }
+    ensures untouched { IfErr result (λ e. is_untouched e ≡ true
+        → O.bytes out.new ≡ O.bytes out.old) }
     ensures faults { O.faults out.new ≡ O.faults out.old + faults_in result }
 {
     match read_words(alloc, words) {
@@ -76,7 +78,8 @@ fn serve_and_flush<R: Threads + Wait + Clone + Send + 'static, O: Sink>(
         → IsStatusOf w (status_in result) }
     ensures unasked { asked (map string_bytes words.now) ≡ None
         → IsStatusOfNone (map string_bytes words.now) (status_in result) }
-    ensures untouched { IfErr result (λ e. is_untouched e ≡ true → O.bytes out.new ≡ O.bytes out.old) }
+    ensures untouched { IfErr result (λ e. is_untouched e ≡ true
+        → O.bytes out.new ≡ O.bytes out.old) }
     ensures faults { O.faults out.new ≡ O.faults out.old + faults_in result }
 {
     serve(rt, alloc, words, out)?;
@@ -116,7 +119,8 @@ pub fn program<R: Threads + Wait + Clone + Send + 'static, O: Sink, E: Sink>(
     // The status is 4 exactly where the output failed, once.
     ensures output { O.faults out.new ≡ O.faults out.old + (if result == 4 then 1 else 0) }
     // A fault of the error output is at most one, and ends nothing.
-    ensures said { (E.faults err.old ≤ E.faults err.new) × (E.faults err.new ≤ E.faults err.old + 1) }
+    ensures said { (E.faults err.old ≤ E.faults err.new)
+        × (E.faults err.new ≤ E.faults err.old + 1) }
 {
     match serve_and_flush(rt, alloc, words, out) {
         Ok(()) => 0,

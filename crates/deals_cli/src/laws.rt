@@ -6,7 +6,9 @@ ghost use Rattle.deals_cli.specs.Requests.{make, stream};
 
 /// `deals stream --seed 0 --count 3` asks for the first three values of seed 0.
 pub fn example_of_stream()
-    ensures { asked (codes "deals" ∷ codes "stream" ∷ codes "--seed" ∷ codes "0" ∷ codes "--count" ∷ codes "3" ∷ [])
+    ensures { asked
+        (codes "deals" ∷ codes "stream" ∷ codes "--seed" ∷ codes "0"
+        ∷ codes "--count" ∷ codes "3" ∷ [])
         ≡ Some (stream 0 3) }
 {}
 

@@ -114,9 +114,11 @@ pub fn make<R: Threads + Wait + Clone + Send + 'static, O: Sink>(
     out: &mut O,
 ) -> Result<(), Failure>
     requires { O.faults out.old < 2 ^ 64 - 1 }
-    ensures text { OnOk result (Appends (wish (making_of request.now)) (O.bytes out.old) (O.bytes out.new)) }
+    ensures text { OnOk result
+        (Appends (wish (making_of request.now)) (O.bytes out.old) (O.bytes out.new)) }
     ensures status { IsStatusOf (wish (making_of request.now)) (status_in result) }
-    ensures untouched { IfErr result (λ e. is_untouched e ≡ true → O.bytes out.new ≡ O.bytes out.old) }
+    ensures untouched { IfErr result (λ e. is_untouched e ≡ true
+        → O.bytes out.new ≡ O.bytes out.old) }
     ensures faults { O.faults out.new ≡ O.faults out.old + faults_in result }
 {
     let plan = planned(request)?;
