@@ -29,7 +29,13 @@ fn checks_fault<R: Abort>(rt: &R, fault: &RunFault, workers: u32, bytes: &[u8]) 
             let settled = fault.lanes.iter().take_while(|lane| lane.is_settled());
             let settled = settled.count();
             assert!(rt; settled < fault.lanes.len());
-            assert!(rt; !fault.lanes.iter().skip(settled).any(|lane| lane.is_settled()));
+            assert!(rt;
+                !fault
+                    .lanes
+                    .iter()
+                    .skip(settled)
+                    .any(|lane| lane.is_settled())
+            );
         }
         Cause::Output => {
             assert_eq!(rt; fault.lanes.len(), workers as usize);
