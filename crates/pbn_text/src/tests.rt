@@ -111,39 +111,6 @@ fn games_of_a_printer(rt: HostRuntime) -> Result<(), Fail> {
     Ok(())
 }
 
-/// Law 2, boards 1 to 16.
-const BOARDS: [(Seat, Vul); 16] = [
-    (Seat::North, Vul::Neither),
-    (Seat::East, Vul::NorthSouth),
-    (Seat::South, Vul::EastWest),
-    (Seat::West, Vul::Both),
-    (Seat::North, Vul::NorthSouth),
-    (Seat::East, Vul::EastWest),
-    (Seat::South, Vul::Both),
-    (Seat::West, Vul::Neither),
-    (Seat::North, Vul::EastWest),
-    (Seat::East, Vul::Both),
-    (Seat::South, Vul::Neither),
-    (Seat::West, Vul::NorthSouth),
-    (Seat::North, Vul::Both),
-    (Seat::East, Vul::Neither),
-    (Seat::South, Vul::NorthSouth),
-    (Seat::West, Vul::EastWest),
-];
-
-#[test]
-fn every_board_of_the_cycle(rt: HostRuntime) {
-    for (i, (seat, sides)) in BOARDS.iter().enumerate() {
-        let board = i as u64 + 1;
-        assert_eq!(rt; dealer(board), *seat);
-        assert_eq!(rt; vulnerable(board), *sides);
-    }
-    assert_eq!(rt; dealer(17), Seat::North);
-    assert_eq!(rt; vulnerable(17), Vul::Neither);
-    assert_eq!(rt; dealer(32), Seat::West);
-    assert_eq!(rt; vulnerable(32), Vul::EastWest);
-}
-
 const LARGEST: u64 = 18_446_744_073_709_551_614;
 
 #[test]

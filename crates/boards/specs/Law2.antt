@@ -2,8 +2,9 @@
 use Rattle.std.specs.Prelude.{ℕ, ◌-◌, ◌%◌, List, [], ◌∷◌, slice_index_or}
 use Rattle.cards.specs.declared.seat.Seat.{Seat}
 use Rattle.cards.specs.declared.seat.Seat.TheVariants.{North, East, South, West}
-use Rattle.pbn_text.specs.declared.board.Vul.{Vul}
-use Rattle.pbn_text.specs.declared.board.Vul.TheVariants.{Neither, NorthSouth, EastWest, Both}
+use Rattle.boards.specs.declared.board.Board.{Board}
+use Rattle.boards.specs.declared.law2.Vul.{Vul}
+use Rattle.boards.specs.declared.law2.Vul.TheVariants.{Neither, NorthSouth, EastWest, Both}
 
 -- boards 1 to 16
 abbrev pub boards : List (Seat × Vul)
@@ -35,3 +36,14 @@ dealer_of board = (entry_of board).0
 
 abbrev pub vulnerable_of : ℕ → Vul
 vulnerable_of board = (entry_of board).1
+
+-- the board of this number that deals a candidate
+abbrev pub board_by_law : ℕ → ℕ → List Seat → Board
+board_by_law number candidate deal =
+    record {
+      number = number;
+      candidate = candidate;
+      dealer = dealer_of number;
+      vulnerable = vulnerable_of number;
+      deal = deal;
+    }

@@ -1,7 +1,7 @@
 //! Who deals and which side is vulnerable, by the number of the board (Law 2).
 
 ghost use Rattle.std.specs.Prelude.{◌≡◌, ◌≤◌};
-ghost use Rattle.pbn_text.specs.Boards.{dealer_of, vulnerable_of};
+ghost use Rattle.boards.specs.Law2.{dealer_of, vulnerable_of};
 
 use cards::Seat;
 

@@ -1,0 +1,2 @@
+pub mod Law2
+pub mod Layouts

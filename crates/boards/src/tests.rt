@@ -1,0 +1,60 @@
+//! Law 2's table, and a board that follows it.
+
+use super::*;
+use cards::{Deal, Places, Seat};
+use std::process::Abort;
+use std::test::Fail;
+
+/// Law 2, boards 1 to 16.
+const BOARDS: [(Seat, Vul); 16] = [
+    (Seat::North, Vul::Neither),
+    (Seat::East, Vul::NorthSouth),
+    (Seat::South, Vul::EastWest),
+    (Seat::West, Vul::Both),
+    (Seat::North, Vul::NorthSouth),
+    (Seat::East, Vul::EastWest),
+    (Seat::South, Vul::Both),
+    (Seat::West, Vul::Neither),
+    (Seat::North, Vul::EastWest),
+    (Seat::East, Vul::Both),
+    (Seat::South, Vul::Neither),
+    (Seat::West, Vul::NorthSouth),
+    (Seat::North, Vul::Both),
+    (Seat::East, Vul::Neither),
+    (Seat::South, Vul::NorthSouth),
+    (Seat::West, Vul::EastWest),
+];
+
+#[test]
+fn every_board_of_the_cycle(rt: HostRuntime) {
+    for (i, (seat, sides)) in BOARDS.iter().enumerate() {
+        let board = i as u64 + 1;
+        assert_eq!(rt; dealer(board), *seat);
+        assert_eq!(rt; vulnerable(board), *sides);
+    }
+    assert_eq!(rt; dealer(17), Seat::North);
+    assert_eq!(rt; vulnerable(17), Vul::Neither);
+    assert_eq!(rt; dealer(32), Seat::West);
+    assert_eq!(rt; vulnerable(32), Vul::EastWest);
+}
+
+/// The deal of a pack in order, whose first thirteen cards are North's.
+fn pack_in_order() -> Result<Deal, Fail> {
+    let mut places = [0; 51];
+    for i in 0..51u8 {
+        places[usize::from(i)] = 51 - i;
+    }
+    Ok(Deal::shuffled(&Places::new(places).ok_or("places")?))
+}
+
+#[test]
+fn a_board_by_the_law(rt: HostRuntime) -> Result<(), Fail> {
+    let deal = pack_in_order()?;
+    let board = Board::by_law(23, 4_811, deal);
+    assert_eq!(rt; board.number, 23);
+    assert_eq!(rt; board.candidate, 4_811);
+    assert_eq!(rt; board.dealer, Seat::South);
+    assert_eq!(rt; board.vulnerable, Vul::Both);
+    assert!(rt; board.deal == deal);
+    Ok(())
+}
