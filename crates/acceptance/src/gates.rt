@@ -71,8 +71,8 @@ impl Gate for CountsCalls {
     }
 }
 
-/// A writer that takes whole pieces and counts their bytes. At its first piece it watches a counter for a while,
-/// and keeps the most that it saw.
+/// A writer that takes whole pieces and counts their bytes. At its first piece it watches a counter
+/// for a while, and keeps the most that it saw.
 #[derive(Drop)]
 pub struct Watcher {
     pub written: Arc<AtomicU64, Global>,

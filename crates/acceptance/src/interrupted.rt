@@ -127,7 +127,8 @@ fn names_the_first_cause(rt: HostRuntime) -> Result<(), Fail> {
     Ok(())
 }
 
-/// A gate that stops one worker at its fifth candidate: the bytes begin the text of the four before it.
+/// A gate that stops one worker at its fifth candidate: the bytes begin the text of the four before
+/// it.
 #[test]
 fn stops_a_lone_worker(rt: HostRuntime) -> Result<(), Fail> {
     let mut four = MemSink::new(rt.alloc());
@@ -201,8 +202,8 @@ fn replays_on_the_core(rt: HostRuntime) -> Result<(), Fail> {
     Ok(())
 }
 
-/// A writer that stops at its limit raises the flag after its last take: what its worker still sent, and the lane
-/// that it closed then, are events that the core allows.
+/// A writer that stops at its limit raises the flag after its last take: what its worker still
+/// sent, and the lane that it closed then, are events that the core allows.
 #[test]
 fn replays_a_limit_on_the_core(rt: HostRuntime) -> Result<(), Fail> {
     let plan = Plan::new(0, 0, 10, 1, 64)?.limited(3)?;

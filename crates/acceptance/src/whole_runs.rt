@@ -1,4 +1,5 @@
-//! Runs over lanes that end well: the same bytes as the plain run, whatever the workers and the capacity.
+//! Runs over lanes that end well: the same bytes as the plain run, whatever the workers and the
+//! capacity.
 
 use cond_lang::{Cond, parse};
 use dealrun::{Fuse, MemSink, Plan, run, run_plain};
@@ -34,7 +35,8 @@ fn writes_the_plain_text(rt: HostRuntime) -> Result<(), Fail> {
     Ok(())
 }
 
-/// A sink that takes one byte a write gets the same bytes, as do more workers than candidates, and a run of none.
+/// A sink that takes one byte a write gets the same bytes, as do more workers than candidates, and
+/// a run of none.
 #[test]
 fn writes_the_plain_text_byte_by_byte(rt: HostRuntime) -> Result<(), Fail> {
     for (count, workers, boards, bytes) in [(200, 3, 200, 25_052), (3, 16, 3, 381), (0, 1, 0, 10)] {

@@ -12,7 +12,8 @@ use Rattle.deals_cli.specs.Requests.{Making, Wish, stream, make}
 
 -- an option `--id VALUE`
 abbrev pub option_rule : Text → ValueParser → Rule
-option_rule id parser = record (new_rule id) { long = Some id; value_names = 1; parser = Some parser }
+option_rule id parser =
+    record (new_rule id) { long = Some id; value_names = 1; parser = Some parser }
 
 abbrev pub required : Rule → Rule
 required rule = record rule { required = true }
@@ -62,14 +63,15 @@ make_app = with_labels (with_boards (with_search (with_candidates (new_app (code
 
 -- `deals`, with clap's own `help` and `--version`, and a subcommand that has to be named
 abbrev pub deals_top : App
-deals_top = on_top (λ s. record s { has_version = true; subcommand_required = true }) (new_app (codes "deals"))
+deals_top =
+    on_top (λ s. record s { has_version = true; subcommand_required = true }) (new_app (codes "deals"))
 
 abbrev pub deals : App
 deals = with_subcommand (with_subcommand deals_top stream_app.top) make_app.top
 
 -- ---- what the words ask for
 
--- the number that an option was given in decimal, where it was given
+-- the number that an option was given in decimal, if it was given
 abbrev pub number_in : Text → List Row → Option ℕ
 number_in id rows = option_map (λ t. digits_value 10 (without_leading_plus t)) (one_of id rows)
 
@@ -98,15 +100,15 @@ making_in rows = record {
 abbrev pub wish_by : Text × List Row → Wish
 wish_by p = if bytes_eq p.0 (codes "stream") then stream_wish p.1 else make (making_in p.1)
 
--- a wish stands where no fault does
+-- a wish, unless there is a fault
 abbrev pub unless_fault : Kinds → Option Wish → Option Wish
 unless_fault [] wish = wish
 unless_fault (k ∷ kinds) wish = None
 
--- the kinds of error of which clap gives one for these words: none where they ask for something
+-- the kinds of error of which clap gives one for these words: none if they ask for something
 unfoldable pub kinds_for : List Text → Kinds
 kinds_for words = fault_of deals words
 
--- what the words ask for, where nothing but want of memory can fail their parse
+-- what the words ask for, if nothing but want of memory can fail their parse
 unfoldable pub asked : List Text → Option Wish
 asked words = unless_fault (kinds_for words) (option_map wish_by (subcommand_of deals words))

@@ -44,11 +44,18 @@ pub record HasNumbers (m : Making) : Type 0 where
   pub boards : m.boards ≡ Some 0 → ⊥
   pub first_board : (0 < unwrap_or m.first_board 1) × (unwrap_or m.first_board 1 ≤ 2 ^ 40)
 
+-- a text that is given can be written as a label, or as a date
+abbrev pub CanLabel : Option (List ℕ) → Type 0
+CanLabel given = (t : List ℕ) → given ≡ Some t → IsLabel t
+
+abbrev pub CanDate : Option (List ℕ) → Type 0
+CanDate given = (t : List ℕ) → given ≡ Some t → IsDate t
+
 -- its labels can be written
 pub record HasLabels (m : Making) : Type 0 where
-  pub event : (t : List ℕ) → m.event ≡ Some t → IsLabel t
-  pub site : (t : List ℕ) → m.site ≡ Some t → IsLabel t
-  pub date : (t : List ℕ) → m.date ≡ Some t → IsDate t
+  pub event : CanLabel m.event
+  pub site : CanLabel m.site
+  pub date : CanDate m.date
 
 -- there is such a plan
 pub record IsPlanned (m : Making) : Type 0 where
@@ -63,7 +70,8 @@ Means (Some t) form = (length t ≤ 1024) × SpellsTree t form
 -- what a wish asks for was appended
 abbrev pub Appends : Wish → Option (List ℕ) → Option (List ℕ) → Type 0
 Appends (stream seed count) old new = AppendsAll old new (lines seed count)
-Appends (make m) old new = (form : Form) × Means m.condition form × AppendsAll old new (text (plan_of m) form)
+Appends (make m) old new =
+    (form : Form) × Means m.condition form × AppendsAll old new (text (plan_of m) form)
 
 -- the words of a wish have to be accepted, so far as they aren't a condition
 abbrev pub HasPlan : Wish → Type 0
@@ -159,7 +167,7 @@ pub record IsStatusOfNone (words : List Text) (status : ℕ) : Type 0 where
   -- there is no condition, and no run
   pub neither : (status ≡ 3) ⊎ (status ≡ 6) → ⊥
 
--- how many faults of the output stand behind a result
+-- how many faults of the output a result tells of
 abbrev pub faults_in : {T : Type 0} → Result T Failure → ℕ
 faults_in (Err Output) = 1
 faults_in _ = 0

@@ -9,8 +9,8 @@ use clap::builder::ValueParser;
 use clap::{Arg, Command, value_parser};
 use std::alloc::{AllocError, Global};
 
-/// The most values that `stream` prints.
-const MOST_VALUES: i64 = 1099511627776;
+/// The most values that `stream` prints: the same as the most candidates of a seed.
+const MAX_VALUES: i64 = 1099511627776;
 
 const STREAM_EXAMPLES: &str = "Example:
   deals stream --seed 0 --count 3";
@@ -86,8 +86,10 @@ fn required<'a>(
 /// The command with one more option.
 fn with_option<'a>(command: Command<'a>, arg: Arg<'a>) -> Result<Command<'a>, AllocError>
     requires { arg.global ≡ false }
-    ensures app { IfOk result (λ c. app_of c ≡ with_rule (app_of command.entry) (rule_of arg.entry)) }
-    ensures local { IfOk result (λ c. (fields_of c).has_globals ≡ (fields_of command.entry).has_globals) }
+    ensures app { IfOk result (λ c. app_of c
+        ≡ with_rule (app_of command.entry) (rule_of arg.entry)) }
+    ensures local { IfOk result (λ c. (fields_of c).has_globals
+        ≡ (fields_of command.entry).has_globals) }
 {
     command.arg(arg)
 }
@@ -99,7 +101,7 @@ fn stream_command<'a>(alloc: Global) -> Result<Command<'a>, AllocError>
     let command = Command::new(alloc, "stream")
         .about("Prints the nrand48 values of a seed, one per line")
         .after_help(STREAM_EXAMPLES);
-    let values = value_parser!(u64).range(..=MOST_VALUES);
+    let values = value_parser!(u64).range(..=MAX_VALUES);
     let seed = required(alloc, "seed", value_parser!(u32), "S", SEED);
     let count = required(alloc, "count", values, "N", COUNT);
     let command = with_option(command, seed)?;
@@ -109,7 +111,8 @@ fn stream_command<'a>(alloc: Global) -> Result<Command<'a>, AllocError>
 /// The command with the options that have to be given.
 fn with_candidates<'a>(alloc: Global, command: Command<'a>) -> Result<Command<'a>, AllocError>
     ensures app { IfOk result (λ c. app_of c ≡ with_candidates (app_of command.entry)) }
-    ensures local { IfOk result (λ c. (fields_of c).has_globals ≡ (fields_of command.entry).has_globals) }
+    ensures local { IfOk result (λ c. (fields_of c).has_globals
+        ≡ (fields_of command.entry).has_globals) }
 {
     let seed = required(alloc, "seed", value_parser!(u32), "S", SEED);
     let command = with_option(command, seed)?;
@@ -120,7 +123,8 @@ fn with_candidates<'a>(alloc: Global, command: Command<'a>) -> Result<Command<'a
 /// The command with the options of where and how the search runs.
 fn with_search<'a>(alloc: Global, command: Command<'a>) -> Result<Command<'a>, AllocError>
     ensures app { IfOk result (λ c. app_of c ≡ with_search (app_of command.entry)) }
-    ensures local { IfOk result (λ c. (fields_of c).has_globals ≡ (fields_of command.entry).has_globals) }
+    ensures local { IfOk result (λ c. (fields_of c).has_globals
+        ≡ (fields_of command.entry).has_globals) }
 {
     let first = option(alloc, "first", value_parser!(u64), "K", FIRST);
     let command = with_option(command, first)?;
@@ -133,7 +137,8 @@ fn with_search<'a>(alloc: Global, command: Command<'a>) -> Result<Command<'a>, A
 /// The command with the options of which boards are written.
 fn with_boards<'a>(alloc: Global, command: Command<'a>) -> Result<Command<'a>, AllocError>
     ensures app { IfOk result (λ c. app_of c ≡ with_boards (app_of command.entry)) }
-    ensures local { IfOk result (λ c. (fields_of c).has_globals ≡ (fields_of command.entry).has_globals) }
+    ensures local { IfOk result (λ c. (fields_of c).has_globals
+        ≡ (fields_of command.entry).has_globals) }
 {
     let condition = option(alloc, "where", ValueParser::String, "TEXT", WHERE);
     let command = with_option(command, condition)?;
@@ -146,7 +151,8 @@ fn with_boards<'a>(alloc: Global, command: Command<'a>) -> Result<Command<'a>, A
 /// The command with the options of the labels.
 fn with_labels<'a>(alloc: Global, command: Command<'a>) -> Result<Command<'a>, AllocError>
     ensures app { IfOk result (λ c. app_of c ≡ with_labels (app_of command.entry)) }
-    ensures local { IfOk result (λ c. (fields_of c).has_globals ≡ (fields_of command.entry).has_globals) }
+    ensures local { IfOk result (λ c. (fields_of c).has_globals
+        ≡ (fields_of command.entry).has_globals) }
 {
     let event = option(alloc, "event", ValueParser::String, "TEXT", EVENT);
     let command = with_option(command, event)?;

@@ -89,10 +89,11 @@ fn serve_and_flush<R: Threads + Wait + Clone + Send + 'static, O: Sink>(
 
 /// Runs the program, and returns its exit status. The first word is the program's name.
 ///
-/// 0: done, or help or the version was asked for, whose text is on `out`; 2: the command line, the plan or a label
-/// is refused; 3: the condition is refused; 4: the output failed; 5: want of memory; 6: a thread couldn't be
-/// started, or a worker stopped or wasn't closed. What went wrong is said on `err`, in one line but for clap's
-/// texts, and faults of `err` are ignored. It may wait for its workers.
+/// 0: done, or help or the version was asked for, whose text is on `out`; 2: the command line, the
+/// plan or a label is refused; 3: the condition is refused; 4: the output failed; 5: want of
+/// memory; 6: a thread couldn't be started, or a worker stopped or wasn't closed. What went wrong
+/// is said on `err`, in one line but for clap's texts, and faults of `err` are ignored. It may wait
+/// for its workers.
 pub fn program<R: Threads + Wait + Clone + Send + 'static, O: Sink, E: Sink>(
     rt: &R,
     alloc: Global,
@@ -116,7 +117,7 @@ pub fn program<R: Threads + Wait + Clone + Send + 'static, O: Sink, E: Sink>(
     // Nothing was written if something is refused or memory ran out.
     ensures untouched { (result ≡ 2) ⊎ (result ≡ 3) ⊎ (result ≡ 5)
         → O.bytes out.new ≡ O.bytes out.old }
-    // The status is 4 exactly where the output failed, once.
+    // The status is 4 if and only if the output failed, once.
     ensures output { O.faults out.new ≡ O.faults out.old + (if result == 4 then 1 else 0) }
     // A fault of the error output is at most one, and ends nothing.
     ensures said { (E.faults err.old ≤ E.faults err.new)

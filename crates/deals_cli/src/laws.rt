@@ -12,8 +12,9 @@ pub fn example_of_stream()
         ≡ Some (stream 0 3) }
 {}
 
-/// `deals make --seed 0 --candidates 200 --where 'hcp(north)>=15' --boards 5` asks for at most five boards, of
-/// those among the first 200 candidates of seed 0 that meet the condition. What it does not say has its default.
+/// `deals make --seed 0 --candidates 200 --where 'hcp(north)>=15' --boards 5` asks for at most five
+/// boards, of those among the first 200 candidates of seed 0 that meet the condition. What it does
+/// not say has its default.
 pub fn example_of_make()
     ensures { asked
         (codes "deals" ∷ codes "make" ∷ codes "--seed" ∷ codes "0" ∷ codes "--candidates" ∷ codes "200"

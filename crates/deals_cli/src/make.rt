@@ -3,8 +3,7 @@
 ghost use Rattle.std.specs.Prelude.{◌≡◌, ◌≢◌, ◌⊎◌, ◌-◌, ◌+◌, ◌^◌, ◌<◌, ℕ, List, Some, true, IfErr, IfOk, OnOk, option_map};
 ghost use Rattle.cond_lang.specs.Form.{Form};
 ghost use Rattle.pbn_text.specs.Games.{no_heading};
-ghost use Rattle.pbn_text.specs.Labels.{IsDate, IsLabel};
-ghost use Rattle.deals_cli.specs.Program.{Appends, HasLabels, HasMeaning, HasNumbers, IsPlanned, IsStatusOf, Means, faults_in, is_untouched, plan_of, status_in, status_of};
+ghost use Rattle.deals_cli.specs.Program.{Appends, CanDate, CanLabel, HasLabels, HasMeaning, HasNumbers, IsPlanned, IsStatusOf, Means, faults_in, is_untouched, plan_of, status_in, status_of};
 ghost use Rattle.deals_cli.specs.Requests.{make as wish, making_of};
 
 use crate::failure::{Failure, LabelName};
@@ -17,11 +16,12 @@ use std::alloc::Global;
 use std::sync::{Arc, Wait};
 use std::thread::Threads;
 
-/// The label of a text that was given. It is refused exactly where no label has the text.
+/// The label of a text that was given. It is refused if and only if no label has the text.
 fn label_of(text: Option<&str>, name: LabelName) -> Result<Option<Label>, Failure>
     ensures made { IfOk result (λ l. l ≡ option_map (λ s. s.now) text.entry) }
-    ensures sound { IfOk result (λ _. (t : List ℕ) → option_map (λ s. s.now) text.entry ≡ Some t → IsLabel t) }
-    ensures refused { IfErr result (λ e. (e ≡ Failure.Label name) × (((t : List ℕ) → option_map (λ s. s.now) text.entry ≡ Some t → IsLabel t) → ⊥)) }
+    ensures sound { IfOk result (λ _. CanLabel (option_map (λ s. s.now) text.entry)) }
+    ensures refused { IfErr result (λ e. (e ≡ Failure.Label name)
+        × (CanLabel (option_map (λ s. s.now) text.entry) → ⊥)) }
 {
     match text {
         None => Ok(None),
@@ -32,11 +32,12 @@ fn label_of(text: Option<&str>, name: LabelName) -> Result<Option<Label>, Failur
     }
 }
 
-/// The date of a text that was given. It is refused exactly where it is no date.
+/// The date of a text that was given. It is refused if and only if it is no date.
 fn date_of(text: Option<&str>) -> Result<Option<Date>, Failure>
     ensures made { IfOk result (λ d. d ≡ option_map (λ s. s.now) text.entry) }
-    ensures sound { IfOk result (λ _. (t : List ℕ) → option_map (λ s. s.now) text.entry ≡ Some t → IsDate t) }
-    ensures refused { IfErr result (λ e. (e ≡ Failure.Label LabelName.Date) × (((t : List ℕ) → option_map (λ s. s.now) text.entry ≡ Some t → IsDate t) → ⊥)) }
+    ensures sound { IfOk result (λ _. CanDate (option_map (λ s. s.now) text.entry)) }
+    ensures refused { IfErr result (λ e. (e ≡ Failure.Label LabelName.Date)
+        × (CanDate (option_map (λ s. s.now) text.entry) → ⊥)) }
 {
     match text {
         None => Ok(None),
@@ -51,7 +52,8 @@ fn date_of(text: Option<&str>) -> Result<Option<Date>, Failure>
 fn heading_of(request: &MakeRequest<'_>) -> Result<Heading, Failure>
     ensures made { IfOk result (λ h. h ≡ (plan_of (making_of request.now)).heading) }
     ensures sound { IfOk result (λ _. HasLabels (making_of request.now)) }
-    ensures refused { IfErr result (λ e. (status_of e ≡ 2) × (HasLabels (making_of request.now) → ⊥)) }
+    ensures refused { IfErr result (λ e.
+        (status_of e ≡ 2) × (HasLabels (making_of request.now) → ⊥)) }
 {
     Ok(Heading {
         event: label_of(request.event, LabelName::Event)?,
@@ -62,7 +64,8 @@ fn heading_of(request: &MakeRequest<'_>) -> Result<Heading, Failure>
 
 /// The plan with the numbers of the options: the candidates, the workers, the lanes and the boards.
 fn numbers_of(request: &MakeRequest<'_>) -> Result<Plan, PlanError>
-    ensures made { IfOk result (λ p. p ≡ record (plan_of (making_of request.now)) { heading = no_heading }) }
+    ensures made { IfOk result (λ p.
+        p ≡ record (plan_of (making_of request.now)) { heading = no_heading }) }
     ensures sound { IfOk result (λ _. HasNumbers (making_of request.now)) }
     ensures refused { IfErr result (λ _. HasNumbers (making_of request.now) → ⊥) }
 {
@@ -84,7 +87,8 @@ fn numbers_of(request: &MakeRequest<'_>) -> Result<Plan, PlanError>
 fn planned(request: &MakeRequest<'_>) -> Result<Plan, Failure>
     ensures made { IfOk result (λ p. p ≡ plan_of (making_of request.now)) }
     ensures sound { IfOk result (λ _. IsPlanned (making_of request.now)) }
-    ensures refused { IfErr result (λ e. (status_of e ≡ 2) × (IsPlanned (making_of request.now) → ⊥)) }
+    ensures refused { IfErr result (λ e.
+        (status_of e ≡ 2) × (IsPlanned (making_of request.now) → ⊥)) }
 {
     let plan = match numbers_of(request) {
         Ok(plan) => plan,
@@ -96,7 +100,9 @@ fn planned(request: &MakeRequest<'_>) -> Result<Plan, Failure>
 /// What the condition's text means; without a text every deal is accepted.
 fn condition_of(alloc: Global, request: &MakeRequest<'_>) -> Result<Cond, Failure>
     ensures meant { IfOk result (λ c. Means (making_of request.now).condition c) }
-    ensures refused { IfErr result (λ e. ((status_of e ≡ 5) ⊎ (status_of e ≡ 3)) × ((f : Form) → Means (making_of request.now).condition f → status_of e ≡ 5)) }
+    ensures refused { IfErr result (λ e. (status_of e ≡ 5) ⊎ (status_of e ≡ 3)) }
+    ensures memory { IfErr result (λ e. (f : Form)
+        → Means (making_of request.now).condition f → status_of e ≡ 5) }
     ensures untouched { IfErr result (λ e. is_untouched e ≡ true) }
 {
     let Some(text) = request.condition else {

@@ -26,7 +26,8 @@ pub struct StreamRequest {
     pub count: u64,
 }
 
-/// The games of the accepted ones among the candidates of a seed. What an option was not given has its default.
+/// The games of the accepted ones among the candidates of a seed. What an option was not given has
+/// its default.
 #[derive(Clone, Copy, Debug)]
 pub struct MakeRequest<'a> {
     pub seed: u32,
@@ -37,7 +38,7 @@ pub struct MakeRequest<'a> {
     /// How many verdicts a worker's lane holds.
     pub lane: u32,
     pub condition: Option<&'a str>,
-    /// The most boards that are written.
+    /// How many boards are written at most.
     pub boards: Option<u32>,
     pub first_board: Option<u64>,
     pub event: Option<&'a str>,
@@ -103,7 +104,8 @@ fn make_request<'a>(matches: &ArgMatches<'a>) -> MakeRequest<'a>
 
 /// What the words ask for, the program's name first.
 ///
-/// Words that ask for something fail for want of memory alone; for others the error is clap's, with its text.
+/// Words that ask for something fail for want of memory alone; for others the error is clap's, with
+/// its text.
 pub fn read_words<'a>(alloc: Global, words: &'a [String]) -> Result<Request<'a>, Error>
     ensures ok { IfOk result (λ r. asked (map string_bytes words.entry.now) ≡ Some (wish_of r)) }
     ensures range { IfOk result IsInRange }

@@ -5,4 +5,5 @@ use Rattle.lanes.specs.declared.share.Job.{Job}
 use Rattle.lanes.specs.Verdicts.{verdicts}
 
 abbrev pub verdicts_of : Job → List Verdict
-verdicts_of job = verdicts job.seed job.share.first job.share.count job.cond job.share.workers job.share.worker
+verdicts_of job =
+    verdicts job.seed job.share.first job.share.count job.cond job.share.workers job.share.worker

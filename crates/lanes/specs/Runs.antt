@@ -1,4 +1,5 @@
--- What a list of events does to the core, one event after another, and which items go through its lanes.
+-- What a list of events does to the core, one event after another, and which items go through its
+-- lanes.
 use Rattle.std.specs.Prelude.{ℕ, ◌≡◌, ◌+◌, ◌*◌, ◌&&◌, ◌==◌, ◌++◌, cond, List, [], ◌∷◌}
 use Rattle.lanes.specs.declared.event.Event.{Event}
 use Rattle.lanes.specs.declared.event.Event.TheVariants.{Send, Take, Close, Stop}
@@ -13,18 +14,21 @@ abbrev pub after_all : Machine → List Event → Machine
 after_all m [] = m
 after_all m (e ∷ es) = after_all (after m e) es
 
--- the candidate that worker w of W sends as its n-th item, from 0: each worker sends every W-th candidate
+-- the candidate that worker w of W sends as its n-th item, from 0: each worker sends every W-th
+-- candidate
 abbrev pub item_of : ℕ → ℕ → ℕ → ℕ
 item_of W w n = w + n * W
 
 -- the items that worker w sends in one event: the one after those it sent
 abbrev pub sent_in : ℕ → Machine → Event → List ℕ
-sent_in w m (Send v) = cond (is_allowed m (Send v) && (v == w)) (item_of m.workers w (sent_of m w) ∷ []) []
+sent_in w m (Send v) =
+    cond (is_allowed m (Send v) && (v == w)) (item_of m.workers w (sent_of m w) ∷ []) []
 sent_in w m Take = []
 sent_in w m (Close v) = []
 sent_in w m Stop = []
 
--- the items that the writer takes in one event: of the lane whose turn it is, the one after those it took there
+-- the items that the writer takes in one event: of the lane whose turn it is, the one after those
+-- it took there
 abbrev pub taken_in : Machine → Event → List ℕ
 taken_in m (Send v) = []
 taken_in m Take =

@@ -25,5 +25,7 @@ pub record IsSound (m : Machine) : Type 0 where
   pub shape : HasLanes m
   pub lanes : (w : ℕ) → w < m.workers → IsLaneSound m w
   -- short of its end and not stopped, the run can go on in the lane whose turn it is
-  pub not_stuck : m.turn < m.count → m.stopped ≡ false → (is_allowed m Take ≡ true) ⊎ (is_allowed m (Send (next_lane m)) ≡ true)
+  pub not_stuck :
+      m.turn < m.count → m.stopped ≡ false
+      → (is_allowed m Take ≡ true) ⊎ (is_allowed m (Send (next_lane m)) ≡ true)
   pub bounded : changes_made m ≤ 2 * m.count + m.workers + 1

@@ -21,7 +21,8 @@ pub record ClosedView : Type 0 where
   pub sent : List Verdict
   pub ring : Ring
 
--- the end that takes: what was taken, how many verdicts are known to wait, and what is left once it is settled
+-- the end that takes: what was taken, how many verdicts are known to wait, and what is left once it
+-- is settled
 pub record OutView : Type 0 where
   pub taken : List Verdict
   pub known : ℕ

@@ -23,8 +23,8 @@ pub enum LaneError {
     Memory,
 }
 
-/// The end that a worker sends into. Contracts see all that was sent so far, how many slots are known to be
-/// free, and which ring it is.
+/// The end that a worker sends into. Contracts see all that was sent so far, how many slots are
+/// known to be free, and which ring it is.
 #[derive(Drop)]
 pub struct LaneIn {
     producer: Producer<Verdict>,
@@ -63,8 +63,8 @@ impl Model for Closed {
     } };
 }
 
-/// The end that the writer takes from. Contracts see all that was taken so far, how many verdicts are known to
-/// wait, which ring it is, whether it is settled, and from then on what is left.
+/// The end that the writer takes from. Contracts see all that was taken so far, how many verdicts
+/// are known to wait, which ring it is, whether it is settled, and from then on what is left.
 #[derive(Drop)]
 pub struct LaneOut {
     consumer: Consumer<Verdict>,
@@ -88,8 +88,8 @@ impl Model for LaneOut {
     } };
 }
 
-/// Makes a lane that holds at most `capacity` verdicts, and returns its two ends. It returns `Capacity` exactly
-/// if that is not 1 to 4,096, and `Memory` if there is none for the ring.
+/// Makes a lane that holds at most `capacity` verdicts, and returns its two ends. It returns
+/// `Capacity` exactly if that is not 1 to 4,096, and `Memory` if there is none for the ring.
 pub fn lane(alloc: Global, capacity: u32) -> Result<(LaneIn, LaneOut), LaneError>
     ensures capacity { IsErrOf result Capacity ↔ ((capacity ≡ 0) ⊎ (4096 < capacity)) }
     ensures ring { IfOk result (λ r. r.0.ring ≡ r.1.ring) }
@@ -123,7 +123,8 @@ impl LaneIn {
         Ok(())
     }
 
-    /// Whether the lane has a free slot. It looks at the other end only if none is known. It waits for nobody.
+    /// Whether the lane has a free slot. It looks at the other end only if none is known. It waits
+    /// for nobody.
     pub fn has_room(&mut self) -> bool
         ensures ring { self.new.ring ≡ self.old.ring }
         ensures sent { self.new.sent ≡ self.old.sent }
@@ -161,8 +162,8 @@ impl LaneIn {
         self.producer.capacity()
     }
 
-    /// Closes the lane, and returns what tells all that was sent. It returns `None` if the other end was let go
-    /// before, since the ring then can't say how it ended. It waits for nobody.
+    /// Closes the lane, and returns what tells all that was sent. It returns `None` if the other
+    /// end was let go before, since the ring then can't say how it ended. It waits for nobody.
     pub fn close(self) -> Option<Closed>
         ensures { IfSome result (λ c. (c.sent ≡ self.sent) × (c.ring ≡ self.ring)) }
     {
@@ -176,8 +177,8 @@ impl LaneIn {
 impl LaneOut {
     ghost use Rattle.lanes.specs.Views.{TakesOfLeft};
 
-    /// Takes the next verdict, or returns `None` if none waits. It waits for nobody. Once the lane is settled, it
-    /// returns what is left, one after another, and then `None`.
+    /// Takes the next verdict, or returns `None` if none waits. It waits for nobody. Once the lane
+    /// is settled, it returns what is left, one after another, and then `None`.
     pub fn take(&mut self) -> Option<Verdict>
         ensures ring { self.new.ring ≡ self.old.ring }
         ensures settled { self.new.settled ≡ self.old.settled }
@@ -194,7 +195,8 @@ impl LaneOut {
         Some(self.take_known())
     }
 
-    /// Whether a verdict waits to be taken. It looks at the other end only if none is known. It waits for nobody.
+    /// Whether a verdict waits to be taken. It looks at the other end only if none is known. It
+    /// waits for nobody.
     pub fn has_verdict(&mut self) -> bool
         ensures same { (self.new.ring ≡ self.old.ring) × (self.new.settled ≡ self.old.settled) }
         ensures taken { self.new.taken ≡ self.old.taken }
@@ -241,8 +243,8 @@ impl LaneOut {
         self.consumer.pop_known()
     }
 
-    /// Settles the lane by what its closed end left, and returns how many verdicts are left to take. It waits for
-    /// nobody.
+    /// Settles the lane by what its closed end left, and returns how many verdicts are left to
+    /// take. It waits for nobody.
     pub fn settle(&mut self, closed: &mut Closed) -> u64
         requires { self.old.ring ≡ closed.old.ring }
         ensures closed { closed.new ≡ closed.old }

@@ -2,8 +2,8 @@
 
 ghost use Rattle.std.specs.Prelude.{◌≡◌, true};
 
-/// Is asked once before each candidate, by the worker with this number; `false` stops the whole run.
-/// It is shared between the workers' threads, and may wait.
+/// Is asked once before each candidate, by the worker with this number; `false` stops the whole
+/// run. It is shared between the workers' threads, and may wait.
 pub trait Gate {
     fn pass(&self, worker: u32, number: u64) -> bool;
 }

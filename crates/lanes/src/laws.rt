@@ -9,9 +9,9 @@ ghost use Rattle.lanes.specs.Machine.{sent_of, taken_of};
 ghost use Rattle.lanes.specs.Sound.{IsSound};
 ghost use Rattle.lanes.specs.Runs.{after_all, item_of, items_sent, items_taken};
 
-/// Of any list of events, in any order, only so many change anything in a new core: each worker sends
-/// and the writer takes each candidate at most once, each lane is closed at most once, and the run is
-/// stopped once.
+/// Of any list of events, in any order, only so many change anything in a new core: each worker
+/// sends and the writer takes each candidate at most once, each lane is closed at most once, and
+/// the run is stopped once.
 pub fn few_events_change()
     ensures { (count workers capacity : ℕ) (events : List Event) → 1 ≤ workers
         → changes_in (new_machine count workers capacity) events ≤ 2 * count + workers + 1 }
@@ -22,16 +22,16 @@ pub fn the_others_change_nothing()
     ensures { (m : Machine) (e : Event) → does_change m e ≡ false → after m e ≡ m }
 {}
 
-/// After any list of events the core is sound: the items were taken in turn, no more was taken than sent,
-/// no more was sent than owed, no lane holds more than its capacity, and no lane was closed early unless
-/// the run was stopped.
+/// After any list of events the core is sound: the items were taken in turn, no more was taken than
+/// sent, no more was sent than owed, no lane holds more than its capacity, and no lane was closed
+/// early unless the run was stopped.
 pub fn every_run_is_sound()
     ensures { (count workers capacity : ℕ) (events : List Event) → 1 ≤ workers → 1 ≤ capacity
         → IsSound (after_all (new_machine count workers capacity) events) }
 {}
 
-/// The core is never stuck: after any list of events, short of the last turn and not stopped, the writer
-/// may take, or the worker whose turn it is may send.
+/// The core is never stuck: after any list of events, short of the last turn and not stopped, the
+/// writer may take, or the worker whose turn it is may send.
 pub fn no_run_is_stuck()
     ensures { (count workers capacity : ℕ) (events : List Event) → 1 ≤ workers → 1 ≤ capacity
         → let m = after_all (new_machine count workers capacity) events in
@@ -39,8 +39,8 @@ pub fn no_run_is_stuck()
         → (is_allowed m Take ≡ true) ⊎ (is_allowed m (Send (m.turn % workers)) ≡ true) }
 {}
 
-/// After any list of events the next Take is from lane `turn mod workers`, of the item that this worker
-/// sent as number `turn div workers`, and this is the candidate with the turn's number.
+/// After any list of events the next Take is from lane `turn mod workers`, of the item that this
+/// worker sent as number `turn div workers`, and this is the candidate with the turn's number.
 pub fn each_turn_takes_its_item()
     ensures { (count workers capacity : ℕ) (events : List Event) → 1 ≤ workers
         → let m = after_all (new_machine count workers capacity) events in

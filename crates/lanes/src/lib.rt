@@ -1,4 +1,5 @@
-//! The candidates of a plan, shared out among workers, and the lanes that carry their verdicts to the writer.
+//! The candidates of a plan, shared out among workers, and the lanes that carry their verdicts to
+//! the writer.
 #![tactic(auto)]
 
 mod ends;

@@ -13,8 +13,8 @@ const MOST_WORKERS: u32 = 16;
 
 const MOST_CAPACITY: u32 = 4096;
 
-/// The counters of a run's lanes, one flag and the turn. Contracts see the machine, with an entry for each
-/// worker's lane.
+/// The counters of a run's lanes, one flag and the turn. Contracts see the machine, with an entry
+/// for each worker's lane.
 #[derive(Drop)]
 pub struct Core {
     count: u64,
@@ -45,8 +45,9 @@ impl Core {
     ghost use Rattle.lanes.specs.Runs.{IsSameRun};
     ghost use Rattle.lanes.specs.Sound.{IsSound};
 
-    /// Returns the core of a run over at most 2^40 candidates, by 1 to 16 workers, with lanes of 1 to 4,096
-    /// items: nothing was sent or taken yet. It returns `None` if a number is out of its range.
+    /// Returns the core of a run over at most 2^40 candidates, by 1 to 16 workers, with lanes of 1
+    /// to 4,096 items: nothing was sent or taken yet. It returns `None` if a number is out of its
+    /// range.
     pub fn new(count: u64, workers: u32, capacity: u32) -> Option<Core>
         ensures range { IsSome result
             ↔ ((count ≤ 2 ^ 40) × (1 ≤ workers) × (workers ≤ 16)

@@ -11,7 +11,8 @@ const END: u64 = 1 << 40;
 /// The most workers of a run.
 const MOST_WORKERS: u32 = 16;
 
-/// Of the `count` candidates from `first` on, every `workers`-th one, from the one numbered `first + worker`.
+/// Of the `count` candidates from `first` on, every `workers`-th one, from the one numbered `first
+/// + worker`.
 #[derive(Clone, Copy, Drop)]
 pub struct Share {
     pub first: u64,
@@ -24,8 +25,8 @@ pub struct Share {
 }
 
 impl Share {
-    /// The share of worker `worker` of `workers`, from 0. `None` if there are not 1 to 16 workers, if `worker`
-    /// is not below `workers`, or if `first + count` is above 2^40.
+    /// The share of worker `worker` of `workers`, from 0. `None` if there are not 1 to 16 workers,
+    /// if `worker` is not below `workers`, or if `first + count` is above 2^40.
     pub fn new(first: u64, count: u64, workers: u32, worker: u32) -> Option<Share>
         ensures range { IsSome result
             ↔ ((first + count ≤ 2 ^ 40) × (1 ≤ workers) × (workers ≤ 16) × (worker < workers)) }

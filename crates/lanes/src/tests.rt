@@ -242,8 +242,8 @@ fn changes_made(core: &Core) -> u64
     sum
 }
 
-/// The writer meets its limit of boards with its second Take, and stops the run. Each worker may be about to send,
-/// and sends; then it sees the flag, and closes its lane.
+/// The writer meets its limit of boards with its second Take, and stops the run. Each worker may be
+/// about to send, and sends; then it sees the flag, and closes its lane.
 #[test]
 fn a_core_whose_writer_stops_at_its_limit(rt: HostRuntime) -> Result<(), Fail> {
     let mut core = Core::new(8, 2, 2).ok_or("a core")?;

@@ -1,5 +1,5 @@
-//! How an end of a lane waits for the other one. The ring keeps the verdicts in order, and each end knows some of
-//! it from its last look at the other:
+//! How an end of a lane waits for the other one. The ring keeps the verdicts in order, and each end
+//! knows some of it from its last look at the other:
 //!
 //! ```text
 //! worker  -- Send -->  | v | v | v |   |   |  -- Take -->  writer
@@ -7,12 +7,13 @@
 //!                        writer         worker as free
 //! ```
 //!
-//! While an end knows of a slot or a verdict, it goes on and looks at nobody. When it knows of none, it looks at the
-//! other end's counter, which both threads then pull to and fro between their cores. So it does not look at once
-//! for each verdict, but pauses between two looks, and goes on with about half a lane's content.
+//! While an end knows of a slot or a verdict, it goes on and looks at nobody. When it knows of
+//! none, it looks at the other end's counter, which both threads then pull to and fro between their
+//! cores. So it does not look at once for each verdict, but pauses between two looks, and goes on
+//! with about half a lane's content.
 //!
-//! One loop a lane's end: look at the stop flag, pause, count. It ends with enough, with less once the other end
-//! stands still, or without when the flag is up.
+//! One loop a lane's end: look at the stop flag, pause, count. It ends with enough, with less once
+//! the other end stands still, or without when the flag is up.
 
 ghost use Rattle.std.specs.Prelude.{◌≡◌, ◌<◌, ◌≤◌, true, false};
 
@@ -24,22 +25,24 @@ use std::{hint, thread};
 /// The most spins between two looks: some microseconds, so that a flag that goes up is soon seen.
 const MOST_SPINS: usize = 4096;
 
-/// More workers than this and their writer are taken to be more threads than there are cores: whoever waits then
-/// lets the others run in place of spinning.
+/// More workers than this and their writer are taken to be more threads than there are cores:
+/// whoever waits then lets the others run in place of spinning.
 const FEW_WORKERS: u32 = 3;
 
-/// How many spins a verdict of the other end takes, about, so that a pause lasts about a lane's content.
+/// How many spins a verdict of the other end takes, about, so that a pause lasts about a lane's
+/// content.
 const SPINS_A_VERDICT: usize = 4;
 
-/// A pause ends with a lane's capacity divided by this: with half of it, one end works while the other does.
+/// A pause ends with a lane's capacity divided by this: with half of it, one end works while the
+/// other does.
 const PARTS_OF_A_LANE: usize = 2;
 
 /// The lanes that a worker serves: its own. The writer serves those of all workers.
 const LANES_OF_A_WORKER: u32 = 1;
 
 impl LaneIn {
-    /// Waits until a slot is free, of a lane that the writer serves in turn with those of `workers` workers in all.
-    /// Returns true once one is, and false if the stop flag is up.
+    /// Waits until a slot is free, of a lane that the writer serves in turn with those of `workers`
+    /// workers in all. Returns true once one is, and false if the stop flag is up.
     pub(crate) fn wait_for_room<R: Wait>(&mut self, rt: &R, workers: u32, stop: &AtomicBool) -> bool
         ensures ring { self.new.ring ≡ self.old.ring }
         ensures sent { self.new.sent ≡ self.old.sent }
@@ -61,8 +64,8 @@ impl LaneIn {
 }
 
 impl LaneOut {
-    /// Waits until a verdict can be taken. Returns true once one can, and false if the stop flag is up and none
-    /// waits. It may wait: on a settled lane with nothing left until the flag is up.
+    /// Waits until a verdict can be taken. Returns true once one can, and false if the stop flag is
+    /// up and none waits. It may wait: on a settled lane with nothing left until the flag is up.
     pub fn wait_for_verdict<R: Wait>(&mut self, rt: &R, stop: &AtomicBool) -> bool
         ensures same { (self.new.ring ≡ self.old.ring) × (self.new.settled ≡ self.old.settled) }
         ensures taken { self.new.taken ≡ self.old.taken }
@@ -99,8 +102,8 @@ impl LaneOut {
     }
 }
 
-/// The pauses of an end that waits. It spins for about a lane's content, and again as long as the other end makes
-/// progress. Once that stands still, the end leaves the rest of its time slice.
+/// The pauses of an end that waits. It spins for about a lane's content, and again as long as the
+/// other end makes progress. Once that stands still, the end leaves the rest of its time slice.
 #[derive(Drop)]
 struct Pause {
     spins: usize,
@@ -134,7 +137,8 @@ impl Pause {
         }
     }
 
-    /// Whether to go on with so many verdicts or slots: with half a lane's content, or with fewer if no more come.
+    /// Whether to go on with so many verdicts or slots: with half a lane's content, or with fewer
+    /// if no more come.
     fn is_enough(&mut self, count: usize) -> bool
         ensures { result ≡ true → 0 < count }
     {

@@ -63,7 +63,8 @@ fn words_of(alloc: Global, words: &[&str]) -> Result<Vec<String>, AllocError> {
     Ok(list)
 }
 
-/// The line of a status that want of memory gives. Standard error is a sink over memory too, so a part may be lost.
+/// The line of a status that want of memory gives. Standard error is a sink over memory too, so a
+/// part may be lost.
 fn checks_line<R: Abort>(rt: &R, status: u8, err: &[u8]) {
     let line = match status {
         4 => "output failed\n",

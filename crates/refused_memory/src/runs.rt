@@ -1,4 +1,5 @@
-//! Runs: after `Memory` and `Spawn` nothing was written, and a sink without memory keeps a beginning of the text.
+//! Runs: after `Memory` and `Spawn` nothing was written, and a sink without memory keeps a
+//! beginning of the text.
 
 use cond_lang::{Cond, parse};
 use dealrun::{Cause, MemSink, Plan, Report, RunFault, run, run_plain};
@@ -47,7 +48,8 @@ fn checks_fault<R: Abort>(rt: &R, fault: &RunFault, workers: u32, bytes: &[u8]) 
     }
 }
 
-/// Runs a plan under a condition that holds of every deal, and compares its text with that of one thread.
+/// Runs a plan under a condition that holds of every deal, and compares its text with that of one
+/// thread.
 fn runs_or_tells_why<R: Abort + Threads + Wait + Clone + Send + 'static>(
     rt: &R,
     alloc: Global,
