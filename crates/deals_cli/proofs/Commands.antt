@@ -7,7 +7,7 @@ use Rattle.clap.specs.declared.builder.value_parser.ValueParser.{ValueParser}
 use Rattle.clap.specs.declared.builder.value_parser.ValueParser.TheVariants.{Unsigned}
 use Rattle.clap.proofs.ValueTestLemmas.{accepts-Accepts}
 use Rattle.deals_cli.specs.CommandLine.{count_parser, deals, option_rule, required, u32_parser, u64_parser}
-use Rattle.deals_cli.specs.Readings.{Gives32, GivesUpTo, HasValue, MakeValues, MayGive32, MayGive64, StreamValues}
+use Rattle.deals_cli.specs.internal.Readings.{Gives32, GivesUpTo, HasValue, MakeValues, MayGive32, MayGive64, StreamValues}
 use Rattle.deals_cli.proofs.Walks.{PlainRules, given_value, level_checked, level_passing, passed_value, required_given}
 
 abbrev first_shape : List Shape → Shape

@@ -7,7 +7,7 @@ use Rattle.clap.proofs.WalkLemmas.{one_text-rows}
 use Rattle.clap.specs.Words.{ReadsOne, Text, Row, one_of, one_text, rows_of, without_minus}
 use Rattle.clap.specs.declared.parser.matches.Found.{Found}
 use Rattle.deals_cli.specs.CommandLine.{number_in}
-use Rattle.deals_cli.specs.Readings.{MayGive32, MayGive64}
+use Rattle.deals_cli.specs.internal.Readings.{MayGive32, MayGive64}
 
 number-some : (id : Text) (rows : List Row) (t : Text) → one_of id rows ≡ Some t → number_in id rows ≡ Some (digits_value 10 (without_leading_plus t))
 number-some id rows t e = ap (option_map (λ (u : Text). digits_value 10 (without_leading_plus u))) e

@@ -5,7 +5,8 @@ use Rattle.cond_lang.specs.Form.{Form}
 use Rattle.cond_lang.specs.Text.{SpellsTree}
 use Rattle.cond_lang.specs.declared.error.CondError.{CondError}
 use Rattle.cond_lang.specs.declared.error.CondError.TheVariants.{TooLong, Byte, Word, Number, Syntax, Memory}
-use Rattle.deals_cli.specs.Program.{IsStatus, Means, failure_of, status_of}
+use Rattle.deals_cli.specs.Program.{IsStatus, Means}
+use Rattle.deals_cli.specs.internal.Failures.{failure_of, status_of}
 use Rattle.deals_cli.specs.declared.failure.Failure.{Failure}
 use Rattle.deals_cli.specs.declared.failure.Failure.TheVariants.{CommandLine, Plan, Label, Condition, Output, Memory as no_memory, Spawn, Stopped, Unclosed}
 

@@ -9,7 +9,8 @@ use Rattle.clap.specs.declared.error.kind.ErrorKind.TheVariants.{InvalidValue, U
 use Rattle.dealrun.specs.declared.cause.Cause.{Cause}
 use Rattle.dealrun.specs.declared.cause.Cause.TheVariants as cause
 use Rattle.deals_cli.specs.CommandLine.{kinds_for}
-use Rattle.deals_cli.specs.Program.{HasMeaning, HasPlan, HasRun, IsStatusOf, IsStatusOfKind, IsStatusOfNone, failure_by, is_shown, status_of}
+use Rattle.deals_cli.specs.Program.{HasMeaning, HasPlan, HasRun, IsStatusOf, IsStatusOfNone, is_shown}
+use Rattle.deals_cli.specs.internal.Failures.{IsStatusOfKind, failure_by, status_of}
 use Rattle.deals_cli.specs.Requests.{Wish}
 
 -- ---- of a wish

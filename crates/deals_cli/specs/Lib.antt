@@ -1,4 +1,4 @@
 pub mod Requests
 pub mod CommandLine
-pub mod Readings
 pub mod Program
+pub mod internal

@@ -1,25 +1,19 @@
 -- What the program does for a wish, and how it ends.
-use Rattle.std.specs.Prelude.{◌≡◌, ◌⊎◌, ◌≤◌, ◌<◌, ◌^◌, ◌+◌, ℕ, Bool, true, false, List, [], ◌∷◌, Contains, Option, None, Some, Result, Ok, Err, length, unwrap_or}
+use Rattle.std.specs.Prelude.{◌≡◌, ◌⊎◌, ◌≤◌, ◌<◌, ◌^◌, ◌+◌, ℕ, Bool, true, false, List, [], ◌∷◌, Contains, Option, None, Some, length, unwrap_or}
 use Rattle.clap.specs.Kinds.{IsAmong}
 use Rattle.clap.specs.Walk.{Text}
 use Rattle.clap.specs.declared.error.kind.ErrorKind.{ErrorKind}
 use Rattle.clap.specs.declared.error.kind.ErrorKind.TheVariants as kind
 use Rattle.cond_lang.specs.Form.{Form, compare, number}
 use Rattle.cond_lang.specs.Text.{SpellsTree}
-use Rattle.cond_lang.specs.declared.error.CondError.{CondError}
-use Rattle.cond_lang.specs.declared.error.CondError.TheVariants.{Memory as no_memory}
 use Rattle.cond_lang.specs.declared.tree.Op.TheVariants.{Equal}
 use Rattle.pbn_text.specs.Labels.{IsDate, IsLabel}
-use Rattle.dealrun.specs.declared.cause.Cause.{Cause}
-use Rattle.dealrun.specs.declared.cause.Cause.TheVariants as cause
 use Rattle.dealrun.specs.Plans.{Planned}
 use Rattle.dealrun.specs.Sinks.{AppendsAll}
 use Rattle.dealrun.specs.Text.{text}
 use Rattle.dealrun.specs.Values.{lines}
 use Rattle.deals_cli.specs.CommandLine.{kinds_for}
 use Rattle.deals_cli.specs.Requests.{Making, Wish, stream, make}
-use Rattle.deals_cli.specs.declared.failure.Failure.{Failure}
-use Rattle.deals_cli.specs.declared.failure.Failure.TheVariants.{CommandLine, Plan, Label, Condition, Output, Memory, Spawn, Stopped, Unclosed}
 
 -- ---- what is asked for
 
@@ -94,35 +88,6 @@ HasRun (make m) = Unit {0}
 abbrev pub IsStatus : ℕ → Type 0
 IsStatus n = Contains (0 ∷ 2 ∷ 3 ∷ 4 ∷ 5 ∷ 6 ∷ []) n
 
-abbrev pub status_of : Failure → ℕ
-status_of (CommandLine text) = 2
-status_of (Plan error) = 2
-status_of (Label label) = 2
-status_of (Condition error) = 3
-status_of Output = 4
-status_of Memory = 5
-status_of Spawn = 6
-status_of (Stopped worker) = 6
-status_of (Unclosed worker) = 6
-
--- want of memory in a parse is want of memory
-abbrev pub failure_of : CondError → Failure
-failure_of no_memory = Memory
-failure_of error = Condition error
-
--- an interrupted run, by its cause
-abbrev pub failure_by : Cause → Failure
-failure_by cause.Memory = Memory
-failure_by cause.Spawn = Spawn
-failure_by cause.Output = Output
-failure_by (cause.Stopped worker) = Stopped worker
-failure_by (cause.Unclosed worker) = Unclosed worker
-
--- the status of a result
-abbrev pub status_in : {T : Type 0} → Result T Failure → ℕ
-status_in (Ok value) = 0
-status_in (Err failure) = status_of failure
-
 -- what the program's status says of a wish; want of memory, 5, can end each
 pub record IsStatusOf (w : Wish) (status : ℕ) : Type 0 where
   -- done, or the output, a thread or a worker failed: all of the wish was accepted
@@ -139,12 +104,6 @@ abbrev pub is_shown : ErrorKind → Bool
 is_shown kind.DisplayHelp = true
 is_shown kind.DisplayVersion = true
 is_shown _ = false
-
--- what the program's status says of an error of this kind
-pub record IsStatusOfKind (k : ErrorKind) (status : ℕ) : Type 0 where
-  pub shown : (status ≡ 0) ⊎ (status ≡ 4) → is_shown k ≡ true
-  pub refused : status ≡ 2 → is_shown k ≡ false
-  pub neither : (status ≡ 3) ⊎ (status ≡ 6) → ⊥
 
 -- clap may show something for these words
 pub record MayShow (words : List Text) : Type 0 where
@@ -166,16 +125,3 @@ pub record IsStatusOfNone (words : List Text) (status : ℕ) : Type 0 where
   pub refused : status ≡ 2 → MayRefuse words
   -- there is no condition, and no run
   pub neither : (status ≡ 3) ⊎ (status ≡ 6) → ⊥
-
--- how many faults of the output a result tells of
-abbrev pub faults_in : {T : Type 0} → Result T Failure → ℕ
-faults_in (Err Output) = 1
-faults_in _ = 0
-
--- nothing was written before this failure
-abbrev pub is_untouched : Failure → Bool
-is_untouched Output = false
-is_untouched Spawn = false
-is_untouched (Stopped worker) = false
-is_untouched (Unclosed worker) = false
-is_untouched _ = true

@@ -3,8 +3,9 @@
 ghost use Rattle.std.specs.Prelude.{◌≡◌, ◌⊎◌, ◌+◌, ◌-◌, ◌^◌, ◌<◌, ◌≤◌, ◌==◌, None, Some, true, if◌then◌else◌, IfErr, IsErrOf, OnOk, map, string_bytes};
 ghost use Rattle.clap.specs.Words.{kind_of};
 ghost use Rattle.deals_cli.specs.CommandLine.{asked};
-ghost use Rattle.deals_cli.specs.Program.{Appends, IsStatus, IsStatusOf, IsStatusOfKind, IsStatusOfNone};
-ghost use Rattle.deals_cli.specs.Program.{faults_in, is_untouched, status_in};
+ghost use Rattle.deals_cli.specs.Program.{Appends, IsStatus, IsStatusOf, IsStatusOfNone};
+ghost use Rattle.deals_cli.specs.internal.Failures.{IsStatusOfKind};
+ghost use Rattle.deals_cli.specs.internal.Failures.{faults_in, is_untouched, status_in};
 ghost use Rattle.deals_cli.specs.Requests.{Wish};
 
 use crate::failure::Failure;

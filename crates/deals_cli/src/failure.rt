@@ -2,7 +2,7 @@
 
 ghost use Rattle.std.specs.Prelude.{◌≡◌, ◌-◌, ◌^◌, ◌<◌};
 ghost use Rattle.dealrun.specs.Sinks.{CountsFault};
-ghost use Rattle.deals_cli.specs.Program.{failure_by, failure_of, status_of};
+ghost use Rattle.deals_cli.specs.internal.Failures.{failure_by, failure_of, status_of};
 ghost use Rattle.deals_cli.specs.declared.failure.Failure.TheVariants.{Memory, Output};
 
 use cond_lang::CondError;

@@ -3,8 +3,10 @@
 ghost use Rattle.std.specs.Prelude.{◌≡◌, ◌≢◌, ◌⊎◌, ◌-◌, ◌+◌, ◌^◌, ◌<◌, ℕ, List, Some, true, IfErr, IfOk, OnOk, option_map};
 ghost use Rattle.cond_lang.specs.Form.{Form};
 ghost use Rattle.pbn_text.specs.Games.{no_heading};
-ghost use Rattle.deals_cli.specs.Program.{Appends, CanDate, CanLabel, HasLabels, HasMeaning, HasNumbers, IsPlanned, IsStatusOf, Means, faults_in, is_untouched, plan_of, status_in, status_of};
-ghost use Rattle.deals_cli.specs.Requests.{make as wish, making_of};
+ghost use Rattle.deals_cli.specs.Program.{Appends, CanDate, CanLabel, HasLabels, HasMeaning, HasNumbers, IsPlanned, IsStatusOf, Means, plan_of};
+ghost use Rattle.deals_cli.specs.internal.Failures.{faults_in, is_untouched, status_in, status_of};
+ghost use Rattle.deals_cli.specs.Requests.{make as wish};
+ghost use Rattle.deals_cli.specs.internal.Options.{making_of};
 
 use crate::failure::{Failure, LabelName};
 use crate::request::MakeRequest;

@@ -3,8 +3,8 @@
 ghost use Rattle.std.specs.Prelude.{◌≡◌, ◌≤◌, ◌^◌, Some, codes, IfErr, IfOk, IsSome, map, option_map, string_bytes};
 ghost use Rattle.clap.specs.Words.{HasKind, first_of, found_of, kind_of, rows_of};
 ghost use Rattle.deals_cli.specs.CommandLine.{asked, kinds_for, making_in, number_in, number_or};
-ghost use Rattle.deals_cli.specs.Requests.{IsInRange, making_of, wish_of};
-ghost use Rattle.deals_cli.specs.Readings.{MakeValues, MayGive32, MayGive64, StreamValues};
+ghost use Rattle.deals_cli.specs.internal.Options.{IsInRange, making_of, wish_of};
+ghost use Rattle.deals_cli.specs.internal.Readings.{MakeValues, MayGive32, MayGive64, StreamValues};
 
 use crate::command::command;
 use clap::error::ErrorKind;

@@ -9,7 +9,7 @@ use Rattle.lanes.specs.declared.event.Event.TheVariants.{Send, Take, Close}
 use Rattle.lanes.specs.Verdicts.{turns}
 use Rattle.lanes.specs.Machine.{Machine, next_lane, is_allowed, changed, after, new_machine}
 use Rattle.lanes.specs.Sound.{IsSound}
-use Rattle.lanes.specs.Cores.{machine_of, IsCore}
+use Rattle.lanes.specs.internal.Cores.{machine_of, IsCore}
 use Rattle.lanes.proofs.Places.{bounds}
 use Rattle.lanes.proofs.Steps.{sound_changed, after_allowed, may_take}
 

@@ -33,7 +33,7 @@ pub struct LaneIn {
 impl Model for LaneIn {
     ghost use Rattle.rtrb.specs.Ring.{sent, known_free};
     ghost use Rattle.lanes.specs.Views.{InView};
-    ghost use Rattle.lanes.specs.Rings.{ring_of_producer};
+    ghost use Rattle.lanes.specs.internal.Rings.{ring_of_producer};
 
     ghost Value = { InView };
 
@@ -53,7 +53,7 @@ pub struct Closed {
 impl Model for Closed {
     ghost use Rattle.rtrb.specs.Ring.{all_sent};
     ghost use Rattle.lanes.specs.Views.{ClosedView};
-    ghost use Rattle.lanes.specs.Rings.{ring_of_finished};
+    ghost use Rattle.lanes.specs.internal.Rings.{ring_of_finished};
 
     ghost Value = { ClosedView };
 
@@ -75,7 +75,7 @@ impl Model for LaneOut {
     ghost use Rattle.std.specs.Prelude.{cond, [], length};
     ghost use Rattle.rtrb.specs.Ring.{received, known_items};
     ghost use Rattle.lanes.specs.Views.{OutView};
-    ghost use Rattle.lanes.specs.Rings.{ring_of_consumer};
+    ghost use Rattle.lanes.specs.internal.Rings.{ring_of_consumer};
 
     ghost Value = { OutView };
 

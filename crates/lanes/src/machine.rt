@@ -32,7 +32,7 @@ impl Model for Core {
 
     ghost Value = { Machine };
 
-    ghost use Rattle.lanes.specs.Cores.{machine_of, IsCore};
+    ghost use Rattle.lanes.specs.internal.Cores.{machine_of, IsCore};
 
     ghost view = { machine_of };
 

@@ -1,7 +1,7 @@
 use Rattle.std.proofs.Common.{◌≡◌, ◌<◌, ◌∙◌, sym, ap, refl, arith, true}
 use Rattle.lanes.specs.declared.event.Event.TheVariants.{Take}
 use Rattle.lanes.specs.Machine.{Machine, is_allowed, next_lane}
-use Rattle.lanes.specs.Cores.{machine_of}
+use Rattle.lanes.specs.internal.Cores.{machine_of}
 use Rattle.lanes.proofs.Fields.{take_fields, allows, keeps, tells, turn_below}
 use Rattle.lanes.proofs.machine.Core.take.Goals as goal
 

@@ -1,0 +1,59 @@
+-- How a failure inside the program becomes its status, and what a failure leaves. No public clause cites it.
+use Rattle.std.specs.Prelude.{◌≡◌, ◌⊎◌, ℕ, Bool, true, false, Result, Ok, Err}
+use Rattle.clap.specs.declared.error.kind.ErrorKind.{ErrorKind}
+use Rattle.cond_lang.specs.declared.error.CondError.{CondError}
+use Rattle.cond_lang.specs.declared.error.CondError.TheVariants.{Memory as no_memory}
+use Rattle.dealrun.specs.declared.cause.Cause.{Cause}
+use Rattle.dealrun.specs.declared.cause.Cause.TheVariants as cause
+use Rattle.deals_cli.specs.Program.{is_shown}
+use Rattle.deals_cli.specs.declared.failure.Failure.{Failure}
+use Rattle.deals_cli.specs.declared.failure.Failure.TheVariants.{CommandLine, Plan, Label, Condition, Output, Memory, Spawn, Stopped, Unclosed}
+
+-- the exit status of a failure
+abbrev pub status_of : Failure → ℕ
+status_of (CommandLine text) = 2
+status_of (Plan error) = 2
+status_of (Label label) = 2
+status_of (Condition error) = 3
+status_of Output = 4
+status_of Memory = 5
+status_of Spawn = 6
+status_of (Stopped worker) = 6
+status_of (Unclosed worker) = 6
+
+-- want of memory in a parse is want of memory
+abbrev pub failure_of : CondError → Failure
+failure_of no_memory = Memory
+failure_of error = Condition error
+
+-- an interrupted run, by its cause
+abbrev pub failure_by : Cause → Failure
+failure_by cause.Memory = Memory
+failure_by cause.Spawn = Spawn
+failure_by cause.Output = Output
+failure_by (cause.Stopped worker) = Stopped worker
+failure_by (cause.Unclosed worker) = Unclosed worker
+
+-- the status of a result
+abbrev pub status_in : {T : Type 0} → Result T Failure → ℕ
+status_in (Ok value) = 0
+status_in (Err failure) = status_of failure
+
+-- what the program's status says of an error of this kind
+pub record IsStatusOfKind (k : ErrorKind) (status : ℕ) : Type 0 where
+  pub shown : (status ≡ 0) ⊎ (status ≡ 4) → is_shown k ≡ true
+  pub refused : status ≡ 2 → is_shown k ≡ false
+  pub neither : (status ≡ 3) ⊎ (status ≡ 6) → ⊥
+
+-- how many faults of the output a result tells of
+abbrev pub faults_in : {T : Type 0} → Result T Failure → ℕ
+faults_in (Err Output) = 1
+faults_in _ = 0
+
+-- nothing was written before this failure
+abbrev pub is_untouched : Failure → Bool
+is_untouched Output = false
+is_untouched Spawn = false
+is_untouched (Stopped worker) = false
+is_untouched (Unclosed worker) = false
+is_untouched _ = true
