@@ -4,6 +4,7 @@
 //! each card, and a `Hand` counts what one seat has.
 #![tactic(auto)]
 
+mod candidates;
 mod card;
 mod deal;
 mod hand;
@@ -14,6 +15,7 @@ mod seat;
 mod shuffle;
 mod suit;
 
+pub use candidates::{Candidates, MAX_CANDIDATES};
 pub use card::Card;
 pub use deal::Deal;
 pub use hand::Hand;

@@ -1,6 +1,5 @@
 pub mod Places
 pub mod VerdictLists
-pub mod Candidates
 pub mod Prefixes
 pub mod Sums
 pub mod Steps

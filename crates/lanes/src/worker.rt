@@ -1,25 +1,17 @@
 //! A worker: it judges its share of the candidates and sends the verdicts into its lane.
 
-ghost use Rattle.std.specs.Prelude.{◌≡◌, ◌+◌, ◌-◌, ◌*◌, ◌<◌, [], ◌∷◌, ◌++◌, MatchBool, true};
-ghost use Rattle.lcg48.specs.Sequence.{state_after};
-ghost use Rattle.cards.specs.Shuffle.{drawn_places};
-ghost use Rattle.cards.specs.Deals.{dealt};
-ghost use Rattle.cards.specs.Candidates.{state_before};
+ghost use Rattle.std.specs.Prelude.{◌≡◌, [], ◌∷◌, ◌++◌, MatchBool};
 ghost use Rattle.lanes.specs.Jobs.{verdicts_of};
 ghost use Rattle.lanes.specs.Work.{IsProperPrefix, Ends};
 
 use crate::ends::{Closed, LaneIn};
 use crate::gate::Gate;
-use crate::share::{Job, Share};
+use crate::share::Job;
 use crate::verdict::Verdict;
-use cards::Deal;
-use lcg48::{Lcg48, Steps, Stride};
+use cards::Candidates;
 use std::alloc::Global;
 use std::sync::atomic::{AtomicBool, Ordering};
 use std::sync::{Arc, Wait};
-
-/// The draws of one candidate.
-const DRAWS: u64 = 51;
 
 /// How a worker ended.
 #[derive(Drop)]
@@ -71,14 +63,15 @@ fn send_all<R: Wait, G: Gate>(
         (lane.new.sent ≡ verdicts_of job.now)
         (IsProperPrefix lane.new.sent (verdicts_of job.now)) }
 {
-    let mut deals = Deals::of_share(job.seed, &job.share);
+    let first = job.share.first + u64::from(job.share.worker);
+    let mut candidates = Candidates::new(job.seed, first, job.share.workers);
     for place in 0..job.share.len() {
         let number = job.share.at(place);
         // A load of the stop flag is no event of the core.
         if stop.load(Ordering::SeqCst) || !gate.pass(job.share.worker, number) {
             return false;
         }
-        let deal = deals.next();
+        let deal = candidates.next();
         let accepted = job.cond.holds(&deal);
         let verdict = Verdict {
             number,
@@ -110,39 +103,4 @@ fn send<R: Wait>(
     }
     lane.send_reserved(*verdict);
     true
-}
-
-/// The deals of a share, one after another: the generator before the next one's draws, and the stride from
-/// behind those draws to the one after.
-#[derive(Drop)]
-struct Deals {
-    generator: Lcg48,
-    gap: Stride,
-}
-
-impl Deals {
-    fn of_share(seed: u32, share: &Share) -> Deals
-        ensures generator { result.generator
-            ≡ state_before seed (share.now.first + share.now.worker) }
-        ensures gap { result.gap ≡ 51 * (share.now.workers - 1) }
-    {
-        let mut steps = Steps::new();
-        let before = DRAWS * (share.first + u64::from(share.worker));
-        let jump = Stride::of(before, &mut steps);
-        Deals {
-            generator: jump.apply(&Lcg48::seeded(seed)),
-            gap: Stride::of(DRAWS * u64::from(share.workers - 1), &mut steps),
-        }
-    }
-
-    fn next(&mut self) -> Deal
-        ensures deal { result ≡ dealt (drawn_places self.old.generator) }
-        ensures generator { self.new.generator
-            ≡ state_after self.old.generator (51 + self.old.gap) }
-        ensures gap { self.new.gap ≡ self.old.gap }
-    {
-        let deal = Deal::draw(&mut self.generator);
-        self.generator = self.gap.apply(&self.generator);
-        deal
-    }
 }
