@@ -1,30 +1,65 @@
--- The sixteen texts of the cycle are those of Law 2.
-use Rattle.std.proofs.Common.{◌≡◌, ℕ, ◌<◌, List, [], get_or, length, map, take, refl, sym, ◌∙◌, ap, arith}
-use Rattle.std.specs.List.{range_with_len}
-use Rattle.std.specs.Prelude.{replicate}
-use Rattle.std.proofs.lemmas.List.{get_or-replicate}
-use Rattle.std.proofs.lemmas.List.FromFn.{get_or-map-range_with_len}
-use Rattle.cards.specs.declared.seat.Seat.TheVariants.{North}
-use Rattle.pbn_text.specs.declared.board.Vul.TheVariants.{Neither}
+-- The texts that stand ready for each dealer and vulnerability.
+use Rattle.std.proofs.Common.{◌≡◌, ℕ, ◌≤◌, List, [], get_or, length, take, refl, arith}
+use Rattle.cards.specs.declared.seat.Seat.{Seat}
+use Rattle.cards.specs.declared.seat.Seat.TheVariants.{North, East, South, West}
+use Rattle.cards.specs.Pack.{seat_number}
+use Rattle.boards.specs.declared.law2.Vul.{Vul}
+use Rattle.boards.specs.declared.law2.Vul.TheVariants.{Neither, NorthSouth, EastWest, Both}
 use Rattle.pbn_text.specs.declared.middles.TheConstants.{MIDDLES, LENGTHS}
-use Rattle.pbn_text.specs.Boards.{boards}
-use Rattle.pbn_text.specs.Lines.{middle_text}
+use Rattle.pbn_text.specs.Lines.{middle_text, vul_number}
 
--- the text of place i of the cycle
-abbrev stored : ℕ → List ℕ
-stored i = take (get_or LENGTHS i 0) (get_or MIDDLES i [])
+-- the text of a dealer and a vulnerability
+abbrev stored : Seat → Vul → List ℕ
+stored dealer sides = get_or (get_or MIDDLES (seat_number dealer) []) (vul_number sides) []
 
-abbrev due : ℕ → List ℕ
-due i = middle_text (get_or boards i (North, Neither)).0 (get_or boards i (North, Neither)).1
+stored_is : (dealer : Seat) (sides : Vul) → take (get_or LENGTHS (vul_number sides) 0) (stored dealer sides) ≡ middle_text dealer sides
+stored_is North Neither = refl
+stored_is North NorthSouth = refl
+stored_is North EastWest = refl
+stored_is North Both = refl
+stored_is East Neither = refl
+stored_is East NorthSouth = refl
+stored_is East EastWest = refl
+stored_is East Both = refl
+stored_is South Neither = refl
+stored_is South NorthSouth = refl
+stored_is South EastWest = refl
+stored_is South Both = refl
+stored_is West Neither = refl
+stored_is West NorthSouth = refl
+stored_is West EastWest = refl
+stored_is West Both = refl
 
-all_sixteen : map stored (range_with_len 0 16) ≡ map due (range_with_len 0 16)
-all_sixteen = refl
+length-stored : (dealer : Seat) (sides : Vul) → length (stored dealer sides) ≡ 48
+length-stored North Neither = refl
+length-stored North NorthSouth = refl
+length-stored North EastWest = refl
+length-stored North Both = refl
+length-stored East Neither = refl
+length-stored East NorthSouth = refl
+length-stored East EastWest = refl
+length-stored East Both = refl
+length-stored South Neither = refl
+length-stored South NorthSouth = refl
+length-stored South EastWest = refl
+length-stored South Both = refl
+length-stored West Neither = refl
+length-stored West NorthSouth = refl
+length-stored West EastWest = refl
+length-stored West Both = refl
 
-pub middle_at : (i : ℕ) → i < 16 → take (get_or LENGTHS i 0) (get_or MIDDLES i []) ≡ middle_text (get_or boards i (North, Neither)).0 (get_or boards i (North, Neither)).1
-middle_at i h = sym (get_or-map-range_with_len stored 0 16 i i [] h (omega arith)) ∙ ap (λ xs. get_or xs i []) all_sixteen ∙ get_or-map-range_with_len due 0 16 i i [] h (omega arith)
+few : (sides : Vul) → get_or LENGTHS (vul_number sides) 0 ≤ 45
+few Neither = omega arith
+few NorthSouth = omega arith
+few EastWest = omega arith
+few Both = omega arith
 
-all_long : map (λ i. length (get_or MIDDLES i [])) (range_with_len 0 16) ≡ replicate 16 48
-all_long = refl
+-- the same in the row of the dealer and the column of the vulnerability
+pub middle_at : (dealer : Seat) (sides : Vul) (row column : ℕ) → row ≡ seat_number dealer → column ≡ vul_number sides → take (get_or LENGTHS column 0) (get_or (get_or MIDDLES row []) column []) ≡ middle_text dealer sides
+middle_at dealer sides row column at over = rw (at, over) (stored_is dealer sides)
 
-pub length-middle : (i : ℕ) → i < 16 → length (get_or MIDDLES i []) ≡ 48
-length-middle i h = sym (get_or-map-range_with_len (λ k. length (get_or MIDDLES k [])) 0 16 i i 0 h (omega arith)) ∙ ap (λ xs. get_or xs i 0) all_long ∙ get_or-replicate 16 i 48 0 h
+pub length-middle : (dealer : Seat) (sides : Vul) (row column : ℕ) → row ≡ seat_number dealer → column ≡ vul_number sides → length (get_or (get_or MIDDLES row []) column []) ≡ 48
+length-middle dealer sides row column at over = rw (at, over) (length-stored dealer sides)
+
+pub middle_fits : (sides : Vul) (column : ℕ) → column ≡ vul_number sides → get_or LENGTHS column 0 ≤ 45
+middle_fits sides column over = rw over (few sides)

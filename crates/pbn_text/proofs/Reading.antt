@@ -13,7 +13,8 @@ use Rattle.cards.specs.declared.suit.Suit.{Suit}
 use Rattle.cards.specs.declared.suit.Suit.TheVariants.{Spades, Hearts, Diamonds, Clubs}
 use Rattle.cards.specs.Pack.{seat_number, suit_number}
 use Rattle.cards.specs.Hands.{holds_card, hand_of}
-use Rattle.pbn_text.specs.Games.{letters, suit_text, hand_text, deal_text, heading_text, board_text, tag, game, HeadingView}
+use Rattle.pbn_text.specs.Games.{letters, suit_text, hand_text, deal_text, heading_text, board_text, tag, game, game_text, HeadingView}
+use Rattle.boards.specs.Law2.{board_by_law}
 
 -- whether a byte differs from this one
 abbrev differs : ℕ → ℕ → Bool
@@ -235,9 +236,9 @@ seats_from_deal d e p q same =
     ∙ held e seat c (rw q below)))
 
 pub deal_from_game : (board : ℕ) (heading : HeadingView) (deal other : List Seat) → length deal ≡ 52 → length other ≡ 52 → game board heading deal ≡ game board heading other → deal ≡ other
-unfolding game
+unfolding game game_text
 deal_from_game board heading deal other p q e =
-    let front : List ℕ = heading_text heading ++ board_text board in
+    let front : List ℕ = heading_text heading ++ board_text (board_by_law board 0 deal) in
     let e0 = append_cancel_right (front ++ tag (codes "Deal") (deal_text deal)) (front ++ tag (codes "Deal") (deal_text other)) (codes "\n") e in
     let e1 = append_cancel_left front (tag (codes "Deal") (deal_text deal)) (tag (codes "Deal") (deal_text other)) e0 in
     let e2 = append_cancel_right (codes "[Deal \"" ++ deal_text deal) (codes "[Deal \"" ++ deal_text other) (codes "\"]\n") e1 in

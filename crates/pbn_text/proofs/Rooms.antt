@@ -14,6 +14,10 @@ take_copied room piece a k m n within enough is =
     ∙ take-append-add (take a room) (piece ++ post_of a k room) m
     ∙ ap (λ xs. take a room ++ xs) (take-append-le m piece (post_of a k room) enough)
 
+-- a copy of k bytes in place of k bytes
+pub length-copied : (room piece : List ℕ) (a k : ℕ) → a + k ≤ length room → length piece ≡ k → length (put_mid a k room piece) ≡ length room
+length-copied room piece a k within long = simp (length-append, length-drop, length-take-le a room (omega arith)) (omega (arith, long))
+
 -- a copy, from its start to its end
 pub between_copied : (room piece : List ℕ) (a k n : ℕ) → a ≤ length room → n ≡ a + length piece → drop a (take n (put_mid a k room piece)) ≡ piece
 between_copied room piece a k n within is =

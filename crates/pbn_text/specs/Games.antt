@@ -7,10 +7,12 @@ use Rattle.cards.specs.declared.suit.Suit.{Suit}
 use Rattle.cards.specs.declared.suit.Suit.TheVariants.{Spades, Hearts, Diamonds, Clubs}
 use Rattle.cards.specs.Pack.{suit_number}
 use Rattle.cards.specs.Hands.{hand_of, holds_card}
-use Rattle.pbn_text.specs.declared.board.Vul.{Vul}
-use Rattle.pbn_text.specs.declared.board.Vul.TheVariants.{Neither, NorthSouth, EastWest, Both}
+use Rattle.boards.specs.declared.board.Board.{Board}
+use Rattle.boards.specs.declared.law2.Vul.{Vul}
+use Rattle.boards.specs.declared.law2.Vul.TheVariants.{Neither, NorthSouth, EastWest, Both}
+use Rattle.boards.specs.Law2.{board_by_law}
+use Rattle.boards.specs.Layouts.{Layout}
 use Rattle.pbn_text.specs.declared.heading.Heading.{Heading}
-use Rattle.pbn_text.specs.Boards.{dealer_of, vulnerable_of}
 
 abbrev pub header : List ℕ
 header = codes "% PBN 2.1\n"
@@ -73,14 +75,22 @@ heading_text heading =
     ++ label (codes "Site") heading.site
     ++ label (codes "Date") heading.date
 
--- the lines of the board
-abbrev pub board_text : ℕ → List ℕ
+-- the lines of the board's number, dealer and vulnerability
+abbrev pub board_text : Board → List ℕ
 board_text board =
-    tag (codes "Board") (decimal board)
-    ++ tag (codes "Dealer") (dealer_text (dealer_of board))
-    ++ tag (codes "Vulnerable") (vulnerable_text (vulnerable_of board))
+    tag (codes "Board") (decimal board.number)
+    ++ tag (codes "Dealer") (dealer_text board.dealer)
+    ++ tag (codes "Vulnerable") (vulnerable_text board.vulnerable)
 
--- the lines of a game, and an empty one
+-- the lines of a board's game, and an empty one
+unfoldable pub game_text : HeadingView → Board → List ℕ
+game_text heading board =
+    heading_text heading ++ board_text board ++ tag (codes "Deal") (deal_text board.deal) ++ codes "\n"
+
+-- the game of the board of this number, with the dealer and the vulnerability of Law 2
 unfoldable pub game : ℕ → HeadingView → List Seat → List ℕ
-game board heading deal =
-    heading_text heading ++ board_text board ++ tag (codes "Deal") (deal_text deal) ++ codes "\n"
+game board heading deal = game_text heading (board_by_law board 0 deal)
+
+-- the notation: the header line, a game for each board, and nothing after them
+abbrev pub pbn : HeadingView → Layout
+pbn heading = record { header = header; board = game_text heading; footer = [] }

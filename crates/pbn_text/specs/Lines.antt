@@ -3,8 +3,8 @@ use Rattle.std.specs.Prelude.{ℕ, List, [], ◌++◌, Option, Some, None, codes
 use Rattle.cards.specs.declared.seat.Seat.{Seat}
 use Rattle.cards.specs.declared.seat.Seat.TheVariants.{North, East, South, West}
 use Rattle.cards.specs.Hands.{hand_of}
-use Rattle.pbn_text.specs.declared.board.Vul.{Vul}
-use Rattle.pbn_text.specs.Boards.{dealer_of, vulnerable_of}
+use Rattle.boards.specs.declared.law2.Vul.{Vul}
+use Rattle.boards.specs.declared.law2.Vul.TheVariants.{Neither, NorthSouth, EastWest, Both}
 use Rattle.pbn_text.specs.Games.{HeadingView, heading_text, tag, dealer_text, vulnerable_text, hand_text, deal_text}
 
 -- the end of each tag line
@@ -35,8 +35,12 @@ middle_text dealer sides =
     ++ line (codes "[Vulnerable \"") (vulnerable_text sides)
     ++ codes "[Deal \"N:"
 
-abbrev pub middle_of : ℕ → List ℕ
-middle_of board = middle_text (dealer_of board) (vulnerable_of board)
+-- the place of a vulnerability among the four
+abbrev pub vul_number : Vul → ℕ
+vul_number Neither = 0
+vul_number NorthSouth = 1
+vul_number EastWest = 2
+vul_number Both = 3
 
 -- the four hands and the empty line
 abbrev pub hands_text : List Seat → List ℕ

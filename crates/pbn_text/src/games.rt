@@ -6,12 +6,13 @@ ghost use Rattle.cards.specs.declared.seat.Seat.{Seat};
 ghost use Rattle.cards.specs.Deals.{IsPartition};
 ghost use Rattle.cards.specs.Hands.{hand_of, length_of};
 ghost use Rattle.cards.specs.declared.suit.Suit.TheVariants.{Spades, Hearts, Diamonds, Clubs};
-ghost use Rattle.pbn_text.specs.Games.{game as game_of, no_heading, heading_text, board_text};
+ghost use Rattle.pbn_text.specs.Games.{game as game_of, game_text, no_heading, heading_text, board_text};
 ghost use Rattle.pbn_text.specs.Games.{dealer_text, vulnerable_text, hand_text, suit_text};
 ghost use Rattle.pbn_text.specs.Lines.{deal_line, label_line, line};
 
-use crate::{Date, Heading, Label, Vul, dealer, vulnerable};
+use crate::{Date, Heading, Label};
 use arrayvec::ArrayVec;
+use boards::{Board, Vul};
 use cards::{Deal, Hand, Seat, Suit};
 use itoa::Buffer;
 
@@ -42,10 +43,20 @@ pub fn game(board: u64, heading: &Heading, deal: &Deal) -> ArrayVec<u8, 400>
         → game_of board heading.now other ≡ result.items
         → other ≡ deal.now }
 {
+    game_of_board(&Board::by_law(board, 0, *deal), heading)
+}
+
+/// The text of the board's game.
+pub(crate) fn game_of_board(board: &Board, heading: &Heading) -> Text
+    ensures value { result.items ≡ game_text heading.now board.now }
+    ensures most { array_vec_len result ≤ 385 }
+    ensures plain { heading.now ≡ no_heading → array_vec_len result ≤ 144 }
+    ensures partition { IsPartition board.now.deal }
+{
     let mut text = ArrayVec::new();
     put_heading(&mut text, heading);
     put_board(&mut text, board);
-    put_deal(&mut text, deal);
+    put_deal(&mut text, &board.deal);
     text
 }
 
@@ -81,16 +92,15 @@ fn put_date(text: &mut Text, opening: &[u8], date: &Option<Date>)
 }
 
 /// Appends the lines of the board's number, dealer and vulnerability.
-fn put_board(text: &mut Text, board: u64)
-    requires number { 1 ≤ board }
-    requires room { array_vec_len text.old + 64 ≤ 400 }
-    ensures items { text.new.items ≡ text.old.items ++ board_text board }
+fn put_board(text: &mut Text, board: &Board)
+    requires { array_vec_len text.old + 64 ≤ 400 }
+    ensures items { text.new.items ≡ text.old.items ++ board_text board.now }
     ensures most { array_vec_len text.new ≤ array_vec_len text.old + 64 }
 {
     let mut buffer = Buffer::new();
-    put_line(text, b"[Board \"", buffer.format(board).as_bytes());
-    put_line(text, b"[Dealer \"", dealer_letter(dealer(board)));
-    put_line(text, b"[Vulnerable \"", vulnerable_word(vulnerable(board)));
+    put_line(text, b"[Board \"", buffer.format(board.number).as_bytes());
+    put_line(text, b"[Dealer \"", dealer_letter(board.dealer));
+    put_line(text, b"[Vulnerable \"", vulnerable_word(board.vulnerable));
 }
 
 fn dealer_letter(seat: Seat) -> &'static [u8]

@@ -5,10 +5,9 @@
 //!
 //! `game` makes one game. A `Printer` prints many under one heading, each in a fraction of the
 //! time: the texts of a suit stand ready for each set of ranks, the lines of dealer and
-//! vulnerability for each of sixteen boards, and the heading's lines stay where they are.
+//! vulnerability for each pair of these, and the heading's lines stay where they are.
 #![tactic(auto)]
 
-mod board;
 mod games;
 mod heading;
 pub mod laws;
@@ -17,7 +16,7 @@ mod printer;
 mod room;
 mod suit_texts;
 
-pub use board::{Vul, dealer, vulnerable};
+pub use boards::{Vul, dealer, vulnerable};
 pub use games::{HEADER, game};
 pub use heading::{Date, Heading, Label};
 pub use printer::Printer;

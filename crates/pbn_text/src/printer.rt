@@ -1,13 +1,14 @@
 //! Games under one heading, printed one after the other.
 
 ghost use Rattle.std.specs.Prelude.{◌≡◌, ◌≤◌, [], IfOk};
-ghost use Rattle.pbn_text.specs.Games.{game as game_of};
+ghost use Rattle.pbn_text.specs.Games.{game_text, pbn};
+ghost use Rattle.pbn_text.specs.internal.Games.{game_has_byte};
 
-use crate::Heading;
 use crate::middles::put_middle;
 use crate::room::{Front, Room, first_front, put_hands, put_number};
 use crate::suit_texts::SuitTexts;
-use cards::Deal;
+use crate::{HEADER, Heading};
+use boards::{Board, Notation};
 use std::alloc::{AllocError, Global};
 use std::marker::Model;
 
@@ -55,15 +56,14 @@ impl Printer {
         })
     }
 
-    /// Prints the board's game in place of the last one. The board's number is at least 1.
-    pub fn print(&mut self, board: u64, deal: &Deal)
-        requires { 1 ≤ board }
+    /// Prints the board's game in place of the last one.
+    pub fn print(&mut self, board: &Board)
         ensures heading { self.new.heading ≡ self.old.heading }
-        ensures text { self.new.text ≡ game_of board self.old.heading deal.now }
+        ensures text { self.new.text ≡ game_text self.old.heading board.now }
     {
-        self.front = put_number(&mut self.room, self.front, &self.heading, board);
-        let hands = put_middle(&mut self.room, board);
-        self.to = put_hands(&mut self.room, hands, &self.texts, deal);
+        self.front = put_number(&mut self.room, self.front, &self.heading, board.number);
+        let hands = put_middle(&mut self.room, board.dealer, board.vulnerable);
+        self.to = put_hands(&mut self.room, hands, &self.texts, &board.deal);
     }
 
     /// The text that was printed last.
@@ -72,4 +72,28 @@ impl Printer {
     {
         &self.room[self.front.from..self.to]
     }
+}
+
+impl Notation for Printer {
+    ghost layout = { λ printer. pbn printer.heading };
+
+    ghost printed = { λ printer. printer.text };
+
+    fn header(&self) -> &[u8] {
+        &HEADER
+    }
+
+    fn print(&mut self, board: &Board) {
+        Printer::print(self, board)
+    }
+
+    fn text(&self) -> &[u8] {
+        Printer::text(self)
+    }
+
+    fn footer(&self) -> &[u8] {
+        b""
+    }
+
+    ghost some_byte = { λ printer board. game_has_byte printer.heading board };
 }

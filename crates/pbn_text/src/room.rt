@@ -64,14 +64,13 @@ pub(crate) fn first_front(room: &mut Room, heading: &Heading) -> Front
 /// place. Mostly a board follows the last one, and one digit changes.
 #[inline(always)]
 pub(crate) fn put_number(room: &mut Room, last: Front, heading: &Heading, board: u64) -> Front
-    requires board { 1 ≤ board }
     requires front { IsFront room.old heading.now last.from last.number last.board }
     ensures front { IsFront room.new heading.now result.from result.number result.board }
     ensures board { result.board ≡ board }
     ensures room { length room.new ≡ 512 }
 {
     let Front { from, number, .. } = last;
-    if board - 1 == last.board && room[NUMBER_END - 1] < b'9' {
+    if board > last.board && board - last.board == 1 && room[NUMBER_END - 1] < b'9' {
         room[NUMBER_END - 1] += 1;
         return Front {
             from,

@@ -1,7 +1,8 @@
-//! Tests with outside values: worked games, Law 2's table, and labels that are refused. A printer's
-//! games are compared with `game` too.
+//! Tests with outside values: worked games, written by hand where no example gives them, and labels
+//! that are refused. A printer's games are compared with `game` too.
 
 use super::*;
+use boards::{Board, Notation};
 use cards::{Deal, Places, Seat};
 use std::alloc::Global;
 use std::process::Abort;
@@ -59,12 +60,59 @@ fn game_of_the_worked_deal(rt: HostRuntime) -> Result<(), Fail> {
 fn printer_of_the_worked_games(rt: HostRuntime) -> Result<(), Fail> {
     let mut printer = Printer::new(rt.alloc(), &Heading::none())?;
     assert_eq!(rt; printer.text(), b"".as_slice());
-    printer.print(1, &pack_in_order()?);
+    printer.print(&Board::by_law(1, 7, pack_in_order()?));
     assert_eq!(rt; printer.text(), FIRST);
-    printer.print(2, &worked_deal()?);
+    printer.print(&Board::by_law(2, 8, worked_deal()?));
     assert_eq!(rt; printer.text(), SECOND);
-    printer.print(1, &pack_in_order()?);
+    printer.print(&Board::by_law(1, 7, pack_in_order()?));
     assert_eq!(rt; printer.text(), FIRST);
+    Ok(())
+}
+
+/// Writes the boards as a text of the notation, each at the end of what stands there.
+fn write_text<N: Notation>(
+    notation: &mut N,
+    boards: &[Board],
+    text: &mut Vec<u8>,
+) -> Result<(), Fail> {
+    text.extend_from_slice(notation.header())?;
+    for board in boards {
+        notation.print(board);
+        text.extend_from_slice(notation.text())?;
+    }
+    text.extend_from_slice(notation.footer())?;
+    Ok(())
+}
+
+/// A board 0 and a board 10 with another dealer and vulnerability than Law 2's, and their text.
+const BY_HAND: &[u8] =
+    b"% PBN 2.1\n[Board \"0\"]\n[Dealer \"W\"]\n[Vulnerable \"All\"]\n[Deal \"N:AKQJT98765432... .AKQJT98765432.. ..AKQJT98765432. ...AKQJT98765432\"]\n\n[Board \"10\"]\n[Dealer \"S\"]\n[Vulnerable \"EW\"]\n[Deal \"N:.63.AKQ987.A9732 A8654.KQ5.T.QJT6 J973.J98742.3.K4 KQT2.AT.J6542.85\"]\n\n";
+
+fn boards_by_hand() -> Result<[Board; 2], Fail> {
+    Ok([
+        Board {
+            number: 0,
+            candidate: 3,
+            dealer: Seat::West,
+            vulnerable: Vul::Both,
+            deal: pack_in_order()?,
+        },
+        Board {
+            number: 10,
+            candidate: 2,
+            dealer: Seat::South,
+            vulnerable: Vul::EastWest,
+            deal: worked_deal()?,
+        },
+    ])
+}
+
+#[test]
+fn printer_as_a_notation(rt: HostRuntime) -> Result<(), Fail> {
+    let mut printer = Printer::new(rt.alloc(), &Heading::none())?;
+    let mut text = Vec::new(rt.alloc());
+    write_text(&mut printer, &boards_by_hand()?, &mut text)?;
+    assert_eq!(rt; text.as_slice(), BY_HAND);
     Ok(())
 }
 
@@ -87,11 +135,11 @@ fn check_printer(rt: &impl Abort, alloc: Global, heading: &Heading) -> Result<()
     let mut state = 1;
     for k in 0..1_200 {
         let deal = next_deal(&mut state)?;
-        printer.print(k + 1, &deal);
+        printer.print(&Board::by_law(k + 1, k, deal));
         assert_eq!(rt; printer.text(), game(k + 1, heading, &deal).as_slice());
         if k % 8 == 0 {
             let board = (state >> (k / 8 % 64)).max(1);
-            printer.print(board, &deal);
+            printer.print(&Board::by_law(board, k, deal));
             assert_eq!(rt; printer.text(), game(board, heading, &deal).as_slice());
         }
     }
@@ -131,7 +179,7 @@ fn longest_games(rt: HostRuntime) -> Result<(), Fail> {
     };
     assert_eq!(rt; game(LARGEST, &heading, &deal).len(), 385);
     let mut printer = Printer::new(rt.alloc(), &heading)?;
-    printer.print(LARGEST, &deal);
+    printer.print(&Board::by_law(LARGEST, 0, deal));
     assert_eq!(rt; printer.text().len(), 385);
     Ok(())
 }

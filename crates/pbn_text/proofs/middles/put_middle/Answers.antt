@@ -1,19 +1,21 @@
-use Rattle.std.proofs.Common.{ℕ, ◌-◌, ◌%◌, ◌<◌, ◌≤◌, ◌++◌, ◌∙◌, take, get_or, rules, refl, ap, arith}
-use Rattle.std.proofs.lemmas.List.{length-take, length-drop}
+use Rattle.std.proofs.Common.{◌++◌, ◌∙◌, take, get_or, refl, ap, arith}
 use Rattle.pbn_text.specs.declared.middles.TheConstants.{LENGTHS}
-use Rattle.pbn_text.proofs.Rooms.{take_copied}
-use Rattle.pbn_text.proofs.Cycle.{middle_at, length-middle}
+use Rattle.pbn_text.proofs.Rooms.{take_copied, length-copied}
+use Rattle.pbn_text.proofs.Cycle.{middle_at, length-middle, middle_fits}
 use Rattle.pbn_text.proofs.middles.put_middle.Goals as goal
-
-pub copy_from_slice-requires : goal.copy_from_slice-requires
-copy_from_slice-requires c =
-    simp (length-take, length-drop) (omega (arith, length-middle ((c.args.board - 1) % 16) (omega arith)))
 
 pub returns-clause-written : goal.returns-clause-written
 returns-clause-written c =
-    let i : ℕ = (c.args.board - 1) % 16 in
-    let below : i < 16 = omega arith in
-    let few : get_or LENGTHS i 0 ≤ 45 = search rules in
-    take_copied c.args.room.now c.copy_from_slice.new.self 272 48 (get_or LENGTHS i 0) _ (omega arith) (omega arith) refl
-    ∙ ap (λ xs. take 272 c.args.room.now ++ take (get_or LENGTHS i 0) xs) c.copy_from_slice.ensures.after
-    ∙ ap (λ xs. take 272 c.args.room.now ++ xs) (middle_at i below)
+    let row = c.row_of.ensures in
+    let column = c.column_of-column.ensures in
+    let count = get_or LENGTHS c.column_of-column.result 0 in
+    let long = length-middle c.args.dealer c.args.vulnerable c.row_of.result c.column_of-column.result row column in
+    let few = middle_fits c.args.vulnerable c.column_of-column.result column in
+    take_copied c.args.room.now c.copy_from_slice.new.self 272 48 count _ (omega arith) (rw c.copy_from_slice.ensures.after (omega (arith, few, long))) refl
+    ∙ ap (λ xs. take 272 c.args.room.now ++ take count xs) c.copy_from_slice.ensures.after
+    ∙ ap (λ xs. take 272 c.args.room.now ++ xs) (middle_at c.args.dealer c.args.vulnerable c.row_of.result c.column_of-column.result row column)
+
+pub returns-clause-room : goal.returns-clause-room
+returns-clause-room c =
+    let long = length-middle c.args.dealer c.args.vulnerable c.row_of.result c.column_of-column.result c.row_of.ensures c.column_of-column.ensures in
+    length-copied c.args.room.now c.copy_from_slice.new.self 272 48 (omega arith) (rw c.copy_from_slice.ensures.after (omega (arith, long))) ∙ c.told-room

@@ -1,12 +1,11 @@
 use Rattle.std.proofs.Common.{◌≡◌, ℕ, ◌≤◌, List, ◌++◌, ◌∙◌, length, take, drop, decimal, sym, ap, arith}
 use Rattle.std.specs.Prelude.{codes}
 use Rattle.std.proofs.lemmas.List.{append_assoc, drop-append-le, length-take-le}
-use Rattle.cards.specs.declared.seat.Seat.{Seat}
 use Rattle.cards.specs.declared.seat.Seat.TheVariants.{North, East, South, West}
 use Rattle.cards.specs.Hands.{hand_of}
-use Rattle.pbn_text.specs.Boards.{dealer_of, vulnerable_of}
-use Rattle.pbn_text.specs.Games.{game as game_of, HeadingView, heading_text, dealer_text, vulnerable_text, hand_text}
-use Rattle.pbn_text.specs.Lines.{front_text, middle_of, hands_text}
+use Rattle.boards.specs.declared.board.Board.{Board}
+use Rattle.pbn_text.specs.Games.{game_text, HeadingView, heading_text, dealer_text, vulnerable_text, hand_text}
+use Rattle.pbn_text.specs.Lines.{front_text, middle_text, hands_text}
 use Rattle.pbn_text.proofs.Rooms.{kept_before, with_digits}
 use Rattle.pbn_text.proofs.printer.Printer.print.Goals as goal
 
@@ -17,11 +16,11 @@ grouped : (labels bo number op dealer vo sides lo lo' n e s w bl cl nl : List �
 grouped labels bo number op dealer vo sides lo lo' n e s w bl cl nl = simp append_assoc
 
 -- the four parts are a game
-joined : (board : ℕ) (heading : HeadingView) (deal : List Seat) → front_text heading ++ decimal board ++ middle_of board ++ hands_text deal ≡ game_of board heading deal
-unfolding game_of
-joined board heading deal =
-    grouped (heading_text heading) (codes "[Board \"") (decimal board) (codes "[Dealer \"") (dealer_text (dealer_of board)) (codes "[Vulnerable \"") (vulnerable_text (vulnerable_of board)) (codes "[Deal \"") (codes "N:")
-    (hand_text (hand_of deal North)) (hand_text (hand_of deal East)) (hand_text (hand_of deal South)) (hand_text (hand_of deal West)) (codes " ") (codes "\"]\n") (codes "\n")
+joined : (heading : HeadingView) (board : Board) → front_text heading ++ decimal board.number ++ middle_text board.dealer board.vulnerable ++ hands_text board.deal ≡ game_text heading board
+unfolding game_text
+joined heading board =
+    grouped (heading_text heading) (codes "[Board \"") (decimal board.number) (codes "[Dealer \"") (dealer_text board.dealer) (codes "[Vulnerable \"") (vulnerable_text board.vulnerable) (codes "[Deal \"") (codes "N:")
+    (hand_text (hand_of board.deal North)) (hand_text (hand_of board.deal East)) (hand_text (hand_of board.deal South)) (hand_text (hand_of board.deal West)) (codes " ") (codes "\"]\n") (codes "\n")
 
 -- what three writes in a row put behind `from`
 behind : (first second third front number middle hands : List ℕ) (from a b c : ℕ) → from ≤ a → a ≤ length first → take b second ≡ take a first ++ middle → take c third ≡ take b second ++ hands
@@ -45,7 +44,7 @@ invariant_of-self c =
     let third = c.put_hands-self-inside.new.room in
     let front = c.put_number-self-inside.ensures.front in
     let number = c.put_number-self-inside.result.number in
-    let same = λ (n : ℕ) (inside : n ≤ 272). kept first second third (middle_of c.args.board) (hands_text c.args.deal.now) n c.put_middle-hands.result c.put_hands-self-inside.result inside (omega arith) (omega arith) (omega arith) (omega arith) c.put_middle-hands.ensures.written c.put_hands-self-inside.ensures.written in
+    let same = λ (n : ℕ) (inside : n ≤ 272). kept first second third (middle_text c.args.board.now.dealer c.args.board.now.vulnerable) (hands_text c.args.board.now.deal) n c.put_middle-hands.result c.put_hands-self-inside.result inside (omega arith) (omega arith) (omega arith) (omega arith) c.put_middle-hands.ensures.written c.put_hands-self-inside.ensures.written in
     record {
       front = record {
         order = front.order;
@@ -63,9 +62,9 @@ returns-clause-text c =
     let front = c.put_number-self-inside.ensures.front in
     let from = c.put_number-self-inside.result.from in
     let number = c.put_number-self-inside.result.number in
-    let start : drop from (take 272 first) ≡ front_text c.self.inside.heading ++ decimal c.args.board =
-    with_digits first (front_text c.self.inside.heading) (decimal c.args.board) from number 272 (omega (arith, front.inside)) front.order front.inside (front.digits ∙ ap decimal c.put_number-self-inside.ensures.board) front.lines in
-    behind first c.put_middle-hands.new.room c.put_hands-self-inside.new.room (front_text c.self.inside.heading) (decimal c.args.board) (middle_of c.args.board) (hands_text c.args.deal.now) from 272 _ _ (omega (arith, front.order, front.inside)) (omega arith)
+    let start : drop from (take 272 first) ≡ front_text c.self.inside.heading ++ decimal c.args.board.now.number =
+    with_digits first (front_text c.self.inside.heading) (decimal c.args.board.now.number) from number 272 (omega (arith, front.inside)) front.order front.inside (front.digits ∙ ap decimal c.put_number-self-inside.ensures.board) front.lines in
+    behind first c.put_middle-hands.new.room c.put_hands-self-inside.new.room (front_text c.self.inside.heading) (decimal c.args.board.now.number) (middle_text c.args.board.now.dealer c.args.board.now.vulnerable) (hands_text c.args.board.now.deal) from 272 _ _ (omega (arith, front.order, front.inside)) (omega arith)
     c.put_middle-hands.ensures.written c.put_hands-self-inside.ensures.written start
-    ∙ joined c.args.board c.self.inside.heading c.args.deal.now
-    ∙ ap (λ p. game_of c.args.board p.heading c.args.deal.now) c.self.view_is
+    ∙ joined c.self.inside.heading c.args.board.now
+    ∙ ap (λ p. game_text p.heading c.args.board.now) c.self.view_is

@@ -1,0 +1,2 @@
+-- What only bodies and proofs use.
+pub mod Games
