@@ -3,9 +3,9 @@ use Rattle.std.proofs.Common.{◌≡◌, ℕ, ◌+◌, ◌*◌, ◌%◌, ◌<◌
 use Rattle.std.proofs.lemmas.List.{get_or-take, take-replicate}
 use Rattle.std.proofs.Math.Seq.{take-set-lt}
 use Rattle.std.proofs.Math.Nat.{mul-le-mul_right}
-use Rattle.lanes.specs.declared.machine.Core.TheInside.{Inside}
-use Rattle.lanes.specs.declared.event.Event.{Event}
-use Rattle.lanes.specs.declared.event.Event.TheVariants.{Send, Take, Close}
+use Rattle.lanes.specs.declared.model.machine.Core.TheInside.{Inside}
+use Rattle.lanes.specs.declared.model.event.Event.{Event}
+use Rattle.lanes.specs.declared.model.event.Event.TheVariants.{Send, Take, Close}
 use Rattle.lanes.specs.Verdicts.{turns}
 use Rattle.lanes.specs.Machine.{Machine, next_lane, is_allowed, changed, after, new_machine}
 use Rattle.lanes.specs.Sound.{IsSound}

@@ -4,8 +4,8 @@ use Rattle.std.specs.List.{range_with_len}
 use Rattle.std.proofs.lemmas.Grind.{common_steps}
 use Rattle.std.proofs.lemmas.Bool.{cases_eq, cases_Bool, and_parts, and_from, eqb-true, eq-eqb, cond-true, cond-false, both_ways, false_from_ne_true}
 use Rattle.std.proofs.lemmas.List.{get_or-set_same, get_or-set_other}
-use Rattle.lanes.specs.declared.event.Event.{Event}
-use Rattle.lanes.specs.declared.event.Event.TheVariants.{Send, Take, Close, Stop}
+use Rattle.lanes.specs.declared.model.event.Event.{Event}
+use Rattle.lanes.specs.declared.model.event.Event.TheVariants.{Send, Take, Close, Stop}
 use Rattle.lanes.specs.Verdicts.{turns}
 use Rattle.lanes.specs.Machine.{Machine, sent_of, taken_of, is_closed, next_lane, is_allowed, changed, after}
 use Rattle.lanes.specs.Sound.{IsSound}

@@ -3,8 +3,8 @@ use Rattle.std.proofs.Common.{◌≡◌, ℕ, ◌+◌, ◌*◌, ◌%◌, ◌==�
 use Rattle.std.proofs.lemmas.Bool.{cases_eq, cases_Bool, and_parts, and_from, not-true, not_from_false, ltb-true, lt-ltb, eqb-true, cond-true, cond-false, both_ways, true≢false, cases_lt, not-false, false_from_ne_true}
 use Rattle.std.proofs.lemmas.List.{get_or-set_same, get_or-set_other, length-set, get_or-replicate, length-replicate}
 use Rattle.std.proofs.lemmas.List.Sums.{count_by-le-length}
-use Rattle.lanes.specs.declared.event.Event.{Event}
-use Rattle.lanes.specs.declared.event.Event.TheVariants.{Send, Take, Close, Stop}
+use Rattle.lanes.specs.declared.model.event.Event.{Event}
+use Rattle.lanes.specs.declared.model.event.Event.TheVariants.{Send, Take, Close, Stop}
 use Rattle.lanes.specs.Verdicts.{turns}
 use Rattle.lanes.specs.Machine.{Machine, new_machine, sent_of, taken_of, is_closed, held, share_of, next_lane, is_allowed, changed, after, changes_made, does_change, changes_in}
 use Rattle.lanes.specs.Sound.{HasLanes, IsLaneSound, IsSound}

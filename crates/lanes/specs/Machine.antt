@@ -2,8 +2,8 @@
 -- turn. An event that is not allowed changes nothing. No thread, no ring and no waiting stands in
 -- it.
 use Rattle.std.specs.Prelude.{ℕ, ◌+◌, ◌-◌, ◌%◌, ◌==◌, ◌&&◌, ◌||◌, Bool, true, false, not, cond, List, [], ◌∷◌, nat_lt, replicate, sum, count_by, slice_index, slice_index_or, slice_set}
-use Rattle.lanes.specs.declared.event.Event.{Event}
-use Rattle.lanes.specs.declared.event.Event.TheVariants.{Send, Take, Close, Stop}
+use Rattle.lanes.specs.declared.model.event.Event.{Event}
+use Rattle.lanes.specs.declared.model.event.Event.TheVariants.{Send, Take, Close, Stop}
 use Rattle.lanes.specs.Verdicts.{turns}
 
 -- sent, taken and closed have an entry for each lane

@@ -1,8 +1,8 @@
 -- What a list of events does to the core, one event after another, and which items go through its
 -- lanes.
 use Rattle.std.specs.Prelude.{ℕ, ◌≡◌, ◌+◌, ◌*◌, ◌&&◌, ◌==◌, ◌++◌, cond, List, [], ◌∷◌}
-use Rattle.lanes.specs.declared.event.Event.{Event}
-use Rattle.lanes.specs.declared.event.Event.TheVariants.{Send, Take, Close, Stop}
+use Rattle.lanes.specs.declared.model.event.Event.{Event}
+use Rattle.lanes.specs.declared.model.event.Event.TheVariants.{Send, Take, Close, Stop}
 use Rattle.lanes.specs.Machine.{Machine, after, is_allowed, next_lane, sent_of, taken_of}
 
 -- the candidates, the workers and the capacity stay

@@ -1,6 +1,6 @@
 -- What holds of the core in every state that a list of events leads to.
 use Rattle.std.specs.Prelude.{ℕ, ◌+◌, ◌*◌, ◌≡◌, ◌<◌, ◌≤◌, ◌⊎◌, true, false, length}
-use Rattle.lanes.specs.declared.event.Event.TheVariants.{Send, Take}
+use Rattle.lanes.specs.declared.model.event.Event.TheVariants.{Send, Take}
 use Rattle.lanes.specs.Verdicts.{turns}
 use Rattle.lanes.specs.Machine.{Machine, sent_of, taken_of, is_closed, share_of, next_lane, is_allowed, changes_made}
 

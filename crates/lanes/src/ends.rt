@@ -3,14 +3,12 @@
 ghost use Rattle.std.specs.Prelude.{◌≡◌, ◌+◌, ◌<◌, ◌≤◌, ◌↔◌, ◌⊎◌, [], ◌∷◌, ◌++◌, length, IsTrue, IsOk, IsSome, IsErrOf, OnOk, IfOk, IfErr, IfSome, IfNone, true, false};
 ghost use Rattle.lanes.specs.declared.ends.LaneError.TheVariants.{Capacity, Memory};
 
+use crate::limits::MAX_CAPACITY;
 use crate::verdict::Verdict;
 use rtrb::{Consumer, Finished, Producer, RingBuffer};
 use std::alloc::Global;
 use std::marker::Model;
 use thiserror::Error;
-
-/// The most verdicts that a lane may hold.
-const MOST_CAPACITY: u32 = 4096;
 
 /// Why there is no lane.
 #[derive(Debug, Drop, Error)]
@@ -96,7 +94,7 @@ pub fn lane(alloc: Global, capacity: u32) -> Result<(LaneIn, LaneOut), LaneError
     ensures sender { IfOk result (λ r. (r.0.sent ≡ []) × (r.0.room ≡ capacity)) }
     ensures taker { IfOk result (λ r. (r.1.taken ≡ []) × (r.1.settled ≡ false)) }
 {
-    if capacity == 0 || capacity > MOST_CAPACITY {
+    if capacity == 0 || capacity > MAX_CAPACITY {
         return Err(LaneError::Capacity);
     }
     // Making a ring is no event of the run's core.

@@ -2,8 +2,8 @@
 
 ghost use Rattle.std.specs.Prelude.{◌≡◌, ◌+◌, ◌*◌, ◌/◌, ◌%◌, ◌<◌, ◌≤◌, ◌⊎◌, ℕ, List, ◌∷◌, map, true, false};
 ghost use Rattle.std.specs.List.{range_with_len};
-ghost use Rattle.lanes.specs.declared.event.Event.{Event};
-ghost use Rattle.lanes.specs.declared.event.Event.TheVariants.{Send, Take, Close};
+ghost use Rattle.lanes.specs.declared.model.event.Event.{Event};
+ghost use Rattle.lanes.specs.declared.model.event.Event.TheVariants.{Send, Take, Close};
 ghost use Rattle.lanes.specs.Machine.{Machine, new_machine, after, is_allowed, does_change, changes_in};
 ghost use Rattle.lanes.specs.Machine.{sent_of, taken_of};
 ghost use Rattle.lanes.specs.Sound.{IsSound};

@@ -3,10 +3,10 @@
 #![tactic(auto)]
 
 mod ends;
-mod event;
 mod gate;
 pub mod laws;
-mod machine;
+mod limits;
+mod model;
 mod share;
 mod turns;
 mod verdict;
@@ -14,9 +14,9 @@ mod wait;
 mod worker;
 
 pub use ends::{Closed, LaneError, LaneIn, LaneOut, lane};
-pub use event::Event;
 pub use gate::{Gate, OpenGate};
-pub use machine::Core;
+pub use limits::{MAX_CAPACITY, MAX_WORKERS};
+pub use model::{Core, Event};
 pub use share::{Job, Share};
 pub use turns::Turns;
 pub use verdict::Verdict;

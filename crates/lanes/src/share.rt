@@ -3,13 +3,9 @@
 ghost use Rattle.std.specs.Prelude.{◌≡◌, ◌+◌, ◌*◌, ◌<◌, ◌≤◌, ◌^◌, ◌↔◌, IsSome, IfSome};
 ghost use Rattle.lanes.specs.Verdicts.{turns};
 
+use crate::limits::MAX_WORKERS;
+use cards::MAX_CANDIDATES;
 use cond_lang::Cond;
-
-/// First candidate and count together stay within this.
-const END: u64 = 1 << 40;
-
-/// The most workers of a run.
-const MOST_WORKERS: u32 = 16;
 
 /// Of the `count` candidates from `first` on, every `workers`-th one, from the one numbered `first
 /// + worker`.
@@ -34,8 +30,8 @@ impl Share {
             (s.first ≡ first) × (s.count ≡ count)
             × (s.workers ≡ workers) × (s.worker ≡ worker)) }
     {
-        let in_range = first <= END && count <= END - first;
-        if !in_range || workers > MOST_WORKERS || worker >= workers {
+        let in_range = first <= MAX_CANDIDATES && count <= MAX_CANDIDATES - first;
+        if !in_range || workers > MAX_WORKERS || worker >= workers {
             return None;
         }
         Some(Share {

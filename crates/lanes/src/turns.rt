@@ -2,6 +2,7 @@
 
 ghost use Rattle.std.specs.Prelude.{◌≡◌, ◌+◌, ◌%◌, ◌<◌, ◌≤◌, ◌^◌, ◌↔◌, IsSome, IfSome};
 
+use crate::limits::MAX_WORKERS;
 use std::marker::Model;
 
 /// The turns of 1 to 16 lanes, which contracts see as the turn's number and the number of lanes.
@@ -32,7 +33,7 @@ impl Turns {
         ensures range { IsSome result ↔ ((1 ≤ workers) × (workers ≤ 16)) }
         ensures start { IfSome result (λ t. (t.turn ≡ 0) × (t.workers ≡ workers)) }
     {
-        if workers < 1 || workers > 16 {
+        if workers < 1 || workers > MAX_WORKERS {
             return None;
         }
         Some(Turns {

@@ -23,7 +23,7 @@ use std::sync::atomic::{AtomicBool, Ordering};
 use std::{hint, thread};
 
 /// The most spins between two looks: some microseconds, so that a flag that goes up is soon seen.
-const MOST_SPINS: usize = 4096;
+const MAX_SPINS: usize = 4096;
 
 /// More workers than this and their writer are taken to be more threads than there are cores:
 /// whoever waits then lets the others run in place of spinning.
@@ -119,7 +119,7 @@ impl Pause {
             spins: capacity
                 .saturating_mul(SPINS_A_VERDICT)
                 .saturating_mul(lanes as usize)
-                .min(MOST_SPINS),
+                .min(MAX_SPINS),
             enough: capacity / PARTS_OF_A_LANE,
             seen: 0,
             rests: lanes > FEW_WORKERS,

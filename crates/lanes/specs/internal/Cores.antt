@@ -1,6 +1,6 @@
 -- The machine that the fields of a core are.
 use Rattle.std.specs.Prelude.{◌^◌, ◌≤◌, take}
-use Rattle.lanes.specs.declared.machine.Core.TheInside.{Inside}
+use Rattle.lanes.specs.declared.model.machine.Core.TheInside.{Inside}
 use Rattle.lanes.specs.Machine.{Machine}
 use Rattle.lanes.specs.Sound.{IsSound}
 

@@ -1,4 +1,4 @@
-use Rattle.lanes.specs.declared.event.Event.TheVariants.{Close}
+use Rattle.lanes.specs.declared.model.event.Event.TheVariants.{Close}
 use Rattle.lanes.specs.Machine.{new_machine, after}
 use Rattle.lanes.specs.Runs.{after_all}
 use Rattle.lanes.proofs.Steps.{kept_new}

@@ -1,5 +1,5 @@
 use Rattle.std.proofs.Common.{◌≡◌, ℕ, ◌%◌, ◌⊎◌, true, subst, arith}
-use Rattle.lanes.specs.declared.event.Event.TheVariants.{Send, Take}
+use Rattle.lanes.specs.declared.model.event.Event.TheVariants.{Send, Take}
 use Rattle.lanes.specs.Machine.{new_machine, is_allowed}
 use Rattle.lanes.specs.Runs.{after_all}
 use Rattle.lanes.proofs.Steps.{kept_new}

@@ -1,9 +1,9 @@
 use Rattle.std.proofs.Common.{◌≡◌, ◌<◌, ◌∙◌, sym, ap, refl, arith, true}
-use Rattle.lanes.specs.declared.event.Event.TheVariants.{Take}
+use Rattle.lanes.specs.declared.model.event.Event.TheVariants.{Take}
 use Rattle.lanes.specs.Machine.{Machine, is_allowed, next_lane}
 use Rattle.lanes.specs.internal.Cores.{machine_of}
 use Rattle.lanes.proofs.Fields.{take_fields, allows, keeps, tells, turn_below}
-use Rattle.lanes.proofs.machine.Core.take.Goals as goal
+use Rattle.lanes.proofs.model.machine.Core.take.Goals as goal
 
 pub overflow_add-self-2 : goal.overflow_add-self-2
 overflow_add-self-2 c =

@@ -1,10 +1,10 @@
 use Rattle.std.proofs.Common.{◌≡◌, ◌∙◌, sym, refl, true}
-use Rattle.lanes.specs.declared.event.Event.TheVariants.{Send}
+use Rattle.lanes.specs.declared.model.event.Event.TheVariants.{Send}
 use Rattle.lanes.specs.Machine.{is_allowed}
 use Rattle.lanes.specs.internal.Cores.{machine_of}
 use Rattle.lanes.proofs.Steps.{may_send}
 use Rattle.lanes.proofs.Fields.{send_fields, allows, keeps, tells}
-use Rattle.lanes.proofs.machine.Core.send.Goals as goal
+use Rattle.lanes.proofs.model.machine.Core.send.Goals as goal
 
 pub invariant_of-self : goal.invariant_of-self
 invariant_of-self c =

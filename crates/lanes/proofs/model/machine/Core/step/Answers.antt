@@ -1,8 +1,8 @@
 use Rattle.std.proofs.Common.{subst, sym}
-use Rattle.lanes.specs.declared.event.Event.TheVariants.{Send, Take, Close, Stop}
+use Rattle.lanes.specs.declared.model.event.Event.TheVariants.{Send, Take, Close, Stop}
 use Rattle.lanes.specs.Sound.{IsSound}
 use Rattle.lanes.proofs.Steps.{sound_after}
-use Rattle.lanes.proofs.machine.Core.step.Goals as goal
+use Rattle.lanes.proofs.model.machine.Core.step.Goals as goal
 
 pub returns-in-Send-clause-sound : goal.returns-in-Send-clause-sound
 returns-in-Send-clause-sound c = subst IsSound (sym c.send.ensures.after) (sound_after c.args.self.now (Send c.in-Send.worker) c.send.ensures.room c.send.ensures.sound)

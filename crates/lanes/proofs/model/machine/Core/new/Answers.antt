@@ -3,7 +3,7 @@ use Rattle.lanes.specs.Machine.{new_machine}
 use Rattle.lanes.specs.Sound.{IsSound}
 use Rattle.lanes.proofs.Steps.{sound, kept_new}
 use Rattle.lanes.proofs.Fields.{new_fields}
-use Rattle.lanes.proofs.machine.Core.new.Goals as goal
+use Rattle.lanes.proofs.model.machine.Core.new.Goals as goal
 
 pub invariant_of-result : goal.invariant_of-result
 invariant_of-result c =

@@ -1,17 +1,13 @@
 //! The core of a run: which events are allowed in which state of the lanes, and what they change.
 
 ghost use Rattle.std.specs.Prelude.{◌≡◌, ◌+◌, ◌<◌, ◌≤◌, ◌^◌, ◌⊎◌, ◌↔◌, ℕ, true, false, IsSome, IfSome};
-ghost use Rattle.lanes.specs.declared.event.Event.TheVariants.{Send, Take, Close, Stop};
+ghost use Rattle.lanes.specs.declared.model.event.Event.TheVariants.{Send, Take, Close, Stop};
 
-use crate::event::Event;
+use crate::limits::{MAX_CAPACITY, MAX_WORKERS};
+use crate::model::event::Event;
 use crate::share::Share;
+use cards::MAX_CANDIDATES;
 use std::marker::Model;
-
-const MOST_COUNT: u64 = 1 << 40;
-
-const MOST_WORKERS: u32 = 16;
-
-const MOST_CAPACITY: u32 = 4096;
 
 /// The counters of a run's lanes, one flag and the turn. Contracts see the machine, with an entry
 /// for each worker's lane.
@@ -54,7 +50,9 @@ impl Core {
             × (1 ≤ capacity) × (capacity ≤ 4096)) }
         ensures start { IfSome result (λ c. c ≡ new_machine count workers capacity) }
     {
-        let in_range = count <= MOST_COUNT && workers <= MOST_WORKERS && capacity <= MOST_CAPACITY;
+        let in_range = count <= MAX_CANDIDATES
+            && workers <= MAX_WORKERS
+            && capacity <= MAX_CAPACITY;
         if !in_range || workers == 0 || capacity == 0 {
             return None;
         }
@@ -225,8 +223,11 @@ impl Core {
         requires { worker < self.now.workers }
         ensures { result ≡ share_of self.now worker }
     {
-        let Some(share) = Share::new(0, self.count, self.workers, worker) else {
-            unreachable!()
+        let share = Share {
+            first: 0,
+            count: self.count,
+            workers: self.workers,
+            worker,
         };
         share.len()
     }
