@@ -106,7 +106,7 @@ pub fn lane(alloc: Global, capacity: u32) -> Result<(LaneIn, LaneOut), LaneError
 }
 
 impl LaneIn {
-    /// Sends a verdict, or hands it back if the lane is full. It waits for nobody.
+    /// Sends a verdict, or hands it back if the lane is full. Never blocks.
     pub fn try_send(&mut self, verdict: Verdict) -> Result<(), Verdict>
         ensures ring { self.new.ring ≡ self.old.ring }
         ensures sent { OnOk result (self.new.sent ≡ self.old.sent ++ verdict ∷ []) }
@@ -133,7 +133,7 @@ impl LaneIn {
         !self.producer.is_full()
     }
 
-    /// How many slots are free, as the lane stands now. It waits for nobody.
+    /// How many slots are free, as the lane stands now. Never blocks.
     pub fn count_room(&mut self) -> usize
         ensures ring { self.new.ring ≡ self.old.ring }
         ensures sent { self.new.sent ≡ self.old.sent }
@@ -144,7 +144,7 @@ impl LaneIn {
         self.producer.slots()
     }
 
-    /// Sends a verdict into a slot that is known to be free. It waits for nobody.
+    /// Sends a verdict into a slot that is known to be free. Never blocks.
     pub fn send_reserved(&mut self, verdict: Verdict)
         requires { 0 < self.old.room }
         ensures ring { self.new.ring ≡ self.old.ring }
@@ -161,7 +161,7 @@ impl LaneIn {
     }
 
     /// Closes the lane, and returns what tells all that was sent. It returns `None` if the other
-    /// end was let go before, since the ring then can't say how it ended. It waits for nobody.
+    /// end was let go before, since the ring then can't say how it ended. Never blocks.
     pub fn close(self) -> Option<Closed>
         ensures { IfSome result (λ c. (c.sent ≡ self.sent) × (c.ring ≡ self.ring)) }
     {
@@ -175,7 +175,7 @@ impl LaneIn {
 impl LaneOut {
     ghost use Rattle.lanes.specs.Views.{TakesOfLeft};
 
-    /// Takes the next verdict, or returns `None` if none waits. It waits for nobody. Once the lane
+    /// Takes the next verdict, or returns `None` if none waits. Never blocks. Once the lane
     /// is settled, it returns what is left, one after another, and then `None`.
     pub fn take(&mut self) -> Option<Verdict>
         ensures ring { self.new.ring ≡ self.old.ring }
@@ -193,8 +193,8 @@ impl LaneOut {
         Some(self.take_known())
     }
 
-    /// Whether a verdict waits to be taken. It looks at the other end only if none is known. It
-    /// waits for nobody.
+    /// Whether a verdict waits to be taken. It looks at the other end only if none is known. Never
+    /// blocks.
     pub fn has_verdict(&mut self) -> bool
         ensures same { (self.new.ring ≡ self.old.ring) × (self.new.settled ≡ self.old.settled) }
         ensures taken { self.new.taken ≡ self.old.taken }
@@ -213,7 +213,7 @@ impl LaneOut {
         }
     }
 
-    /// How many verdicts wait, as the lane stands now. It waits for nobody.
+    /// How many verdicts wait, as the lane stands now. Never blocks.
     pub fn count_verdicts(&mut self) -> usize
         ensures same { (self.new.ring ≡ self.old.ring) × (self.new.settled ≡ self.old.settled) }
         ensures taken { self.new.taken ≡ self.old.taken }
@@ -229,7 +229,7 @@ impl LaneOut {
         self.consumer.slots()
     }
 
-    /// Takes the next verdict, which is known to wait. It waits for nobody.
+    /// Takes the next verdict, which is known to wait. Never blocks.
     pub fn take_known(&mut self) -> Verdict
         requires { 0 < self.old.known }
         ensures same { (self.new.ring ≡ self.old.ring) × (self.new.settled ≡ self.old.settled) }
@@ -242,7 +242,7 @@ impl LaneOut {
     }
 
     /// Settles the lane by what its closed end left, and returns how many verdicts are left to
-    /// take. It waits for nobody.
+    /// take. Never blocks.
     pub fn settle(&mut self, closed: &mut Closed) -> u64
         requires { self.old.ring ≡ closed.old.ring }
         ensures closed { closed.new ≡ closed.old }
