@@ -14,7 +14,7 @@ use Rattle.dealrun.specs.declared.cause.Cause.{Cause}
 use Rattle.dealrun.specs.declared.cause.Cause.TheVariants as cause
 use Rattle.dealrun.specs.Plans.{Planned}
 use Rattle.dealrun.specs.Sinks.{AppendsAll}
-use Rattle.dealrun.specs.Text.{text}
+use Rattle.dealrun.specs.Pbn.{text}
 use Rattle.dealrun.specs.Values.{lines}
 use Rattle.deals_cli.specs.CommandLine.{kinds_for}
 use Rattle.deals_cli.specs.Requests.{Making, Wish, stream, make}

@@ -4,7 +4,7 @@ use Rattle.dealrun.specs.MergedVerdicts.{verdicts_for}
 use Rattle.dealrun.proofs.Maps.{on_err}
 use Rattle.dealrun.proofs.Advance.{on_to, broken_to}
 use Rattle.dealrun.proofs.Wholes.{some_left, whole_step, moved}
-use Rattle.dealrun.proofs.writer.write_rest.Goals as goal
+use Rattle.dealrun.proofs.writer.write_remaining.Goals as goal
 
 pub unreachable-requires : goal.unreachable-requires
 unreachable-requires g c =
@@ -26,8 +26,8 @@ returns-in_err-write-clause-broken g c =
     let place : c.lane.result ≡ progress.taken % p.workers = c.lane.ensures.lane ∙ ap (λ n. n % progress.turns.workers) progress.turn ∙ ap (λ k. progress.taken % k) i.workers in
     let less : p.limit ≢ Some progress.boards = iff_false c.is_full.ensures c.if-is_full.false in
     on_err c.from_residual.result _ (λ base h.
-    broken_to p c.loop-taken.lanes.items progress.taken progress.boards base (g.S.Sink.bytes c.loop-taken.sink) c.in-Some.verdict c.index_mut-lane.result.now c.take.new.self c.lane.result c.write.new.self.taken c.write.new.self.boards (g.S.Sink.bytes c.write.new.sink)
-    (omega (arith, c.lane.ensures.below, i.workers)) (i.written base h) less place c.index_mut-lane.ensures.value c.in-Some.ensures.some c.in_err-write.ensures.taken.0 b.0 b.1 b.2)
+    broken_to (g.N.Notation.layout c.args.notation.now) (g.N.Notation.layout c.loop-taken.notation) p c.loop-taken.lanes.items progress.taken progress.boards base (g.S.Sink.bytes c.loop-taken.sink) c.in-Some.verdict c.index_mut-lane.result.now c.take.new.self c.lane.result c.write.new.self.taken c.write.new.self.boards (g.S.Sink.bytes c.write.new.sink)
+    (omega (arith, c.lane.ensures.below, i.workers)) (i.written base h) less place c.index_mut-lane.ensures.value c.in-Some.ensures.some c.in_err-write.ensures.taken.0 b.0 b.1 i.layout b.2)
 
 pub loop-taken-preserved : goal.loop-taken-preserved
 loop-taken-preserved g c =
@@ -46,14 +46,14 @@ loop-taken-preserved g c =
     let left = some_left p c.requires.whole.0 c.loop-taken.lanes.items progress.taken w old some h.in_turn (omega arith) place at (i.whole c.requires.whole.0 c.requires.whole.1) in
     record {
       faults = c.in_ok-write.ensures.faults ∙ i.faults;
-      heading = c.in_ok-write.ensures.heading ∙ i.heading;
+      layout = c.in_ok-write.ensures.layout ∙ i.layout;
       taken = c.in_ok-write.ensures.taken.0 ∙ ap (λ n. n + 1) i.taken;
       workers = c.in_ok-write.ensures.taken.1 ∙ i.workers;
       len = i.len;
       whole = λ form all. whole_step p.workers (verdicts_for p form) c.loop-taken.lanes.items w old new inside at c.take.ensures.settled (moved _ _ _ c.in-Some.verdict _ c.in-Some.ensures.some (c.in-Some.ensures.left left.0)) (i.whole form all);
       written = λ base h.
-          on_to p c.loop-taken.lanes.items progress.taken progress.boards base (g.S.Sink.bytes c.loop-taken.sink) c.in-Some.verdict old new w c.write.new.self.taken c.write.new.self.boards (g.S.Sink.bytes c.write.new.sink)
-          some (i.written base h) less place at c.in-Some.ensures.some c.in_ok-write.ensures.taken.0 c.in_ok-write.ensures.boards c.in_ok-write.ensures.bytes;
+          on_to (g.N.Notation.layout c.args.notation.now) (g.N.Notation.layout c.loop-taken.notation) p c.loop-taken.lanes.items progress.taken progress.boards base (g.S.Sink.bytes c.loop-taken.sink) c.in-Some.verdict old new w c.write.new.self.taken c.write.new.self.boards (g.S.Sink.bytes c.write.new.sink)
+          some (i.written base h) less place at c.in-Some.ensures.some c.in_ok-write.ensures.taken.0 c.in_ok-write.ensures.boards i.layout c.in_ok-write.ensures.bytes;
     }
 
 pub returns-in_err-write-clause-whole : goal.returns-in_err-write-clause-whole
