@@ -3,37 +3,40 @@ use Rattle.std.proofs.Common.{◌≡◌, ℕ, zero, suc, ◌+◌, ◌==◌, ◌<
 use Rattle.std.specs.List.{range_with_len, position_or_len}
 use Rattle.std.specs.Option.{ForSome}
 use Rattle.std.proofs.lemmas.Bool.{cases_lt, ne_eqb, eq-eqb, eqb-true}
-use Rattle.std.proofs.lemmas.List.{append-nil, take_all, map-append}
+use Rattle.std.proofs.lemmas.List.{append-nil, take_all}
 use Rattle.std.proofs.lemmas.List.Sums.{position_or_len_is, passes_at_first}
 use Rattle.std.proofs.lemmas.List.FromFn.{map-range_with_len_more, length-range_with_len, get_or-range_with_len}
 use Rattle.std.proofs.Math.Seq.{take-append_seam}
-use Rattle.cards.specs.declared.seat.Seat.{Seat}
+use Rattle.boards.specs.declared.board.Board.{Board}
 use Rattle.cards.specs.Candidates.{candidate}
 use Rattle.cond_lang.specs.Form.{Form}
 use Rattle.cond_lang.specs.Meaning.{holds}
 use Rattle.lanes.specs.declared.verdict.Verdict.{Verdict}
 use Rattle.lanes.specs.Verdicts.{verdict_of}
 use Rattle.dealrun.specs.Plans.{Planned}
-use Rattle.dealrun.specs.Text.{accepted_among, limited, end_of}
-use Rattle.dealrun.specs.MergedVerdicts.{deals_in}
-use Rattle.dealrun.proofs.Games.{accepted_among-none, accepted_among-more, accepted_among-parts}
-use Rattle.dealrun.proofs.Printing.{deals_in-push}
+use Rattle.dealrun.specs.Text.{accepted_among, board_of, boards_of, limited, end_of}
+use Rattle.dealrun.specs.MergedVerdicts.{boards_in}
+use Rattle.dealrun.proofs.BoardLists.{accepted_among-none, accepted_among-more, accepted_among-parts, boards_in-none, boards_in-push, boards_of-none, boards_of-more, length-boards_of}
 
--- the deals of the accepted ones among the verdicts on these candidates
-deal_of_last : (seed : ℕ) (form : Form) (k : ℕ) (deals : List (List Seat)) (numbers : List ℕ) (b : Bool) → deals ≡ map (candidate seed) numbers
-    → cond b (deals ++ candidate seed k ∷ []) deals ≡ map (candidate seed) (numbers ++ cond b (k ∷ []) [])
-deal_of_last seed form k deals numbers true is = ap (λ ds. ds ++ candidate seed k ∷ []) is ∙ sym (map-append (candidate seed) numbers (k ∷ []))
-deal_of_last seed form k deals numbers false is = is ∙ ap (map (candidate seed)) (sym (append-nil numbers))
+-- the boards of the accepted ones among the verdicts on these candidates
+last_board : (plan : Planned) (k : ℕ) (boards : List Board) (numbers : List ℕ) (b : Bool) → boards ≡ boards_of plan numbers
+    → cond b (boards ++ board_of plan (length boards) k (candidate plan.seed k) ∷ []) boards ≡ boards_of plan (numbers ++ cond b (k ∷ []) [])
+last_board plan k boards numbers true is =
+    let board : ℕ → Board = λ n. board_of plan n k (candidate plan.seed k) in
+    ap (λ bs. bs ++ board (length bs) ∷ []) is ∙ ap (λ n. boards_of plan numbers ++ board n ∷ []) (length-boards_of plan numbers) ∙ sym (boards_of-more plan numbers k)
+last_board plan k boards numbers false is = is ∙ ap (boards_of plan) (sym (append-nil numbers))
 
-pub deals_are : (seed first : ℕ) (form : Form) (n : ℕ) → deals_in (map (λ i. verdict_of seed form (first + i)) (range_with_len 0 n)) ≡ map (candidate seed) (accepted_among seed first form n)
-unfolding deals_in
-deals_are seed first form zero = ap (map (candidate seed)) (sym (accepted_among-none seed first form))
-deals_are seed first form (suc n) =
+pub boards_are : (plan : Planned) (form : Form) (n : ℕ)
+    → boards_in plan (map (λ i. verdict_of plan.seed form (plan.first + i)) (range_with_len 0 n)) ≡ boards_of plan (accepted_among plan.seed plan.first form n)
+boards_are plan form zero = boards_in-none plan ∙ sym (ap (boards_of plan) (accepted_among-none plan.seed plan.first form) ∙ boards_of-none plan)
+boards_are plan form (suc n) =
+    let seed = plan.seed in
+    let first = plan.first in
     let at : ℕ → Verdict = λ i. verdict_of seed form (first + i) in
     let e : suc n ≡ n + 1 = omega arith in
-    ap (λ m. deals_in (map at (range_with_len 0 m))) e ∙ ap deals_in (map-range_with_len_more at 0 n n (omega arith)) ∙ deals_in-push (map at (range_with_len 0 n)) (at n)
-    ∙ deal_of_last seed form (first + n) (deals_in (map at (range_with_len 0 n))) (accepted_among seed first form n) (holds form (candidate seed (first + n))) (deals_are seed first form n)
-    ∙ ap (map (candidate seed)) (sym (ap (accepted_among seed first form) e ∙ accepted_among-more seed first form n (holds form (candidate seed (first + n))) refl))
+    ap (λ m. boards_in plan (map at (range_with_len 0 m))) e ∙ ap (boards_in plan) (map-range_with_len_more at 0 n n (omega arith)) ∙ boards_in-push plan (map at (range_with_len 0 n)) (at n)
+    ∙ last_board plan (first + n) (boards_in plan (map at (range_with_len 0 n))) (accepted_among seed first form n) (holds form (candidate seed (first + n))) (boards_are plan form n)
+    ∙ ap (boards_of plan) (sym (ap (accepted_among seed first form) e ∙ accepted_among-more seed first form n (holds form (candidate seed (first + n))) refl))
 
 module _ (p : Planned) (form : Form) (t : ℕ) (le : t ≤ p.count) where
   abbrev counted : ℕ → ℕ

@@ -3,30 +3,30 @@ use Rattle.std.proofs.Common.{◌≡◌, ◌≢◌, ℕ, ◌+◌, ◌-◌, ◌%�
 use Rattle.std.specs.Option.{ForSome}
 use Rattle.std.proofs.lemmas.Bool.{cases_eq, cases_lt}
 use Rattle.std.proofs.lemmas.List.{get_or-set_same, get_or-set_other, get_or-map, map-set, length-set, length-map, append-nil, get_or_default}
-use Rattle.cards.specs.declared.seat.Seat.{Seat}
+use Rattle.boards.specs.declared.board.Board.{Board}
+use Rattle.boards.specs.Layouts.{Layout}
 use Rattle.lanes.specs.declared.verdict.Verdict.{Verdict}
 use Rattle.lanes.specs.Verdicts.{turns}
 use Rattle.lanes.specs.Views.{OutView}
 use Rattle.lanes.proofs.Places.{turns-none}
 use Rattle.lanes.proofs.Sums.{turns-here, turns-elsewhere}
-use Rattle.pbn_text.specs.Games.{game, header}
 use Rattle.dealrun.specs.Plans.{Planned}
 use Rattle.dealrun.specs.Sinks.{append_known, AppendsPart}
-use Rattle.dealrun.specs.Text.{games, text_of_deals}
-use Rattle.dealrun.specs.MergedVerdicts.{in_turn, deals_in, printed, boards_in, taken_lists}
-use Rattle.dealrun.specs.internal.Writing.{game_after, TakenInTurn, StaysShort, WriterSoFar, WriterBrokeOff}
+use Rattle.dealrun.specs.Text.{board_of, text_of_boards}
+use Rattle.dealrun.specs.MergedVerdicts.{in_turn, boards_in, boards_after, taken_lists}
+use Rattle.dealrun.specs.internal.Writing.{board_text, printed, board_count, TakenInTurn, StaysShort, WriterSoFar, WriterBrokeOff}
 use Rattle.dealrun.proofs.SinkLemmas.{append_known-append}
-use Rattle.dealrun.proofs.Games.{text_of_deals-more}
-use Rattle.dealrun.proofs.Printing.{deals_in-push, in_turn-none, in_turn-kept, in_turn-grown, grown}
+use Rattle.dealrun.proofs.BoardLists.{boards_in-none, boards_in-push, text_of_boards-none, text_of_boards-more}
+use Rattle.dealrun.proofs.Printing.{in_turn-none, in_turn-kept, in_turn-grown, grown}
 
-more_text : (plan : Planned) (deals : List (List Seat)) (deal : List Seat) (b : Bool)
-    → text_of_deals plan (cond b (deals ++ deal ∷ []) deals) ≡ text_of_deals plan deals ++ cond b (game (plan.first_board + length deals) plan.heading deal) []
-more_text plan deals deal true = text_of_deals-more plan deals deal
-more_text plan deals deal false = sym (append-nil (text_of_deals plan deals))
+more_text : (layout : Layout) (boards : List Board) (board : Board) (b : Bool)
+    → text_of_boards layout (cond b (boards ++ board ∷ []) boards) ≡ text_of_boards layout boards ++ cond b (layout.board board) []
+more_text layout boards board true = text_of_boards-more layout boards board
+more_text layout boards board false = sym (append-nil (text_of_boards layout boards))
 
-more_boards : (deals : List (List Seat)) (deal : List Seat) (b : Bool) → length (cond b (deals ++ deal ∷ []) deals) ≡ cond b (length deals + 1) (length deals)
-more_boards deals deal true = length-append deals (deal ∷ [])
-more_boards deals deal false = refl
+more_boards : (boards : List Board) (board : Board) (b : Bool) → length (cond b (boards ++ board ∷ []) boards) ≡ cond b (length boards + 1) (length boards)
+more_boards boards board true = length-append boards (board ∷ [])
+more_boards boards board false = refl
 
 -- a limit that is not met yet is not met by less than one game more
 not_met : (limit : Option ℕ) (boards : ℕ) → ForSome limit (λ most. boards ≤ most) → limit ≢ Some boards → ForSome limit (λ most. boards < most)
@@ -38,7 +38,7 @@ one_more_within : (limit : Option ℕ) (boards : ℕ) (b : Bool) → ForSome lim
 one_more_within limit boards true h most is = omega (arith, h most is)
 one_more_within limit boards false h most is = omega (arith, h most is)
 
-module _ (plan : Planned) (lanes : List OutView) (t : ℕ) (v : Verdict) (new : OutView) (some : 0 < plan.workers) (taken : TakenInTurn plan lanes t)
+module _ (layout : Layout) (plan : Planned) (lanes : List OutView) (t : ℕ) (v : Verdict) (new : OutView) (some : 0 < plan.workers) (taken : TakenInTurn plan lanes t)
     (took : new.taken ≡ (get_or lanes (t % plan.workers) new).taken ++ v ∷ []) where
   abbrev W : ℕ
   W = plan.workers
@@ -70,20 +70,23 @@ module _ (plan : Planned) (lanes : List OutView) (t : ℕ) (v : Verdict) (new : 
   verdicts_kept : (i : ℕ) → i ≤ t → in_turn W (taken_lists lanes') i ≡ in_turn W lists i
   verdicts_kept i le = ap (λ ls. in_turn W ls i) lists_grow ∙ in_turn-kept W lists t v some lists_long counted i le
 
-  deals_more : deals_in (in_turn W (taken_lists lanes') (t + 1)) ≡ cond v.accepted (deals_in (in_turn W lists t) ++ v.deal ∷ []) (deals_in (in_turn W lists t))
-  deals_more = ap deals_in verdicts_more ∙ deals_in-push (in_turn W lists t) v
+  abbrev last : Board
+  last = board_of plan (board_count plan lists t) v.number v.deal
 
-  printed_more : (boards : ℕ) → boards ≡ boards_in plan lists t → printed plan (taken_lists lanes') (t + 1) ≡ printed plan lists t ++ cond v.accepted (game_after plan boards v) []
+  all_more : boards_after plan (taken_lists lanes') (t + 1) ≡ cond v.accepted (boards_after plan lists t ++ last ∷ []) (boards_after plan lists t)
+  all_more = ap (boards_in plan) verdicts_more ∙ boards_in-push plan (in_turn W lists t) v
+
+  printed_more : (boards : ℕ) → boards ≡ board_count plan lists t → printed layout plan (taken_lists lanes') (t + 1) ≡ printed layout plan lists t ++ cond v.accepted (board_text layout plan boards v) []
   printed_more boards is =
-      ap (text_of_deals plan) deals_more ∙ more_text plan (deals_in (in_turn W lists t)) v.deal v.accepted
-      ∙ ap (λ n. printed plan lists t ++ cond v.accepted (game_after plan n v) []) (sym is)
+      ap (text_of_boards layout) all_more ∙ more_text layout (boards_after plan lists t) last v.accepted
+      ∙ ap (λ n. printed layout plan lists t ++ cond v.accepted (board_text layout plan n v) []) (sym is)
 
-  boards_more : (boards : ℕ) → boards ≡ boards_in plan lists t → cond v.accepted (boards + 1) boards ≡ boards_in plan (taken_lists lanes') (t + 1)
+  boards_more : (boards : ℕ) → boards ≡ board_count plan lists t → cond v.accepted (boards + 1) boards ≡ board_count plan (taken_lists lanes') (t + 1)
   boards_more boards is =
-      ap (λ n. cond v.accepted (n + 1) n) is ∙ sym (ap length deals_more ∙ more_boards (deals_in (in_turn W lists t)) v.deal v.accepted)
+      ap (λ n. cond v.accepted (n + 1) n) is ∙ sym (ap length all_more ∙ more_boards (boards_after plan lists t) last v.accepted)
 
-  boards_kept : (i : ℕ) → i ≤ t → boards_in plan (taken_lists lanes') i ≡ boards_in plan lists i
-  boards_kept i le = ap (λ vs. length (deals_in vs)) (verdicts_kept i le)
+  boards_kept : (i : ℕ) → i ≤ t → board_count plan (taken_lists lanes') i ≡ board_count plan lists i
+  boards_kept i le = ap (λ vs. length (boards_in plan vs)) (verdicts_kept i le)
 
   lane_turns : (w : ℕ) (e : OutView) → w < W → length (get_or lanes' w e).taken ≡ turns plan.workers w (t + 1)
   lane_turns w e lt =
@@ -98,39 +101,39 @@ module _ (plan : Planned) (lanes : List OutView) (t : ℕ) (v : Verdict) (new : 
   turns_more : TakenInTurn plan lanes' (t + 1)
   turns_more = record { long = simp length-set taken.long; turns_are = lane_turns }
 
-  short_more : (boards : ℕ) → boards ≡ boards_in plan lists t → StaysShort plan lanes t → ForSome plan.limit (λ most. boards < most) → StaysShort plan lanes' (t + 1)
+  short_more : (boards : ℕ) → boards ≡ board_count plan lists t → StaysShort plan lanes t → ForSome plan.limit (λ most. boards < most) → StaysShort plan lanes' (t + 1)
   short_more boards is short less i lt most limit =
       elim (cases_lt i t) [
-        | inl before ↦ let h : boards_in plan lists i < most = short i before most limit in omega (arith, h, boards_kept i (omega arith))
+        | inl before ↦ let h : board_count plan lists i < most = short i before most limit in omega (arith, h, boards_kept i (omega arith))
         | inr not_so ↦
             let e : i ≡ t = omega arith in
-            let same : boards_in plan (taken_lists lanes') i ≡ boards = ap (boards_in plan (taken_lists lanes')) e ∙ boards_kept t (omega arith) ∙ sym is in
+            let same : board_count plan (taken_lists lanes') i ≡ boards = ap (board_count plan (taken_lists lanes')) e ∙ boards_kept t (omega arith) ∙ sym is in
             omega (arith, same, less most limit)
       ]
 
-  pub step_on : (boards : ℕ) (base bytes : Option (List ℕ)) → WriterSoFar plan lanes t boards base bytes → plan.limit ≢ Some boards
-      → WriterSoFar plan lanes' (t + 1) (cond v.accepted (boards + 1) boards) base (append_known bytes (cond v.accepted (game_after plan boards v) []))
+  pub step_on : (boards : ℕ) (base bytes : Option (List ℕ)) → WriterSoFar layout plan lanes t boards base bytes → plan.limit ≢ Some boards
+      → WriterSoFar layout plan lanes' (t + 1) (cond v.accepted (boards + 1) boards) base (append_known bytes (cond v.accepted (board_text layout plan boards v) []))
   step_on boards base bytes h less =
       let is = h.written.boards_are in
       let below = not_met plan.limit boards h.within less in record {
         in_turn = turns_more;
         written = record {
-          bytes_are = ap (λ o. append_known o (cond v.accepted (game_after plan boards v) [])) h.written.bytes_are
-              ∙ append_known-append base (printed plan lists t) (cond v.accepted (game_after plan boards v) []) ∙ ap (append_known base) (sym (printed_more boards is));
+          bytes_are = ap (λ o. append_known o (cond v.accepted (board_text layout plan boards v) [])) h.written.bytes_are
+              ∙ append_known-append base (printed layout plan lists t) (cond v.accepted (board_text layout plan boards v) []) ∙ ap (append_known base) (sym (printed_more boards is));
           boards_are = boards_more boards is;
         };
         within = one_more_within plan.limit boards v.accepted below;
         short = short_more boards is h.short below;
       }
 
-  pub step_broken : (boards : ℕ) (base bytes bytes' : Option (List ℕ)) → WriterSoFar plan lanes t boards base bytes → plan.limit ≢ Some boards → v.accepted ≡ true
-      → AppendsPart bytes bytes' (game_after plan boards v) → WriterBrokeOff plan lanes' (t + 1) boards base bytes'
+  pub step_broken : (boards : ℕ) (base bytes bytes' : Option (List ℕ)) → WriterSoFar layout plan lanes t boards base bytes → plan.limit ≢ Some boards → v.accepted ≡ true
+      → AppendsPart bytes bytes' (board_text layout plan boards v) → WriterBrokeOff layout plan lanes' (t + 1) boards base bytes'
   step_broken boards base bytes bytes' h less accepted part =
       let is = h.written.boards_are in
-      let before : List ℕ = printed plan lists t in
-      let last : t + 1 - 1 ≡ t = omega arith in
-      let all : printed plan (taken_lists lanes') (t + 1) ≡ before ++ game_after plan boards v = printed_more boards is ∙ ap (λ b. before ++ cond b (game_after plan boards v) []) accepted in
-      let same : printed plan (taken_lists lanes') (t + 1 - 1) ≡ before = ap (printed plan (taken_lists lanes')) last ∙ ap (λ vs. text_of_deals plan (deals_in vs)) (verdicts_kept t (omega arith)) in
+      let before : List ℕ = printed layout plan lists t in
+      let back : t + 1 - 1 ≡ t = omega arith in
+      let all : printed layout plan (taken_lists lanes') (t + 1) ≡ before ++ board_text layout plan boards v = printed_more boards is ∙ ap (λ b. before ++ cond b (board_text layout plan boards v) []) accepted in
+      let same : printed layout plan (taken_lists lanes') (t + 1 - 1) ≡ before = ap (printed layout plan (taken_lists lanes')) back ∙ ap (λ vs. text_of_boards layout (boards_in plan vs)) (verdicts_kept t (omega arith)) in
       record {
         in_turn = turns_more;
         broken = record {
@@ -140,23 +143,23 @@ module _ (plan : Planned) (lanes : List OutView) (t : ℕ) (v : Verdict) (new : 
           is_proper = part.is_proper;
           appended = part.appended ∙ ap (λ o. append_known o part.front) h.written.bytes_are ∙ append_known-append base before part.front;
           last_piece = λ _. (part.front, ap (λ bs. bs ++ part.front) same);
-          boards_are = is ∙ sym (ap (boards_in plan (taken_lists lanes')) last ∙ boards_kept t (omega arith));
+          boards_are = is ∙ sym (ap (board_count plan (taken_lists lanes')) back ∙ boards_kept t (omega arith));
         };
         short = short_more boards is h.short (not_met plan.limit boards h.within less);
       }
 
 -- the same, with the values as the writer has them
-pub on_to : (plan : Planned) (lanes : List OutView) (t boards : ℕ) (base bytes : Option (List ℕ)) (v : Verdict) (old new : OutView) (place t' boards' : ℕ) (bytes' : Option (List ℕ))
-    → 0 < plan.workers → WriterSoFar plan lanes t boards base bytes → plan.limit ≢ Some boards → place ≡ t % plan.workers → old ≡ get_or lanes place old → new.taken ≡ old.taken ++ v ∷ []
-    → t' ≡ t + 1 → boards' ≡ cond v.accepted (boards + 1) boards → bytes' ≡ append_known bytes (cond v.accepted (game_after plan boards v) [])
-    → WriterSoFar plan (set lanes place new) t' boards' base bytes'
-on_to plan lanes t boards base bytes v old new place t' boards' bytes' some h less place_is old_is took t_is boards_is bytes_is =
+pub on_to : (layout now : Layout) (plan : Planned) (lanes : List OutView) (t boards : ℕ) (base bytes : Option (List ℕ)) (v : Verdict) (old new : OutView) (place t' boards' : ℕ) (bytes' : Option (List ℕ))
+    → 0 < plan.workers → WriterSoFar layout plan lanes t boards base bytes → plan.limit ≢ Some boards → place ≡ t % plan.workers → old ≡ get_or lanes place old → new.taken ≡ old.taken ++ v ∷ []
+    → t' ≡ t + 1 → boards' ≡ cond v.accepted (boards + 1) boards → now ≡ layout → bytes' ≡ append_known bytes (cond v.accepted (board_text now plan boards v) [])
+    → WriterSoFar layout plan (set lanes place new) t' boards' base bytes'
+on_to layout now plan lanes t boards base bytes v old new place t' boards' bytes' some h less place_is old_is took t_is boards_is same bytes_is =
     let at = taken_at plan lanes t v old new place some h.in_turn place_is old_is took in
-    let step = step_on plan lanes t v new some h.in_turn at boards base bytes h less in
-    subst (λ p. WriterSoFar plan (set lanes p new) t' boards' base bytes') (sym place_is)
-    (subst (λ n. WriterSoFar plan (set lanes (t % plan.workers) new) n boards' base bytes') (sym t_is)
-    (subst (λ n. WriterSoFar plan (set lanes (t % plan.workers) new) (t + 1) n base bytes') (sym boards_is)
-    (subst (WriterSoFar plan (set lanes (t % plan.workers) new) (t + 1) (cond v.accepted (boards + 1) boards) base) (sym bytes_is) step)))
+    let step = step_on layout plan lanes t v new some h.in_turn at boards base bytes h less in
+    subst (λ p. WriterSoFar layout plan (set lanes p new) t' boards' base bytes') (sym place_is)
+    (subst (λ n. WriterSoFar layout plan (set lanes (t % plan.workers) new) n boards' base bytes') (sym t_is)
+    (subst (λ n. WriterSoFar layout plan (set lanes (t % plan.workers) new) (t + 1) n base bytes') (sym boards_is)
+    (subst (WriterSoFar layout plan (set lanes (t % plan.workers) new) (t + 1) (cond v.accepted (boards + 1) boards) base) (sym (bytes_is ∙ ap (λ l. append_known bytes (cond v.accepted (board_text l plan boards v) [])) same)) step)))
   where
     taken_at : (plan : Planned) (lanes : List OutView) (t : ℕ) (v : Verdict) (old new : OutView) (place : ℕ) → 0 < plan.workers → TakenInTurn plan lanes t → place ≡ t % plan.workers → old ≡ get_or lanes place old → new.taken ≡ old.taken ++ v ∷ []
         → new.taken ≡ (get_or lanes (t % plan.workers) new).taken ++ v ∷ []
@@ -164,56 +167,56 @@ on_to plan lanes t boards base bytes v old new place t' boards' bytes' some h le
         let below : place < length lanes = omega (arith, some, taken.long, place_is) in
         took ∙ ap (λ l. l.taken ++ v ∷ []) (old_is ∙ get_or_default lanes place old new below ∙ ap (λ p. get_or lanes p new) place_is)
 
-pub broken_to : (plan : Planned) (lanes : List OutView) (t boards : ℕ) (base bytes : Option (List ℕ)) (v : Verdict) (old new : OutView) (place t' boards' : ℕ) (bytes' : Option (List ℕ))
-    → 0 < plan.workers → WriterSoFar plan lanes t boards base bytes → plan.limit ≢ Some boards → place ≡ t % plan.workers → old ≡ get_or lanes place old → new.taken ≡ old.taken ++ v ∷ []
-    → t' ≡ t + 1 → v.accepted ≡ true → boards' ≡ boards → AppendsPart bytes bytes' (game_after plan boards v)
-    → WriterBrokeOff plan (set lanes place new) t' boards' base bytes'
-broken_to plan lanes t boards base bytes v old new place t' boards' bytes' some h less place_is old_is took t_is accepted boards_is part =
+pub broken_to : (layout now : Layout) (plan : Planned) (lanes : List OutView) (t boards : ℕ) (base bytes : Option (List ℕ)) (v : Verdict) (old new : OutView) (place t' boards' : ℕ) (bytes' : Option (List ℕ))
+    → 0 < plan.workers → WriterSoFar layout plan lanes t boards base bytes → plan.limit ≢ Some boards → place ≡ t % plan.workers → old ≡ get_or lanes place old → new.taken ≡ old.taken ++ v ∷ []
+    → t' ≡ t + 1 → v.accepted ≡ true → boards' ≡ boards → now ≡ layout → AppendsPart bytes bytes' (board_text now plan boards v)
+    → WriterBrokeOff layout plan (set lanes place new) t' boards' base bytes'
+broken_to layout now plan lanes t boards base bytes v old new place t' boards' bytes' some h less place_is old_is took t_is accepted boards_is same part =
     let below : place < length lanes = omega (arith, some, h.in_turn.long, place_is) in
     let at : new.taken ≡ (get_or lanes (t % plan.workers) new).taken ++ v ∷ [] = took ∙ ap (λ l. l.taken ++ v ∷ []) (old_is ∙ get_or_default lanes place old new below ∙ ap (λ p. get_or lanes p new) place_is) in
-    let step = step_broken plan lanes t v new some h.in_turn at boards base bytes bytes' h less accepted part in
-    subst (λ p. WriterBrokeOff plan (set lanes p new) t' boards' base bytes') (sym place_is)
-    (subst (λ n. WriterBrokeOff plan (set lanes (t % plan.workers) new) n boards' base bytes') (sym t_is)
-    (subst (λ n. WriterBrokeOff plan (set lanes (t % plan.workers) new) (t + 1) n base bytes') (sym boards_is) step))
+    let step = step_broken layout plan lanes t v new some h.in_turn at boards base bytes bytes' h less accepted (subst (λ l. AppendsPart bytes bytes' (board_text l plan boards v)) same part) in
+    subst (λ p. WriterBrokeOff layout plan (set lanes p new) t' boards' base bytes') (sym place_is)
+    (subst (λ n. WriterBrokeOff layout plan (set lanes (t % plan.workers) new) n boards' base bytes') (sym t_is)
+    (subst (λ n. WriterBrokeOff layout plan (set lanes (t % plan.workers) new) (t + 1) n base bytes') (sym boards_is) step))
 
-printed-none : (plan : Planned) (lists : List (List Verdict)) → printed plan lists 0 ≡ header
-unfolding deals_in games
-printed-none plan lists = ap (λ vs. text_of_deals plan (deals_in vs)) (in_turn-none plan.workers lists) ∙ append-nil header
+printed-none : (layout : Layout) (plan : Planned) (lists : List (List Verdict)) → printed layout plan lists 0 ≡ layout.header
+printed-none layout plan lists =
+    ap (λ vs. text_of_boards layout (boards_in plan vs)) (in_turn-none plan.workers lists) ∙ ap (text_of_boards layout) (boards_in-none plan)
+    ∙ text_of_boards-none layout
 
-boards-none : (plan : Planned) (lists : List (List Verdict)) → boards_in plan lists 0 ≡ 0
-unfolding deals_in
-boards-none plan lists = ap (λ vs. length (deals_in vs)) (in_turn-none plan.workers lists)
+boards-none : (plan : Planned) (lists : List (List Verdict)) → board_count plan lists 0 ≡ 0
+boards-none plan lists = ap (λ vs. length (boards_in plan vs)) (in_turn-none plan.workers lists) ∙ ap length (boards_in-none plan)
 
 fresh_turns : (plan : Planned) (lanes : List OutView) → length lanes ≡ plan.workers → ((w : ℕ) (e : OutView) → w < plan.workers → (get_or lanes w e).taken ≡ []) → TakenInTurn plan lanes 0
 fresh_turns plan lanes long fresh = record { long = long; turns_are = λ w e lt. ap length (fresh w e lt) ∙ sym (turns-none plan.workers w) }
 
-pub begins : (plan : Planned) (lanes : List OutView) (t boards : ℕ) (base bytes : Option (List ℕ)) → length lanes ≡ plan.workers → ((w : ℕ) (e : OutView) → w < plan.workers → (get_or lanes w e).taken ≡ [])
-    → t ≡ 0 → boards ≡ 0 → bytes ≡ append_known base header → WriterSoFar plan lanes t boards base bytes
-begins plan lanes t boards base bytes long fresh t_is boards_is bytes_is =
+pub begins : (layout : Layout) (head : List ℕ) (plan : Planned) (lanes : List OutView) (t boards : ℕ) (base bytes : Option (List ℕ)) → length lanes ≡ plan.workers → ((w : ℕ) (e : OutView) → w < plan.workers → (get_or lanes w e).taken ≡ [])
+    → t ≡ 0 → boards ≡ 0 → head ≡ layout.header → bytes ≡ append_known base head → WriterSoFar layout plan lanes t boards base bytes
+begins layout head plan lanes t boards base bytes long fresh t_is boards_is head_is bytes_is =
     let lists = taken_lists lanes in record {
       in_turn = subst (TakenInTurn plan lanes) (sym t_is) (fresh_turns plan lanes long fresh);
       written = record {
-        bytes_are = bytes_is ∙ ap (append_known base) (sym (ap (printed plan lists) t_is ∙ printed-none plan lists));
-        boards_are = boards_is ∙ sym (ap (boards_in plan lists) t_is ∙ boards-none plan lists);
+        bytes_are = bytes_is ∙ ap (append_known base) (head_is ∙ sym (ap (printed layout plan lists) t_is ∙ printed-none layout plan lists));
+        boards_are = boards_is ∙ sym (ap (board_count plan lists) t_is ∙ boards-none plan lists);
       };
       within = λ most _. omega arith;
       short = λ i lt. absurd (omega arith);
     }
 
-pub begins_broken : (plan : Planned) (lanes : List OutView) (t boards : ℕ) (base bytes : Option (List ℕ)) → length lanes ≡ plan.workers → ((w : ℕ) (e : OutView) → w < plan.workers → (get_or lanes w e).taken ≡ [])
-    → t ≡ 0 → boards ≡ 0 → AppendsPart base bytes header → WriterBrokeOff plan lanes t boards base bytes
-begins_broken plan lanes t boards base bytes long fresh t_is boards_is part =
+pub begins_broken : (layout : Layout) (head : List ℕ) (plan : Planned) (lanes : List OutView) (t boards : ℕ) (base bytes : Option (List ℕ)) → length lanes ≡ plan.workers → ((w : ℕ) (e : OutView) → w < plan.workers → (get_or lanes w e).taken ≡ [])
+    → t ≡ 0 → boards ≡ 0 → head ≡ layout.header → AppendsPart base bytes head → WriterBrokeOff layout plan lanes t boards base bytes
+begins_broken layout head plan lanes t boards base bytes long fresh t_is boards_is head_is part =
     let lists = taken_lists lanes in
     let none : t - 1 ≡ 0 = omega arith in record {
       in_turn = subst (TakenInTurn plan lanes) (sym t_is) (fresh_turns plan lanes long fresh);
       broken = record {
         front = part.front;
         rest = part.rest;
-        is_text = part.is_text ∙ sym (ap (printed plan lists) t_is ∙ printed-none plan lists);
+        is_text = part.is_text ∙ head_is ∙ sym (ap (printed layout plan lists) t_is ∙ printed-none layout plan lists);
         is_proper = part.is_proper;
         appended = part.appended;
         last_piece = λ some. absurd (omega arith);
-        boards_are = boards_is ∙ sym (ap (boards_in plan lists) none ∙ boards-none plan lists);
+        boards_are = boards_is ∙ sym (ap (board_count plan lists) none ∙ boards-none plan lists);
       };
       short = λ i lt. absurd (omega arith);
     }

@@ -3,11 +3,12 @@ use Rattle.std.proofs.Common.{◌≡◌, ◌≢◌, ℕ, zero, suc, ◌+◌, ◌
 use Rattle.std.specs.List.{range_with_len, cons_option, slice_get}
 use Rattle.std.specs.Option.{ForSome}
 use Rattle.std.proofs.lemmas.Grind.{common_steps}
-use Rattle.std.proofs.lemmas.List.{get_or-map, length-map, get_or-take, take_all, take-take, nil_from_length}
+use Rattle.std.proofs.lemmas.List.{get_or-map, length-map, get_or-take, take_all, take-take, nil_from_length, append-nil}
 use Rattle.std.proofs.Math.Seq.{take-append_seam}
 use Rattle.std.proofs.lemmas.List.FromFn.{fill_by_all, get_or-map-range_with_len, map-range_with_len_more, get_or-enumerate_from, length-enumerate_from}
 use Rattle.std.proofs.lemmas.Option.{slice_get-get_or}
 use denote.RawPtr.{null_ptr}
+use Rattle.boards.specs.Layouts.{Layout}
 use Rattle.cards.specs.Candidates.{candidate}
 use Rattle.cards.specs.Deals.{IsPartition}
 use Rattle.cards.proofs.Partitions.{candidate_partition}
@@ -21,15 +22,17 @@ use Rattle.lanes.proofs.Places.{count_even, turns_less}
 use Rattle.lanes.proofs.Sums.{turn_counts, sum-turn_counts}
 use Rattle.lanes.proofs.VerdictLists.{length-verdicts, verdicts-are}
 use Rattle.dealrun.specs.Plans.{Planned}
-use Rattle.dealrun.specs.Sinks.{append_known}
-use Rattle.dealrun.specs.Text.{accepted_among, accepted, text_of, text_of_deals, text, end_of}
-use Rattle.dealrun.specs.MergedVerdicts.{verdicts_for, at_turn, in_turn, deals_in, boards_in, taken_lists, taken_in_all}
+use Rattle.dealrun.specs.Sinks.{append_known, AppendsAll, AppendsPart}
+use Rattle.dealrun.specs.Text.{accepted_among, accepted, boards_of, text_of, text_of_boards, end_of}
+use Rattle.dealrun.specs.MergedVerdicts.{verdicts_for, at_turn, in_turn, boards_in, boards_after, taken_lists, taken_in_all}
 use Rattle.dealrun.specs.internal.Joins.{ByNumber}
-use Rattle.dealrun.specs.internal.Ends.{Completes}
-use Rattle.dealrun.specs.internal.Writing.{TakenInTurn, StaysShort, WriterSoFar}
-use Rattle.dealrun.specs.Outcomes.{EachLane, AllSettled, for_each_worker, contents_of, PrintsTaken, PrintsCandidates, AreLanesConsistent, TakesWhatIsOwed, StandsComplete}
+use Rattle.dealrun.specs.internal.Ends.{Closes, Completes}
+use Rattle.dealrun.specs.internal.Writing.{board_count, printed, TakenInTurn, StaysShort, WroteTaken, WriterSoFar}
+use Rattle.dealrun.specs.Outcomes.{EachLane, AllSettled, for_each_worker, contents_of, PrintsTaken, AreLanesConsistent, TakesWhatIsOwed, WritesTextIn, BreaksOffFooter, StandsCompleteIn}
+use Rattle.dealrun.proofs.BoardLists.{length-boards_of}
+use Rattle.dealrun.proofs.SinkLemmas.{append_known-append, append_known-nil}
 use Rattle.dealrun.proofs.Printing.{in_turn-none, in_turn-more}
-use Rattle.dealrun.proofs.Accepting.{deals_are, end_here, needed_here, accepted_here}
+use Rattle.dealrun.proofs.Accepting.{boards_are, end_here, needed_here, accepted_here}
 
 -- a list's beginning, when more follows it in a beginning
 pub prefix_front : (xs ys zs : List Verdict) → IsPrefix (xs ++ ys) zs → IsPrefix xs zs
@@ -113,23 +116,20 @@ module _ (plan : Planned) (form : Form) (lanes : List OutView) (t : ℕ) (some :
       ∙ ap (λ o. map at (range_with_len 0 m) ++ cons_option o []) (at_turn_is m (omega arith))
       ∙ sym (ap (λ n. map at (range_with_len 0 n)) e ∙ map-range_with_len_more at 0 m m (omega arith))
 
-  pub deals_taken : (m : ℕ) → m ≤ t → deals_in (in_turn plan.workers (taken_lists lanes) m) ≡ map (candidate plan.seed) (accepted_among plan.seed plan.first form m)
-  deals_taken m le' = ap deals_in (recovers m le') ∙ deals_are plan.seed plan.first form m
+  pub boards_taken : (m : ℕ) → m ≤ t → boards_after plan (taken_lists lanes) m ≡ boards_of plan (accepted_among plan.seed plan.first form m)
+  boards_taken m le' = ap (boards_in plan) (recovers m le') ∙ boards_are plan form m
 
-  pub prints : (m : ℕ) → m ≤ t → PrintsCandidates plan form lanes m
-  prints m le' = ap (text_of_deals plan) (deals_taken m le')
-
-  pub boards_taken : (m : ℕ) → m ≤ t → boards_in plan (taken_lists lanes) m ≡ length (accepted_among plan.seed plan.first form m)
-  boards_taken m le' = ap length (deals_taken m le') ∙ simp length-map
+  pub count_taken : (m : ℕ) → m ≤ t → board_count plan (taken_lists lanes) m ≡ length (accepted_among plan.seed plan.first form m)
+  count_taken m le' = ap length (boards_taken m le') ∙ length-boards_of plan (accepted_among plan.seed plan.first form m)
 
   pub short_candidates : StaysShort plan lanes t → (i : ℕ) → i < t → ForSome plan.limit (λ most. length (accepted_among plan.seed plan.first form i) < most)
-  short_candidates short i lt most is = let less : boards_in plan (taken_lists lanes) i < most = short i lt most is in omega (arith, less, boards_taken i (omega arith))
+  short_candidates short i lt most is = let less : board_count plan (taken_lists lanes) i < most = short i lt most is in omega (arith, less, count_taken i (omega arith))
 
   -- as many as were needed, and the text of all
-  module _ (boards : ℕ) (old new : Option (List ℕ)) (written : PrintsTaken plan lanes t boards old new) (within : ForSome plan.limit (λ most. boards ≤ most)) (short : StaysShort plan lanes t)
+  module _ (layout : Layout) (boards : ℕ) (old new : Option (List ℕ)) (written : WroteTaken layout plan lanes t boards old new) (within : ForSome plan.limit (λ most. boards ≤ most)) (short : StaysShort plan lanes t)
       (ended : (t ≡ plan.count) ⊎ (plan.limit ≡ Some boards)) where
     boards_here : boards ≡ length (accepted_among plan.seed plan.first form t)
-    boards_here = written.boards_are ∙ boards_taken t (omega arith)
+    boards_here = written.boards_are ∙ count_taken t (omega arith)
 
     ended_here : (t ≡ plan.count) ⊎ (plan.limit ≡ Some (length (accepted_among plan.seed plan.first form t)))
     ended_here = elim (ended) [ inl e ↦ inl e | inr e ↦ inr (e ∙ ap (λ n. Some n) boards_here) ]
@@ -143,8 +143,8 @@ module _ (plan : Planned) (form : Form) (lanes : List OutView) (t : ℕ) (some :
     accepted_is : accepted plan form ≡ accepted_among plan.seed plan.first form t
     accepted_is = accepted_here plan form t le within_here ended_here
 
-    pub whole_text : new ≡ append_known old (text plan form)
-    whole_text = written.bytes_are ∙ ap (append_known old) (prints t (omega arith) ∙ ap (text_of plan) (sym accepted_is))
+    pub whole_text : new ≡ append_known old (text_of layout plan (accepted plan form))
+    whole_text = written.bytes_are ∙ ap (append_known old) (ap (text_of_boards layout) (boards_taken t (omega arith)) ∙ ap (text_of layout plan) (sym accepted_is))
 
     pub all_boards : boards ≡ length (accepted plan form)
     all_boards = boards_here ∙ ap length (sym accepted_is)
@@ -168,17 +168,24 @@ stand plan form lanes t some le h short parts =
       in_turn = turns_as_lists plan lanes (taken_in_all lanes) (subst (TakenInTurn plan lanes) (sym total) h);
       parts = each_number plan (λ w l. l.settled ≡ true → IsPrefix (contents_of l) (verdicts_for plan form w)) lanes h.long parts;
       needed = λ all. subst (λ m. m ≤ end_of plan form) (sym total) (needed_here plan form t le (short_candidates plan form lanes t some le h (fronts all) short));
-      candidates = λ all m le'. prints plan form lanes t some le h (fronts all) m (omega (arith, le', total));
+      candidates = λ all m le'. boards_taken plan form lanes t some le h (fronts all) m (omega (arith, le', total));
     }
 
--- what was taken was written
-pub stand_complete : (plan : Planned) (form : Form) (lanes : List OutView) (t boards : ℕ) (old new : Option (List ℕ)) → 0 < plan.workers → t ≤ plan.count → WriterSoFar plan lanes t boards old new
-    → ByNumber plan lanes (λ w l. l.settled ≡ true → IsPrefix (contents_of l) (verdicts_for plan form w)) → StandsComplete plan form lanes boards old new
-stand_complete plan form lanes t boards old new some le h parts =
+-- what was taken was written, and what closes it
+printed_is : (layout : Layout) (closing : List ℕ) (plan : Planned) (lanes : List OutView) (m boards : ℕ) (old mid new : Option (List ℕ)) → WroteTaken layout plan lanes m boards old mid
+    → new ≡ append_known mid closing → PrintsTaken layout closing plan lanes m boards old new
+printed_is layout closing plan lanes m boards old mid new h is = record {
+  bytes_are = is ∙ ap (λ o. append_known o closing) h.bytes_are ∙ append_known-append old (printed layout plan (taken_lists lanes) m) closing;
+  boards_are = h.boards_are;
+}
+
+pub stand_complete : (layout : Layout) (plan : Planned) (form : Form) (lanes : List OutView) (t boards : ℕ) (old new : Option (List ℕ)) → 0 < plan.workers → t ≤ plan.count → WriterSoFar layout plan lanes t boards old new
+    → ByNumber plan lanes (λ w l. l.settled ≡ true → IsPrefix (contents_of l) (verdicts_for plan form w)) → StandsCompleteIn layout [] plan form lanes boards old new
+stand_complete layout plan form lanes t boards old new some le h parts =
     let total = taken_total plan lanes t some h.in_turn in
     record {
       lanes_are = stand plan form lanes t some le h.in_turn h.short parts;
-      printed_is = subst (λ m. PrintsTaken plan lanes m boards old new) (sym total) h.written;
+      printed_is = subst (λ m. PrintsTaken layout [] plan lanes m boards old new) (sym total) (printed_is layout [] plan lanes t boards old new new h.written (sym (append_known-nil new)));
     }
 
 -- a lane whose worker's verdicts were all taken, as many as were sent
@@ -189,7 +196,7 @@ whole_lane plan form l w front sent same =
     (front ∙ take_all (length l.taken) (verdicts_for plan form w) (omega (arith, same)), nil_from_length l.left none)
 
 -- a run that took what was needed completes
-module _ (plan : Planned) (form : Form) (lanes : List OutView) (t boards : ℕ) (old new : Option (List ℕ)) (some : 0 < plan.workers) (le : t ≤ plan.count) (h : WriterSoFar plan lanes t boards old new)
+module _ (layout : Layout) (plan : Planned) (form : Form) (lanes : List OutView) (t boards : ℕ) (old new : Option (List ℕ)) (some : 0 < plan.workers) (le : t ≤ plan.count) (h : WriterSoFar layout plan lanes t boards old new)
     (settled : ByNumber plan lanes (λ w l. l.settled ≡ true)) (parts : ByNumber plan lanes (λ w l. l.settled ≡ true → IsPrefix (contents_of l) (verdicts_for plan form w)))
     (ended : (t ≡ plan.count) ⊎ (plan.limit ≡ Some boards)) where
   long : length lanes ≡ plan.workers
@@ -202,7 +209,7 @@ module _ (plan : Planned) (form : Form) (lanes : List OutView) (t boards : ℕ) 
   fronts w e lt = prefix_front (get_or lanes w e).taken (get_or lanes w e).left (verdicts_for plan form w) (sent w e lt)
 
   end_is : end_of plan form ≡ t
-  end_is = ends plan form lanes t some le h.in_turn fronts boards old new h.written h.within h.short ended
+  end_is = ends plan form lanes t some le h.in_turn fronts layout boards old new h.written h.within h.short ended
 
   all_needed : plan.limit ≢ Some boards → t ≡ plan.count
   all_needed less = elim (ended) [ inl e ↦ e | inr e ↦ absurd (less e) ]
@@ -225,13 +232,52 @@ module _ (plan : Planned) (form : Form) (lanes : List OutView) (t boards : ℕ) 
     );
   }
 
-  pub complete : Completes plan form lanes boards old new
+  pub complete : Completes layout plan form lanes boards old new
   complete = record {
     lanes_are = lanes_complete;
+    bytes_are = whole_text plan form lanes t some le h.in_turn fronts layout boards old new h.written h.within h.short ended;
+    boards_are = all_boards plan form lanes t some le h.in_turn fronts layout boards old new h.written h.within h.short ended;
+    stands = stand_complete layout plan form lanes t boards old new some le h parts;
+  }
+
+-- ---- the footer
+
+module _ (layout : Layout) (plan : Planned) (form : Form) (lanes : List OutView) (boards : ℕ) (old mid new : Option (List ℕ)) (done : Completes layout plan form lanes boards old mid) where
+  abbrev body : List ℕ
+  body = text_of layout plan (accepted plan form)
+
+  -- the footer, or its beginning, comes after all boards
+  after_body : (end : List ℕ) → new ≡ append_known mid end → new ≡ append_known old (body ++ end)
+  after_body end is = is ∙ ap (λ o. append_known o end) done.bytes_are ∙ append_known-append old body end
+
+  -- what was printed, without an end
+  printed_before : WroteTaken layout plan lanes (taken_in_all lanes) boards old mid
+  printed_before = let p = done.stands.printed_is in record {
+    bytes_are = p.bytes_are ∙ ap (append_known old) (append-nil (printed layout plan (taken_lists lanes) (taken_in_all lanes)));
+    boards_are = p.boards_are;
+  }
+
+  pub closed : AppendsAll mid new layout.footer → Closes layout plan form lanes boards old new
+  closed is = record {
+    lanes_are = done.lanes_are;
     text_is = record {
-      bytes = whole_text plan form lanes t some le h.in_turn fronts boards old new h.written h.within h.short ended;
-      boards_are = all_boards plan form lanes t some le h.in_turn fronts boards old new h.written h.within h.short ended;
+      bytes = after_body layout.footer is;
+      boards_are = done.boards_are;
       partitions = partitions plan form;
     };
-    stands = stand_complete plan form lanes t boards old new some le h parts;
+    stands = record {
+      lanes_are = done.stands.lanes_are;
+      printed_is = printed_is layout layout.footer plan lanes (taken_in_all lanes) boards old mid new printed_before is;
+    };
+  }
+
+  pub footer_broken : AppendsPart mid new layout.footer → BreaksOffFooter layout plan form lanes boards old new
+  footer_broken part = record {
+    front = part.front;
+    rest = part.rest;
+    is_footer = part.is_text;
+    is_proper = part.is_proper;
+    appended = after_body part.front part.appended;
+    boards_are = done.boards_are;
+    lanes_are = done.lanes_are;
   }

@@ -1,10 +1,11 @@
 -- From the joins and the writer to what a run promises.
-use Rattle.std.proofs.Common.{◌≡◌, ◌≢◌, ◌<◌, ◌≤◌, ◌-◌, ◌++◌, ℕ, true, false, List, [], All, map, take, length, get_or, Option, None, Some, MatchOption, Result, Ok, Err, MatchResult, OnOk, OnErr, IfOk, IfErr, arith, ap, ◌∙◌, sym, subst, refl, inl, inr}
+use Rattle.std.proofs.Common.{◌≡◌, ◌≢◌, ◌<◌, ◌≤◌, ◌-◌, ◌⊎◌, ◌++◌, ℕ, true, false, List, [], All, map, take, length, get_or, Option, None, Some, MatchOption, Result, Ok, Err, MatchResult, OnOk, OnErr, IfOk, IfErr, arith, ap, ◌∙◌, sym, subst, refl, inl, inr}
 use Rattle.std.specs.Result.{is_err}
 use Rattle.std.proofs.lemmas.Bool.{cases_lt, both_ways, false≢true, true≢false}
 use Rattle.std.proofs.lemmas.List.{get_or-map, length-map, get_or-take, take_all}
 use Rattle.std.proofs.lemmas.List.FromFn.{get_or-map-range_with_len}
 use Rattle.std.proofs.lemmas.Option.{slice_get-get_or}
+use Rattle.boards.specs.Layouts.{Layout}
 use Rattle.cond_lang.specs.Form.{Form}
 use Rattle.lanes.specs.declared.verdict.Verdict.{Verdict}
 use Rattle.lanes.specs.Views.{OutView}
@@ -12,10 +13,11 @@ use Rattle.lanes.specs.Work.{IsPrefix, IsProperPrefix}
 use Rattle.lanes.proofs.Places.{turns-none}
 use Rattle.dealrun.specs.Plans.{Planned}
 use Rattle.dealrun.specs.Sinks.{append_known}
-use Rattle.dealrun.specs.MergedVerdicts.{verdicts_for, taken_in_all, printed, boards_in}
+use Rattle.dealrun.specs.MergedVerdicts.{verdicts_for, taken_in_all}
+use Rattle.dealrun.specs.internal.Ends.{Completes}
 use Rattle.dealrun.specs.internal.Joins.{ByNumber, Owes, JoinedAs, Below, WholeIfSettled, IsSettled, BeginningAt, UnsettledAt, AllWhole}
-use Rattle.dealrun.specs.internal.Writing.{TakenInTurn, StaysShort, WriterSoFar, WriterBrokeOff}
-use Rattle.dealrun.specs.Outcomes.{contents_of, AreLanesConsistent, BreaksOffLastPiece, IsLeastStopped, IsLeastUnclosed, InterruptedOutcome}
+use Rattle.dealrun.specs.internal.Writing.{board_count, printed, TakenInTurn, StaysShort, WriterSoFar, WriterBrokeOff}
+use Rattle.dealrun.specs.Outcomes.{contents_of, AreLanesConsistent, BreaksOffLastPiece, IsLeastStopped, IsLeastUnclosed, InterruptedIn, BreaksOffFooter}
 use Rattle.dealrun.specs.declared.cause.Cause.{Cause}
 use Rattle.dealrun.specs.declared.cause.Cause.TheVariants.{Memory, Spawn}
 use Rattle.dealrun.proofs.Endings.{taken_total, stand, prefix_whole, each_number, each_lane, no_lane}
@@ -27,7 +29,7 @@ same_at f xs ys k d is short =
     sym (get_or-map f xs k d (f d) (omega arith)) ∙ (ap (λ zs. get_or zs k (f d)) is ∙ get_or-map f ys k d (f d) short)
 
 -- lanes from which the same was taken
-module _ (plan : Planned) (lanes lanes' : List OutView) (t boards : ℕ) (old new : Option (List ℕ)) (same : map (λ l. l.taken) lanes' ≡ map (λ l. l.taken) lanes) where
+module _ (layout : Layout) (plan : Planned) (lanes lanes' : List OutView) (t boards : ℕ) (old new : Option (List ℕ)) (same : map (λ l. l.taken) lanes' ≡ map (λ l. l.taken) lanes) where
   in_turn_still : TakenInTurn plan lanes t → TakenInTurn plan lanes' t
   in_turn_still h =
       let lens : length lanes' ≡ length lanes = simp length-map at (ap length same) in record {
@@ -36,31 +38,31 @@ module _ (plan : Planned) (lanes lanes' : List OutView) (t boards : ℕ) (old ne
       }
 
   short_still : StaysShort plan lanes t → StaysShort plan lanes' t
-  short_still h i lt most is = subst (λ ls. boards_in plan ls i < most) (sym same) (h i lt most is)
+  short_still h i lt most is = subst (λ ls. board_count plan ls i < most) (sym same) (h i lt most is)
 
-  pub goes_on_still : WriterSoFar plan lanes t boards old new → WriterSoFar plan lanes' t boards old new
+  pub goes_on_still : WriterSoFar layout plan lanes t boards old new → WriterSoFar layout plan lanes' t boards old new
   goes_on_still h = record {
     in_turn = in_turn_still h.in_turn;
     written = record {
-      bytes_are = h.written.bytes_are ∙ ap (λ ls. append_known old (printed plan ls t)) (sym same);
-      boards_are = h.written.boards_are ∙ ap (λ ls. boards_in plan ls t) (sym same);
+      bytes_are = h.written.bytes_are ∙ ap (λ ls. append_known old (printed layout plan ls t)) (sym same);
+      boards_are = h.written.boards_are ∙ ap (λ ls. board_count plan ls t) (sym same);
     };
     within = h.within;
     short = short_still h.short;
   }
 
-  pub gives_up_still : WriterBrokeOff plan lanes t boards old new → WriterBrokeOff plan lanes' t boards old new
+  pub gives_up_still : WriterBrokeOff layout plan lanes t boards old new → WriterBrokeOff layout plan lanes' t boards old new
   gives_up_still h =
       let b = h.broken in record {
         in_turn = in_turn_still h.in_turn;
         broken = record {
           front = b.front;
           rest = b.rest;
-          is_text = b.is_text ∙ ap (λ ls. printed plan ls t) (sym same);
+          is_text = b.is_text ∙ ap (λ ls. printed layout plan ls t) (sym same);
           is_proper = b.is_proper;
           appended = b.appended;
-          last_piece = λ some. let last = b.last_piece some in (last.0, ap (λ ls. printed plan ls (t - 1) ++ last.0) same ∙ last.1);
-          boards_are = b.boards_are ∙ ap (λ ls. boards_in plan ls (t - 1)) (sym same);
+          last_piece = λ some. let last = b.last_piece some in (last.0, ap (λ ls. printed layout plan ls (t - 1) ++ last.0) same ∙ last.1);
+          boards_are = b.boards_are ∙ ap (λ ls. board_count plan ls (t - 1)) (sym same);
         };
         short = short_still h.short;
       }
@@ -117,21 +119,21 @@ module _ (plan : Planned) (form : Form) (n : ℕ) (lists : List (List Verdict)) 
       }
 
 -- a text that was broken off, with the number of all that was taken
-pub stands_broken : (plan : Planned) (form : Form) (lanes : List OutView) (t boards : ℕ) (old new : Option (List ℕ)) → 0 < plan.workers → t ≤ plan.count
+pub stands_broken : (layout : Layout) (plan : Planned) (form : Form) (lanes : List OutView) (t boards : ℕ) (old new : Option (List ℕ)) → 0 < plan.workers → t ≤ plan.count
     → ByNumber plan lanes (λ w l. l.settled ≡ true → IsPrefix (contents_of l) (verdicts_for plan form w))
-    → WriterBrokeOff plan lanes t boards old new → AreLanesConsistent plan form lanes × BreaksOffLastPiece plan lanes (taken_in_all lanes) boards old new
-stands_broken plan form lanes t boards old new some le parts h =
+    → WriterBrokeOff layout plan lanes t boards old new → AreLanesConsistent plan form lanes × (BreaksOffLastPiece layout plan lanes (taken_in_all lanes) boards old new ⊎ BreaksOffFooter layout plan form lanes boards old new)
+stands_broken layout plan form lanes t boards old new some le parts h =
     let total = taken_total plan lanes t some h.in_turn in
-    (stand plan form lanes t some le h.in_turn h.short parts, subst (λ m. BreaksOffLastPiece plan lanes m boards old new) (sym total) h.broken)
+    (stand plan form lanes t some le h.in_turn h.short parts, inl (subst (λ m. BreaksOffLastPiece layout plan lanes m boards old new) (sym total) h.broken))
 
 pub whole_parts : (plan : Planned) (form : Form) (lanes : List OutView) → AllWhole plan form lanes → ByNumber plan lanes (λ w l. l.settled ≡ true → IsPrefix (contents_of l) (verdicts_for plan form w))
 whole_parts plan form lanes whole w e lt settled = prefix_whole (contents_of (get_or lanes w e)) (verdicts_for plan form w) (whole w e lt).1
 
 -- a thread could not be started, when n were
-pub not_started : (plan : Planned) (form : Form) (n : ℕ) (lists all : List (List Verdict)) (idle lanes : List OutView) (s u : Option ℕ) (old : Option (List ℕ)) → 0 < plan.workers → length lanes ≡ plan.workers → n < plan.workers
+pub not_started : (layout : Layout) (plan : Planned) (form : Form) (n : ℕ) (lists all : List (List Verdict)) (idle lanes : List OutView) (s u : Option ℕ) (old : Option (List ℕ)) → 0 < plan.workers → length lanes ≡ plan.workers → n < plan.workers
     → Owes plan form all → lists ≡ take n all → JoinedAs n lists lanes s u → ((k : ℕ) (e : OutView) → n ≤ k → k < length lanes → (get_or lanes k e).settled ≡ false)
-    → map (λ l. l.taken) lanes ≡ map (λ l. l.taken) idle → All (λ l. (l.taken ≡ []) × (l.settled ≡ false)) idle → InterruptedOutcome plan form Spawn lanes 0 old old
-not_started plan form n lists all idle lanes s u old some long few owes some_of joined rest same fresh =
+    → map (λ l. l.taken) lanes ≡ map (λ l. l.taken) idle → All (λ l. (l.taken ≡ []) × (l.settled ≡ false)) idle → InterruptedIn layout plan form Spawn lanes 0 old old
+not_started layout plan form n lists all idle lanes s u old some long few owes some_of joined rest same fresh =
     let lens : length lanes ≡ length idle = simp length-map at (ap length same) in
     let none : (w : ℕ) (e : OutView) → w < plan.workers → (get_or lanes w e).taken ≡ [] =
     λ w e lt. let short : w < length idle = omega (arith, lt, long, lens) in same_at (λ (l : OutView). l.taken) lanes idle w e same short ∙ (fresh w e short).0 in
@@ -159,8 +161,8 @@ not_started plan form n lists all idle lanes s u old some long few owes some_of 
           | inr not_so ↦ absurd (both_ways _ (rest w e not_so (omega (arith, lt, long))) settled)
         ]
 
-pub memory_stands : (plan : Planned) (form : Form) (cause : Cause) (lanes : List OutView) (boards : ℕ) (old : Option (List ℕ)) → cause ≡ Memory → lanes ≡ [] → boards ≡ 0 → InterruptedOutcome plan form cause lanes boards old old
-memory_stands plan form cause lanes boards old is none zero_boards = subst (λ x. InterruptedOutcome plan form x lanes boards old old) (sym is) (none, zero_boards, refl)
+pub memory_stands : (layout : Layout) (plan : Planned) (form : Form) (cause : Cause) (lanes : List OutView) (boards : ℕ) (old : Option (List ℕ)) → cause ≡ Memory → lanes ≡ [] → boards ≡ 0 → InterruptedIn layout plan form cause lanes boards old old
+memory_stands layout plan form cause lanes boards old is none zero_boards = subst (λ x. InterruptedIn layout plan form x lanes boards old old) (sym is) (none, zero_boards, refl)
 
 pub on_error : {A E : Type 0} (r : Result A E) (x : E) (P : Type 0) → r ≡ Err x → OnErr r P → P
 on_error r x P is h = subst (λ s. OnErr s P) is h
@@ -192,3 +194,16 @@ either (Err e) P P' Q Q' f g ok err = g e err
 -- all workers were started: their handles owe what the plan's workers owe
 pub all_owe : (plan : Planned) (form : Form) (n : ℕ) (lists all : List (List Verdict)) → lists ≡ take n all → n ≡ length all → Owes plan form all → Owes plan form lists
 all_owe plan form n lists all some whole owes = some ∙ take_all n all (omega (arith, whole)) ∙ owes
+
+-- the same in an equal layout
+pub so_far_at : {plan : Planned} {lanes : List OutView} {t boards : ℕ} {old new : Option (List ℕ)} (layout now : Layout) → now ≡ layout
+    → WriterSoFar layout plan lanes t boards old new → WriterSoFar now plan lanes t boards old new
+so_far_at {plan} {lanes} {t} {boards} {old} {new} layout now same h = subst (λ l. WriterSoFar l plan lanes t boards old new) (sym same) h
+
+pub completes_at : (layout now : Layout) (plan : Planned) (form : Form) (lanes : List OutView) (boards : ℕ) (old new : Option (List ℕ)) → now ≡ layout
+    → Completes now plan form lanes boards old new → Completes layout plan form lanes boards old new
+completes_at layout now plan form lanes boards old new same h = subst (λ l. Completes l plan form lanes boards old new) same h
+
+pub interrupted_at : (layout now : Layout) (plan : Planned) (form : Form) (cause : Cause) (lanes : List OutView) (boards : ℕ) (old new : Option (List ℕ)) → now ≡ layout
+    → InterruptedIn now plan form cause lanes boards old new → InterruptedIn layout plan form cause lanes boards old new
+interrupted_at layout now plan form cause lanes boards old new same h = subst (λ l. InterruptedIn l plan form cause lanes boards old new) same h

@@ -1,7 +1,7 @@
 pub mod SinkLemmas
 pub mod Ranges
 pub mod ValueLemmas
-pub mod Games
+pub mod BoardLists
 pub mod Running
 pub mod Maps
 pub mod Joining

@@ -1,4 +1,4 @@
--- What is printed of lists that are gone through in turn, as the lists grow.
+-- Lists that are gone through in turn, as they grow.
 use Rattle.std.proofs.Common.{◌≡◌, ℕ, zero, suc, ◌+◌, ◌/◌, ◌%◌, ◌<◌, ◌≤◌, Bool, true, false, cond, List, [], ◌∷◌, ◌++◌, length, get_or, set, map, Some, refl, sym, ◌∙◌, ap, arith, inl, inr, length-append}
 use Rattle.std.specs.List.{range_with_len, filter_map, cons_option, slice_get, filter}
 use Rattle.std.proofs.lemmas.Bool.{cases_eq}
@@ -10,15 +10,7 @@ use Rattle.std.proofs.Math.Seq.{get_or-append_seam}
 use Rattle.lanes.specs.declared.verdict.Verdict.{Verdict}
 use Rattle.lanes.specs.Verdicts.{turns}
 use Rattle.lanes.proofs.Places.{range-more, count_even, turns_less}
-use Rattle.dealrun.specs.MergedVerdicts.{at_turn, in_turn, deals_in}
-
-pub deals_in-push : (vs : List Verdict) (v : Verdict) → deals_in (vs ++ v ∷ []) ≡ cond v.accepted (deals_in vs ++ v.deal ∷ []) (deals_in vs)
-unfolding deals_in
-deals_in-push vs v = ap (map (λ v. v.deal)) (filter-append (λ (v : Verdict). v.accepted) vs (v ∷ [])) ∙ last_deal v.accepted (filter (λ v. v.accepted) vs) v
-  where
-    last_deal : (b : Bool) (ws : List Verdict) (v : Verdict) → map (λ v. v.deal) (ws ++ cond b (v ∷ []) []) ≡ cond b (map (λ v. v.deal) ws ++ v.deal ∷ []) (map (λ v. v.deal) ws)
-    last_deal true ws v = map-append (λ (v : Verdict). v.deal) ws (v ∷ [])
-    last_deal false ws v = ap (map (λ (v : Verdict). v.deal)) (append-nil ws)
+use Rattle.dealrun.specs.MergedVerdicts.{at_turn, in_turn}
 
 pub in_turn-none : (W : ℕ) (lists : List (List Verdict)) → in_turn W lists 0 ≡ []
 unfolding in_turn

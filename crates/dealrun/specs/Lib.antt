@@ -5,4 +5,5 @@ pub mod Plans
 pub mod Text
 pub mod MergedVerdicts
 pub mod Outcomes
+pub mod Pbn
 pub mod internal

@@ -1,7 +1,8 @@
 -- What holds when a run returns. The headline is two records: what was taken from the lanes of a run that ended Ok, and what
 -- was written. Two more say what holds however a run ends: of the lanes, and of the bytes.
-use Rattle.std.specs.Prelude.{ℕ, ◌+◌, ◌-◌, ◌≡◌, ◌≢◌, ◌<◌, ◌≤◌, List, [], ◌++◌, All, length, map, take, Option, Some, true, false, slice_get}
+use Rattle.std.specs.Prelude.{ℕ, ◌+◌, ◌-◌, ◌≡◌, ◌≢◌, ◌<◌, ◌≤◌, ◌⊎◌, List, [], ◌++◌, All, length, map, take, Option, Some, true, false, slice_get}
 use Rattle.std.specs.List.{enumerate_from, range_with_len}
+use Rattle.boards.specs.Layouts.{Layout}
 use Rattle.cards.specs.Candidates.{candidate}
 use Rattle.cards.specs.Deals.{IsPartition}
 use Rattle.cond_lang.specs.Form.{Form}
@@ -13,8 +14,8 @@ use Rattle.dealrun.specs.declared.cause.Cause.{Cause}
 use Rattle.dealrun.specs.declared.cause.Cause.TheVariants.{Memory, Spawn, Output, Stopped, Unclosed}
 use Rattle.dealrun.specs.Plans.{Planned}
 use Rattle.dealrun.specs.Sinks.{AppendsAll, append_known}
-use Rattle.dealrun.specs.Text.{accepted_among, accepted, text_of, text, end_of}
-use Rattle.dealrun.specs.MergedVerdicts.{verdicts_for, taken_lists, taken_in_all, printed, boards_in}
+use Rattle.dealrun.specs.Text.{accepted_among, accepted, boards_of, text_of_boards, text_of, text_in, end_of}
+use Rattle.dealrun.specs.MergedVerdicts.{verdicts_for, taken_lists, taken_in_all, boards_after}
 
 -- ---- lanes
 
@@ -50,18 +51,13 @@ pub record TakesWhatIsOwed (plan : Planned) (form : Form) (lanes : List OutView)
       plan.limit ≢ Some boards
       → (map (λ l. l.taken) lanes ≡ for_each_worker plan (verdicts_for plan form)) × All (λ l. l.left ≡ []) lanes
 
--- the text: the games of the accepted deals of the one candidate sequence, each a partition of the pack
-pub record WritesText (plan : Planned) (form : Form) (boards : ℕ) (old new : Option (List ℕ)) : Type 0 where
-  pub bytes : AppendsAll old new (text plan form)
+-- the text: the boards of the accepted ones of the one candidate sequence, each deal a partition of the pack
+pub record WritesTextIn (layout : Layout) (plan : Planned) (form : Form) (boards : ℕ) (old new : Option (List ℕ)) : Type 0 where
+  pub bytes : AppendsAll old new (text_in layout plan form)
   pub boards_are : boards ≡ length (accepted plan form)
   pub partitions : All IsPartition (map (candidate plan.seed) (accepted plan form))
 
 -- ---- however a run ends
-
--- what the first m verdicts print is the text of the first m candidates
-abbrev pub PrintsCandidates : Planned → Form → List OutView → ℕ → Type 0
-PrintsCandidates plan form lanes m =
-    printed plan (taken_lists lanes) m ≡ text_of plan (accepted_among plan.seed plan.first form m)
 
 -- the lanes, with m verdicts taken in all
 pub record AreLanesConsistent (plan : Planned) (form : Form) (lanes : List OutView) : Type 0 where
@@ -72,24 +68,41 @@ pub record AreLanesConsistent (plan : Planned) (form : Form) (lanes : List OutVi
   pub parts : EachLane lanes (λ w l. l.settled ≡ true → IsPrefix (contents_of l) (verdicts_for plan form w))
   -- if all lanes are settled, no more was taken than is needed
   pub needed : AllSettled lanes → taken_in_all lanes ≤ end_of plan form
-  -- and what was taken prints the first m candidates
-  pub candidates : AllSettled lanes → (m : ℕ) → m ≤ taken_in_all lanes → PrintsCandidates plan form lanes m
+  -- and the boards of the first m that were taken are those of the first m candidates
+  pub candidates :
+      AllSettled lanes
+      → (m : ℕ)
+      → m ≤ taken_in_all lanes
+      → boards_after plan (taken_lists lanes) m ≡ boards_of plan (accepted_among plan.seed plan.first form m)
 
--- the bytes and the boards are those of the m verdicts that were taken
-pub record PrintsTaken (plan : Planned) (lanes : List OutView) (m boards : ℕ) (old new : Option (List ℕ)) : Type 0 where
-  pub bytes_are : new ≡ append_known old (printed plan (taken_lists lanes) m)
-  pub boards_are : boards ≡ boards_in plan (taken_lists lanes) m
+-- the bytes and the boards are those of the m verdicts that were taken, and what closes them
+pub record PrintsTaken (layout : Layout) (closing : List ℕ) (plan : Planned) (lanes : List OutView) (m boards : ℕ) (old new : Option (List ℕ)) : Type 0 where
+  pub bytes_are :
+      new ≡ append_known old (text_of_boards layout (boards_after plan (taken_lists lanes) m) ++ closing)
+  pub boards_are : boards ≡ length (boards_after plan (taken_lists lanes) m)
 
--- the same up to the last piece, of which the end is missing: the header if nothing was taken, else the game of the
+-- the same up to the last piece, of which the end is missing: the header if nothing was taken, else the board of the
 -- last verdict
-pub record BreaksOffLastPiece (plan : Planned) (lanes : List OutView) (m boards : ℕ) (old new : Option (List ℕ)) : Type 0 where
+pub record BreaksOffLastPiece (layout : Layout) (plan : Planned) (lanes : List OutView) (m boards : ℕ) (old new : Option (List ℕ)) : Type 0 where
   pub front : List ℕ
   pub rest : List ℕ
-  pub is_text : front ++ rest ≡ printed plan (taken_lists lanes) m
+  pub is_text : front ++ rest ≡ text_of_boards layout (boards_after plan (taken_lists lanes) m)
   pub is_proper : 0 < length rest
   pub appended : new ≡ append_known old front
-  pub last_piece : 0 < m → (more : List ℕ) × (printed plan (taken_lists lanes) (m - 1) ++ more ≡ front)
-  pub boards_are : boards ≡ boards_in plan (taken_lists lanes) (m - 1)
+  pub last_piece :
+      0 < m
+      → (more : List ℕ) × (text_of_boards layout (boards_after plan (taken_lists lanes) (m - 1)) ++ more ≡ front)
+  pub boards_are : boards ≡ length (boards_after plan (taken_lists lanes) (m - 1))
+
+-- the end of the footer is missing: all that is owed was taken, and all boards were written
+pub record BreaksOffFooter (layout : Layout) (plan : Planned) (form : Form) (lanes : List OutView) (boards : ℕ) (old new : Option (List ℕ)) : Type 0 where
+  pub front : List ℕ
+  pub rest : List ℕ
+  pub is_footer : front ++ rest ≡ layout.footer
+  pub is_proper : 0 < length rest
+  pub appended : new ≡ append_known old (text_of layout plan (accepted plan form) ++ front)
+  pub boards_are : boards ≡ length (accepted plan form)
+  pub lanes_are : TakesWhatIsOwed plan form lanes boards
 
 -- worker w ended before it had sent all, and is the least such worker: the settled lanes below are whole
 pub record IsLeastStopped (plan : Planned) (form : Form) (lanes : List OutView) (w : ℕ) : Type 0 where
@@ -115,28 +128,30 @@ pub record IsFirstNotStarted (plan : Planned) (lanes : List OutView) (n : ℕ) :
   pub worker : n < plan.workers
   pub unsettled : EachLane lanes (λ w l. n ≤ w → l.settled ≡ false)
 
--- however a run ends whose threads all started: the lanes, and the bytes of what was taken
-pub record StandsComplete (plan : Planned) (form : Form) (lanes : List OutView) (boards : ℕ) (old new : Option (List ℕ)) : Type 0 where
+-- a run whose sink took all that it was given: the lanes, and the bytes of what was taken
+pub record StandsCompleteIn (layout : Layout) (closing : List ℕ) (plan : Planned) (form : Form) (lanes : List OutView) (boards : ℕ) (old new : Option (List ℕ)) : Type 0 where
   pub lanes_are : AreLanesConsistent plan form lanes
-  pub printed_is : PrintsTaken plan lanes (taken_in_all lanes) boards old new
+  pub printed_is : PrintsTaken layout closing plan lanes (taken_in_all lanes) boards old new
 
--- a run that was interrupted, by its cause
-abbrev pub InterruptedOutcome : Planned → Form → Cause → List OutView → ℕ → Option (List ℕ) → Option (List ℕ) → Type 0
-InterruptedOutcome plan form Memory lanes boards old new = (lanes ≡ []) × (boards ≡ 0) × (new ≡ old)
-InterruptedOutcome plan form Spawn lanes boards old new =
+-- a run that was interrupted, by its cause: it wrote no footer
+abbrev pub InterruptedIn : Layout → Planned → Form → Cause → List OutView → ℕ → Option (List ℕ) → Option (List ℕ) → Type 0
+InterruptedIn layout plan form Memory lanes boards old new = (lanes ≡ []) × (boards ≡ 0) × (new ≡ old)
+InterruptedIn layout plan form Spawn lanes boards old new =
     AreLanesConsistent plan form lanes
     × (taken_in_all lanes ≡ 0)
     × (boards ≡ 0)
     × (new ≡ old)
     × ((n : ℕ) × IsFirstNotStarted plan lanes n)
-InterruptedOutcome plan form Output lanes boards old new =
-    AreLanesConsistent plan form lanes × BreaksOffLastPiece plan lanes (taken_in_all lanes) boards old new
-InterruptedOutcome plan form (Stopped w) lanes boards old new =
-    StandsComplete plan form lanes boards old new
+InterruptedIn layout plan form Output lanes boards old new =
+    AreLanesConsistent plan form lanes
+    × (BreaksOffLastPiece layout plan lanes (taken_in_all lanes) boards old new
+    ⊎ BreaksOffFooter layout plan form lanes boards old new)
+InterruptedIn layout plan form (Stopped w) lanes boards old new =
+    StandsCompleteIn layout [] plan form lanes boards old new
     × (plan.limit ≢ Some boards)
     × IsLeastStopped plan form lanes w
-InterruptedOutcome plan form (Unclosed w) lanes boards old new =
-    StandsComplete plan form lanes boards old new × IsLeastUnclosed plan form lanes w boards
+InterruptedIn layout plan form (Unclosed w) lanes boards old new =
+    StandsCompleteIn layout [] plan form lanes boards old new × IsLeastUnclosed plan form lanes w boards
 
 -- the sink failed once in a run that ended so, or not at all
 abbrev pub FaultsAfter : Cause → ℕ → ℕ → Type 0

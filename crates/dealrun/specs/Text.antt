@@ -1,12 +1,14 @@
--- The text of a plan under a condition: the games of the accepted deals of the one candidate sequence. Neither
--- the workers nor the capacity of the lanes are named.
+-- The text of a plan under a condition, in any layout: the boards of the accepted ones of the one candidate sequence.
+-- Neither the workers nor the capacity of the lanes are named.
 use Rattle.std.specs.Prelude.{◌≡◌, ◌<◌, ◌≤◌, ℕ, ◌+◌, ◌==◌, List, ◌++◌, length, map, filter, take, Option, None, Some}
 use Rattle.std.specs.List.{enumerate_from, flat_map, position_or_len, range_with_len}
+use Rattle.boards.specs.declared.board.Board.{Board}
+use Rattle.boards.specs.Law2.{board_by_law}
+use Rattle.boards.specs.Layouts.{Layout}
 use Rattle.cards.specs.declared.seat.Seat.{Seat}
 use Rattle.cards.specs.Candidates.{candidate}
 use Rattle.cond_lang.specs.Form.{Form}
 use Rattle.cond_lang.specs.Meaning.{holds}
-use Rattle.pbn_text.specs.Games.{HeadingView, game, header}
 use Rattle.dealrun.specs.Plans.{Planned}
 use Rattle.dealrun.specs.Sinks.{append_known}
 
@@ -14,7 +16,7 @@ use Rattle.dealrun.specs.Sinks.{append_known}
 unfoldable pub accepted_among : ℕ → ℕ → Form → ℕ → List ℕ
 accepted_among seed first form n = filter (λ k. holds form (candidate seed k)) (range_with_len first n)
 
--- the first so many, or all where there is no limit
+-- the first so many, or all if there is no limit
 abbrev pub limited : Option ℕ → List ℕ → List ℕ
 limited None xs = xs
 limited (Some most) xs = take most xs
@@ -23,23 +25,27 @@ limited (Some most) xs = take most xs
 abbrev pub accepted : Planned → Form → List ℕ
 accepted plan form = limited plan.limit (accepted_among plan.seed plan.first form plan.count)
 
--- the games of these deals in order, with boards from this number on
-unfoldable pub games : HeadingView → ℕ → List (List Seat) → List ℕ
-games heading board deals = flat_map (λ p. game (board + p.0) heading p.1) (enumerate_from 0 deals)
+-- the board that a plan makes of a candidate's deal, after n boards
+abbrev pub board_of : Planned → ℕ → ℕ → List Seat → Board
+board_of plan n candidate deal = board_by_law (plan.first_board + n) candidate deal
 
--- the header, and the games of these deals under a plan
-abbrev pub text_of_deals : Planned → List (List Seat) → List ℕ
-text_of_deals plan deals = header ++ games plan.heading plan.first_board deals
+-- the boards of these candidates, in order
+unfoldable pub boards_of : Planned → List ℕ → List Board
+boards_of plan numbers =
+    map (λ p. board_of plan p.0 p.1 (candidate plan.seed p.1)) (enumerate_from 0 numbers)
 
--- the header, and the games of these candidates
-abbrev pub text_of : Planned → List ℕ → List ℕ
-text_of plan numbers = text_of_deals plan (map (candidate plan.seed) numbers)
+-- the header and these boards: a text without its footer
+abbrev pub text_of_boards : Layout → List Board → List ℕ
+text_of_boards layout boards = layout.header ++ flat_map layout.board boards
+
+abbrev pub text_of : Layout → Planned → List ℕ → List ℕ
+text_of layout plan numbers = text_of_boards layout (boards_of plan numbers)
 
 -- the whole text
-abbrev pub text : Planned → Form → List ℕ
-text plan form = text_of plan (accepted plan form)
+abbrev pub text_in : Layout → Planned → Form → List ℕ
+text_in layout plan form = text_of layout plan (accepted plan form) ++ layout.footer
 
--- how many candidates are needed: up to the one whose game meets the limit, or all
+-- how many candidates are needed: up to the one whose board meets the limit, or all
 unfoldable pub end_of : Planned → Form → ℕ
 end_of plan form = ends_at plan.limit
   where
@@ -47,13 +53,15 @@ end_of plan form = ends_at plan.limit
     ends_at None = plan.count
     ends_at (Some most) = position_or_len (λ m. length (accepted_among plan.seed plan.first form m) == most) (range_with_len 0 plan.count)
 
--- a text was broken off: a proper prefix of it was appended, with this many whole games
-pub record BreaksOffText (old new : Option (List ℕ)) (plan : Planned) (numbers : List ℕ) (boards : ℕ) : Type 0 where
+-- a text was broken off: a proper prefix of it was appended, with this many whole boards
+pub record BreaksOffIn (layout : Layout) (old new : Option (List ℕ)) (plan : Planned) (numbers : List ℕ) (boards : ℕ) : Type 0 where
   pub front : List ℕ
   pub rest : List ℕ
-  pub is_text : front ++ rest ≡ text_of plan numbers
+  pub is_text : front ++ rest ≡ text_of layout plan numbers ++ layout.footer
   pub is_proper : 0 < length rest
   pub appended : new ≡ append_known old front
-  -- the last byte of game number `boards` was written, and that of the next game was not
-  pub whole : 0 < boards → length (text_of plan (take boards numbers)) ≤ length front
-  pub broken : length front < length (text_of plan (take (boards + 1) numbers))
+  pub few : boards ≤ length numbers
+  -- the last byte of the last whole board was written
+  pub whole : 0 < boards → length (text_of layout plan (take boards numbers)) ≤ length front
+  -- and that of the next board was not, if there is one
+  pub broken : boards < length numbers → length front < length (text_of layout plan (take (boards + 1) numbers))

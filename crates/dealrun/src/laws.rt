@@ -1,13 +1,18 @@
 //! Laws of this crate's definitions: functions that do nothing, whose contracts are the laws.
 
 ghost use Rattle.std.specs.Prelude.{◌≡◌, ℕ};
+ghost use Rattle.boards.specs.Layouts.{Layout};
 ghost use Rattle.cond_lang.specs.Form.{Form};
 ghost use Rattle.dealrun.specs.Plans.{Planned};
-ghost use Rattle.dealrun.specs.Text.{accepted, text};
+ghost use Rattle.dealrun.specs.Pbn.{text};
+ghost use Rattle.dealrun.specs.Text.{accepted, text_in};
 
-/// The text of a plan, and the candidates that it accepts, are the same for every number of workers and every capacity
-/// of their lanes.
+/// The text of a plan, in any layout and in PBN, and the candidates that it accepts, are the same
+/// for every number of workers and every capacity of their lanes.
 pub fn other_workers_write_the_same()
+    ensures text_in { (layout : Layout) (plan : Planned) (form : Form) (W C : ℕ)
+        → text_in layout (record plan { workers = W; capacity = C }) form
+        ≡ text_in layout plan form }
     ensures text { (plan : Planned) (form : Form) (W C : ℕ)
         → text (record plan { workers = W; capacity = C }) form ≡ text plan form }
     ensures accepted { (plan : Planned) (form : Form) (W C : ℕ)

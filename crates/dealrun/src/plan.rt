@@ -3,7 +3,10 @@
 ghost use Rattle.std.specs.Prelude.{◌≡◌, ◌+◌, ◌≤◌, ◌<◌, ◌^◌, ◌↔◌, None, Some, IfErr, IfOk, IfSome, IsErr, IsOk};
 ghost use Rattle.pbn_text.specs.Games.{no_heading};
 ghost use Rattle.dealrun.specs.Plans.{refusal_of};
+ghost use Rattle.dealrun.specs.Text.{board_of};
 
+use boards::Board;
+use cards::Deal;
 use pbn_text::Heading;
 use std::marker::Model;
 use thiserror::Error;
@@ -136,6 +139,14 @@ impl Plan {
         ensures { result ≡ record self { heading = heading } }
     {
         Plan { heading, ..self }
+    }
+
+    /// The board of a candidate's deal, after `boards` of them.
+    pub(crate) fn board(&self, boards: u64, candidate: u64, deal: &Deal) -> Board
+        requires { boards ≤ 2 ^ 40 }
+        ensures { result ≡ board_of self.now boards candidate deal.now }
+    {
+        Board::by_law(self.first_board + boards, candidate, *deal)
     }
 
     pub fn seed(&self) -> u32

@@ -4,17 +4,19 @@ ghost use Rattle.std.specs.Prelude.{◌≡◌, ◌-◌, ◌^◌, ◌<◌, ◌≤
 ghost use Rattle.cond_lang.specs.Form.{Form};
 ghost use Rattle.lanes.specs.Jobs.{verdicts_of};
 ghost use Rattle.dealrun.specs.declared.cause.Cause.TheVariants.{Memory};
-ghost use Rattle.dealrun.specs.Outcomes.{FaultsAfter, InterruptedOutcome, StandsComplete, TakesWhatIsOwed, WritesText};
-ghost use Rattle.dealrun.specs.internal.Ends.{Completes};
+ghost use Rattle.dealrun.specs.Outcomes.{FaultsAfter, InterruptedIn, StandsCompleteIn, TakesWhatIsOwed, WritesTextIn};
+ghost use Rattle.dealrun.specs.Plans.{Planned};
+ghost use Rattle.dealrun.specs.internal.Ends.{Closes, Completes};
 ghost use Rattle.dealrun.specs.internal.Joins.{AllWhole, Owes};
 ghost use Rattle.dealrun.specs.internal.Writing.{WriterSoFar};
 
 use crate::cause::Cause;
 use crate::join::join_all;
 use crate::plan::Plan;
-use crate::sink::Sink;
+use crate::sink::{Sink, put_all};
 use crate::start::{Started, assign_all, start_all};
-use crate::writer::{Progress, write_all, write_rest};
+use crate::writer::{Progress, write_header_and_boards, write_remaining};
+use boards::Notation;
 use cond_lang::Cond;
 use lanes::{Gate, LaneOut};
 use std::alloc::Global;
@@ -37,11 +39,11 @@ pub struct RunFault {
     pub boards: u64,
 }
 
-/// Writes the games of the accepted candidates of a plan, judged by its workers in threads of their own.
+/// Writes the boards of the accepted candidates of a plan in a notation, judged by the plan's workers in
+/// threads of their own: the notation's header, the boards in order, and its footer.
 ///
-/// All memory is taken first: a lane and a clone of the condition for each worker, and 128 KiB for the printer. So the
-/// calling thread needs little stack: 80 KiB in the program `deals`, all in all. Then one worker starts for each lane,
-/// and the caller's thread writes while they run. It may wait for its workers.
+/// All memory is taken first: a lane and a clone of the condition for each worker. Then one worker starts for each
+/// lane, and the caller's thread writes while they run. It may wait for its workers.
 ///
 /// # Errors
 ///
@@ -49,41 +51,74 @@ pub struct RunFault {
 /// not be started; those that were are stopped and joined. `Output`: the sink failed. `Stopped`: a worker ended before
 /// it had sent all, since its gate answered false, and the limit of boards was not met. `Unclosed`: a lane can't say
 /// how it ended.
-pub fn run<
+pub fn run_in<
     R: Threads + Wait + Clone + Send + 'static,
     G: Gate + Drop + Send + Sync + 'static,
+    N: Notation,
     S: Sink,
 >(
     rt: &R,
     alloc: Global,
     plan: &Plan,
     cond: Cond,
+    notation: &mut N,
     sink: &mut S,
     gate: Arc<G, Global>,
 ) -> Result<Report, RunFault>
     requires { S.faults sink.old < 2 ^ 64 - 1 }
+    ensures layout { N.layout notation.new ≡ N.layout notation.old }
     // What was taken from each lane is its worker's verdicts, and all that is needed.
     ensures lanes { IfOk result (λ r. TakesWhatIsOwed plan.now cond r.lanes.items r.boards) }
-    // The bytes are the games of the accepted deals, within the limit, in order.
-    ensures text { IfOk result (λ r. WritesText plan.now cond r.boards
+    // The bytes are the header, the boards of the accepted deals, within the limit, in order, and the footer.
+    ensures text { IfOk result (λ r. WritesTextIn (N.layout notation.old) plan.now cond r.boards
         (S.bytes sink.old) (S.bytes sink.new)) }
     // However the run ends: the lanes as they are, and the bytes of what was taken from them.
     ensures stands { MatchResult result
-        (λ r. StandsComplete plan.now cond r.lanes.items r.boards
-        (S.bytes sink.old) (S.bytes sink.new))
-        (λ e. InterruptedOutcome plan.now cond e.cause e.lanes.items e.boards
-        (S.bytes sink.old) (S.bytes sink.new)) }
+        (λ r. StandsCompleteIn (N.layout notation.old) (N.layout notation.old).footer
+        plan.now cond r.lanes.items r.boards (S.bytes sink.old) (S.bytes sink.new))
+        (λ e. InterruptedIn (N.layout notation.old)
+        plan.now cond e.cause e.lanes.items e.boards (S.bytes sink.old) (S.bytes sink.new)) }
     // The sink failed, once, if and only if the cause is Output.
     ensures faults { MatchResult result
         (λ _. S.faults sink.new ≡ S.faults sink.old)
         (λ e. FaultsAfter e.cause (S.faults sink.old) (S.faults sink.new)) }
 {
-    let Ok(stop) = Arc::new(alloc, AtomicBool::new(false)) else {
-        return Err(out_of_memory(alloc));
-    };
-    let Ok(mut progress) = Progress::new(alloc, plan) else {
-        return Err(out_of_memory(alloc));
-    };
+    match Arc::new(alloc, AtomicBool::new(false)) {
+        Ok(stop) => start_and_write(rt, alloc, plan, cond, notation, sink, gate, stop),
+        Err(_) => Err(out_of_memory(alloc)),
+    }
+}
+
+/// Takes the memory of the lanes and the workers, starts the workers, and writes; `stop` is their flag, which is down.
+pub(crate) fn start_and_write<
+    R: Threads + Wait + Clone + Send + 'static,
+    G: Gate + Drop + Send + Sync + 'static,
+    N: Notation,
+    S: Sink,
+>(
+    rt: &R,
+    alloc: Global,
+    plan: &Plan,
+    cond: Cond,
+    notation: &mut N,
+    sink: &mut S,
+    gate: Arc<G, Global>,
+    stop: Arc<AtomicBool, Global>,
+) -> Result<Report, RunFault>
+    requires { S.faults sink.old < 2 ^ 64 - 1 }
+    ensures layout { N.layout notation.new ≡ N.layout notation.old }
+    ensures lanes { IfOk result (λ r. TakesWhatIsOwed plan.now cond r.lanes.items r.boards) }
+    ensures text { IfOk result (λ r. WritesTextIn (N.layout notation.old) plan.now cond r.boards
+        (S.bytes sink.old) (S.bytes sink.new)) }
+    ensures stands { MatchResult result
+        (λ r. StandsCompleteIn (N.layout notation.old) (N.layout notation.old).footer
+        plan.now cond r.lanes.items r.boards (S.bytes sink.old) (S.bytes sink.new))
+        (λ e. InterruptedIn (N.layout notation.old)
+        plan.now cond e.cause e.lanes.items e.boards (S.bytes sink.old) (S.bytes sink.new)) }
+    ensures faults { MatchResult result
+        (λ _. S.faults sink.new ≡ S.faults sink.old)
+        (λ e. FaultsAfter e.cause (S.faults sink.old) (S.faults sink.new)) }
+{
     let Ok((assignments, mut lanes)) = assign_all(rt, alloc, plan, &cond, &gate, &stop) else {
         return Err(out_of_memory(alloc));
     };
@@ -100,10 +135,10 @@ pub fn run<
             boards: 0,
         });
     }
-    oversee(rt, plan, handles, lanes, &mut progress, sink, &stop)
+    write_to_end(rt, plan, handles, lanes, notation, sink, &stop)
 }
 
-fn out_of_memory(alloc: Global) -> RunFault
+pub(crate) fn out_of_memory(alloc: Global) -> RunFault
     ensures { (result.cause ≡ Memory) × (result.lanes.items ≡ []) × (result.boards ≡ 0) }
 {
     RunFault {
@@ -113,31 +148,86 @@ fn out_of_memory(alloc: Global) -> RunFault
     }
 }
 
-/// Writes beside the workers, joins them, and says how the run ended.
-fn oversee<R: Threads + Wait, S: Sink>(
+/// Writes while the workers run, joins them, and writes the footer if all else was written.
+fn write_to_end<R: Threads + Wait, N: Notation, S: Sink>(
     rt: &R,
     plan: &Plan,
     handles: Vec<Started>,
     lanes: Vec<LaneOut>,
-    progress: &mut Progress,
+    notation: &mut N,
     sink: &mut S,
     stop: &AtomicBool,
 ) -> Result<Report, RunFault>
     requires faults { S.faults sink.old < 2 ^ 64 - 1 }
-    requires start { (progress.old.taken ≡ 0) × (progress.old.boards ≡ 0) }
-    requires turns { progress.old.turns.workers ≡ plan.now.workers }
-    requires heading { progress.old.printer.heading ≡ plan.now.heading }
     requires counts { (vec_len handles ≡ plan.now.workers) × (vec_len lanes ≡ plan.now.workers) × (plan.now.workers ≤ 16) }
     requires some { 0 < plan.now.workers }
     requires owed { (form : Form) × Owes plan.now form (map (λ h. verdicts_of h.promise.job.value) handles.items) }
     requires rings { map (λ h. h.promise.lane.value.ring) handles.items ≡ map (λ l. l.ring) lanes.items }
     requires idle { All (λ l. (l.taken ≡ []) × (l.settled ≡ false)) lanes.items }
-    ensures completes { IfOk result (λ r. (form : Form) → Owes plan.now form (map (λ h. verdicts_of h.promise.job.value) handles.items) → Completes plan.now form r.lanes.items r.boards (S.bytes sink.old) (S.bytes sink.new)) }
-    ensures stands { IfErr result (λ e. (form : Form) → Owes plan.now form (map (λ h. verdicts_of h.promise.job.value) handles.items) → InterruptedOutcome plan.now form e.cause e.lanes.items e.boards (S.bytes sink.old) (S.bytes sink.new)) }
+    ensures layout { N.layout notation.new ≡ N.layout notation.old }
+    ensures closes { IfOk result (λ r. (form : Form) → Owes plan.now form (map (λ h. verdicts_of h.promise.job.value) handles.items) → Closes (N.layout notation.old) plan.now form r.lanes.items r.boards (S.bytes sink.old) (S.bytes sink.new)) }
+    ensures stands { IfErr result (λ e. (form : Form) → Owes plan.now form (map (λ h. verdicts_of h.promise.job.value) handles.items) → InterruptedIn (N.layout notation.old) plan.now form e.cause e.lanes.items e.boards (S.bytes sink.old) (S.bytes sink.new)) }
+    ensures faults { MatchResult result (λ _. S.faults sink.new ≡ S.faults sink.old) (λ e. FaultsAfter e.cause (S.faults sink.old) (S.faults sink.new)) }
+{
+    match write_and_join(rt, plan, handles, lanes, notation, sink, stop) {
+        Ok(report) => write_footer(report, notation, sink),
+        Err(fault) => Err(fault),
+    }
+}
+
+/// Writes the footer after all boards.
+fn write_footer<N: Notation, S: Sink>(
+    report: Report,
+    notation: &N,
+    sink: &mut S,
+) -> Result<Report, RunFault>
+    requires faults { S.faults sink.old < 2 ^ 64 - 1 }
+    ensures closes { IfOk result (λ r. (plan : Planned) (form : Form) (base : Option (List ℕ)) → Completes (N.layout notation.now) plan form report.lanes.items report.boards base (S.bytes sink.old) → Closes (N.layout notation.now) plan form r.lanes.items r.boards base (S.bytes sink.new)) }
+    ensures stands { IfErr result (λ e. (plan : Planned) (form : Form) (base : Option (List ℕ)) → Completes (N.layout notation.now) plan form report.lanes.items report.boards base (S.bytes sink.old) → InterruptedIn (N.layout notation.now) plan form e.cause e.lanes.items e.boards base (S.bytes sink.new)) }
+    ensures faults { MatchResult result (λ _. S.faults sink.new ≡ S.faults sink.old) (λ e. FaultsAfter e.cause (S.faults sink.old) (S.faults sink.new)) }
+{
+    match put_all(sink, notation.footer()) {
+        Ok(()) => Ok(report),
+        Err(_) => Err(RunFault {
+            cause: Cause::Output,
+            lanes: report.lanes,
+            boards: report.boards,
+        }),
+    }
+}
+
+/// Writes while the workers run, joins them, and says how the run ended.
+fn write_and_join<R: Threads + Wait, N: Notation, S: Sink>(
+    rt: &R,
+    plan: &Plan,
+    handles: Vec<Started>,
+    lanes: Vec<LaneOut>,
+    notation: &mut N,
+    sink: &mut S,
+    stop: &AtomicBool,
+) -> Result<Report, RunFault>
+    requires faults { S.faults sink.old < 2 ^ 64 - 1 }
+    requires counts { (vec_len handles ≡ plan.now.workers) × (vec_len lanes ≡ plan.now.workers) × (plan.now.workers ≤ 16) }
+    requires some { 0 < plan.now.workers }
+    requires owed { (form : Form) × Owes plan.now form (map (λ h. verdicts_of h.promise.job.value) handles.items) }
+    requires rings { map (λ h. h.promise.lane.value.ring) handles.items ≡ map (λ l. l.ring) lanes.items }
+    requires idle { All (λ l. (l.taken ≡ []) × (l.settled ≡ false)) lanes.items }
+    ensures layout { N.layout notation.new ≡ N.layout notation.old }
+    ensures completes { IfOk result (λ r. (form : Form) → Owes plan.now form (map (λ h. verdicts_of h.promise.job.value) handles.items) → Completes (N.layout notation.old) plan.now form r.lanes.items r.boards (S.bytes sink.old) (S.bytes sink.new)) }
+    ensures stands { IfErr result (λ e. (form : Form) → Owes plan.now form (map (λ h. verdicts_of h.promise.job.value) handles.items) → InterruptedIn (N.layout notation.old) plan.now form e.cause e.lanes.items e.boards (S.bytes sink.old) (S.bytes sink.new)) }
     ensures faults { MatchResult result (λ _. S.faults sink.new ≡ S.faults sink.old) (λ e. FaultsAfter e.cause (S.faults sink.old) (S.faults sink.new)) }
 {
     let mut lanes = lanes;
-    let written = write_all(rt, plan, &mut lanes, sink, progress, stop);
+    let mut progress = Progress::new(plan);
+    let written = write_header_and_boards(
+        rt,
+        plan,
+        &mut lanes,
+        notation,
+        sink,
+        &mut progress,
+        stop,
+    );
     let is_full = progress.is_full(plan);
     if written.is_err() || is_full {
         // A store to the stop flag is the core's Stop.
@@ -174,29 +264,30 @@ fn oversee<R: Threads + Wait, S: Sink>(
             lanes,
             boards,
         }),
-        (None, None) => finish(plan, lanes, sink, progress),
+        (None, None) => drain_lanes(plan, lanes, notation, sink, &mut progress),
     }
 }
 
-/// Takes and writes the rest, where all workers sent all.
-fn finish<S: Sink>(
+/// Takes and writes what remains in the lanes, whose workers sent all.
+fn drain_lanes<N: Notation, S: Sink>(
     plan: &Plan,
     lanes: Vec<LaneOut>,
+    notation: &mut N,
     sink: &mut S,
     progress: &mut Progress,
 ) -> Result<Report, RunFault>
-    requires heading { progress.old.printer.heading ≡ plan.now.heading }
     requires faults { S.faults sink.old < 2 ^ 64 - 1 }
     requires counts { (vec_len lanes ≡ plan.now.workers) × (progress.old.turns.workers ≡ plan.now.workers) × (progress.old.taken ≤ plan.now.count) }
     requires some { 0 < plan.now.workers }
     requires whole { (form : Form) × AllWhole plan.now form lanes.items }
-    requires begun { (base : Option (List ℕ)) × WriterSoFar plan.now lanes.items progress.old.taken progress.old.boards base (S.bytes sink.old) }
-    ensures completes { IfOk result (λ r. (form : Form) (base : Option (List ℕ)) → AllWhole plan.now form lanes.items → WriterSoFar plan.now lanes.items progress.old.taken progress.old.boards base (S.bytes sink.old) → Completes plan.now form r.lanes.items r.boards base (S.bytes sink.new)) }
-    ensures stands { IfErr result (λ e. (form : Form) (base : Option (List ℕ)) → AllWhole plan.now form lanes.items → WriterSoFar plan.now lanes.items progress.old.taken progress.old.boards base (S.bytes sink.old) → InterruptedOutcome plan.now form e.cause e.lanes.items e.boards base (S.bytes sink.new)) }
+    requires begun { (base : Option (List ℕ)) × WriterSoFar (N.layout notation.old) plan.now lanes.items progress.old.taken progress.old.boards base (S.bytes sink.old) }
+    ensures layout { N.layout notation.new ≡ N.layout notation.old }
+    ensures completes { IfOk result (λ r. (form : Form) (base : Option (List ℕ)) → AllWhole plan.now form lanes.items → WriterSoFar (N.layout notation.old) plan.now lanes.items progress.old.taken progress.old.boards base (S.bytes sink.old) → Completes (N.layout notation.old) plan.now form r.lanes.items r.boards base (S.bytes sink.new)) }
+    ensures stands { IfErr result (λ e. (form : Form) (base : Option (List ℕ)) → AllWhole plan.now form lanes.items → WriterSoFar (N.layout notation.old) plan.now lanes.items progress.old.taken progress.old.boards base (S.bytes sink.old) → InterruptedIn (N.layout notation.old) plan.now form e.cause e.lanes.items e.boards base (S.bytes sink.new)) }
     ensures faults { MatchResult result (λ _. S.faults sink.new ≡ S.faults sink.old) (λ e. FaultsAfter e.cause (S.faults sink.old) (S.faults sink.new)) }
 {
     let mut lanes = lanes;
-    match write_rest(plan, &mut lanes, sink, progress) {
+    match write_remaining(plan, &mut lanes, notation, sink, progress) {
         Ok(()) => Ok(Report {
             lanes,
             boards: progress.boards,

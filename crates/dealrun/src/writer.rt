@@ -1,26 +1,24 @@
-//! The writer of a run: it takes the verdicts in turn and writes the games of the accepted ones.
+//! The writer of a run: it takes the verdicts in turn and writes the boards of the accepted ones.
 
 ghost use Rattle.std.specs.Prelude.{◌≡◌, ◌-◌, ◌+◌, ◌<◌, ◌≤◌, ◌^◌, ◌↔◌, ◌++◌, [], ◌∷◌, ℕ, List, Option, cond, map, vec_len, OnOk, OnErr, MatchResult, IfOk, IsTrue, slice_index_or, true, Some, ◌⊎◌};
 ghost use Rattle.lanes.specs.declared.verdict.Verdict.{Verdict};
 ghost use Rattle.dealrun.specs.Sinks.{append_known, AppendsPart, CountsFault};
-ghost use Rattle.dealrun.specs.internal.Writing.{game_after, WriterSoFar, WriterBrokeOff};
+ghost use Rattle.dealrun.specs.internal.Writing.{board_text, WriterSoFar, WriterBrokeOff};
 ghost use Rattle.dealrun.specs.internal.Joins.{AllWhole};
 ghost use Rattle.cond_lang.specs.Form.{Form};
 
-use crate::boards::{is_full, put_game};
+use crate::boards::{is_full, put_board};
 use crate::plan::Plan;
 use crate::sink::{Sink, SinkFault, put_all};
+use boards::Notation;
 use lanes::{LaneOut, Turns, Verdict};
-use pbn_text::{HEADER, Printer};
-use std::alloc::{AllocError, Global};
 use std::sync::Wait;
 use std::sync::atomic::AtomicBool;
 
-/// How far the writer has come: whose turn it is, how many verdicts were taken, and how many games were written; and
-/// the printer of the games.
+/// How far the writer has come: whose turn it is, how many verdicts were taken, and how many boards
+/// were written.
 #[derive(Drop)]
 pub(crate) struct Progress {
-    printer: Printer,
     pub(crate) turns: Turns,
     pub(crate) taken: u64,
     pub(crate) boards: u64,
@@ -29,21 +27,19 @@ pub(crate) struct Progress {
 }
 
 impl Progress {
-    /// No verdict was taken. `Err` only if the printer's memory can't be had.
-    pub(crate) fn new(alloc: Global, plan: &Plan) -> Result<Progress, AllocError>
-        ensures start { IfOk result (λ p. (p.taken ≡ 0) × (p.boards ≡ 0)) }
-        ensures workers { IfOk result (λ p. p.turns.workers ≡ plan.now.workers) }
-        ensures heading { IfOk result (λ p. p.printer.heading ≡ plan.now.heading) }
+    /// No verdict was taken.
+    pub(crate) fn new(plan: &Plan) -> Progress
+        ensures start { (result.taken ≡ 0) × (result.boards ≡ 0) }
+        ensures workers { result.turns.workers ≡ plan.now.workers }
     {
         let Some(turns) = Turns::new(plan.workers()) else {
             unreachable!()
         };
-        Ok(Progress {
-            printer: Printer::new(alloc, plan.heading())?,
+        Progress {
             turns,
             taken: 0,
             boards: 0,
-        })
+        }
     }
 
     /// Whether the plan's limit of boards is met.
@@ -53,53 +49,53 @@ impl Progress {
         is_full(plan, self.boards)
     }
 
-    /// Counts a verdict that was taken, and writes its game where it is accepted.
-    fn write<S: Sink>(
+    /// Counts a verdict that was taken, and writes its board if it is accepted.
+    fn write<N: Notation, S: Sink>(
         &mut self,
         plan: &Plan,
+        notation: &mut N,
         sink: &mut S,
         verdict: &Verdict,
     ) -> Result<(), SinkFault>
         requires taken { self.old.taken < 2 ^ 40 }
         requires faults { S.faults sink.old < 2 ^ 64 - 1 }
-        requires heading { self.old.printer.heading ≡ plan.now.heading }
-        ensures heading { self.new.printer.heading ≡ self.old.printer.heading }
+        ensures layout { N.layout notation.new ≡ N.layout notation.old }
         ensures taken { (self.new.taken ≡ self.old.taken + 1) × (self.new.turns.workers ≡ self.old.turns.workers) }
         ensures faults { CountsFault (S.faults sink.old) (S.faults sink.new) result }
         ensures boards { OnOk result (self.new.boards ≡ cond verdict.now.accepted (self.old.boards + 1) self.old.boards) }
-        ensures bytes { OnOk result (S.bytes sink.new ≡ append_known (S.bytes sink.old) (cond verdict.now.accepted (game_after plan.now self.old.boards verdict.now) [])) }
-        ensures broken { OnErr result ((verdict.now.accepted ≡ true) × (self.new.boards ≡ self.old.boards) × AppendsPart (S.bytes sink.old) (S.bytes sink.new) (game_after plan.now self.old.boards verdict.now)) }
+        ensures bytes { OnOk result (S.bytes sink.new ≡ append_known (S.bytes sink.old) (cond verdict.now.accepted (board_text (N.layout notation.old) plan.now self.old.boards verdict.now) [])) }
+        ensures broken { OnErr result ((verdict.now.accepted ≡ true) × (self.new.boards ≡ self.old.boards) × AppendsPart (S.bytes sink.old) (S.bytes sink.new) (board_text (N.layout notation.old) plan.now self.old.boards verdict.now)) }
     {
         self.turns.advance();
         self.taken += 1;
         if verdict.accepted {
             let board = self.boards;
-            put_game(plan, &mut self.printer, board, &verdict.deal, sink)?;
+            put_board(plan, notation, board, verdict.number, &verdict.deal, sink)?;
             self.boards += 1;
         }
         Ok(())
     }
 }
 
-/// Takes the verdicts in turn and writes their games, until all were taken, the limit of boards is met, or there is
-/// none and the flag is up.
-fn write_beside<R: Wait, S: Sink>(
+/// Takes the verdicts in turn and writes their boards, until all were taken, the limit of boards is
+/// met, or there is none and the flag is up.
+fn write_while_running<R: Wait, N: Notation, S: Sink>(
     rt: &R,
     plan: &Plan,
     lanes: &mut Vec<LaneOut>,
+    notation: &mut N,
     sink: &mut S,
     progress: &mut Progress,
     stop: &AtomicBool,
 ) -> Result<(), SinkFault>
     requires faults { S.faults sink.old < 2 ^ 64 - 1 }
-    requires heading { progress.old.printer.heading ≡ plan.now.heading }
     requires counts { (vec_len lanes.old ≡ plan.now.workers) × (progress.old.turns.workers ≡ plan.now.workers) × (progress.old.taken ≤ plan.now.count) }
     ensures same { (map (λ l. l.ring) lanes.new.items ≡ map (λ l. l.ring) lanes.old.items) × (map (λ l. l.settled) lanes.new.items ≡ map (λ l. l.settled) lanes.old.items) }
-    ensures heading { progress.new.printer.heading ≡ progress.old.printer.heading }
+    ensures layout { N.layout notation.new ≡ N.layout notation.old }
     ensures counts { (vec_len lanes.new ≡ vec_len lanes.old) × (progress.new.turns.workers ≡ plan.now.workers) × (progress.new.taken ≤ plan.now.count) }
     ensures faults { CountsFault (S.faults sink.old) (S.faults sink.new) result }
-    ensures broken { OnErr result ((base : Option (List ℕ)) → WriterSoFar plan.now lanes.old.items progress.old.taken progress.old.boards base (S.bytes sink.old) → WriterBrokeOff plan.now lanes.new.items progress.new.taken progress.new.boards base (S.bytes sink.new)) }
-    ensures written { OnOk result ((base : Option (List ℕ)) → WriterSoFar plan.now lanes.old.items progress.old.taken progress.old.boards base (S.bytes sink.old) → WriterSoFar plan.now lanes.new.items progress.new.taken progress.new.boards base (S.bytes sink.new)) }
+    ensures broken { OnErr result ((base : Option (List ℕ)) → WriterSoFar (N.layout notation.old) plan.now lanes.old.items progress.old.taken progress.old.boards base (S.bytes sink.old) → WriterBrokeOff (N.layout notation.old) plan.now lanes.new.items progress.new.taken progress.new.boards base (S.bytes sink.new)) }
+    ensures written { OnOk result ((base : Option (List ℕ)) → WriterSoFar (N.layout notation.old) plan.now lanes.old.items progress.old.taken progress.old.boards base (S.bytes sink.old) → WriterSoFar (N.layout notation.old) plan.now lanes.new.items progress.new.taken progress.new.boards base (S.bytes sink.new)) }
 {
     for _taken in progress.taken..plan.count() {
         if progress.is_full(plan) {
@@ -110,55 +106,56 @@ fn write_beside<R: Wait, S: Sink>(
             return Ok(());
         }
         let verdict = lane.take_known();
-        progress.write(plan, sink, &verdict)?;
+        progress.write(plan, notation, sink, &verdict)?;
     }
     Ok(())
 }
 
-/// Writes the header, and then the games as `write_beside` does.
-pub(crate) fn write_all<R: Wait, S: Sink>(
+/// Writes the header, and then the boards as `write_while_running` does.
+pub(crate) fn write_header_and_boards<R: Wait, N: Notation, S: Sink>(
     rt: &R,
     plan: &Plan,
     lanes: &mut Vec<LaneOut>,
+    notation: &mut N,
     sink: &mut S,
     progress: &mut Progress,
     stop: &AtomicBool,
 ) -> Result<(), SinkFault>
     requires faults { S.faults sink.old < 2 ^ 64 - 1 }
-    requires heading { progress.old.printer.heading ≡ plan.now.heading }
     requires counts { (vec_len lanes.old ≡ plan.now.workers) × (progress.old.turns.workers ≡ plan.now.workers) × (progress.old.taken ≡ 0) × (progress.old.boards ≡ 0) }
     requires fresh { (w : ℕ) (e : _) → w < plan.now.workers → (slice_index_or lanes.old.items w e).taken ≡ [] }
     ensures same { (map (λ l. l.ring) lanes.new.items ≡ map (λ l. l.ring) lanes.old.items) × (map (λ l. l.settled) lanes.new.items ≡ map (λ l. l.settled) lanes.old.items) }
-    ensures heading { progress.new.printer.heading ≡ progress.old.printer.heading }
+    ensures layout { N.layout notation.new ≡ N.layout notation.old }
     ensures counts { (vec_len lanes.new ≡ vec_len lanes.old) × (progress.new.turns.workers ≡ plan.now.workers) × (progress.new.taken ≤ plan.now.count) }
     ensures faults { CountsFault (S.faults sink.old) (S.faults sink.new) result }
-    ensures broken { OnErr result (WriterBrokeOff plan.now lanes.new.items progress.new.taken progress.new.boards (S.bytes sink.old) (S.bytes sink.new)) }
-    ensures written { OnOk result (WriterSoFar plan.now lanes.new.items progress.new.taken progress.new.boards (S.bytes sink.old) (S.bytes sink.new)) }
+    ensures broken { OnErr result (WriterBrokeOff (N.layout notation.old) plan.now lanes.new.items progress.new.taken progress.new.boards (S.bytes sink.old) (S.bytes sink.new)) }
+    ensures written { OnOk result (WriterSoFar (N.layout notation.old) plan.now lanes.new.items progress.new.taken progress.new.boards (S.bytes sink.old) (S.bytes sink.new)) }
 {
-    put_all(sink, &HEADER)?;
-    write_beside(rt, plan, lanes, sink, progress, stop)?;
+    put_all(sink, notation.header())?;
+    write_while_running(rt, plan, lanes, notation, sink, progress, stop)?;
     Ok(())
 }
 
-/// Takes what is left of the lanes, whose workers sent all, and writes it, until the limit of boards is met.
-pub(crate) fn write_rest<S: Sink>(
+/// Takes what is left of the lanes, whose workers sent all, and writes it, until the limit of boards
+/// is met.
+pub(crate) fn write_remaining<N: Notation, S: Sink>(
     plan: &Plan,
     lanes: &mut Vec<LaneOut>,
+    notation: &mut N,
     sink: &mut S,
     progress: &mut Progress,
 ) -> Result<(), SinkFault>
     requires faults { S.faults sink.old < 2 ^ 64 - 1 }
-    requires heading { progress.old.printer.heading ≡ plan.now.heading }
     requires counts { (vec_len lanes.old ≡ plan.now.workers) × (progress.old.turns.workers ≡ plan.now.workers) × (progress.old.taken ≤ plan.now.count) }
     requires whole { (form : Form) × AllWhole plan.now form lanes.old.items }
-    requires begun { (base : Option (List ℕ)) × WriterSoFar plan.now lanes.old.items progress.old.taken progress.old.boards base (S.bytes sink.old) }
+    requires begun { (base : Option (List ℕ)) × WriterSoFar (N.layout notation.old) plan.now lanes.old.items progress.old.taken progress.old.boards base (S.bytes sink.old) }
     ensures len { vec_len lanes.new ≡ vec_len lanes.old }
     ensures whole { (form : Form) → AllWhole plan.now form lanes.old.items → AllWhole plan.now form lanes.new.items }
-    ensures heading { progress.new.printer.heading ≡ progress.old.printer.heading }
+    ensures layout { N.layout notation.new ≡ N.layout notation.old }
     ensures counts { progress.new.taken ≤ plan.now.count }
     ensures faults { CountsFault (S.faults sink.old) (S.faults sink.new) result }
-    ensures broken { OnErr result ((base : Option (List ℕ)) → WriterSoFar plan.now lanes.old.items progress.old.taken progress.old.boards base (S.bytes sink.old) → WriterBrokeOff plan.now lanes.new.items progress.new.taken progress.new.boards base (S.bytes sink.new)) }
-    ensures written { OnOk result ((base : Option (List ℕ)) → WriterSoFar plan.now lanes.old.items progress.old.taken progress.old.boards base (S.bytes sink.old) → WriterSoFar plan.now lanes.new.items progress.new.taken progress.new.boards base (S.bytes sink.new)) }
+    ensures broken { OnErr result ((base : Option (List ℕ)) → WriterSoFar (N.layout notation.old) plan.now lanes.old.items progress.old.taken progress.old.boards base (S.bytes sink.old) → WriterBrokeOff (N.layout notation.old) plan.now lanes.new.items progress.new.taken progress.new.boards base (S.bytes sink.new)) }
+    ensures written { OnOk result ((base : Option (List ℕ)) → WriterSoFar (N.layout notation.old) plan.now lanes.old.items progress.old.taken progress.old.boards base (S.bytes sink.old) → WriterSoFar (N.layout notation.old) plan.now lanes.new.items progress.new.taken progress.new.boards base (S.bytes sink.new)) }
     ensures end { OnOk result ((progress.new.taken ≡ plan.now.count) ⊎ (plan.now.limit ≡ Some progress.new.boards)) }
 {
     for _taken in progress.taken..plan.count() {
@@ -169,7 +166,7 @@ pub(crate) fn write_rest<S: Sink>(
         let Some(verdict) = lane.take() else {
             unreachable!()
         };
-        progress.write(plan, sink, &verdict)?;
+        progress.write(plan, notation, sink, &verdict)?;
     }
     Ok(())
 }

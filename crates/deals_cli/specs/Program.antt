@@ -10,7 +10,7 @@ use Rattle.cond_lang.specs.declared.tree.Op.TheVariants.{Equal}
 use Rattle.pbn_text.specs.Labels.{IsDate, IsLabel}
 use Rattle.dealrun.specs.Plans.{Planned}
 use Rattle.dealrun.specs.Sinks.{AppendsAll}
-use Rattle.dealrun.specs.Text.{text}
+use Rattle.dealrun.specs.Pbn.{text}
 use Rattle.dealrun.specs.Values.{lines}
 use Rattle.deals_cli.specs.CommandLine.{kinds_for}
 use Rattle.deals_cli.specs.Requests.{Making, Wish, stream, make}

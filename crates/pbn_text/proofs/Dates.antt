@@ -4,7 +4,7 @@ use Rattle.std.proofs.lemmas.List.Elements.{All-nil, All-cons, All-get_or}
 use Rattle.std.specs.Prelude.{codes}
 use Rattle.std.specs.List.{All}
 use Rattle.pbn_text.specs.Labels.{AreDigits, IsDate}
-use Rattle.pbn_text.specs.LabelBytes.{FitsDate}
+use Rattle.pbn_text.specs.internal.LabelBytes.{FitsDate}
 
 abbrev IsDigit : ℕ → Type 0
 IsDigit byte = (0x30 ≤ byte) × (byte ≤ 0x39)

@@ -3,5 +3,5 @@ pub mod Copies
 pub mod Dates
 pub mod Reading
 pub mod Sets
-pub mod Rooms
-pub mod Cycle
+pub mod Buffers
+pub mod BoardLines

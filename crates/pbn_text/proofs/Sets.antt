@@ -12,7 +12,7 @@ use Rattle.cards.specs.declared.suit.Suit.TheVariants.{Spades}
 use Rattle.cards.specs.Pack.{suit_number}
 use Rattle.cards.specs.Hands.{holds_card, has_rank, ranks_of}
 use Rattle.pbn_text.specs.Games.{letters, suit_text}
-use Rattle.pbn_text.specs.SuitTexts.{ranks_in, set_text, IsSuitText}
+use Rattle.pbn_text.specs.internal.SuitTexts.{ranks_in, set_text, IsSuitText}
 use Rattle.pbn_text.proofs.Suits.{first_ranks, first_ranks-all, one_written, one_passed}
 
 -- whether a rank is in the set
@@ -46,8 +46,8 @@ whole_text text ranks n end all full few written start =
     let long : length dotted ≡ 16 = simp length-set full in
     let len : get_or (set dotted 15 (end + 1)) 15 0 ≡ end + 1 = get_or-set_same dotted 15 (end + 1) 0 (omega (arith, long)) in
     record {
-      room = simp length-set full;
-      most = omega (arith, len);
+      size = simp length-set full;
+      max = omega (arith, len);
       len = omega (arith, len, start, ap length letters);
       text = ap (λ k. take k (set dotted 15 (end + 1))) len
           ∙ take-set-le (end + 1) dotted 15 (end + 1) (omega arith)

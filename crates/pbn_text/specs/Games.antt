@@ -1,5 +1,6 @@
 -- Portable Bridge Notation 2.1 in this project's profile: a text is the header line and the games.
-use Rattle.std.specs.Prelude.{ℕ, ◌+◌, ◌*◌, List, [], ◌++◌, Option, Some, None, Bool, map, filter, codes, decimal, slice_index}
+use Rattle.std.specs.Prelude.{ℕ, ◌+◌, ◌*◌, List, [], ◌++◌, Option, Some, None, Bool, map, filter}
+use Rattle.std.specs.Prelude.{codes, decimal, slice_index}
 use Rattle.std.specs.List.{range_with_len}
 use Rattle.cards.specs.declared.seat.Seat.{Seat}
 use Rattle.cards.specs.declared.seat.Seat.TheVariants.{North, East, South, West}
@@ -85,7 +86,10 @@ board_text board =
 -- the lines of a board's game, and an empty one
 unfoldable pub game_text : HeadingView → Board → List ℕ
 game_text heading board =
-    heading_text heading ++ board_text board ++ tag (codes "Deal") (deal_text board.deal) ++ codes "\n"
+    heading_text heading
+    ++ board_text board
+    ++ tag (codes "Deal") (deal_text board.deal)
+    ++ codes "\n"
 
 -- the game of the board of this number, with the dealer and the vulnerability of Law 2
 unfoldable pub game : ℕ → HeadingView → List Seat → List ℕ

@@ -1,4 +1,4 @@
--- What stands between the quotes of the label lines.
+-- What a label line has between its quotes.
 use Rattle.std.specs.Prelude.{◌≡◌, ◌≢◌, ℕ, ◌≤◌, List, ◌++◌, length, codes}
 use Rattle.std.specs.List.{All}
 

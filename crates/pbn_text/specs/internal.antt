@@ -1,2 +1,6 @@
--- What only bodies and proofs use.
+-- What only bodies and lemmas use: no public clause names any of it.
+pub mod LabelBytes
+pub mod Lines
 pub mod Games
+pub mod SuitTexts
+pub mod Buffers

@@ -1,26 +1,26 @@
-//! The labels that may stand above a board: event, site and date.
+//! The labels that a game may have: event, site and date.
 
 ghost use Rattle.std.specs.Prelude.{◌≡◌, ◌↔◌, length, None, IsTrue, IsSome, IfSome};
 ghost use Rattle.pbn_text.specs.Labels.{IsLabel, IsLabelByte, IsDate};
-ghost use Rattle.pbn_text.specs.LabelBytes.{FitsDate};
+ghost use Rattle.pbn_text.specs.internal.LabelBytes.{FitsDate};
 
 use std::marker::Model;
 
-/// The most bytes of a label.
-const MOST: usize = 100;
+/// The greatest length of a label, in bytes.
+const MAX_LABEL_LEN: usize = 100;
 
 /// The text of an event or a site, which contracts see as its bytes.
 ///
 /// It has at most 100 printable characters of ASCII, without `"` and `\`. It may be empty.
 #[derive(Clone, Copy, PartialEq, Eq, Debug)]
 pub struct Label {
-    bytes: [u8; MOST],
+    bytes: [u8; MAX_LABEL_LEN],
     len: usize,
 }
 
 impl Model for Label {
     ghost use Rattle.std.specs.Prelude.{List, ℕ, take, length, refl};
-    ghost use Rattle.pbn_text.specs.LabelBytes.{IsPadded, padded_label};
+    ghost use Rattle.pbn_text.specs.internal.LabelBytes.{IsPadded, padded_label};
 
     ghost Value = { List ℕ };
 
@@ -34,16 +34,16 @@ impl Model for Label {
 }
 
 impl Label {
-    /// The label of this text, or `None` exactly for more than 100 bytes or a byte that isn't 0x20
-    /// to 0x7E or is `"` or `\`.
+    /// Returns the label of this text, or `None` if and only if it has more than 100 bytes, or a
+    /// byte that isn't 0x20 to 0x7E or is `"` or `\`.
     pub fn new(text: &[u8]) -> Option<Label>
         ensures sound { IsSome result ↔ IsLabel text.now }
         ensures kept { IfSome result (λ label. label ≡ text.now) }
     {
-        if text.len() > MOST {
+        if text.len() > MAX_LABEL_LEN {
             return None;
         }
-        let mut bytes = [0; MOST];
+        let mut bytes = [0; MAX_LABEL_LEN];
         for (i, byte) in text.iter().enumerate() {
             if !is_label_byte(*byte) {
                 return None;
@@ -56,7 +56,7 @@ impl Label {
         })
     }
 
-    /// The label's bytes.
+    /// Returns the label's bytes.
     pub(crate) fn as_bytes(&self) -> &[u8]
         ensures value { result.now ≡ self.now }
         ensures label { IsLabel self.now }
@@ -91,8 +91,8 @@ impl Model for Date {
 }
 
 impl Date {
-    /// The date of this text, or `None` exactly if the text isn't four digits, `.`, two digits,
-    /// `.`, two digits.
+    /// Returns the date of this text, or `None` if and only if the text isn't four digits, `.`, two
+    /// digits, `.`, two digits.
     pub fn new(text: &[u8]) -> Option<Date>
         ensures sound { IsSome result ↔ IsDate text.now }
         ensures kept { IfSome result (λ date. date ≡ text.now) }
@@ -110,7 +110,7 @@ impl Date {
         Some(Date { bytes })
     }
 
-    /// The date's ten bytes.
+    /// Returns the date's ten bytes.
     pub(crate) fn as_bytes(&self) -> &[u8]
         ensures value { result.now ≡ self.now }
         ensures date { IsDate self.now }
@@ -120,7 +120,7 @@ impl Date {
     }
 }
 
-/// Whether the byte may stand at place i of a date.
+/// Whether the byte may be byte i of a date.
 fn fits_date(i: usize, byte: u8) -> bool
     ensures { IsTrue result ↔ FitsDate i byte }
 {
@@ -140,7 +140,7 @@ pub struct Heading {
 }
 
 impl Heading {
-    /// No label at all.
+    /// Returns the heading without any label.
     pub fn none() -> Heading
         ensures { result ≡ record { event = None; site = None; date = None } }
     {

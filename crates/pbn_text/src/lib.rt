@@ -1,25 +1,29 @@
 //! Bridge deals as games of Portable Bridge Notation 2.1, in this project's profile.
 //!
-//! A text is `HEADER` and then one game after the other. A game has a line for each label of its
-//! heading, the board's number, its dealer and vulnerability, and the deal.
+//! A text is `HEADER` and then the games in order. A game has a line for each label of its heading,
+//! lines for the board's number, dealer and vulnerability, the line of the deal, and an empty line.
 //!
-//! `game` makes one game. A `Printer` prints many under one heading, each in a fraction of the
-//! time: the texts of a suit stand ready for each set of ranks, the lines of dealer and
-//! vulnerability for each pair of these, and the heading's lines stay where they are.
+//! There are two ways to write one, both proved to write the text that the definition gives:
+//! - `game` and `Reference` write it line by line. This is the simple way, in `reference.rt`.
+//! - `Printer` prints many games under one heading, each in a fraction of the time. The text of a
+//!   suit is ready for each set of ranks, the lines of dealer and vulnerability for each pair of
+//!   these, and the lines of the heading stay in its buffer.
 #![tactic(auto)]
 
-mod games;
+mod board_lines;
+mod buffer;
 mod heading;
 pub mod laws;
-mod middles;
+mod lines;
 mod printer;
-mod room;
+mod reference;
 mod suit_texts;
 
 pub use boards::{Vul, dealer, vulnerable};
-pub use games::{HEADER, game};
 pub use heading::{Date, Heading, Label};
+pub use lines::HEADER;
 pub use printer::Printer;
+pub use reference::{Reference, game};
 
 #[cfg(test)]
 mod tests;

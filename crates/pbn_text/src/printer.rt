@@ -1,58 +1,66 @@
-//! Games under one heading, printed one after the other.
+//! The printer that a run uses: games under one heading, each in a fraction of the reference's
+//! time.
 
-ghost use Rattle.std.specs.Prelude.{◌≡◌, ◌≤◌, [], IfOk};
+ghost use Rattle.std.specs.Prelude.{◌≡◌, [], IfOk};
 ghost use Rattle.pbn_text.specs.Games.{game_text, pbn};
 ghost use Rattle.pbn_text.specs.internal.Games.{game_has_byte};
 
-use crate::middles::put_middle;
-use crate::room::{Front, Room, first_front, put_hands, put_number};
+use crate::board_lines::put_board_lines;
+use crate::buffer::{LineBuffer, Prefix, first_prefix, put_hands, put_number};
 use crate::suit_texts::SuitTexts;
 use crate::{HEADER, Heading};
 use boards::{Board, Notation};
 use std::alloc::{AllocError, Global};
 use std::marker::Model;
 
-/// Prints games under one heading, one after the other. Contracts see the heading and the text that
-/// was printed last.
+/// Prints games under one heading, one at a time. Contracts see the heading and the text that was
+/// printed last.
 ///
-/// It is made for many games: to make one takes the time of some thousand games. It takes 128 KiB
-/// of memory once, when it is made, and none to print.
+/// It is made for many games: to create one costs as much as to print some thousand games. It takes
+/// 128 KiB of memory once, when it is created, and none to print.
 #[derive(Drop)]
 pub struct Printer {
     heading: Heading,
     texts: SuitTexts,
-    room: Room,
-    front: Front,
-    to: usize,
+    buffer: LineBuffer,
+    prefix: Prefix,
+    end: usize,
 }
 
 impl Model for Printer {
     ghost use Rattle.std.specs.Prelude.{drop, take};
-    ghost use Rattle.pbn_text.specs.Printing.{Printing, IsPrinted};
+    ghost use Rattle.pbn_text.specs.Printing.{Printing};
+    ghost use Rattle.pbn_text.specs.internal.Buffers.{IsPrinted};
 
     ghost Value = { Printing };
 
-    ghost view = { λ p. record { heading = p.heading; text = drop p.front.from (take p.to p.room) } };
+    ghost view = { λ p. record {
+      heading = p.heading;
+      text = drop p.prefix.start (take p.end p.buffer);
+    } };
 
-    ghost invariant = { λ p. IsPrinted p.room p.heading p.front.from p.front.number p.front.board p.to };
+    ghost invariant = { λ p.
+        IsPrinted p.buffer p.heading p.prefix.start p.prefix.number_start p.prefix.number p.end };
 }
 
 impl Printer {
-    /// A printer of games under the heading, which has printed nothing. `Err` only if its memory
-    /// can't be had.
+    /// Returns a printer of games under the heading, which has printed nothing.
+    ///
+    /// # Errors
+    /// `AllocError` if the allocation of its memory failed.
     pub fn new(alloc: Global, heading: &Heading) -> Result<Printer, AllocError>
         ensures heading { IfOk result (λ p. p.heading ≡ heading.now) }
         ensures text { IfOk result (λ p. p.text ≡ []) }
     {
         let texts = SuitTexts::new(alloc)?;
-        let mut room = [0; 512];
-        let front = first_front(&mut room, heading);
+        let mut buffer = [0; 512];
+        let prefix = first_prefix(&mut buffer, heading);
         Ok(Printer {
             heading: *heading,
             texts,
-            room,
-            front,
-            to: front.from,
+            buffer,
+            prefix,
+            end: prefix.start,
         })
     }
 
@@ -61,16 +69,16 @@ impl Printer {
         ensures heading { self.new.heading ≡ self.old.heading }
         ensures text { self.new.text ≡ game_text self.old.heading board.now }
     {
-        self.front = put_number(&mut self.room, self.front, &self.heading, board.number);
-        let hands = put_middle(&mut self.room, board.dealer, board.vulnerable);
-        self.to = put_hands(&mut self.room, hands, &self.texts, &board.deal);
+        self.prefix = put_number(&mut self.buffer, self.prefix, &self.heading, board.number);
+        let hands = put_board_lines(&mut self.buffer, board.dealer, board.vulnerable);
+        self.end = put_hands(&mut self.buffer, hands, &self.texts, &board.deal);
     }
 
-    /// The text that was printed last.
+    /// Returns the text that was printed last.
     pub fn text(&self) -> &[u8]
         ensures { result.now ≡ self.now.text }
     {
-        &self.room[self.front.from..self.to]
+        &self.buffer[self.prefix.start..self.end]
     }
 }
 
@@ -84,7 +92,7 @@ impl Notation for Printer {
     }
 
     fn print(&mut self, board: &Board) {
-        Printer::print(self, board)
+        Printer::print(self, board);
     }
 
     fn text(&self) -> &[u8] {

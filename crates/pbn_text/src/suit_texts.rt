@@ -1,16 +1,16 @@
-//! The texts of the sets of a suit's ranks, each ready to be copied.
+//! The letters of a suit for each set of ranks: ready to be copied.
 
 ghost use Rattle.std.specs.Prelude.{◌≡◌, ◌<◌, ◌^◌, vec_len};
-ghost use Rattle.pbn_text.specs.SuitTexts.{IsSuitText, IsSuitTable};
+ghost use Rattle.pbn_text.specs.internal.SuitTexts.{IsSuitText, IsSuitTable};
 
-use crate::games::LETTERS;
+use crate::lines::LETTERS;
 use std::alloc::{AllocError, Global};
 
 /// How many sets of thirteen ranks there are.
 const SETS: usize = 8192;
 
 /// The letters of the ranks in a set, the ace first, and a dot. The last byte is the number of
-/// these.
+/// these bytes.
 pub(crate) type SuitText = [u8; 16];
 
 /// The text of each set of a suit's ranks, in memory of its own: 128 KiB.
@@ -22,7 +22,7 @@ pub(crate) struct SuitTexts {
 }
 
 impl SuitTexts {
-    /// The texts of all sets; `Err` only if their memory can't be had.
+    /// Returns the texts of all sets, or `AllocError` if the allocation of their memory failed.
     pub(crate) fn new(alloc: Global) -> Result<SuitTexts, AllocError> {
         let mut texts = Vec::with_capacity(alloc, SETS)?;
         for set in 0..SETS {
@@ -31,7 +31,7 @@ impl SuitTexts {
         Ok(SuitTexts { texts })
     }
 
-    /// The text of the ranks in the set.
+    /// Returns the text of the ranks in the set.
     pub(crate) fn of(&self, set: u16) -> &SuitText
         requires { set < 2 ^ 13 }
         ensures { IsSuitText set result.now }
@@ -40,7 +40,7 @@ impl SuitTexts {
     }
 }
 
-/// The text of the ranks in the set.
+/// Writes the text of the ranks in the set.
 fn suit_text(set: usize) -> SuitText
     ensures { IsSuitText set result }
 {

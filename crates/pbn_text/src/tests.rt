@@ -69,7 +69,7 @@ fn printer_of_the_worked_games(rt: HostRuntime) -> Result<(), Fail> {
     Ok(())
 }
 
-/// Writes the boards as a text of the notation, each at the end of what stands there.
+/// Appends the text of the boards in the notation.
 fn write_text<N: Notation>(
     notation: &mut N,
     boards: &[Board],
@@ -84,10 +84,11 @@ fn write_text<N: Notation>(
     Ok(())
 }
 
-/// A board 0 and a board 10 with another dealer and vulnerability than Law 2's, and their text.
+/// The text of `boards_by_hand`.
 const BY_HAND: &[u8] =
     b"% PBN 2.1\n[Board \"0\"]\n[Dealer \"W\"]\n[Vulnerable \"All\"]\n[Deal \"N:AKQJT98765432... .AKQJT98765432.. ..AKQJT98765432. ...AKQJT98765432\"]\n\n[Board \"10\"]\n[Dealer \"S\"]\n[Vulnerable \"EW\"]\n[Deal \"N:.63.AKQ987.A9732 A8654.KQ5.T.QJT6 J973.J98742.3.K4 KQT2.AT.J6542.85\"]\n\n";
 
+/// A board 0, and a board 10 with another dealer and vulnerability than Law 2's.
 fn boards_by_hand() -> Result<[Board; 2], Fail> {
     Ok([
         Board {
@@ -113,6 +114,28 @@ fn printer_as_a_notation(rt: HostRuntime) -> Result<(), Fail> {
     let mut text = Vec::new(rt.alloc());
     write_text(&mut printer, &boards_by_hand()?, &mut text)?;
     assert_eq!(rt; text.as_slice(), BY_HAND);
+    Ok(())
+}
+
+#[test]
+fn reference_as_a_notation(rt: HostRuntime) -> Result<(), Fail> {
+    let mut reference = Reference::new(&Heading::none());
+    assert_eq!(rt; reference.text(), b"".as_slice());
+    let mut text = Vec::new(rt.alloc());
+    write_text(&mut reference, &boards_by_hand()?, &mut text)?;
+    assert_eq!(rt; text.as_slice(), BY_HAND);
+    Ok(())
+}
+
+#[test]
+fn reference_under_a_heading(rt: HostRuntime) -> Result<(), Fail> {
+    let mut heading = Heading::none();
+    heading.site = Label::new(b"Room 3");
+    let mut reference = Reference::new(&heading);
+    reference.print(&Board::by_law(2, 8, worked_deal()?));
+    let label = b"[Site \"Room 3\"]\n".as_slice();
+    assert_eq!(rt; reference.text().get(..16), Some(label));
+    assert_eq!(rt; reference.text().get(16..), Some(SECOND));
     Ok(())
 }
 

@@ -1,4 +1,4 @@
--- Games as a notation writes them: each has a byte, and a board's candidate is no part of its game.
+-- A game has a byte, and the number of a board's candidate is no part of its game.
 use Rattle.std.proofs.Common.{◌≡◌, ℕ, ◌<◌, List, length, refl, arith}
 use Rattle.std.proofs.lemmas.List.{length-append}
 use Rattle.cards.specs.declared.seat.Seat.{Seat}

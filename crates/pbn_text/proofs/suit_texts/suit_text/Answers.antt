@@ -2,7 +2,7 @@ use Rattle.std.proofs.Common.{sym, refl, ◌≤◌, ◌/◌, ◌^◌, bit_and, a
 use Rattle.std.proofs.lemmas.List.{length-set}
 use Rattle.std.proofs.lemmas.Nat.{and_le_r}
 use Rattle.cards.specs.declared.suit.Suit.TheVariants.{Spades}
-use Rattle.pbn_text.specs.SuitTexts.{ranks_in}
+use Rattle.pbn_text.specs.internal.SuitTexts.{ranks_in}
 use Rattle.pbn_text.proofs.Suits.{first_ranks-none}
 use Rattle.pbn_text.proofs.Sets.{next_rank, whole_text}
 use Rattle.pbn_text.proofs.suit_texts.suit_text.Goals as goal

@@ -1,6 +1,6 @@
 use Rattle.std.proofs.Common.{◌≡◌, ◌+◌, ◌≤◌, [], ◌++◌, take, length}
 use Rattle.cards.specs.declared.suit.Suit.TheVariants.{Spades}
-use Rattle.pbn_text.specs.SuitTexts.{ranks_in}
+use Rattle.pbn_text.specs.internal.SuitTexts.{ranks_in}
 use Rattle.pbn_text.proofs.Suits.{first_ranks}
 use Rattle.pbn_text.proofs.suit_texts.suit_text.Given as goal
 

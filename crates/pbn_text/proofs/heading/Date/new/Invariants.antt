@@ -1,5 +1,5 @@
 use Rattle.std.proofs.Common.{◌≡◌, ℕ, ◌<◌, get_or, length, take}
-use Rattle.pbn_text.specs.LabelBytes.{FitsDate}
+use Rattle.pbn_text.specs.internal.LabelBytes.{FitsDate}
 use Rattle.pbn_text.proofs.heading.Date.new.Given as goal
 
 abbrev pub invariant-loop-i : goal.invariant-loop-i

@@ -3,7 +3,7 @@ use Rattle.std.specs.Prelude.{replicate}
 use Rattle.std.proofs.lemmas.List.{length-set}
 use Rattle.std.proofs.lemmas.List.Elements.{All-from_get_or}
 use Rattle.pbn_text.specs.Labels.{IsLabel, IsLabelByte}
-use Rattle.pbn_text.specs.LabelBytes.{IsPadded}
+use Rattle.pbn_text.specs.internal.LabelBytes.{IsPadded}
 use Rattle.pbn_text.proofs.Copies.{zeros, copy_more, copied_all, front}
 use Rattle.pbn_text.proofs.heading.Label.new.Goals as goal
 

@@ -1,5 +1,5 @@
 use Rattle.std.proofs.Common.{◌≡◌, ℕ, ◌<◌, [], get_or, vec_len, vec_capacity}
-use Rattle.pbn_text.specs.SuitTexts.{IsSuitText}
+use Rattle.pbn_text.specs.internal.SuitTexts.{IsSuitText}
 use Rattle.pbn_text.proofs.suit_texts.SuitTexts.new.Given as goal
 
 abbrev pub invariant-loop-set : goal.invariant-loop-set

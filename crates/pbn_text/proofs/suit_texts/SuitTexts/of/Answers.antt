@@ -1,6 +1,6 @@
 use Rattle.std.proofs.Common.{◌≡◌, [], get_or, sym, subst, ◌∙◌, ap, length, arith, vec_len, rules}
 use Rattle.std.proofs.lemmas.List.{get_or_read_under}
-use Rattle.pbn_text.specs.SuitTexts.{IsSuitText}
+use Rattle.pbn_text.specs.internal.SuitTexts.{IsSuitText}
 use Rattle.pbn_text.proofs.suit_texts.SuitTexts.of.Goals as goal
 
 pub returns : goal.returns

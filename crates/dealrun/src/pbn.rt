@@ -1,0 +1,88 @@
+//! The runs that write Portable Bridge Notation: the runs in any notation, at PBN's printers.
+
+ghost use Rattle.std.specs.Prelude.{◌≡◌, ◌-◌, ◌^◌, ◌<◌, length, IfOk, MatchResult};
+ghost use Rattle.dealrun.specs.Outcomes.{FaultsAfter, TakesWhatIsOwed};
+ghost use Rattle.dealrun.specs.Pbn.{BreaksOffText, InterruptedOutcome, StandsComplete, WritesText, text};
+ghost use Rattle.dealrun.specs.Sinks.{AppendsAll, CountsFault};
+ghost use Rattle.dealrun.specs.Text.{accepted};
+
+use crate::plan::Plan;
+use crate::reference::{PlainFault, run_plain_in};
+use crate::runs::{Report, RunFault, out_of_memory, start_and_write};
+use crate::sink::Sink;
+use cond_lang::Cond;
+use lanes::Gate;
+use pbn_text::{Printer, Reference};
+use std::alloc::Global;
+use std::sync::atomic::AtomicBool;
+use std::sync::{Arc, Wait};
+use std::thread::Threads;
+
+/// Writes the games of the accepted candidates of a plan, judged by its workers in threads of their own.
+///
+/// All memory is taken first: a lane and a clone of the condition for each worker, and 128 KiB for the printer. So the
+/// calling thread needs little stack: 80 KiB in the program `deals`, all in all. Then one worker starts for each lane,
+/// and the caller's thread writes while they run. It may wait for its workers.
+///
+/// # Errors
+///
+/// The first of these that is due. `Memory`: an allocation failed, before any thread started. `Spawn`: a thread could
+/// not be started; those that were are stopped and joined. `Output`: the sink failed. `Stopped`: a worker ended before
+/// it had sent all, since its gate answered false, and the limit of boards was not met. `Unclosed`: a lane can't say
+/// how it ended.
+pub fn run<
+    R: Threads + Wait + Clone + Send + 'static,
+    G: Gate + Drop + Send + Sync + 'static,
+    S: Sink,
+>(
+    rt: &R,
+    alloc: Global,
+    plan: &Plan,
+    cond: Cond,
+    sink: &mut S,
+    gate: Arc<G, Global>,
+) -> Result<Report, RunFault>
+    requires { S.faults sink.old < 2 ^ 64 - 1 }
+    // What was taken from each lane is its worker's verdicts, and all that is needed.
+    ensures lanes { IfOk result (λ r. TakesWhatIsOwed plan.now cond r.lanes.items r.boards) }
+    // The bytes are the games of the accepted deals, within the limit, in order.
+    ensures text { IfOk result (λ r. WritesText plan.now cond r.boards
+        (S.bytes sink.old) (S.bytes sink.new)) }
+    // However the run ends: the lanes as they are, and the bytes of what was taken from them.
+    ensures stands { MatchResult result
+        (λ r. StandsComplete plan.now cond r.lanes.items r.boards
+        (S.bytes sink.old) (S.bytes sink.new))
+        (λ e. InterruptedOutcome plan.now cond e.cause e.lanes.items e.boards
+        (S.bytes sink.old) (S.bytes sink.new)) }
+    // The sink failed, once, if and only if the cause is Output.
+    ensures faults { MatchResult result
+        (λ _. S.faults sink.new ≡ S.faults sink.old)
+        (λ e. FaultsAfter e.cause (S.faults sink.old) (S.faults sink.new)) }
+{
+    let Ok(stop) = Arc::new(alloc, AtomicBool::new(false)) else {
+        return Err(out_of_memory(alloc));
+    };
+    let Ok(mut printer) = Printer::new(alloc, plan.heading()) else {
+        return Err(out_of_memory(alloc));
+    };
+    start_and_write(rt, alloc, plan, cond, &mut printer, sink, gate, stop)
+}
+
+/// Tries the plan's candidates in order, and writes the header and the games of those that meet the condition, at most
+/// the plan's limit of them. It takes no memory. Returns how many games were written.
+///
+/// # Errors
+///
+/// `PlainFault` if the sink failed: a proper prefix of that text is written, and the fault has the number of whole
+/// games in it.
+pub fn run_plain<S: Sink>(plan: &Plan, cond: &Cond, sink: &mut S) -> Result<u64, PlainFault>
+    requires { S.faults sink.old < 2 ^ 64 - 1 }
+    ensures bytes { MatchResult result
+        (λ _. AppendsAll (S.bytes sink.old) (S.bytes sink.new) (text plan.now cond.now))
+        (λ e. BreaksOffText (S.bytes sink.old) (S.bytes sink.new) plan.now
+        (accepted plan.now cond.now) e.boards) }
+    ensures boards { IfOk result (λ boards. boards ≡ length (accepted plan.now cond.now)) }
+    ensures faults { CountsFault (S.faults sink.old) (S.faults sink.new) result }
+{
+    run_plain_in(plan, cond, &mut Reference::new(plan.heading()), sink)
+}

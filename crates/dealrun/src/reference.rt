@@ -1,0 +1,99 @@
+//! The reference run: one thread and no lane, written as the definition of the text reads. It runs in tests alone, and
+//! the run over lanes is compared with it.
+
+ghost use Rattle.std.specs.Prelude.{◌≡◌, ◌+◌, ◌-◌, ◌*◌, ◌<◌, ◌≤◌, ◌^◌, length, IfOk, MatchResult};
+ghost use Rattle.cards.specs.Candidates.{state_before};
+ghost use Rattle.dealrun.specs.Sinks.{AppendsAll, CountsFault};
+ghost use Rattle.dealrun.specs.Text.{BreaksOffIn, accepted, text_in, text_of};
+
+use crate::boards::{is_full, put_board};
+use crate::plan::Plan;
+use crate::sink::{Sink, put_all};
+use boards::Notation;
+use cards::Deal;
+use cond_lang::Cond;
+use lcg48::{Lcg48, Steps, Stride};
+
+/// The sink failed, after this many whole boards.
+#[derive(Clone, Copy, Debug, PartialEq, Eq)]
+pub struct PlainFault {
+    pub boards: u64,
+}
+
+/// The generator before the first draw of the plan's first candidate.
+fn generator_of(plan: &Plan) -> Lcg48
+    ensures { result ≡ state_before plan.now.seed plan.now.first }
+{
+    let before = Stride::of(51 * plan.first(), &mut Steps::new());
+    before.apply(&Lcg48::seeded(plan.seed()))
+}
+
+/// Writes the header, and the boards of the accepted candidates in order, up to the plan's limit.
+fn write_accepted<N: Notation, S: Sink>(
+    plan: &Plan,
+    cond: &Cond,
+    notation: &mut N,
+    sink: &mut S,
+) -> Result<u64, PlainFault>
+    requires { S.faults sink.old < 2 ^ 64 - 1 }
+    ensures layout { N.layout notation.new ≡ N.layout notation.old }
+    ensures bytes { MatchResult result
+        (λ _. AppendsAll (S.bytes sink.old) (S.bytes sink.new)
+        (text_of (N.layout notation.old) plan.now (accepted plan.now cond.now)))
+        (λ e. BreaksOffIn (N.layout notation.old) (S.bytes sink.old) (S.bytes sink.new)
+        plan.now (accepted plan.now cond.now) e.boards) }
+    ensures boards { IfOk result (λ boards. boards ≡ length (accepted plan.now cond.now)) }
+    ensures faults { CountsFault (S.faults sink.old) (S.faults sink.new) result }
+{
+    let mut boards = 0;
+    if put_all(sink, notation.header()).is_err() {
+        return Err(PlainFault { boards });
+    }
+    let mut generator = generator_of(plan);
+    for place in 0..plan.count() {
+        if is_full(plan, boards) {
+            break;
+        }
+        let deal = Deal::draw(&mut generator);
+        if cond.holds(&deal) {
+            let candidate = plan.first() + place;
+            if put_board(plan, notation, boards, candidate, &deal, sink).is_err() {
+                return Err(PlainFault { boards });
+            }
+            boards += 1;
+        }
+    }
+    Ok(boards)
+}
+
+/// Tries the plan's candidates in order, and writes the header, the boards of those that meet the condition, at most
+/// the plan's limit of them, and the footer. Returns how many boards were written.
+///
+/// # Errors
+///
+/// `PlainFault` if the sink failed: a proper prefix of that text is written, and the fault has the number of whole
+/// boards in it.
+pub fn run_plain_in<N: Notation, S: Sink>(
+    plan: &Plan,
+    cond: &Cond,
+    notation: &mut N,
+    sink: &mut S,
+) -> Result<u64, PlainFault>
+    requires { S.faults sink.old < 2 ^ 64 - 1 }
+    ensures layout { N.layout notation.new ≡ N.layout notation.old }
+    ensures bytes { MatchResult result
+        (λ _. AppendsAll (S.bytes sink.old) (S.bytes sink.new)
+        (text_in (N.layout notation.old) plan.now cond.now))
+        (λ e. BreaksOffIn (N.layout notation.old) (S.bytes sink.old) (S.bytes sink.new)
+        plan.now (accepted plan.now cond.now) e.boards) }
+    ensures boards { IfOk result (λ boards. boards ≡ length (accepted plan.now cond.now)) }
+    ensures faults { CountsFault (S.faults sink.old) (S.faults sink.new) result }
+{
+    match write_accepted(plan, cond, notation, sink) {
+        Ok(boards) => match put_all(sink, notation.footer()) {
+            Ok(()) => Ok(boards),
+            Err(_) => Err(PlainFault { boards }),
+        },
+        Err(fault) => Err(fault),
+    }
+}
