@@ -17,7 +17,7 @@ use Rattle.cond_lang.specs.Form.{Form}
 use Rattle.lanes.specs.declared.verdict.Verdict.{Verdict}
 use Rattle.lanes.specs.Verdicts.{turns, verdict_of}
 use Rattle.lanes.specs.Views.{OutView}
-use Rattle.lanes.specs.Work.{IsPrefix}
+use Rattle.lanes.specs.Prefixes.{IsPrefix}
 use Rattle.lanes.proofs.Places.{count_even, turns_less}
 use Rattle.lanes.proofs.Sums.{turn_counts, sum-turn_counts}
 use Rattle.lanes.proofs.VerdictLists.{length-verdicts, verdicts-are}

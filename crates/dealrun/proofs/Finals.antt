@@ -9,7 +9,7 @@ use Rattle.boards.specs.Layouts.{Layout}
 use Rattle.cond_lang.specs.Form.{Form}
 use Rattle.lanes.specs.declared.verdict.Verdict.{Verdict}
 use Rattle.lanes.specs.Views.{OutView}
-use Rattle.lanes.specs.Work.{IsPrefix, IsProperPrefix}
+use Rattle.lanes.specs.Prefixes.{IsPrefix, IsProperPrefix}
 use Rattle.lanes.proofs.Places.{turns-none}
 use Rattle.dealrun.specs.Plans.{Planned}
 use Rattle.dealrun.specs.Sinks.{append_known}

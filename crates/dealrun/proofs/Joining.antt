@@ -4,7 +4,7 @@ use Rattle.std.proofs.lemmas.Grind.{common_steps}
 use Rattle.std.proofs.lemmas.List.{get_or-set_same, get_or-set_other, get_or-drop, drop-drop}
 use Rattle.lanes.specs.declared.verdict.Verdict.{Verdict}
 use Rattle.lanes.specs.Views.{OutView}
-use Rattle.lanes.specs.Work.{IsProperPrefix, IsPrefix}
+use Rattle.lanes.specs.Prefixes.{IsProperPrefix, IsPrefix}
 use Rattle.dealrun.specs.declared.join.Outcome.{Outcome}
 use Rattle.dealrun.specs.declared.join.Outcome.TheVariants.{Done, Stopped, Unclosed}
 use Rattle.dealrun.specs.Outcomes.{contents_of}

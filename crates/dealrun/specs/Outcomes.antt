@@ -9,7 +9,7 @@ use Rattle.cond_lang.specs.Form.{Form}
 use Rattle.lanes.specs.declared.verdict.Verdict.{Verdict}
 use Rattle.lanes.specs.Verdicts.{turns}
 use Rattle.lanes.specs.Views.{OutView}
-use Rattle.lanes.specs.Work.{IsPrefix, IsProperPrefix}
+use Rattle.lanes.specs.Prefixes.{IsPrefix, IsProperPrefix}
 use Rattle.dealrun.specs.declared.cause.Cause.{Cause}
 use Rattle.dealrun.specs.declared.cause.Cause.TheVariants.{Memory, Spawn, Output, Stopped, Unclosed}
 use Rattle.dealrun.specs.Plans.{Planned}

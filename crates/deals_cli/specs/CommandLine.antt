@@ -1,5 +1,5 @@
 -- The command line: what the program's words ask for, by clap's own functions of the words.
-use Rattle.std.specs.Prelude.{ℕ, true, List, [], ◌∷◌, Option, Some, None, codes, pos, option_map, unwrap_or, if◌then◌else◌}
+use Rattle.std.specs.Prelude.{ℕ, true, List, [], ◌∷◌, Option, Some, None, codes, fold, pos, option_map, unwrap_or, if◌then◌else◌}
 use Rattle.std.specs.Str.{bytes_eq}
 use Rattle.std.specs.Str.Parse.{digits_value, without_leading_plus}
 use Rattle.clap.specs.Words.{App, Kinds, Row, Rule, Text, fault_of, first_of, new_app, new_rule, one_of, subcommand_of, with_rule, with_subcommand}
@@ -28,38 +28,32 @@ u64_parser = Unsigned 0 18446744073709551615
 abbrev pub count_parser : ValueParser
 count_parser = Unsigned 0 1099511627776
 
+-- a command with these options
+abbrev pub command_with : Text → List Rule → App
+command_with name options = fold with_rule (new_app name) options
+
 -- `deals stream --seed S --count N`
 abbrev pub stream_app : App
-stream_app = with_rule
-    (with_rule (new_app (codes "stream")) (required (option_rule (codes "seed") u32_parser)))
-    (required (option_rule (codes "count") count_parser))
+stream_app = command_with (codes "stream") (
+    required (option_rule (codes "seed") u32_parser)
+    ∷ required (option_rule (codes "count") count_parser)
+    ∷ [])
 
 -- `deals make --seed S --candidates N` and its further options
-abbrev pub with_candidates : App → App
-with_candidates a = with_rule (with_rule a
-    (required (option_rule (codes "seed") u32_parser)))
-    (required (option_rule (codes "candidates") u64_parser))
-
-abbrev pub with_search : App → App
-with_search a = with_rule (with_rule (with_rule a
-    (option_rule (codes "first") u64_parser))
-    (option_rule (codes "workers") u32_parser))
-    (option_rule (codes "lane") u32_parser)
-
-abbrev pub with_boards : App → App
-with_boards a = with_rule (with_rule (with_rule a
-    (option_rule (codes "where") String))
-    (option_rule (codes "boards") u32_parser))
-    (option_rule (codes "first-board") u64_parser)
-
-abbrev pub with_labels : App → App
-with_labels a = with_rule (with_rule (with_rule a
-    (option_rule (codes "event") String))
-    (option_rule (codes "site") String))
-    (option_rule (codes "date") String)
-
 abbrev pub make_app : App
-make_app = with_labels (with_boards (with_search (with_candidates (new_app (codes "make")))))
+make_app = command_with (codes "make") (
+    required (option_rule (codes "seed") u32_parser)
+    ∷ required (option_rule (codes "candidates") u64_parser)
+    ∷ option_rule (codes "first") u64_parser
+    ∷ option_rule (codes "workers") u32_parser
+    ∷ option_rule (codes "lane") u32_parser
+    ∷ option_rule (codes "where") String
+    ∷ option_rule (codes "boards") u32_parser
+    ∷ option_rule (codes "first-board") u64_parser
+    ∷ option_rule (codes "event") String
+    ∷ option_rule (codes "site") String
+    ∷ option_rule (codes "date") String
+    ∷ [])
 
 -- `deals`, with clap's own `help` and `--version`, and a subcommand that has to be named
 abbrev pub deals_top : App

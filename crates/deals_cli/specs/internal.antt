@@ -2,3 +2,4 @@
 pub mod Readings
 pub mod Options
 pub mod Failures
+pub mod Commands

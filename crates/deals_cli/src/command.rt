@@ -3,7 +3,8 @@
 ghost use Rattle.std.specs.Prelude.{◌≡◌, false, IfOk};
 ghost use Rattle.clap.specs.Words.{app_of, rule_of, with_rule};
 ghost use Rattle.clap.specs.declared.Command.TheViews.{out-Command as fields_of};
-ghost use Rattle.deals_cli.specs.CommandLine.{deals, make_app, option_rule, required, stream_app, with_boards, with_candidates, with_labels, with_search};
+ghost use Rattle.deals_cli.specs.CommandLine.{deals, make_app, option_rule, required, stream_app};
+ghost use Rattle.deals_cli.specs.internal.Commands.{with_boards, with_candidates, with_labels, with_search};
 
 use clap::builder::ValueParser;
 use clap::{Arg, Command, value_parser};

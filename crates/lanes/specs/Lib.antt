@@ -1,5 +1,7 @@
 pub mod Verdicts
 pub mod Views
+pub mod Ends
+pub mod Prefixes
 pub mod Jobs
 pub mod Work
 pub mod Machine

@@ -1,17 +1,10 @@
 -- How a worker ends.
-use Rattle.std.specs.Prelude.{◌≡◌, ◌<◌, List, length, take}
+use Rattle.std.specs.Prelude.{◌≡◌, List}
 use Rattle.lanes.specs.declared.verdict.Verdict.{Verdict}
 use Rattle.lanes.specs.declared.worker.WorkEnd.{WorkEnd}
 use Rattle.lanes.specs.declared.worker.WorkEnd.TheVariants.{Done, Stopped, Unclosed}
+use Rattle.lanes.specs.Prefixes.{IsProperPrefix}
 use Rattle.lanes.specs.Views.{Ring}
-
--- xs is a beginning of ys
-abbrev pub IsPrefix : List Verdict → List Verdict → Type 0
-IsPrefix xs ys = xs ≡ take (length xs) ys
-
--- xs is a beginning of ys, and not the whole
-abbrev pub IsProperPrefix : List Verdict → List Verdict → Type 0
-IsProperPrefix xs ys = IsPrefix xs ys × (length xs < length ys)
 
 -- a worker that owed the verdicts `all` to the lane of this ring ended so
 abbrev pub Ends : List Verdict → Ring → WorkEnd → Type 0

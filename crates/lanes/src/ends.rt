@@ -30,7 +30,7 @@ pub struct LaneIn {
 
 impl Model for LaneIn {
     ghost use Rattle.rtrb.specs.Ring.{sent, known_free};
-    ghost use Rattle.lanes.specs.Views.{InView};
+    ghost use Rattle.lanes.specs.Ends.{InView};
     ghost use Rattle.lanes.specs.internal.Rings.{ring_of_producer};
 
     ghost Value = { InView };
@@ -50,7 +50,7 @@ pub struct Closed {
 
 impl Model for Closed {
     ghost use Rattle.rtrb.specs.Ring.{all_sent};
-    ghost use Rattle.lanes.specs.Views.{ClosedView};
+    ghost use Rattle.lanes.specs.Ends.{ClosedView};
     ghost use Rattle.lanes.specs.internal.Rings.{ring_of_finished};
 
     ghost Value = { ClosedView };
@@ -173,7 +173,7 @@ impl LaneIn {
 }
 
 impl LaneOut {
-    ghost use Rattle.lanes.specs.Views.{TakesOfLeft};
+    ghost use Rattle.lanes.specs.Ends.{TakesOfLeft};
 
     /// Takes the next verdict, or returns `None` if none waits. Never blocks. Once the lane
     /// is settled, it returns what is left, one after another, and then `None`.

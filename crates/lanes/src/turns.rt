@@ -16,7 +16,7 @@ pub struct Turns {
 
 impl Model for Turns {
     ghost use Rattle.std.specs.Prelude.{◌≡◌, ◌%◌, ◌≤◌, ◌^◌};
-    ghost use Rattle.lanes.specs.Views.{TurnsView};
+    ghost use Rattle.lanes.specs.Ends.{TurnsView};
 
     ghost Value = { TurnsView };
 

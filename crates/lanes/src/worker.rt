@@ -2,7 +2,8 @@
 
 ghost use Rattle.std.specs.Prelude.{◌≡◌, [], ◌∷◌, ◌++◌, MatchBool};
 ghost use Rattle.lanes.specs.Jobs.{verdicts_of};
-ghost use Rattle.lanes.specs.Work.{IsProperPrefix, Ends};
+ghost use Rattle.lanes.specs.Prefixes.{IsProperPrefix};
+ghost use Rattle.lanes.specs.Work.{Ends};
 
 use crate::ends::{Closed, LaneIn};
 use crate::gate::Gate;

@@ -4,7 +4,7 @@ use Rattle.std.specs.Prelude.{◌≡◌, ◌<◌, ℕ, true, false, List, map, s
 use Rattle.std.specs.List.{range_with_len}
 use Rattle.lanes.specs.declared.verdict.Verdict.{Verdict}
 use Rattle.lanes.specs.Views.{OutView}
-use Rattle.lanes.specs.Work.{IsPrefix, IsProperPrefix}
+use Rattle.lanes.specs.Prefixes.{IsPrefix, IsProperPrefix}
 use Rattle.cond_lang.specs.Form.{Form}
 use Rattle.dealrun.specs.Plans.{Planned}
 use Rattle.dealrun.specs.MergedVerdicts.{verdicts_for}
