@@ -6,7 +6,7 @@ ghost use Rattle.cards.specs.Candidates.{state_before};
 ghost use Rattle.dealrun.specs.Sinks.{AppendsAll, CountsFault};
 ghost use Rattle.dealrun.specs.Text.{BreaksOffIn, accepted, text_in, text_of};
 
-use crate::boards::{is_full, put_board};
+use crate::next_board::{is_full, put_board};
 use crate::plan::Plan;
 use crate::sink::{Sink, put_all};
 use boards::Notation;

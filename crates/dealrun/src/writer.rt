@@ -7,7 +7,7 @@ ghost use Rattle.dealrun.specs.internal.Writing.{board_text, WriterSoFar, Writer
 ghost use Rattle.dealrun.specs.internal.Joins.{AllWhole};
 ghost use Rattle.cond_lang.specs.Form.{Form};
 
-use crate::boards::{is_full, put_board};
+use crate::next_board::{is_full, put_board};
 use crate::plan::Plan;
 use crate::sink::{Sink, SinkFault, put_all};
 use boards::Notation;

@@ -4,8 +4,8 @@ ghost use Rattle.std.specs.Prelude.{◌≡◌, ◌-◌, ◌≤◌, ◌<◌, ◌^
 ghost use Rattle.dealrun.specs.Fuses.{counted};
 ghost use Rattle.dealrun.specs.Sinks.{CountsFault, IsTakenLength, AppendsTaken};
 
-use crate::memory_sink::MemSink;
 use crate::sink::{Sink, SinkFault};
+use crate::testing::memory_sink::MemSink;
 use std::marker::Model;
 
 /// A sink over memory for tests, which fails and takes short pieces on demand.
