@@ -4,7 +4,8 @@
 //! write them, both proved to write the text that the definition gives:
 //! - `run_in`, the fast one: workers in threads of their own judge the candidates, and the caller's
 //!   thread writes (`start.rt`, `writer.rt`, `join.rt`, `runs.rt`).
-//! - `run_plain_in`, the reference, which reads as the definition (`reference.rt`). It runs in tests.
+//! - `run_plain_in`, the reference, which reads as the definition (`reference.rt`). It runs in
+//!   tests.
 //!
 //! They write in any notation; `run` and `run_plain` write PBN (`pbn.rt`). `stream` writes the
 //! generator's values.

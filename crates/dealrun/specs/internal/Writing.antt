@@ -27,6 +27,11 @@ printed layout plan lists m = text_of_boards layout (boards_after plan lists m)
 abbrev pub board_count : Planned → List (List Verdict) → ℕ → ℕ
 board_count plan lists m = length (boards_after plan lists m)
 
+-- the rings, and which lanes are settled, did not change
+abbrev pub KeepsLanes : List OutView → List OutView → Type 0
+KeepsLanes old new =
+    (map (λ l. l.ring) new ≡ map (λ l. l.ring) old) × (map (λ l. l.settled) new ≡ map (λ l. l.settled) old)
+
 -- the lanes were taken in turn, none skipped
 pub record TakenInTurn (plan : Planned) (lanes : List OutView) (m : ℕ) : Type 0 where
   pub long : length lanes ≡ plan.workers
