@@ -10,6 +10,8 @@ mod interrupted;
 #[cfg(test)]
 mod make;
 #[cfg(test)]
+mod notations;
+#[cfg(test)]
 mod plain;
 #[cfg(test)]
 mod refusals;

@@ -13,8 +13,8 @@ use Rattle.lanes.proofs.Sums.{turns-here, turns-elsewhere}
 use Rattle.dealrun.specs.Plans.{Planned}
 use Rattle.dealrun.specs.Sinks.{append_known, AppendsPart}
 use Rattle.dealrun.specs.Text.{board_of, text_of_boards}
-use Rattle.dealrun.specs.MergedVerdicts.{in_turn, boards_in, boards_after, taken_lists}
-use Rattle.dealrun.specs.internal.Writing.{board_text, printed, board_count, TakenInTurn, StaysShort, WriterSoFar, WriterBrokeOff}
+use Rattle.dealrun.specs.MergedVerdicts.{in_turn, boards_in, boards_after}
+use Rattle.dealrun.specs.internal.Writing.{board_text, printed, board_count, taken_lists, TakenInTurn, StaysShort, WriterSoFar, WriterBrokeOff}
 use Rattle.dealrun.proofs.SinkLemmas.{append_known-append}
 use Rattle.dealrun.proofs.BoardLists.{boards_in-none, boards_in-push, text_of_boards-none, text_of_boards-more}
 use Rattle.dealrun.proofs.Printing.{in_turn-none, in_turn-kept, in_turn-grown, grown}
@@ -137,12 +137,14 @@ module _ (layout : Layout) (plan : Planned) (lanes : List OutView) (t : ℕ) (v 
       record {
         in_turn = turns_more;
         broken = record {
-          front = before ++ part.front;
-          rest = part.rest;
-          is_text = append_assoc before part.front part.rest ∙ ap (λ bs. before ++ bs) part.is_text ∙ sym all;
-          is_proper = part.is_proper;
-          appended = part.appended ∙ ap (λ o. append_known o part.front) h.written.bytes_are ∙ append_known-append base before part.front;
-          last_piece = λ _. (part.front, ap (λ bs. bs ++ part.front) same);
+          part = record {
+            front = before ++ part.front;
+            rest = part.rest;
+            is_text = append_assoc before part.front part.rest ∙ ap (λ bs. before ++ bs) part.is_text ∙ sym all;
+            is_proper = part.is_proper;
+            appended = part.appended ∙ ap (λ o. append_known o part.front) h.written.bytes_are ∙ append_known-append base before part.front;
+          };
+          before = λ _. (part.front, ap (λ bs. bs ++ part.front) same);
           boards_are = is ∙ sym (ap (board_count plan (taken_lists lanes')) back ∙ boards_kept t (omega arith));
         };
         short = short_more boards is h.short (not_met plan.limit boards h.within less);
@@ -210,12 +212,14 @@ begins_broken layout head plan lanes t boards base bytes long fresh t_is boards_
     let none : t - 1 ≡ 0 = omega arith in record {
       in_turn = subst (TakenInTurn plan lanes) (sym t_is) (fresh_turns plan lanes long fresh);
       broken = record {
-        front = part.front;
-        rest = part.rest;
-        is_text = part.is_text ∙ head_is ∙ sym (ap (printed layout plan lists) t_is ∙ printed-none layout plan lists);
-        is_proper = part.is_proper;
-        appended = part.appended;
-        last_piece = λ some. absurd (omega arith);
+        part = record {
+          front = part.front;
+          rest = part.rest;
+          is_text = part.is_text ∙ head_is ∙ sym (ap (printed layout plan lists) t_is ∙ printed-none layout plan lists);
+          is_proper = part.is_proper;
+          appended = part.appended;
+        };
+        before = λ some. absurd (omega arith);
         boards_are = boards_is ∙ sym (ap (board_count plan lists) none ∙ boards-none plan lists);
       };
       short = λ i lt. absurd (omega arith);

@@ -1,5 +1,5 @@
 -- From the lanes as they stand to the text of the candidates.
-use Rattle.std.proofs.Common.{◌≡◌, ◌≢◌, ℕ, zero, suc, ◌+◌, ◌*◌, ◌/◌, ◌%◌, ◌<◌, ◌≤◌, ◌⊎◌, true, false, List, [], ◌++◌, All, length, get_or, map, take, sum, Option, Some, refl, sym, ◌∙◌, ap, subst, arith, inl, inr, length-append, mul_comm}
+use Rattle.std.proofs.Common.{◌≡◌, ◌≢◌, ℕ, zero, suc, ◌+◌, ◌*◌, ◌/◌, ◌%◌, ◌<◌, ◌≤◌, ◌⊎◌, true, false, List, [], ◌++◌, All, length, get_or, map, take, sum, Option, Some, refl, sym, ◌∙◌, ap, subst, arith, inl, inr, append_assoc, length-append, mul_comm}
 use Rattle.std.specs.List.{range_with_len, cons_option, slice_get}
 use Rattle.std.specs.Option.{ForSome}
 use Rattle.std.proofs.lemmas.Grind.{common_steps}
@@ -24,11 +24,11 @@ use Rattle.lanes.proofs.VerdictLists.{length-verdicts, verdicts-are}
 use Rattle.dealrun.specs.Plans.{Planned}
 use Rattle.dealrun.specs.Sinks.{append_known, AppendsAll, AppendsPart}
 use Rattle.dealrun.specs.Text.{accepted_among, accepted, boards_of, text_of, text_of_boards, end_of}
-use Rattle.dealrun.specs.MergedVerdicts.{verdicts_for, at_turn, in_turn, boards_in, boards_after, taken_lists, taken_in_all}
+use Rattle.dealrun.specs.MergedVerdicts.{verdicts_for, at_turn, in_turn, boards_in, boards_taken, taken_in_all}
 use Rattle.dealrun.specs.internal.Joins.{ByNumber}
 use Rattle.dealrun.specs.internal.Ends.{Closes, Completes}
-use Rattle.dealrun.specs.internal.Writing.{board_count, printed, TakenInTurn, StaysShort, WroteTaken, WriterSoFar}
-use Rattle.dealrun.specs.Outcomes.{EachLane, AllSettled, for_each_worker, contents_of, PrintsTaken, AreLanesConsistent, TakesWhatIsOwed, WritesTextIn, BreaksOffFooter, StandsCompleteIn}
+use Rattle.dealrun.specs.internal.Writing.{board_count, printed, taken_lists, TakenInTurn, StaysShort, WroteTaken, WriterSoFar}
+use Rattle.dealrun.specs.Outcomes.{EachLane, AllSettled, for_each_worker, contents_of, AreLanesConsistent, TakesWhatIsOwed, WritesTextIn, BreaksOffFooter, StandsCompleteIn}
 use Rattle.dealrun.proofs.BoardLists.{length-boards_of}
 use Rattle.dealrun.proofs.SinkLemmas.{append_known-append, append_known-nil}
 use Rattle.dealrun.proofs.Printing.{in_turn-none, in_turn-more}
@@ -116,11 +116,11 @@ module _ (plan : Planned) (form : Form) (lanes : List OutView) (t : ℕ) (some :
       ∙ ap (λ o. map at (range_with_len 0 m) ++ cons_option o []) (at_turn_is m (omega arith))
       ∙ sym (ap (λ n. map at (range_with_len 0 n)) e ∙ map-range_with_len_more at 0 m m (omega arith))
 
-  pub boards_taken : (m : ℕ) → m ≤ t → boards_after plan (taken_lists lanes) m ≡ boards_of plan (accepted_among plan.seed plan.first form m)
-  boards_taken m le' = ap (boards_in plan) (recovers m le') ∙ boards_are plan form m
+  pub taken_boards : (m : ℕ) → m ≤ t → boards_taken plan lanes m ≡ boards_of plan (accepted_among plan.seed plan.first form m)
+  taken_boards m le' = ap (boards_in plan) (recovers m le') ∙ boards_are plan form m
 
   pub count_taken : (m : ℕ) → m ≤ t → board_count plan (taken_lists lanes) m ≡ length (accepted_among plan.seed plan.first form m)
-  count_taken m le' = ap length (boards_taken m le') ∙ length-boards_of plan (accepted_among plan.seed plan.first form m)
+  count_taken m le' = ap length (taken_boards m le') ∙ length-boards_of plan (accepted_among plan.seed plan.first form m)
 
   pub short_candidates : StaysShort plan lanes t → (i : ℕ) → i < t → ForSome plan.limit (λ most. length (accepted_among plan.seed plan.first form i) < most)
   short_candidates short i lt most is = let less : board_count plan (taken_lists lanes) i < most = short i lt most is in omega (arith, less, count_taken i (omega arith))
@@ -144,7 +144,7 @@ module _ (plan : Planned) (form : Form) (lanes : List OutView) (t : ℕ) (some :
     accepted_is = accepted_here plan form t le within_here ended_here
 
     pub whole_text : new ≡ append_known old (text_of layout plan (accepted plan form))
-    whole_text = written.bytes_are ∙ ap (append_known old) (ap (text_of_boards layout) (boards_taken t (omega arith)) ∙ ap (text_of layout plan) (sym accepted_is))
+    whole_text = written.bytes_are ∙ ap (append_known old) (ap (text_of_boards layout) (taken_boards t (omega arith)) ∙ ap (text_of layout plan) (sym accepted_is))
 
     pub all_boards : boards ≡ length (accepted plan form)
     all_boards = boards_here ∙ ap length (sym accepted_is)
@@ -168,25 +168,23 @@ stand plan form lanes t some le h short parts =
       in_turn = turns_as_lists plan lanes (taken_in_all lanes) (subst (TakenInTurn plan lanes) (sym total) h);
       parts = each_number plan (λ w l. l.settled ≡ true → IsPrefix (contents_of l) (verdicts_for plan form w)) lanes h.long parts;
       needed = λ all. subst (λ m. m ≤ end_of plan form) (sym total) (needed_here plan form t le (short_candidates plan form lanes t some le h (fronts all) short));
-      candidates = λ all m le'. boards_taken plan form lanes t some le h (fronts all) m (omega (arith, le', total));
+      candidates = λ all m le'. taken_boards plan form lanes t some le h (fronts all) m (omega (arith, le', total));
     }
 
 -- what was taken was written, and what closes it
-printed_is : (layout : Layout) (closing : List ℕ) (plan : Planned) (lanes : List OutView) (m boards : ℕ) (old mid new : Option (List ℕ)) → WroteTaken layout plan lanes m boards old mid
-    → new ≡ append_known mid closing → PrintsTaken layout closing plan lanes m boards old new
-printed_is layout closing plan lanes m boards old mid new h is = record {
-  bytes_are = is ∙ ap (λ o. append_known o closing) h.bytes_are ∙ append_known-append old (printed layout plan (taken_lists lanes) m) closing;
-  boards_are = h.boards_are;
-}
+stand_closed : (layout : Layout) (closing : List ℕ) (plan : Planned) (form : Form) (lanes : List OutView) (m boards : ℕ) (old mid new : Option (List ℕ)) → taken_in_all lanes ≡ m → AreLanesConsistent plan form lanes
+    → WroteTaken layout plan lanes m boards old mid → new ≡ append_known mid closing → StandsCompleteIn layout closing plan form lanes boards old new
+stand_closed layout closing plan form lanes m boards old mid new total lanes_are h is =
+    let all = subst (λ n. WroteTaken layout plan lanes n boards old mid) (sym total) h in record {
+      lanes_are = lanes_are;
+      bytes_are = is ∙ ap (λ o. append_known o closing) all.bytes_are ∙ append_known-append old (printed layout plan (taken_lists lanes) (taken_in_all lanes)) closing;
+      boards_are = all.boards_are;
+    }
 
 pub stand_complete : (layout : Layout) (plan : Planned) (form : Form) (lanes : List OutView) (t boards : ℕ) (old new : Option (List ℕ)) → 0 < plan.workers → t ≤ plan.count → WriterSoFar layout plan lanes t boards old new
     → ByNumber plan lanes (λ w l. l.settled ≡ true → IsPrefix (contents_of l) (verdicts_for plan form w)) → StandsCompleteIn layout [] plan form lanes boards old new
 stand_complete layout plan form lanes t boards old new some le h parts =
-    let total = taken_total plan lanes t some h.in_turn in
-    record {
-      lanes_are = stand plan form lanes t some le h.in_turn h.short parts;
-      printed_is = subst (λ m. PrintsTaken layout [] plan lanes m boards old new) (sym total) (printed_is layout [] plan lanes t boards old new new h.written (sym (append_known-nil new)));
-    }
+    stand_closed layout [] plan form lanes t boards old new new (taken_total plan lanes t some h.in_turn) (stand plan form lanes t some le h.in_turn h.short parts) h.written (sym (append_known-nil new))
 
 -- a lane whose worker's verdicts were all taken, as many as were sent
 whole_lane : (plan : Planned) (form : Form) (l : OutView) (w : ℕ) → IsPrefix l.taken (verdicts_for plan form w) → IsPrefix (contents_of l) (verdicts_for plan form w) → length l.taken ≡ length (verdicts_for plan form w) → (l.taken ≡ verdicts_for plan form w) × (l.left ≡ [])
@@ -252,9 +250,9 @@ module _ (layout : Layout) (plan : Planned) (form : Form) (lanes : List OutView)
 
   -- what was printed, without an end
   printed_before : WroteTaken layout plan lanes (taken_in_all lanes) boards old mid
-  printed_before = let p = done.stands.printed_is in record {
-    bytes_are = p.bytes_are ∙ ap (append_known old) (append-nil (printed layout plan (taken_lists lanes) (taken_in_all lanes)));
-    boards_are = p.boards_are;
+  printed_before = record {
+    bytes_are = done.stands.bytes_are ∙ ap (append_known old) (append-nil (printed layout plan (taken_lists lanes) (taken_in_all lanes)));
+    boards_are = done.stands.boards_are;
   }
 
   pub closed : AppendsAll mid new layout.footer → Closes layout plan form lanes boards old new
@@ -265,19 +263,19 @@ module _ (layout : Layout) (plan : Planned) (form : Form) (lanes : List OutView)
       boards_are = done.boards_are;
       partitions = partitions plan form;
     };
-    stands = record {
-      lanes_are = done.stands.lanes_are;
-      printed_is = printed_is layout layout.footer plan lanes (taken_in_all lanes) boards old mid new printed_before is;
-    };
+    stands = stand_closed layout layout.footer plan form lanes (taken_in_all lanes) boards old mid new refl done.stands.lanes_are printed_before is;
   }
 
   pub footer_broken : AppendsPart mid new layout.footer → BreaksOffFooter layout plan form lanes boards old new
   footer_broken part = record {
-    front = part.front;
-    rest = part.rest;
-    is_footer = part.is_text;
-    is_proper = part.is_proper;
-    appended = after_body part.front part.appended;
-    boards_are = done.boards_are;
     lanes_are = done.lanes_are;
+    part = record {
+      front = body ++ part.front;
+      rest = part.rest;
+      is_text = append_assoc body part.front part.rest ∙ ap (λ l. body ++ l) part.is_text;
+      is_proper = part.is_proper;
+      appended = after_body part.front part.appended;
+    };
+    before = (part.front, refl);
+    boards_are = done.boards_are;
   }

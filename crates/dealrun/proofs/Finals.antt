@@ -56,12 +56,14 @@ module _ (layout : Layout) (plan : Planned) (lanes lanes' : List OutView) (t boa
       let b = h.broken in record {
         in_turn = in_turn_still h.in_turn;
         broken = record {
-          front = b.front;
-          rest = b.rest;
-          is_text = b.is_text ∙ ap (λ ls. printed layout plan ls t) (sym same);
-          is_proper = b.is_proper;
-          appended = b.appended;
-          last_piece = λ some. let last = b.last_piece some in (last.0, ap (λ ls. printed layout plan ls (t - 1) ++ last.0) same ∙ last.1);
+          part = record {
+            front = b.part.front;
+            rest = b.part.rest;
+            is_text = b.part.is_text ∙ ap (λ ls. printed layout plan ls t) (sym same);
+            is_proper = b.part.is_proper;
+            appended = b.part.appended;
+          };
+          before = λ some. let last = b.before some in (last.0, ap (λ ls. printed layout plan ls (t - 1) ++ last.0) same ∙ last.1);
           boards_are = b.boards_are ∙ ap (λ ls. board_count plan ls (t - 1)) (sym same);
         };
         short = short_still h.short;

@@ -132,12 +132,14 @@ breaks_header layout plan form base new text is part =
     let some = part.is_proper in
     let sum : length part.front + length part.rest ≡ length layout.header = sym (length-append part.front part.rest) ∙ ap length (part.is_text ∙ is) in
     record {
-      front = part.front;
-      rest = part.rest ++ tail;
-      is_text = sym (append_assoc part.front part.rest tail) ∙ ap (λ l. l ++ tail) (part.is_text ∙ is ∙ sym (text_of-none layout plan))
-          ∙ sym (append_assoc (text_of layout plan []) later.more layout.footer) ∙ ap (λ l. l ++ layout.footer) (sym later.is);
-      is_proper = rw length-append (omega arith);
-      appended = part.appended;
+      part = record {
+        front = part.front;
+        rest = part.rest ++ tail;
+        is_text = sym (append_assoc part.front part.rest tail) ∙ ap (λ l. l ++ tail) (part.is_text ∙ is ∙ sym (text_of-none layout plan))
+            ∙ sym (append_assoc (text_of layout plan []) later.more layout.footer) ∙ ap (λ l. l ++ layout.footer) (sym later.is);
+        is_proper = rw length-append (omega arith);
+        appended = part.appended;
+      };
       few = omega arith;
       whole = λ bad. absurd (omega arith);
       broken = λ _. omega arith;
@@ -173,14 +175,16 @@ breaks_board layout before plan form i number boards base now new deal is test n
     let front_len : length (text_of layout plan xs ++ part.front) ≡ length (text_of layout plan xs) + length part.front = length-append (text_of layout plan xs) part.front in
     let upto_len : length (text_of layout plan (xs ++ k ∷ [])) ≡ length (text_of layout plan xs) + length g = ap length upto ∙ length-append (text_of layout plan xs) g in
     record {
-      front = text_of layout plan xs ++ part.front;
-      rest = part.rest ++ tail;
-      is_text = append_assoc (text_of layout plan xs) part.front (part.rest ++ tail)
-          ∙ ap (λ l. text_of layout plan xs ++ l) (sym (append_assoc part.front part.rest tail) ∙ ap (λ l. l ++ tail) part.is_text)
-          ∙ sym (append_assoc (text_of layout plan xs) g tail) ∙ sym (append_assoc (text_of layout plan xs ++ g) later.more layout.footer)
-          ∙ ap (λ l. l ++ layout.footer) (sym whole_text);
-      is_proper = rw length-append (omega arith);
-      appended = part.appended ∙ ap (λ o. append_known o part.front) r.bytes ∙ append_known-append base (text_of layout plan xs) part.front;
+      part = record {
+        front = text_of layout plan xs ++ part.front;
+        rest = part.rest ++ tail;
+        is_text = append_assoc (text_of layout plan xs) part.front (part.rest ++ tail)
+            ∙ ap (λ l. text_of layout plan xs ++ l) (sym (append_assoc part.front part.rest tail) ∙ ap (λ l. l ++ tail) part.is_text)
+            ∙ sym (append_assoc (text_of layout plan xs) g tail) ∙ sym (append_assoc (text_of layout plan xs ++ g) later.more layout.footer)
+            ∙ ap (λ l. l ++ layout.footer) (sym whole_text);
+        is_proper = rw length-append (omega arith);
+        appended = part.appended ∙ ap (λ o. append_known o part.front) r.bytes ∙ append_known-append base (text_of layout plan xs) part.front;
+      };
       few = let count = r.count in omega arith;
       whole = λ _. rw first (omega arith);
       broken = λ _. rw second (omega arith);
@@ -193,11 +197,13 @@ breaks_footer layout after plan form boards base now new same count before part 
     let all : take boards (accepted plan form) ≡ accepted plan form = take_all boards (accepted plan form) (omega arith) in
     let front_len : length (body ++ part.front) ≡ length body + length part.front = length-append body part.front in
     record {
-      front = body ++ part.front;
-      rest = part.rest;
-      is_text = append_assoc body part.front part.rest ∙ ap (λ l. body ++ l) (part.is_text ∙ ap (λ l. l.footer) same);
-      is_proper = part.is_proper;
-      appended = part.appended ∙ ap (λ o. append_known o part.front) before ∙ append_known-append base body part.front;
+      part = record {
+        front = body ++ part.front;
+        rest = part.rest;
+        is_text = append_assoc body part.front part.rest ∙ ap (λ l. body ++ l) (part.is_text ∙ ap (λ l. l.footer) same);
+        is_proper = part.is_proper;
+        appended = part.appended ∙ ap (λ o. append_known o part.front) before ∙ append_known-append base body part.front;
+      };
       few = omega arith;
       whole = λ _. rw all (omega arith);
       broken = λ less. absurd (omega arith);

@@ -30,9 +30,10 @@ boards_in plan verdicts =
 abbrev pub boards_after : Planned → List (List Verdict) → ℕ → List Board
 boards_after plan lists m = boards_in plan (in_turn plan.workers lists m)
 
--- what was taken from each lane, and how many verdicts that are in all
-abbrev pub taken_lists : List OutView → List (List Verdict)
-taken_lists lanes = map (λ l. l.taken) lanes
+-- the same of what was taken from these lanes
+abbrev pub boards_taken : Planned → List OutView → ℕ → List Board
+boards_taken plan lanes m = boards_after plan (map (λ l. l.taken) lanes) m
 
+-- how many verdicts were taken in all
 abbrev pub taken_in_all : List OutView → ℕ
 taken_in_all lanes = sum (map (λ l. length l.taken) lanes)

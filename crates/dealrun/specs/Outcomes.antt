@@ -1,5 +1,5 @@
--- What holds when a run returns. The headline is two records: what was taken from the lanes of a run that ended Ok, and what
--- was written. Two more say what holds however a run ends: of the lanes, and of the bytes.
+-- What holds when a run returns. The headline is two records: what was taken from the lanes of a run that ended Ok, and
+-- what was written. The rest says what holds however a run ends.
 use Rattle.std.specs.Prelude.{ℕ, ◌+◌, ◌-◌, ◌≡◌, ◌≢◌, ◌<◌, ◌≤◌, ◌⊎◌, List, [], ◌++◌, All, length, map, take, Option, Some, true, false, slice_get}
 use Rattle.std.specs.List.{enumerate_from, range_with_len}
 use Rattle.boards.specs.Layouts.{Layout}
@@ -13,9 +13,9 @@ use Rattle.lanes.specs.Prefixes.{IsPrefix, IsProperPrefix}
 use Rattle.dealrun.specs.declared.cause.Cause.{Cause}
 use Rattle.dealrun.specs.declared.cause.Cause.TheVariants.{Memory, Spawn, Output, Stopped, Unclosed}
 use Rattle.dealrun.specs.Plans.{Planned}
-use Rattle.dealrun.specs.Sinks.{AppendsAll, append_known}
+use Rattle.dealrun.specs.Sinks.{AppendsAll, AppendsPart}
 use Rattle.dealrun.specs.Text.{accepted_among, accepted, boards_of, text_of_boards, text_of, text_in, end_of}
-use Rattle.dealrun.specs.MergedVerdicts.{verdicts_for, taken_lists, taken_in_all, boards_after}
+use Rattle.dealrun.specs.MergedVerdicts.{verdicts_for, taken_in_all, boards_taken}
 
 -- ---- lanes
 
@@ -73,36 +73,20 @@ pub record AreLanesConsistent (plan : Planned) (form : Form) (lanes : List OutVi
       AllSettled lanes
       → (m : ℕ)
       → m ≤ taken_in_all lanes
-      → boards_after plan (taken_lists lanes) m ≡ boards_of plan (accepted_among plan.seed plan.first form m)
+      → boards_taken plan lanes m ≡ boards_of plan (accepted_among plan.seed plan.first form m)
 
--- the bytes and the boards are those of the m verdicts that were taken, and what closes them
-pub record PrintsTaken (layout : Layout) (closing : List ℕ) (plan : Planned) (lanes : List OutView) (m boards : ℕ) (old new : Option (List ℕ)) : Type 0 where
-  pub bytes_are :
-      new ≡ append_known old (text_of_boards layout (boards_after plan (taken_lists lanes) m) ++ closing)
-  pub boards_are : boards ≡ length (boards_after plan (taken_lists lanes) m)
-
--- the same up to the last piece, of which the end is missing: the header if nothing was taken, else the board of the
--- last verdict
+-- of the last piece the end is missing: of the header if nothing was taken, else of the board of the m-th verdict
 pub record BreaksOffLastPiece (layout : Layout) (plan : Planned) (lanes : List OutView) (m boards : ℕ) (old new : Option (List ℕ)) : Type 0 where
-  pub front : List ℕ
-  pub rest : List ℕ
-  pub is_text : front ++ rest ≡ text_of_boards layout (boards_after plan (taken_lists lanes) m)
-  pub is_proper : 0 < length rest
-  pub appended : new ≡ append_known old front
-  pub last_piece :
-      0 < m
-      → (more : List ℕ) × (text_of_boards layout (boards_after plan (taken_lists lanes) (m - 1)) ++ more ≡ front)
-  pub boards_are : boards ≡ length (boards_after plan (taken_lists lanes) (m - 1))
+  pub part : AppendsPart old new (text_of_boards layout (boards_taken plan lanes m))
+  pub before : 0 < m → (more : List ℕ) × (text_of_boards layout (boards_taken plan lanes (m - 1)) ++ more ≡ part.front)
+  pub boards_are : boards ≡ length (boards_taken plan lanes (m - 1))
 
 -- the end of the footer is missing: all that is owed was taken, and all boards were written
 pub record BreaksOffFooter (layout : Layout) (plan : Planned) (form : Form) (lanes : List OutView) (boards : ℕ) (old new : Option (List ℕ)) : Type 0 where
-  pub front : List ℕ
-  pub rest : List ℕ
-  pub is_footer : front ++ rest ≡ layout.footer
-  pub is_proper : 0 < length rest
-  pub appended : new ≡ append_known old (text_of layout plan (accepted plan form) ++ front)
-  pub boards_are : boards ≡ length (accepted plan form)
   pub lanes_are : TakesWhatIsOwed plan form lanes boards
+  pub part : AppendsPart old new (text_in layout plan form)
+  pub before : (more : List ℕ) × (text_of layout plan (accepted plan form) ++ more ≡ part.front)
+  pub boards_are : boards ≡ length (accepted plan form)
 
 -- worker w ended before it had sent all, and is the least such worker: the settled lanes below are whole
 pub record IsLeastStopped (plan : Planned) (form : Form) (lanes : List OutView) (w : ℕ) : Type 0 where
@@ -128,10 +112,11 @@ pub record IsFirstNotStarted (plan : Planned) (lanes : List OutView) (n : ℕ) :
   pub worker : n < plan.workers
   pub unsettled : EachLane lanes (λ w l. n ≤ w → l.settled ≡ false)
 
--- a run whose sink took all that it was given: the lanes, and the bytes of what was taken
+-- a run whose sink took all that it was given: the lanes, and the bytes and the boards of what was taken
 pub record StandsCompleteIn (layout : Layout) (closing : List ℕ) (plan : Planned) (form : Form) (lanes : List OutView) (boards : ℕ) (old new : Option (List ℕ)) : Type 0 where
   pub lanes_are : AreLanesConsistent plan form lanes
-  pub printed_is : PrintsTaken layout closing plan lanes (taken_in_all lanes) boards old new
+  pub bytes_are : AppendsAll old new (text_of_boards layout (boards_taken plan lanes (taken_in_all lanes)) ++ closing)
+  pub boards_are : boards ≡ length (boards_taken plan lanes (taken_in_all lanes))
 
 -- a run that was interrupted, by its cause: it wrote no footer
 abbrev pub InterruptedIn : Layout → Planned → Form → Cause → List OutView → ℕ → Option (List ℕ) → Option (List ℕ) → Type 0

@@ -1,9 +1,10 @@
 //! Why a run was interrupted.
 
-/// Why a run did not write all that its plan asks for. Where there are several causes, the first in this order.
+/// Why a run did not write all that its plan asks for. If there are several causes, the first in
+/// this order.
 #[derive(Clone, Copy, Debug, PartialEq, Eq)]
 pub enum Cause {
-    /// A growth was refused before any thread started.
+    /// An allocation failed, before any thread started.
     Memory,
     /// A thread could not be started.
     Spawn,

@@ -1,6 +1,7 @@
 //! The workers of a run when they are joined, and the lanes that are settled then.
 
-ghost use Rattle.std.specs.Prelude.{◌≡◌, ◌+◌, ◌<◌, ◌≤◌, ℕ, All, map, take, vec_len, slice_index_or, false};
+ghost use Rattle.std.specs.Prelude.{◌≡◌, ◌+◌, ◌<◌, ◌≤◌, ℕ, All, map, take, vec_len, slice_index_or};
+ghost use Rattle.std.specs.Prelude.{false};
 ghost use Rattle.lanes.specs.Jobs.{verdicts_of};
 ghost use Rattle.dealrun.specs.declared.join.Outcome.TheVariants.{Done, Stopped, Unclosed};
 
@@ -8,7 +9,7 @@ use crate::start::Started;
 use lanes::{LaneOut, WorkEnd};
 use std::thread::Threads;
 
-/// How a worker ended.
+/// How a worker ended, as the join finds it: its lane is settled unless it is `Unclosed`.
 #[derive(Clone, Copy, Drop)]
 pub(crate) enum Outcome {
     Done,
@@ -35,8 +36,9 @@ impl Joined {
         }
     }
 
-    fn note(&mut self, worker: u32, outcome: Outcome)
-        ensures { (self.new.stopped ≡ stopped_after outcome worker self.old.stopped) × (self.new.unclosed ≡ unclosed_after outcome worker self.old.unclosed) }
+    fn record(&mut self, worker: u32, outcome: Outcome)
+        ensures stopped { self.new.stopped ≡ stopped_after outcome worker self.old.stopped }
+        ensures unclosed { self.new.unclosed ≡ unclosed_after outcome worker self.old.unclosed }
     {
         match outcome {
             Outcome::Done => {}
@@ -46,9 +48,10 @@ impl Joined {
     }
 }
 
+ghost use Rattle.dealrun.specs.internal.Handles.{owed_by};
 ghost use Rattle.dealrun.specs.internal.Joins.{JoinsAs, JoinedAs};
 
-/// Joins a worker, and settles its lane where it was closed.
+/// Joins a worker, and settles its lane if it was closed.
 fn join_one<R: Threads>(rt: &R, handle: Started, lane: &mut LaneOut) -> Outcome
     requires { handle.promise.lane.value.ring ≡ lane.old.ring }
     ensures same { (lane.new.ring ≡ lane.old.ring) × (lane.new.taken ≡ lane.old.taken) }
@@ -74,19 +77,24 @@ pub(crate) fn join_all<R: Threads>(
     lanes: &mut Vec<LaneOut>,
 ) -> Joined
     requires counts { (vec_len handles ≤ vec_len lanes.old) × (vec_len lanes.old ≤ 16) }
-    requires rings { map (λ h. h.promise.lane.value.ring) handles.items ≡ take (vec_len handles) (map (λ l. l.ring) lanes.old.items) }
+    requires rings { map (λ h. h.promise.lane.value.ring) handles.items
+        ≡ take (vec_len handles) (map (λ l. l.ring) lanes.old.items) }
     requires unsettled { All (λ l. l.settled ≡ false) lanes.old.items }
     ensures taken { map (λ l. l.taken) lanes.new.items ≡ map (λ l. l.taken) lanes.old.items }
     ensures len { vec_len lanes.new ≡ vec_len lanes.old }
-    ensures joined { JoinedAs (vec_len handles) (map (λ h. verdicts_of h.promise.job.value) handles.items) lanes.new.items result.stopped result.unclosed }
-    ensures rest { (k : ℕ) (e : _) → vec_len handles ≤ k → k < vec_len lanes.new → (slice_index_or lanes.new.items k e).settled ≡ false }
+    ensures joined { JoinedAs (vec_len handles) (owed_by handles.items) lanes.new.items
+        result.stopped result.unclosed }
+    ensures rest { (k : ℕ) (e : _)
+        → vec_len handles ≤ k
+        → k < vec_len lanes.new
+        → (slice_index_or lanes.new.items k e).settled ≡ false }
 {
     let mut joined = Joined::none();
     let mut worker = 0u32;
     for handle in handles {
         let lane = &mut lanes[worker as usize];
         let outcome = join_one(rt, handle, lane);
-        joined.note(worker, outcome);
+        joined.record(worker, outcome);
         worker += 1;
     }
     joined

@@ -1,13 +1,20 @@
-//! Plans, sinks, and the runs that write to them: the run over lanes, the reference run on one thread, and the stream
-//! of values.
+//! Plans, sinks, and the runs that write to them.
+//!
+//! A plan says which candidates are tried, and which boards are made of the accepted ones. Two runs
+//! write them, both proved to write the text that the definition gives:
+//! - `run_in`, the fast one: workers in threads of their own judge the candidates, and the caller's
+//!   thread writes (`start.rt`, `writer.rt`, `join.rt`, `runs.rt`).
+//! - `run_plain_in`, the reference, which reads as the definition (`reference.rt`). It runs in
+//!   tests.
+//!
+//! They write in any notation; `run` and `run_plain` write PBN (`pbn.rt`). `stream` writes the
+//! generator's values.
 #![tactic(auto)]
 
-mod boards;
 mod cause;
-mod fuse;
 mod join;
 pub mod laws;
-mod memory_sink;
+mod next_board;
 mod pbn;
 mod piped;
 mod plan;
@@ -15,16 +22,16 @@ mod reference;
 mod runs;
 mod sink;
 mod start;
+mod testing;
 mod values;
 mod writer;
 
 pub use cause::Cause;
-pub use fuse::Fuse;
-pub use memory_sink::MemSink;
 pub use pbn::{run, run_plain};
 pub use piped::Piped;
 pub use plan::{Plan, PlanError};
 pub use reference::{PlainFault, run_plain_in};
 pub use runs::{Report, RunFault, run_in};
 pub use sink::{Sink, SinkFault, put_all};
+pub use testing::{Fuse, MemSink};
 pub use values::stream;

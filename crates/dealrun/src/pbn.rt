@@ -2,7 +2,8 @@
 
 ghost use Rattle.std.specs.Prelude.{◌≡◌, ◌-◌, ◌^◌, ◌<◌, length, IfOk, MatchResult};
 ghost use Rattle.dealrun.specs.Outcomes.{FaultsAfter, TakesWhatIsOwed};
-ghost use Rattle.dealrun.specs.Pbn.{BreaksOffText, InterruptedOutcome, StandsComplete, WritesText, text};
+ghost use Rattle.dealrun.specs.Pbn.{BreaksOffText, InterruptedOutcome, StandsComplete, WritesText};
+ghost use Rattle.dealrun.specs.Pbn.{text};
 ghost use Rattle.dealrun.specs.Sinks.{AppendsAll, CountsFault};
 ghost use Rattle.dealrun.specs.Text.{accepted};
 
@@ -18,18 +19,20 @@ use std::sync::atomic::AtomicBool;
 use std::sync::{Arc, Wait};
 use std::thread::Threads;
 
-/// Writes the games of the accepted candidates of a plan, judged by its workers in threads of their own.
+/// Writes the games of the accepted candidates of a plan, judged by its workers in threads of their
+/// own.
 ///
-/// All memory is taken first: a lane and a clone of the condition for each worker, and 128 KiB for the printer. So the
-/// calling thread needs little stack: 80 KiB in the program `deals`, all in all. Then one worker starts for each lane,
-/// and the caller's thread writes while they run. It may wait for its workers.
+/// All memory is taken first: a lane and a clone of the condition for each worker, and 128 KiB for
+/// the printer. So the calling thread needs little stack: 80 KiB in the program `deals`, all in
+/// all. Then one worker starts for each lane, and the caller's thread writes while they run. It may
+/// wait for its workers.
 ///
 /// # Errors
 ///
-/// The first of these that is due. `Memory`: an allocation failed, before any thread started. `Spawn`: a thread could
-/// not be started; those that were are stopped and joined. `Output`: the sink failed. `Stopped`: a worker ended before
-/// it had sent all, since its gate answered false, and the limit of boards was not met. `Unclosed`: a lane can't say
-/// how it ended.
+/// The first of these that is due. `Memory`: an allocation failed, before any thread started.
+/// `Spawn`: a thread could not be started; those that were are stopped and joined. `Output`: the
+/// sink failed. `Stopped`: a worker ended before it had sent all, since its gate returned false,
+/// and the limit of boards was not met. `Unclosed`: a lane can't say how it ended.
 pub fn run<
     R: Threads + Wait + Clone + Send + 'static,
     G: Gate + Drop + Send + Sync + 'static,
@@ -68,13 +71,14 @@ pub fn run<
     start_and_write(rt, alloc, plan, cond, &mut printer, sink, gate, stop)
 }
 
-/// Tries the plan's candidates in order, and writes the header and the games of those that meet the condition, at most
-/// the plan's limit of them. It takes no memory. Returns how many games were written.
+/// Tries the plan's candidates in order, and writes the header and the games of those that meet the
+/// condition, at most the plan's limit of them. It takes no memory. Returns how many games were
+/// written.
 ///
 /// # Errors
 ///
-/// `PlainFault` if the sink failed: a proper prefix of that text is written, and the fault has the number of whole
-/// games in it.
+/// `PlainFault` if the sink failed: a proper prefix of that text is written, and the fault has the
+/// number of whole games in it.
 pub fn run_plain<S: Sink>(plan: &Plan, cond: &Cond, sink: &mut S) -> Result<u64, PlainFault>
     requires { S.faults sink.old < 2 ^ 64 - 1 }
     ensures bytes { MatchResult result

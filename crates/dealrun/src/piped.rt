@@ -7,8 +7,8 @@ use std::io::Write;
 
 /// A sink over a writer of std. It doesn't tell its bytes.
 ///
-/// Any error of the writer is a fault, and so is an answer of 0 for a piece that isn't empty. Each piece is
-/// handed on at once: wrap the writer in a buffer where that matters.
+/// Any error of the writer is a fault, and so is a count of 0 for a piece that isn't empty. Each
+/// piece is handed on at once: wrap the writer in a buffer if that matters.
 #[derive(Drop)]
 pub struct Piped<W> {
     writer: W,

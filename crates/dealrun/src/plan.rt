@@ -1,6 +1,7 @@
 //! Plans: which candidates are tried, how the run works, and which boards are written.
 
-ghost use Rattle.std.specs.Prelude.{◌≡◌, ◌+◌, ◌≤◌, ◌<◌, ◌^◌, ◌↔◌, None, Some, IfErr, IfOk, IfSome, IsErr, IsOk};
+ghost use Rattle.std.specs.Prelude.{◌≡◌, ◌+◌, ◌≤◌, ◌<◌, ◌^◌, ◌↔◌, None, Some, IfErr, IfOk, IfSome};
+ghost use Rattle.std.specs.Prelude.{IsErr, IsOk};
 ghost use Rattle.pbn_text.specs.Games.{no_heading};
 ghost use Rattle.dealrun.specs.Plans.{refusal_of};
 ghost use Rattle.dealrun.specs.Text.{board_of};
@@ -11,8 +12,15 @@ use pbn_text::Heading;
 use std::marker::Model;
 use thiserror::Error;
 
-/// The most candidates of a seed.
-const MOST_CANDIDATES: u64 = 1 << 40;
+/// How many candidates a seed has. Each takes 51 draws, so that they stay below the generator's
+/// 2^48 states.
+const MAX_CANDIDATES: u64 = 1 << 40;
+
+/// The greatest number of workers, and of lanes.
+const MAX_WORKERS: u32 = 16;
+
+/// The greatest number of verdicts that a lane holds.
+const MAX_CAPACITY: u32 = 4096;
 
 /// Why there is no such plan.
 #[derive(Clone, Copy, Debug, PartialEq, Eq, Error)]
@@ -29,9 +37,9 @@ pub enum PlanError {
     FirstBoard,
 }
 
-/// A run: the candidates `first` to `first + count - 1` of a seed, tried by `workers` workers, each at most
-/// `capacity` verdicts ahead of the writer; the accepted ones are boards from `first_board` on, under a heading,
-/// `limit` of them at most.
+/// A run: the candidates `first` to `first + count - 1` of a seed, tried by `workers` workers, each
+/// at most `capacity` verdicts ahead of the writer; the accepted ones are boards from `first_board`
+/// on, under a heading, `limit` of them at most.
 #[derive(Clone, Copy, Debug)]
 pub struct Plan {
     seed: u32,
@@ -51,7 +59,16 @@ impl Model for Plan {
 
     ghost Value = { Planned };
 
-    ghost view = { λ p. record { seed = p.seed; first = p.first; count = p.count; workers = p.workers; capacity = p.capacity; limit = p.limit; first_board = p.first_board; heading = p.heading } };
+    ghost view = { λ p. record {
+      seed = p.seed;
+      first = p.first;
+      count = p.count;
+      workers = p.workers;
+      capacity = p.capacity;
+      limit = p.limit;
+      first_board = p.first_board;
+      heading = p.heading;
+    } };
 
     ghost invariant = { λ p. record {
       candidates : p.first + p.count ≤ 2 ^ 40;
@@ -61,14 +78,25 @@ impl Model for Plan {
       boards : (0 < p.first_board) × (p.first_board ≤ 2 ^ 40);
     } };
 
-    ghost inverse = { λ v. record { seed = v.seed; first = v.first; count = v.count; workers = v.workers; capacity = v.capacity; limit = v.limit; first_board = v.first_board; heading = v.heading } };
+    ghost inverse = { λ v. record {
+      seed = v.seed;
+      first = v.first;
+      count = v.count;
+      workers = v.workers;
+      capacity = v.capacity;
+      limit = v.limit;
+      first_board = v.first_board;
+      heading = v.heading;
+    } };
 }
 
 impl Plan {
     /// A plan without a limit, with boards from 1 and no heading.
     ///
-    /// `Range` where `first + count` is above 2^40; else `Workers` where they aren't 1 to 16; else `Capacity` where
-    /// it isn't 1 to 4,096.
+    /// # Errors
+    ///
+    /// `Range` if `first + count` is above 2^40; else `Workers` if they aren't 1 to 16; else
+    /// `Capacity` if it isn't 1 to 4,096.
     pub fn new(
         seed: u32,
         first: u64,
@@ -79,17 +107,26 @@ impl Plan {
         ensures in_range { IsOk result ↔ ((first + count ≤ 2 ^ 40)
             × ((0 < workers) × (workers ≤ 16))
             × ((0 < capacity) × (capacity ≤ 4096))) }
-        ensures made { IfOk result (λ p. p ≡ record { seed = seed; first = first; count = count; workers = workers; capacity = capacity; limit = None; first_board = 1; heading = no_heading }) }
+        ensures made { IfOk result (λ p. p ≡ record {
+          seed = seed;
+          first = first;
+          count = count;
+          workers = workers;
+          capacity = capacity;
+          limit = None;
+          first_board = 1;
+          heading = no_heading;
+        }) }
         ensures refused { IfErr result (λ e. e ≡ refusal_of first count workers) }
     {
         match first.checked_add(count) {
-            Some(end) if end <= MOST_CANDIDATES => {}
+            Some(end) if end <= MAX_CANDIDATES => {}
             _ => return Err(PlanError::Range),
         }
-        if workers == 0 || workers > 16 {
+        if workers == 0 || workers > MAX_WORKERS {
             return Err(PlanError::Workers);
         }
-        if capacity == 0 || capacity > 4096 {
+        if capacity == 0 || capacity > MAX_CAPACITY {
             return Err(PlanError::Capacity);
         }
         Ok(Plan {
@@ -104,7 +141,7 @@ impl Plan {
         })
     }
 
-    /// The plan with a limit of boards. `Boards` exactly where it is 0.
+    /// The plan with a limit of boards. `Boards` if and only if it is 0.
     pub fn limited(self, most: u32) -> Result<Plan, PlanError>
         ensures some { IsErr result ↔ (most ≡ 0) }
         ensures made { IfOk result (λ p. p ≡ record self { limit = Some most }) }
@@ -119,13 +156,14 @@ impl Plan {
         })
     }
 
-    /// The plan with boards from this number on. `FirstBoard` exactly where it isn't 1 to 2^40.
+    /// The plan with boards from this number on. `FirstBoard` if and only if it
+    /// isn't 1 to 2^40.
     pub fn numbered(self, first_board: u64) -> Result<Plan, PlanError>
         ensures in_range { IsOk result ↔ ((0 < first_board) × (first_board ≤ 2 ^ 40)) }
         ensures made { IfOk result (λ p. p ≡ record self { first_board = first_board }) }
         ensures refused { IfErr result (λ e. e ≡ PlanError.FirstBoard) }
     {
-        if first_board == 0 || first_board > MOST_CANDIDATES {
+        if first_board == 0 || first_board > MAX_CANDIDATES {
             return Err(PlanError::FirstBoard);
         }
         Ok(Plan {

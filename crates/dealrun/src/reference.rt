@@ -1,12 +1,12 @@
-//! The reference run: one thread and no lane, written as the definition of the text reads. It runs in tests alone, and
-//! the run over lanes is compared with it.
+//! The reference run: one thread and no lane, written as the definition of the text reads. It runs
+//! in tests alone, and the run over lanes is compared with it.
 
 ghost use Rattle.std.specs.Prelude.{◌≡◌, ◌+◌, ◌-◌, ◌*◌, ◌<◌, ◌≤◌, ◌^◌, length, IfOk, MatchResult};
 ghost use Rattle.cards.specs.Candidates.{state_before};
 ghost use Rattle.dealrun.specs.Sinks.{AppendsAll, CountsFault};
 ghost use Rattle.dealrun.specs.Text.{BreaksOffIn, accepted, text_in, text_of};
 
-use crate::boards::{is_full, put_board};
+use crate::next_board::{is_full, put_board};
 use crate::plan::Plan;
 use crate::sink::{Sink, put_all};
 use boards::Notation;
@@ -66,13 +66,14 @@ fn write_accepted<N: Notation, S: Sink>(
     Ok(boards)
 }
 
-/// Tries the plan's candidates in order, and writes the header, the boards of those that meet the condition, at most
-/// the plan's limit of them, and the footer. Returns how many boards were written.
+/// Tries the plan's candidates in order, and writes the header, the boards of those that meet the
+/// condition, at most the plan's limit of them, and the footer. Returns how many boards were
+/// written.
 ///
 /// # Errors
 ///
-/// `PlainFault` if the sink failed: a proper prefix of that text is written, and the fault has the number of whole
-/// boards in it.
+/// `PlainFault` if the sink failed: a proper prefix of that text is written, and the fault has the
+/// number of whole boards in it.
 pub fn run_plain_in<N: Notation, S: Sink>(
     plan: &Plan,
     cond: &Cond,

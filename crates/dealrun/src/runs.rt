@@ -1,12 +1,18 @@
-//! A run: the workers beside the writer, from the start to what stands at the end.
+//! A run: the workers beside the writer, from the first allocation to how it ended.
+//!
+//! `run_in` makes the stop flag, `start_and_write` the lanes and the workers; `write_to_end` writes
+//! the header and the boards while the workers run, joins them, drains their lanes if all sent all,
+//! and writes the footer.
 
-ghost use Rattle.std.specs.Prelude.{◌≡◌, ◌-◌, ◌^◌, ◌<◌, ◌≤◌, ℕ, List, Option, [], false, All, IfOk, IfErr, MatchResult, map, vec_len};
+ghost use Rattle.std.specs.Prelude.{◌≡◌, ◌-◌, ◌^◌, ◌<◌, ◌≤◌, ℕ, List, Option, [], false, All, IfOk};
+ghost use Rattle.std.specs.Prelude.{IfErr, MatchResult, map, vec_len};
 ghost use Rattle.cond_lang.specs.Form.{Form};
-ghost use Rattle.lanes.specs.Jobs.{verdicts_of};
 ghost use Rattle.dealrun.specs.declared.cause.Cause.TheVariants.{Memory};
-ghost use Rattle.dealrun.specs.Outcomes.{FaultsAfter, InterruptedIn, StandsCompleteIn, TakesWhatIsOwed, WritesTextIn};
+ghost use Rattle.dealrun.specs.Outcomes.{FaultsAfter, InterruptedIn, StandsCompleteIn};
+ghost use Rattle.dealrun.specs.Outcomes.{TakesWhatIsOwed, WritesTextIn};
 ghost use Rattle.dealrun.specs.Plans.{Planned};
 ghost use Rattle.dealrun.specs.internal.Ends.{Closes, Completes};
+ghost use Rattle.dealrun.specs.internal.Handles.{owed_by};
 ghost use Rattle.dealrun.specs.internal.Joins.{AllWhole, Owes};
 ghost use Rattle.dealrun.specs.internal.Writing.{WriterSoFar};
 
@@ -24,14 +30,16 @@ use std::sync::atomic::{AtomicBool, Ordering};
 use std::sync::{Arc, Wait};
 use std::thread::Threads;
 
-/// A run that wrote all that its plan asks for: its lanes, one for each worker, and the number of its games.
+/// A run that wrote all that its plan asks for: its lanes, one for each worker, and the number of
+/// its boards.
 #[derive(Drop)]
 pub struct Report {
     pub lanes: Vec<LaneOut>,
     pub boards: u64,
 }
 
-/// A run that was interrupted: why, its lanes as they are, and the number of whole games.
+/// A run that was interrupted: why, its lanes as they are, and the number of whole
+/// boards.
 #[derive(Drop)]
 pub struct RunFault {
     pub cause: Cause,
@@ -39,18 +47,19 @@ pub struct RunFault {
     pub boards: u64,
 }
 
-/// Writes the boards of the accepted candidates of a plan in a notation, judged by the plan's workers in
-/// threads of their own: the notation's header, the boards in order, and its footer.
+/// Writes the boards of the accepted candidates of a plan in a notation, judged by the plan's
+/// workers in threads of their own: the notation's header, the boards in order, and its footer.
 ///
-/// All memory is taken first: a lane and a clone of the condition for each worker. Then one worker starts for each
-/// lane, and the caller's thread writes while they run. It may wait for its workers.
+/// All memory is taken first: a lane and a clone of the condition for each worker. Then one worker
+/// starts for each lane, and the caller's thread writes while they run. It may wait for its
+/// workers.
 ///
 /// # Errors
 ///
-/// The first of these that is due. `Memory`: an allocation failed, before any thread started. `Spawn`: a thread could
-/// not be started; those that were are stopped and joined. `Output`: the sink failed. `Stopped`: a worker ended before
-/// it had sent all, since its gate answered false, and the limit of boards was not met. `Unclosed`: a lane can't say
-/// how it ended.
+/// The first of these that is due. `Memory`: an allocation failed, before any thread started.
+/// `Spawn`: a thread could not be started; those that were are stopped and joined. `Output`: the
+/// sink failed. `Stopped`: a worker ended before it had sent all, since its gate returned false,
+/// and the limit of boards was not met. `Unclosed`: a lane can't say how it ended.
 pub fn run_in<
     R: Threads + Wait + Clone + Send + 'static,
     G: Gate + Drop + Send + Sync + 'static,
@@ -69,7 +78,8 @@ pub fn run_in<
     ensures layout { N.layout notation.new ≡ N.layout notation.old }
     // What was taken from each lane is its worker's verdicts, and all that is needed.
     ensures lanes { IfOk result (λ r. TakesWhatIsOwed plan.now cond r.lanes.items r.boards) }
-    // The bytes are the header, the boards of the accepted deals, within the limit, in order, and the footer.
+    // The bytes are the header, the boards of the accepted deals, within the limit, in order, and
+    // the footer.
     ensures text { IfOk result (λ r. WritesTextIn (N.layout notation.old) plan.now cond r.boards
         (S.bytes sink.old) (S.bytes sink.new)) }
     // However the run ends: the lanes as they are, and the bytes of what was taken from them.
@@ -89,7 +99,8 @@ pub fn run_in<
     }
 }
 
-/// Takes the memory of the lanes and the workers, starts the workers, and writes; `stop` is their flag, which is down.
+/// Takes the memory of the lanes and the workers, starts the workers, and writes; `stop` is their
+/// flag, which is down.
 pub(crate) fn start_and_write<
     R: Threads + Wait + Clone + Send + 'static,
     G: Gate + Drop + Send + Sync + 'static,
@@ -159,15 +170,26 @@ fn write_to_end<R: Threads + Wait, N: Notation, S: Sink>(
     stop: &AtomicBool,
 ) -> Result<Report, RunFault>
     requires faults { S.faults sink.old < 2 ^ 64 - 1 }
-    requires counts { (vec_len handles ≡ plan.now.workers) × (vec_len lanes ≡ plan.now.workers) × (plan.now.workers ≤ 16) }
+    requires counts { (vec_len handles ≡ plan.now.workers)
+        × (vec_len lanes ≡ plan.now.workers)
+        × (plan.now.workers ≤ 16) }
     requires some { 0 < plan.now.workers }
-    requires owed { (form : Form) × Owes plan.now form (map (λ h. verdicts_of h.promise.job.value) handles.items) }
-    requires rings { map (λ h. h.promise.lane.value.ring) handles.items ≡ map (λ l. l.ring) lanes.items }
+    requires owed { (form : Form) × Owes plan.now form (owed_by handles.items) }
+    requires rings { map (λ h. h.promise.lane.value.ring) handles.items
+        ≡ map (λ l. l.ring) lanes.items }
     requires idle { All (λ l. (l.taken ≡ []) × (l.settled ≡ false)) lanes.items }
     ensures layout { N.layout notation.new ≡ N.layout notation.old }
-    ensures closes { IfOk result (λ r. (form : Form) → Owes plan.now form (map (λ h. verdicts_of h.promise.job.value) handles.items) → Closes (N.layout notation.old) plan.now form r.lanes.items r.boards (S.bytes sink.old) (S.bytes sink.new)) }
-    ensures stands { IfErr result (λ e. (form : Form) → Owes plan.now form (map (λ h. verdicts_of h.promise.job.value) handles.items) → InterruptedIn (N.layout notation.old) plan.now form e.cause e.lanes.items e.boards (S.bytes sink.old) (S.bytes sink.new)) }
-    ensures faults { MatchResult result (λ _. S.faults sink.new ≡ S.faults sink.old) (λ e. FaultsAfter e.cause (S.faults sink.old) (S.faults sink.new)) }
+    ensures closes { IfOk result (λ r. (form : Form)
+        → Owes plan.now form (owed_by handles.items)
+        → Closes (N.layout notation.old) plan.now form r.lanes.items r.boards
+        (S.bytes sink.old) (S.bytes sink.new)) }
+    ensures stands { IfErr result (λ e. (form : Form)
+        → Owes plan.now form (owed_by handles.items)
+        → InterruptedIn (N.layout notation.old) plan.now form e.cause e.lanes.items e.boards
+        (S.bytes sink.old) (S.bytes sink.new)) }
+    ensures faults { MatchResult result
+        (λ _. S.faults sink.new ≡ S.faults sink.old)
+        (λ e. FaultsAfter e.cause (S.faults sink.old) (S.faults sink.new)) }
 {
     match write_and_join(rt, plan, handles, lanes, notation, sink, stop) {
         Ok(report) => write_footer(report, notation, sink),
@@ -182,9 +204,19 @@ fn write_footer<N: Notation, S: Sink>(
     sink: &mut S,
 ) -> Result<Report, RunFault>
     requires faults { S.faults sink.old < 2 ^ 64 - 1 }
-    ensures closes { IfOk result (λ r. (plan : Planned) (form : Form) (base : Option (List ℕ)) → Completes (N.layout notation.now) plan form report.lanes.items report.boards base (S.bytes sink.old) → Closes (N.layout notation.now) plan form r.lanes.items r.boards base (S.bytes sink.new)) }
-    ensures stands { IfErr result (λ e. (plan : Planned) (form : Form) (base : Option (List ℕ)) → Completes (N.layout notation.now) plan form report.lanes.items report.boards base (S.bytes sink.old) → InterruptedIn (N.layout notation.now) plan form e.cause e.lanes.items e.boards base (S.bytes sink.new)) }
-    ensures faults { MatchResult result (λ _. S.faults sink.new ≡ S.faults sink.old) (λ e. FaultsAfter e.cause (S.faults sink.old) (S.faults sink.new)) }
+    ensures closes { IfOk result (λ r. (plan : Planned) (form : Form) (base : Option (List ℕ))
+        → Completes (N.layout notation.now) plan form report.lanes.items report.boards
+        base (S.bytes sink.old)
+        → Closes (N.layout notation.now) plan form r.lanes.items r.boards
+        base (S.bytes sink.new)) }
+    ensures stands { IfErr result (λ e. (plan : Planned) (form : Form) (base : Option (List ℕ))
+        → Completes (N.layout notation.now) plan form report.lanes.items report.boards
+        base (S.bytes sink.old)
+        → InterruptedIn (N.layout notation.now) plan form e.cause e.lanes.items e.boards
+        base (S.bytes sink.new)) }
+    ensures faults { MatchResult result
+        (λ _. S.faults sink.new ≡ S.faults sink.old)
+        (λ e. FaultsAfter e.cause (S.faults sink.old) (S.faults sink.new)) }
 {
     match put_all(sink, notation.footer()) {
         Ok(()) => Ok(report),
@@ -207,15 +239,26 @@ fn write_and_join<R: Threads + Wait, N: Notation, S: Sink>(
     stop: &AtomicBool,
 ) -> Result<Report, RunFault>
     requires faults { S.faults sink.old < 2 ^ 64 - 1 }
-    requires counts { (vec_len handles ≡ plan.now.workers) × (vec_len lanes ≡ plan.now.workers) × (plan.now.workers ≤ 16) }
+    requires counts { (vec_len handles ≡ plan.now.workers)
+        × (vec_len lanes ≡ plan.now.workers)
+        × (plan.now.workers ≤ 16) }
     requires some { 0 < plan.now.workers }
-    requires owed { (form : Form) × Owes plan.now form (map (λ h. verdicts_of h.promise.job.value) handles.items) }
-    requires rings { map (λ h. h.promise.lane.value.ring) handles.items ≡ map (λ l. l.ring) lanes.items }
+    requires owed { (form : Form) × Owes plan.now form (owed_by handles.items) }
+    requires rings { map (λ h. h.promise.lane.value.ring) handles.items
+        ≡ map (λ l. l.ring) lanes.items }
     requires idle { All (λ l. (l.taken ≡ []) × (l.settled ≡ false)) lanes.items }
     ensures layout { N.layout notation.new ≡ N.layout notation.old }
-    ensures completes { IfOk result (λ r. (form : Form) → Owes plan.now form (map (λ h. verdicts_of h.promise.job.value) handles.items) → Completes (N.layout notation.old) plan.now form r.lanes.items r.boards (S.bytes sink.old) (S.bytes sink.new)) }
-    ensures stands { IfErr result (λ e. (form : Form) → Owes plan.now form (map (λ h. verdicts_of h.promise.job.value) handles.items) → InterruptedIn (N.layout notation.old) plan.now form e.cause e.lanes.items e.boards (S.bytes sink.old) (S.bytes sink.new)) }
-    ensures faults { MatchResult result (λ _. S.faults sink.new ≡ S.faults sink.old) (λ e. FaultsAfter e.cause (S.faults sink.old) (S.faults sink.new)) }
+    ensures completes { IfOk result (λ r. (form : Form)
+        → Owes plan.now form (owed_by handles.items)
+        → Completes (N.layout notation.old) plan.now form r.lanes.items r.boards
+        (S.bytes sink.old) (S.bytes sink.new)) }
+    ensures stands { IfErr result (λ e. (form : Form)
+        → Owes plan.now form (owed_by handles.items)
+        → InterruptedIn (N.layout notation.old) plan.now form e.cause e.lanes.items e.boards
+        (S.bytes sink.old) (S.bytes sink.new)) }
+    ensures faults { MatchResult result
+        (λ _. S.faults sink.new ≡ S.faults sink.old)
+        (λ e. FaultsAfter e.cause (S.faults sink.old) (S.faults sink.new)) }
 {
     let mut lanes = lanes;
     let mut progress = Progress::new(plan);
@@ -277,14 +320,30 @@ fn drain_lanes<N: Notation, S: Sink>(
     progress: &mut Progress,
 ) -> Result<Report, RunFault>
     requires faults { S.faults sink.old < 2 ^ 64 - 1 }
-    requires counts { (vec_len lanes ≡ plan.now.workers) × (progress.old.turns.workers ≡ plan.now.workers) × (progress.old.taken ≤ plan.now.count) }
+    requires counts { (vec_len lanes ≡ plan.now.workers)
+        × (progress.old.turns.workers ≡ plan.now.workers)
+        × (progress.old.taken ≤ plan.now.count) }
     requires some { 0 < plan.now.workers }
     requires whole { (form : Form) × AllWhole plan.now form lanes.items }
-    requires begun { (base : Option (List ℕ)) × WriterSoFar (N.layout notation.old) plan.now lanes.items progress.old.taken progress.old.boards base (S.bytes sink.old) }
+    requires begun { (base : Option (List ℕ))
+        × WriterSoFar (N.layout notation.old) plan.now lanes.items
+        progress.old.taken progress.old.boards base (S.bytes sink.old) }
     ensures layout { N.layout notation.new ≡ N.layout notation.old }
-    ensures completes { IfOk result (λ r. (form : Form) (base : Option (List ℕ)) → AllWhole plan.now form lanes.items → WriterSoFar (N.layout notation.old) plan.now lanes.items progress.old.taken progress.old.boards base (S.bytes sink.old) → Completes (N.layout notation.old) plan.now form r.lanes.items r.boards base (S.bytes sink.new)) }
-    ensures stands { IfErr result (λ e. (form : Form) (base : Option (List ℕ)) → AllWhole plan.now form lanes.items → WriterSoFar (N.layout notation.old) plan.now lanes.items progress.old.taken progress.old.boards base (S.bytes sink.old) → InterruptedIn (N.layout notation.old) plan.now form e.cause e.lanes.items e.boards base (S.bytes sink.new)) }
-    ensures faults { MatchResult result (λ _. S.faults sink.new ≡ S.faults sink.old) (λ e. FaultsAfter e.cause (S.faults sink.old) (S.faults sink.new)) }
+    ensures completes { IfOk result (λ r. (form : Form) (base : Option (List ℕ))
+        → AllWhole plan.now form lanes.items
+        → WriterSoFar (N.layout notation.old) plan.now lanes.items
+        progress.old.taken progress.old.boards base (S.bytes sink.old)
+        → Completes (N.layout notation.old) plan.now form r.lanes.items r.boards
+        base (S.bytes sink.new)) }
+    ensures stands { IfErr result (λ e. (form : Form) (base : Option (List ℕ))
+        → AllWhole plan.now form lanes.items
+        → WriterSoFar (N.layout notation.old) plan.now lanes.items
+        progress.old.taken progress.old.boards base (S.bytes sink.old)
+        → InterruptedIn (N.layout notation.old) plan.now form e.cause e.lanes.items e.boards
+        base (S.bytes sink.new)) }
+    ensures faults { MatchResult result
+        (λ _. S.faults sink.new ≡ S.faults sink.old)
+        (λ e. FaultsAfter e.cause (S.faults sink.old) (S.faults sink.new)) }
 {
     let mut lanes = lanes;
     match write_remaining(plan, &mut lanes, notation, sink, progress) {

@@ -15,7 +15,7 @@ pub trait Sink {
     /// How many calls failed.
     ghost faults: { Self → ℕ };
 
-    /// Takes the first bytes of a piece, at least one unless it is empty, and answers how many.
+    /// Takes the first bytes of a piece, at least one unless it is empty, and returns how many.
     ///
     /// At `Err` nothing is taken, and the faults rise by one.
     fn write(&mut self, piece: &[u8]) -> Result<usize, SinkFault>

@@ -1,6 +1,7 @@
 //! The workers of a run, before and when they start.
 
-ghost use Rattle.std.specs.Prelude.{◌≡◌, ◌+◌, ◌<◌, ◌≤◌, ℕ, [], All, IfOk, IfSome, map, take, vec_len, vec_capacity, false, true};
+ghost use Rattle.std.specs.Prelude.{◌≡◌, ◌+◌, ◌<◌, ◌≤◌, ℕ, [], All, IfOk, IfSome, map, take};
+ghost use Rattle.std.specs.Prelude.{vec_len, vec_capacity, false, true};
 ghost use Rattle.std.specs.List.{range_with_len};
 ghost use Rattle.lanes.specs.Jobs.{verdicts_of};
 ghost use Rattle.lanes.specs.Work.{Ends};
@@ -41,7 +42,8 @@ pub(crate) struct Assignment<R, G> {
     ghost fresh: { lane.sent ≡ [] },
 }
 
-/// The assignment of one worker, and the other end of its lane. It fails only where a growth was refused.
+/// The assignment of one worker, and the other end of its lane. `Err` only if an allocation
+/// failed.
 fn assign<R: Clone, G: Drop>(
     rt: &R,
     alloc: Global,
@@ -76,8 +78,8 @@ fn assign<R: Clone, G: Drop>(
     Ok((assignment, taker))
 }
 
-/// The assignments of all workers of a plan, and the other ends of their lanes. It fails only where a growth was
-/// refused.
+/// The assignments of all workers of a plan, and the other ends of their lanes. `Err` only if an
+/// allocation failed.
 pub(crate) fn assign_all<R: Clone, G: Drop>(
     rt: &R,
     alloc: Global,
@@ -86,10 +88,13 @@ pub(crate) fn assign_all<R: Clone, G: Drop>(
     gate: &Arc<G, Global>,
     stop: &Arc<AtomicBool, Global>,
 ) -> Result<(Vec<Assignment<R, G>>, Vec<LaneOut>), AllocError>
-    ensures len { IfOk result (λ r. (vec_len r.0 ≡ plan.now.workers) × (vec_len r.1 ≡ plan.now.workers)) }
+    ensures len { IfOk result (λ r. (vec_len r.0 ≡ plan.now.workers)
+        × (vec_len r.1 ≡ plan.now.workers)) }
     ensures few { IfOk result (λ _. (0 < plan.now.workers) × (plan.now.workers ≤ 16)) }
-    ensures jobs { IfOk result (λ r. map (λ a. verdicts_of a.job) r.0.items ≡ map (verdicts_for plan.now cond.now) (range_with_len 0 plan.now.workers)) }
-    ensures rings { IfOk result (λ r. map (λ a. a.lane.ring) r.0.items ≡ map (λ l. l.ring) r.1.items) }
+    ensures jobs { IfOk result (λ r. map (λ a. verdicts_of a.job) r.0.items
+        ≡ map (verdicts_for plan.now cond.now) (range_with_len 0 plan.now.workers)) }
+    ensures rings { IfOk result (λ r. map (λ a. a.lane.ring) r.0.items
+        ≡ map (λ l. l.ring) r.1.items) }
     ensures idle { IfOk result (λ r. All (λ l. (l.taken ≡ []) × (l.settled ≡ false)) r.1.items) }
 {
     let mut assignments = Vec::new(alloc);
@@ -102,12 +107,13 @@ pub(crate) fn assign_all<R: Clone, G: Drop>(
     Ok((assignments, lanes))
 }
 
-/// Starts a worker in a thread. `None` where no thread can be made.
+/// Starts a worker in a thread. `None` if no thread can be made.
 fn start<T: Threads, R: Wait + Drop + Send + 'static, G: Gate + Drop + Send + Sync + 'static>(
     rt: &T,
     assignment: Assignment<R, G>,
 ) -> Option<Started>
-    ensures job { IfSome result (λ h. verdicts_of h.promise.job.value ≡ verdicts_of assignment.job) }
+    ensures job { IfSome result (λ h. verdicts_of h.promise.job.value
+        ≡ verdicts_of assignment.job) }
     ensures ring { IfSome result (λ h. h.promise.lane.value.ring ≡ assignment.lane.ring) }
 {
     let Assignment {
@@ -124,7 +130,7 @@ fn start<T: Threads, R: Wait + Drop + Send + 'static, G: Gate + Drop + Send + Sy
     thread::spawn_with(rt, promise, move || work(mine, job, lane, gate, stop)).ok()
 }
 
-/// Starts the workers in order, until a thread can't be made. True where all were started.
+/// Starts the workers in order, until a thread can't be made. True if all were started.
 pub(crate) fn start_all<
     T: Threads,
     R: Wait + Drop + Send + 'static,
@@ -135,8 +141,10 @@ pub(crate) fn start_all<
     ensures all { result ≡ true → vec_len handles.new ≡ vec_len assignments }
     ensures not_all { result ≡ false → vec_len handles.new < vec_len assignments }
     ensures len { vec_len handles.new ≤ vec_len assignments }
-    ensures jobs { map (λ h. verdicts_of h.promise.job.value) handles.new.items ≡ take (vec_len handles.new) (map (λ a. verdicts_of a.job) assignments.items) }
-    ensures rings { map (λ h. h.promise.lane.value.ring) handles.new.items ≡ take (vec_len handles.new) (map (λ a. a.lane.ring) assignments.items) }
+    ensures jobs { map (λ h. verdicts_of h.promise.job.value) handles.new.items
+        ≡ take (vec_len handles.new) (map (λ a. verdicts_of a.job) assignments.items) }
+    ensures rings { map (λ h. h.promise.lane.value.ring) handles.new.items
+        ≡ take (vec_len handles.new) (map (λ a. a.lane.ring) assignments.items) }
 {
     for assignment in assignments {
         match start(rt, assignment) {

@@ -20,13 +20,15 @@ fn line_of(value: u32) -> ArrayVec<u8, 11>
     text
 }
 
-/// Writes the first `count` values of a seed (POSIX `nrand48` after `srand48`), in decimal, a line each.
+/// Writes the first `count` values of a seed (POSIX `nrand48` after `srand48`), in decimal, a line
+/// each.
 ///
 /// On a fault of the sink a proper prefix of that text is written.
 pub fn stream<S: Sink>(seed: u32, count: u64, sink: &mut S) -> Result<(), SinkFault>
     requires faults { S.faults sink.old < 2 ^ 64 - 1 }
     requires count { count ≤ 2 ^ 40 }
-    ensures bytes { AppendsOrBreaksOff (S.bytes sink.old) (S.bytes sink.new) result (lines seed count) }
+    ensures bytes { AppendsOrBreaksOff (S.bytes sink.old) (S.bytes sink.new) result
+        (lines seed count) }
     ensures faults { CountsFault (S.faults sink.old) (S.faults sink.new) result }
 {
     let mut generator = Lcg48::seeded(seed);

@@ -1,13 +1,16 @@
 //! The writer of a run: it takes the verdicts in turn and writes the boards of the accepted ones.
 
-ghost use Rattle.std.specs.Prelude.{◌≡◌, ◌-◌, ◌+◌, ◌<◌, ◌≤◌, ◌^◌, ◌↔◌, ◌++◌, [], ◌∷◌, ℕ, List, Option, cond, map, vec_len, OnOk, OnErr, MatchResult, IfOk, IsTrue, slice_index_or, true, Some, ◌⊎◌};
+ghost use Rattle.std.specs.Prelude.{◌≡◌, ◌-◌, ◌+◌, ◌<◌, ◌≤◌, ◌^◌, ◌↔◌, ◌++◌, [], ◌∷◌, ℕ, List};
+ghost use Rattle.std.specs.Prelude.{Option, cond, map, vec_len, OnOk, OnErr, MatchResult, IfOk};
+ghost use Rattle.std.specs.Prelude.{IsTrue, slice_index_or, true, Some, ◌⊎◌};
 ghost use Rattle.lanes.specs.declared.verdict.Verdict.{Verdict};
 ghost use Rattle.dealrun.specs.Sinks.{append_known, AppendsPart, CountsFault};
-ghost use Rattle.dealrun.specs.internal.Writing.{board_text, WriterSoFar, WriterBrokeOff};
+ghost use Rattle.dealrun.specs.internal.Writing.{board_text, KeepsLanes, WriterSoFar};
+ghost use Rattle.dealrun.specs.internal.Writing.{WriterBrokeOff};
 ghost use Rattle.dealrun.specs.internal.Joins.{AllWhole};
 ghost use Rattle.cond_lang.specs.Form.{Form};
 
-use crate::boards::{is_full, put_board};
+use crate::next_board::{is_full, put_board};
 use crate::plan::Plan;
 use crate::sink::{Sink, SinkFault, put_all};
 use boards::Notation;
@@ -60,11 +63,18 @@ impl Progress {
         requires taken { self.old.taken < 2 ^ 40 }
         requires faults { S.faults sink.old < 2 ^ 64 - 1 }
         ensures layout { N.layout notation.new ≡ N.layout notation.old }
-        ensures taken { (self.new.taken ≡ self.old.taken + 1) × (self.new.turns.workers ≡ self.old.turns.workers) }
+        ensures taken { (self.new.taken ≡ self.old.taken + 1)
+            × (self.new.turns.workers ≡ self.old.turns.workers) }
         ensures faults { CountsFault (S.faults sink.old) (S.faults sink.new) result }
-        ensures boards { OnOk result (self.new.boards ≡ cond verdict.now.accepted (self.old.boards + 1) self.old.boards) }
-        ensures bytes { OnOk result (S.bytes sink.new ≡ append_known (S.bytes sink.old) (cond verdict.now.accepted (board_text (N.layout notation.old) plan.now self.old.boards verdict.now) [])) }
-        ensures broken { OnErr result ((verdict.now.accepted ≡ true) × (self.new.boards ≡ self.old.boards) × AppendsPart (S.bytes sink.old) (S.bytes sink.new) (board_text (N.layout notation.old) plan.now self.old.boards verdict.now)) }
+        ensures boards { OnOk result (self.new.boards
+            ≡ cond verdict.now.accepted (self.old.boards + 1) self.old.boards) }
+        ensures bytes { OnOk result (S.bytes sink.new ≡ append_known (S.bytes sink.old)
+            (cond verdict.now.accepted
+            (board_text (N.layout notation.old) plan.now self.old.boards verdict.now) [])) }
+        ensures broken { OnErr result ((verdict.now.accepted ≡ true)
+            × (self.new.boards ≡ self.old.boards)
+            × AppendsPart (S.bytes sink.old) (S.bytes sink.new)
+            (board_text (N.layout notation.old) plan.now self.old.boards verdict.now)) }
     {
         self.turns.advance();
         self.taken += 1;
@@ -89,13 +99,25 @@ fn write_while_running<R: Wait, N: Notation, S: Sink>(
     stop: &AtomicBool,
 ) -> Result<(), SinkFault>
     requires faults { S.faults sink.old < 2 ^ 64 - 1 }
-    requires counts { (vec_len lanes.old ≡ plan.now.workers) × (progress.old.turns.workers ≡ plan.now.workers) × (progress.old.taken ≤ plan.now.count) }
-    ensures same { (map (λ l. l.ring) lanes.new.items ≡ map (λ l. l.ring) lanes.old.items) × (map (λ l. l.settled) lanes.new.items ≡ map (λ l. l.settled) lanes.old.items) }
+    requires counts { (vec_len lanes.old ≡ plan.now.workers)
+        × (progress.old.turns.workers ≡ plan.now.workers)
+        × (progress.old.taken ≤ plan.now.count) }
+    ensures same { KeepsLanes lanes.old.items lanes.new.items }
     ensures layout { N.layout notation.new ≡ N.layout notation.old }
-    ensures counts { (vec_len lanes.new ≡ vec_len lanes.old) × (progress.new.turns.workers ≡ plan.now.workers) × (progress.new.taken ≤ plan.now.count) }
+    ensures counts { (vec_len lanes.new ≡ vec_len lanes.old)
+        × (progress.new.turns.workers ≡ plan.now.workers)
+        × (progress.new.taken ≤ plan.now.count) }
     ensures faults { CountsFault (S.faults sink.old) (S.faults sink.new) result }
-    ensures broken { OnErr result ((base : Option (List ℕ)) → WriterSoFar (N.layout notation.old) plan.now lanes.old.items progress.old.taken progress.old.boards base (S.bytes sink.old) → WriterBrokeOff (N.layout notation.old) plan.now lanes.new.items progress.new.taken progress.new.boards base (S.bytes sink.new)) }
-    ensures written { OnOk result ((base : Option (List ℕ)) → WriterSoFar (N.layout notation.old) plan.now lanes.old.items progress.old.taken progress.old.boards base (S.bytes sink.old) → WriterSoFar (N.layout notation.old) plan.now lanes.new.items progress.new.taken progress.new.boards base (S.bytes sink.new)) }
+    ensures broken { OnErr result ((base : Option (List ℕ))
+        → WriterSoFar (N.layout notation.old) plan.now lanes.old.items
+        progress.old.taken progress.old.boards base (S.bytes sink.old)
+        → WriterBrokeOff (N.layout notation.old) plan.now lanes.new.items
+        progress.new.taken progress.new.boards base (S.bytes sink.new)) }
+    ensures written { OnOk result ((base : Option (List ℕ))
+        → WriterSoFar (N.layout notation.old) plan.now lanes.old.items
+        progress.old.taken progress.old.boards base (S.bytes sink.old)
+        → WriterSoFar (N.layout notation.old) plan.now lanes.new.items
+        progress.new.taken progress.new.boards base (S.bytes sink.new)) }
 {
     for _taken in progress.taken..plan.count() {
         if progress.is_full(plan) {
@@ -122,22 +144,31 @@ pub(crate) fn write_header_and_boards<R: Wait, N: Notation, S: Sink>(
     stop: &AtomicBool,
 ) -> Result<(), SinkFault>
     requires faults { S.faults sink.old < 2 ^ 64 - 1 }
-    requires counts { (vec_len lanes.old ≡ plan.now.workers) × (progress.old.turns.workers ≡ plan.now.workers) × (progress.old.taken ≡ 0) × (progress.old.boards ≡ 0) }
-    requires fresh { (w : ℕ) (e : _) → w < plan.now.workers → (slice_index_or lanes.old.items w e).taken ≡ [] }
-    ensures same { (map (λ l. l.ring) lanes.new.items ≡ map (λ l. l.ring) lanes.old.items) × (map (λ l. l.settled) lanes.new.items ≡ map (λ l. l.settled) lanes.old.items) }
+    requires counts { (vec_len lanes.old ≡ plan.now.workers)
+        × (progress.old.turns.workers ≡ plan.now.workers)
+        × (progress.old.taken ≡ 0)
+        × (progress.old.boards ≡ 0) }
+    requires fresh { (w : ℕ) (e : _)
+        → w < plan.now.workers
+        → (slice_index_or lanes.old.items w e).taken ≡ [] }
+    ensures same { KeepsLanes lanes.old.items lanes.new.items }
     ensures layout { N.layout notation.new ≡ N.layout notation.old }
-    ensures counts { (vec_len lanes.new ≡ vec_len lanes.old) × (progress.new.turns.workers ≡ plan.now.workers) × (progress.new.taken ≤ plan.now.count) }
+    ensures counts { (vec_len lanes.new ≡ vec_len lanes.old)
+        × (progress.new.turns.workers ≡ plan.now.workers)
+        × (progress.new.taken ≤ plan.now.count) }
     ensures faults { CountsFault (S.faults sink.old) (S.faults sink.new) result }
-    ensures broken { OnErr result (WriterBrokeOff (N.layout notation.old) plan.now lanes.new.items progress.new.taken progress.new.boards (S.bytes sink.old) (S.bytes sink.new)) }
-    ensures written { OnOk result (WriterSoFar (N.layout notation.old) plan.now lanes.new.items progress.new.taken progress.new.boards (S.bytes sink.old) (S.bytes sink.new)) }
+    ensures broken { OnErr result (WriterBrokeOff (N.layout notation.old) plan.now lanes.new.items
+        progress.new.taken progress.new.boards (S.bytes sink.old) (S.bytes sink.new)) }
+    ensures written { OnOk result (WriterSoFar (N.layout notation.old) plan.now lanes.new.items
+        progress.new.taken progress.new.boards (S.bytes sink.old) (S.bytes sink.new)) }
 {
     put_all(sink, notation.header())?;
     write_while_running(rt, plan, lanes, notation, sink, progress, stop)?;
     Ok(())
 }
 
-/// Takes what is left of the lanes, whose workers sent all, and writes it, until the limit of boards
-/// is met.
+/// Takes what is left of the lanes, whose workers sent all, and writes it, until the limit of
+/// boards is met.
 pub(crate) fn write_remaining<N: Notation, S: Sink>(
     plan: &Plan,
     lanes: &mut Vec<LaneOut>,
@@ -146,17 +177,32 @@ pub(crate) fn write_remaining<N: Notation, S: Sink>(
     progress: &mut Progress,
 ) -> Result<(), SinkFault>
     requires faults { S.faults sink.old < 2 ^ 64 - 1 }
-    requires counts { (vec_len lanes.old ≡ plan.now.workers) × (progress.old.turns.workers ≡ plan.now.workers) × (progress.old.taken ≤ plan.now.count) }
+    requires counts { (vec_len lanes.old ≡ plan.now.workers)
+        × (progress.old.turns.workers ≡ plan.now.workers)
+        × (progress.old.taken ≤ plan.now.count) }
     requires whole { (form : Form) × AllWhole plan.now form lanes.old.items }
-    requires begun { (base : Option (List ℕ)) × WriterSoFar (N.layout notation.old) plan.now lanes.old.items progress.old.taken progress.old.boards base (S.bytes sink.old) }
+    requires begun { (base : Option (List ℕ))
+        × WriterSoFar (N.layout notation.old) plan.now lanes.old.items
+        progress.old.taken progress.old.boards base (S.bytes sink.old) }
     ensures len { vec_len lanes.new ≡ vec_len lanes.old }
-    ensures whole { (form : Form) → AllWhole plan.now form lanes.old.items → AllWhole plan.now form lanes.new.items }
+    ensures whole { (form : Form)
+        → AllWhole plan.now form lanes.old.items
+        → AllWhole plan.now form lanes.new.items }
     ensures layout { N.layout notation.new ≡ N.layout notation.old }
     ensures counts { progress.new.taken ≤ plan.now.count }
     ensures faults { CountsFault (S.faults sink.old) (S.faults sink.new) result }
-    ensures broken { OnErr result ((base : Option (List ℕ)) → WriterSoFar (N.layout notation.old) plan.now lanes.old.items progress.old.taken progress.old.boards base (S.bytes sink.old) → WriterBrokeOff (N.layout notation.old) plan.now lanes.new.items progress.new.taken progress.new.boards base (S.bytes sink.new)) }
-    ensures written { OnOk result ((base : Option (List ℕ)) → WriterSoFar (N.layout notation.old) plan.now lanes.old.items progress.old.taken progress.old.boards base (S.bytes sink.old) → WriterSoFar (N.layout notation.old) plan.now lanes.new.items progress.new.taken progress.new.boards base (S.bytes sink.new)) }
-    ensures end { OnOk result ((progress.new.taken ≡ plan.now.count) ⊎ (plan.now.limit ≡ Some progress.new.boards)) }
+    ensures broken { OnErr result ((base : Option (List ℕ))
+        → WriterSoFar (N.layout notation.old) plan.now lanes.old.items
+        progress.old.taken progress.old.boards base (S.bytes sink.old)
+        → WriterBrokeOff (N.layout notation.old) plan.now lanes.new.items
+        progress.new.taken progress.new.boards base (S.bytes sink.new)) }
+    ensures written { OnOk result ((base : Option (List ℕ))
+        → WriterSoFar (N.layout notation.old) plan.now lanes.old.items
+        progress.old.taken progress.old.boards base (S.bytes sink.old)
+        → WriterSoFar (N.layout notation.old) plan.now lanes.new.items
+        progress.new.taken progress.new.boards base (S.bytes sink.new)) }
+    ensures end { OnOk result ((progress.new.taken ≡ plan.now.count)
+        ⊎ (plan.now.limit ≡ Some progress.new.boards)) }
 {
     for _taken in progress.taken..plan.count() {
         if progress.is_full(plan) {

@@ -1,5 +1,5 @@
 -- How far a writer has come that takes verdicts in turn and writes the boards of the accepted ones.
-use Rattle.std.specs.Prelude.{ℕ, ◌≡◌, ◌+◌, ◌<◌, ◌≤◌, List, length, Option, slice_index_or}
+use Rattle.std.specs.Prelude.{ℕ, ◌≡◌, ◌+◌, ◌<◌, ◌≤◌, List, length, map, Option, slice_index_or}
 use Rattle.std.specs.Option.{ForSome}
 use Rattle.boards.specs.Layouts.{Layout}
 use Rattle.lanes.specs.declared.verdict.Verdict.{Verdict}
@@ -8,8 +8,12 @@ use Rattle.lanes.specs.Views.{OutView}
 use Rattle.dealrun.specs.Plans.{Planned}
 use Rattle.dealrun.specs.Sinks.{append_known}
 use Rattle.dealrun.specs.Text.{board_of, text_of_boards}
-use Rattle.dealrun.specs.MergedVerdicts.{boards_after, taken_lists}
+use Rattle.dealrun.specs.MergedVerdicts.{boards_after}
 use Rattle.dealrun.specs.Outcomes.{BreaksOffLastPiece}
+
+-- what was taken from each lane
+abbrev pub taken_lists : List OutView → List (List Verdict)
+taken_lists lanes = map (λ l. l.taken) lanes
 
 -- the text of a verdict's board, after this many boards
 abbrev pub board_text : Layout → Planned → ℕ → Verdict → List ℕ
@@ -22,6 +26,11 @@ printed layout plan lists m = text_of_boards layout (boards_after plan lists m)
 -- how many boards that are
 abbrev pub board_count : Planned → List (List Verdict) → ℕ → ℕ
 board_count plan lists m = length (boards_after plan lists m)
+
+-- the rings, and which lanes are settled, did not change
+abbrev pub KeepsLanes : List OutView → List OutView → Type 0
+KeepsLanes old new =
+    (map (λ l. l.ring) new ≡ map (λ l. l.ring) old) × (map (λ l. l.settled) new ≡ map (λ l. l.settled) old)
 
 -- the lanes were taken in turn, none skipped
 pub record TakenInTurn (plan : Planned) (lanes : List OutView) (m : ℕ) : Type 0 where

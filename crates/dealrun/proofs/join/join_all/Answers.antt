@@ -45,7 +45,7 @@ loop-handle-preserved g c =
       rings = map-set_same (λ v. v.ring) c.loop-handle.lanes.items w new lane (same.0 ∙ ap (λ v. v.ring) c.index_mut-lane.ensures.value) ∙ i.rings;
       taken = map-set_same (λ v. v.taken) c.loop-handle.lanes.items w new lane (same.1 ∙ ap (λ v. v.taken) c.index_mut-lane.ensures.value) ∙ i.taken;
       unsettled = λ k e above below. ap (λ v. v.settled) (get_or-set_other c.loop-handle.lanes.items w k new e (omega arith)) ∙ i.unsettled k e (omega (arith, above)) below;
-      joined = join_step_to w (map f hs) c.loop-handle.lanes.items all lane new inside at old c.join_one-outcome.result _ _ _ _ c.join_one-outcome.ensures.joined i.joined c.note.ensures.0 c.note.ensures.1;
+      joined = join_step_to w (map f hs) c.loop-handle.lanes.items all lane new inside at old c.join_one-outcome.result _ _ _ _ c.join_one-outcome.ensures.joined i.joined c.record.ensures.stopped c.record.ensures.unclosed;
     }
 
 pub returns-clause-joined : goal.returns-clause-joined

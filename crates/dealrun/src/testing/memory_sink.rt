@@ -8,7 +8,7 @@ use std::marker::Model;
 
 /// A sink over memory, which contracts see as the bytes that it took and the number of its faults.
 ///
-/// A growth that is refused is a fault, and then nothing is taken.
+/// An allocation that fails is a fault, and then nothing is taken.
 #[derive(Drop)]
 pub struct MemSink {
     taken: Vec<u8>,

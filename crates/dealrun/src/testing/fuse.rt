@@ -1,11 +1,12 @@
 //! A sink over memory that fails on demand, for tests.
 
-ghost use Rattle.std.specs.Prelude.{◌≡◌, ◌-◌, ◌≤◌, ◌<◌, ◌^◌, ◌↔◌, ◌==◌, true, IfOk, IsErr, IsOk, IsTrue};
+ghost use Rattle.std.specs.Prelude.{◌≡◌, ◌-◌, ◌≤◌, ◌<◌, ◌^◌, ◌↔◌, ◌==◌, true, IfOk, IsErr, IsOk};
+ghost use Rattle.std.specs.Prelude.{IsTrue};
 ghost use Rattle.dealrun.specs.Fuses.{counted};
 ghost use Rattle.dealrun.specs.Sinks.{CountsFault, IsTakenLength, AppendsTaken};
 
-use crate::memory_sink::MemSink;
 use crate::sink::{Sink, SinkFault};
+use crate::testing::memory_sink::MemSink;
 use std::marker::Model;
 
 /// A sink over memory for tests, which fails and takes short pieces on demand.
@@ -24,7 +25,13 @@ impl Model for Fuse {
 
     ghost Value = { FuseView };
 
-    ghost view = { λ s. record { memory = s.sink; fails_at = s.fails_at; most = s.most; flush_ok = s.flush_ok; writes = s.writes } };
+    ghost view = { λ s. record {
+      memory = s.sink;
+      fails_at = s.fails_at;
+      most = s.most;
+      flush_ok = s.flush_ok;
+      writes = s.writes;
+    } };
 
     ghost invariant = { λ s. 0 < s.most };
 }
@@ -32,12 +39,15 @@ impl Model for Fuse {
 impl Fuse {
     /// A sink that goes on from what `sink` took and from its faults.
     ///
-    /// Its write number `fails_at`, counted from 1, is a fault that takes nothing, and later writes go on; 0
-    /// means none. A write takes at most `most` bytes. Where `flush_ok` is false, each flush is a fault.
+    /// Its write number `fails_at`, counted from 1, is a fault that takes nothing, and later writes
+    /// go on; 0 means none. A write takes at most `most` bytes. If `flush_ok` is false, each
+    /// flush is a fault.
     pub fn new(sink: MemSink, fails_at: u64, most: usize, flush_ok: bool) -> Fuse
         requires { 0 < most }
         ensures memory { result.memory ≡ sink }
-        ensures settings { (result.fails_at ≡ fails_at) × (result.most ≡ most) × (result.flush_ok ≡ flush_ok) }
+        ensures settings { (result.fails_at ≡ fails_at)
+            × (result.most ≡ most)
+            × (result.flush_ok ≡ flush_ok) }
         ensures writes { result.writes ≡ 0 }
     {
         Fuse {
@@ -74,12 +84,15 @@ impl Sink for Fuse {
     fn write(&mut self, piece: &[u8]) -> Result<usize, SinkFault>
         requires { self.old.memory.faults < 2 ^ 64 - 1 }
         ensures count { IfOk result (λ n. IsTakenLength n piece.now) }
-        ensures bytes { AppendsTaken (⟦<Fuse as Sink>⟧.bytes self.old) (⟦<Fuse as Sink>⟧.bytes self.new) result piece.now }
+        ensures bytes { AppendsTaken (⟦<Fuse as Sink>⟧.bytes self.old)
+            (⟦<Fuse as Sink>⟧.bytes self.new) result piece.now }
         ensures faults { CountsFault self.old.memory.faults self.new.memory.faults result }
         ensures writes { self.new.writes ≡ counted self.old.writes }
         ensures most { IfOk result (λ n. n ≤ self.old.most) }
         ensures fails { self.new.writes ≡ self.old.fails_at → IsErr result }
-        ensures settings { (self.new.fails_at ≡ self.old.fails_at) × (self.new.most ≡ self.old.most) × (self.new.flush_ok ≡ self.old.flush_ok) }
+        ensures settings { (self.new.fails_at ≡ self.old.fails_at)
+            × (self.new.most ≡ self.old.most)
+            × (self.new.flush_ok ≡ self.old.flush_ok) }
     {
         self.writes = self.writes.saturating_add(1);
         if self.writes == self.fails_at {
@@ -95,7 +108,9 @@ impl Sink for Fuse {
         ensures bytes { self.new.memory.bytes ≡ self.old.memory.bytes }
         ensures faults { CountsFault self.old.memory.faults self.new.memory.faults result }
         ensures writes { self.new.writes ≡ self.old.writes }
-        ensures settings { (self.new.fails_at ≡ self.old.fails_at) × (self.new.most ≡ self.old.most) × (self.new.flush_ok ≡ self.old.flush_ok) }
+        ensures settings { (self.new.fails_at ≡ self.old.fails_at)
+            × (self.new.most ≡ self.old.most)
+            × (self.new.flush_ok ≡ self.old.flush_ok) }
     {
         if self.flush_ok {
             return Ok(());

@@ -1,0 +1,110 @@
+//! Runs in a notation of this file's own: a header, a line a board, and a footer.
+
+ghost use Rattle.std.specs.Prelude.{◌≡◌, ◌+◌, ◌%◌, ◌∷◌, ◌<◌, [], codes};
+ghost use Rattle.std.proofs.Common.{rules};
+
+use boards::{Board, Notation};
+use cond_lang::Cond;
+use dealrun::{Cause, Fuse, MemSink, PlainFault, Plan, run_in, run_plain_in};
+use lanes::OpenGate;
+use std::sync::Arc;
+use std::test::Fail;
+
+/// A line a board: the last digit of its number, a space, and the last digit of its candidate.
+#[derive(Drop)]
+struct Digits {
+    line: [u8; 4],
+}
+
+impl Digits {
+    fn new() -> Digits {
+        Digits { line: [0; 4] }
+    }
+}
+
+impl Notation for Digits {
+    ghost layout = { λ _. record {
+      header = codes "begin\n";
+      board = λ b. 48 + b.number % 10 ∷ 32 ∷ 48 + b.candidate % 10 ∷ 10 ∷ [];
+      footer = codes "end\n";
+    } };
+
+    ghost printed = { λ digits. digits.line };
+
+    fn header(&self) -> &[u8] {
+        b"begin\n"
+    }
+
+    fn print(&mut self, board: &Board) {
+        let number = (board.number % 10) as u8;
+        let candidate = (board.candidate % 10) as u8;
+        self.line = [48 + number, b' ', 48 + candidate, b'\n'];
+    }
+
+    fn text(&self) -> &[u8] {
+        self.line.as_slice()
+    }
+
+    fn footer(&self) -> &[u8] {
+        b"end\n"
+    }
+
+    ghost some_byte = { Prim.search rules };
+}
+
+/// Candidates 7 to 11 as boards from 98 on.
+const TEXT: &[u8] = b"begin\n8 7\n9 8\n0 9\n1 0\n2 1\nend\n";
+
+#[test]
+fn writes_header_boards_and_footer(rt: HostRuntime) -> Result<(), Fail> {
+    for workers in [1, 3, 16] {
+        for capacity in [1, 64] {
+            for plan in [
+                Plan::new(0, 7, 5, workers, capacity)?.numbered(98)?,
+                Plan::new(0, 7, 200, workers, capacity)?
+                    .numbered(98)?
+                    .limited(5)?,
+            ] {
+                let cond = Cond::any(rt.alloc());
+                let mut plain = MemSink::new(rt.alloc());
+                let boards = run_plain_in(&plan, &cond, &mut Digits::new(), &mut plain);
+                assert_eq!(rt; boards, Ok(5));
+                assert_eq!(rt; plain.bytes(), TEXT);
+                let mut sink = MemSink::new(rt.alloc());
+                let gate = Arc::new(rt.alloc(), OpenGate)?;
+                let alloc = rt.alloc();
+                let mut digits = Digits::new();
+                let report = run_in(&rt, alloc, &plan, cond, &mut digits, &mut sink, gate);
+                assert_eq!(rt; report.ok().map(|report| report.boards), Some(5));
+                assert_eq!(rt; sink.bytes(), TEXT);
+            }
+        }
+    }
+    Ok(())
+}
+
+/// A sink that breaks off in the footer has all boards, which are counted.
+#[test]
+fn breaks_off_in_the_footer(rt: HostRuntime) -> Result<(), Fail> {
+    let plan = Plan::new(0, 7, 5, 3, 64)?.numbered(98)?;
+    for (fails_at, most, bytes) in [(7, 64, 26), (29, 1, 28), (30, 1, 29)] {
+        let cond = Cond::any(rt.alloc());
+        let mut plain = Fuse::new(MemSink::new(rt.alloc()), fails_at, most, true);
+        let boards = run_plain_in(&plan, &cond, &mut Digits::new(), &mut plain);
+        assert_eq!(rt; boards, Err(PlainFault { boards: 5 }));
+        assert_eq!(rt; plain.bytes(), &TEXT[..bytes]);
+        let mut sink = Fuse::new(MemSink::new(rt.alloc()), fails_at, most, true);
+        let gate = Arc::new(rt.alloc(), OpenGate)?;
+        let alloc = rt.alloc();
+        let mut digits = Digits::new();
+        match run_in(&rt, alloc, &plan, cond, &mut digits, &mut sink, gate) {
+            Ok(_) => assert!(rt; false),
+            Err(fault) => {
+                assert_eq!(rt; (fault.cause, fault.boards), (Cause::Output, 5));
+                assert!(rt; fault.lanes.iter().all(|lane| lane.is_settled()));
+            }
+        }
+        assert_eq!(rt; sink.bytes(), &TEXT[..bytes]);
+    }
+    Ok(())
+}
