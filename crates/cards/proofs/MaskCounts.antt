@@ -16,13 +16,10 @@ use Rattle.cards.specs.declared.suit.Suit.{Suit}
 use Rattle.cards.specs.declared.suit.Suit.TheVariants.{Spades, Hearts, Diamonds, Clubs}
 use Rattle.cards.specs.Pack.{is_in_suit, rank_of}
 use Rattle.cards.specs.Shuffle.{pack}
-use Rattle.cards.specs.Hands.{holds_card, points_of_rank, points_of, points_in, length_of}
+use Rattle.cards.specs.declared.measure.Measure.{Measure}
+use Rattle.cards.specs.Hands.{holds_card, weight_of, total_of, total_in, length_of}
 use Rattle.cards.specs.Masks.{cards_of_mask, mask_of_suit}
 use Rattle.cards.specs.MaskBits.{bit_at_pack, mask-pack-lt, same_masks, mask_of_cards}
-
--- the cards of a rank
-abbrev pub is_of_rank : ℕ → ℕ → Bool
-is_of_rank rank c = rank_of c == rank
 
 -- what a mask shows of a card
 pub card_at_mask : (mask c : ℕ) → mask < 2 ^ 52 → holds_card (cards_of_mask mask) c ≡ (bit_at mask c == 1)
@@ -57,40 +54,22 @@ ones_under mask q h =
     ∙ ones-mask_l (λ c. q c && (bit_at mask c == 1)) pack
 
 -- ---- sums
-sum_by_same : (f g : ℕ → ℕ) → ((x : ℕ) → f x ≡ g x) → (xs : List ℕ) → sum_by f xs ≡ sum_by g xs
+pub sum_by_same : (f g : ℕ → ℕ) → ((x : ℕ) → f x ≡ g x) → (xs : List ℕ) → sum_by f xs ≡ sum_by g xs
 sum_by_same f g e [] = refl
 sum_by_same f g e (x ∷ xs) = omega (arith, sum_by-cons f x xs, sum_by-cons g x xs, e x, sum_by_same f g e xs)
 
 -- no term is larger
-sum_by-le : (f g : ℕ → ℕ) → ((x : ℕ) → f x ≤ g x) → (xs : List ℕ) → sum_by f xs ≤ sum_by g xs
+pub sum_by-le : (f g : ℕ → ℕ) → ((x : ℕ) → f x ≤ g x) → (xs : List ℕ) → sum_by f xs ≤ sum_by g xs
 sum_by-le f g e [] = omega arith
 sum_by-le f g e (x ∷ xs) = omega (arith, sum_by-cons f x xs, sum_by-cons g x xs, e x, sum_by-le f g e xs)
 
-cond-le : (n : ℕ) (b : Bool) → cond b n 0 ≤ n
+pub cond-le : (n : ℕ) (b : Bool) → cond b n 0 ≤ n
 cond-le n true = omega arith
 cond-le n false = omega arith
 
-both-le : (n : ℕ) (a b : Bool) → cond (a && b) n 0 ≤ cond a n 0
+pub both-le : (n : ℕ) (a b : Bool) → cond (a && b) n 0 ≤ cond a n 0
 both-le n true b = cond-le n b
 both-le n false b = omega arith
-
-all_honours : sum_by (λ c. points_of_rank (rank_of c)) pack ≡ 40
-unfolding pack
-all_honours = refl
-
--- a pack has 40 points, a suit 10 points and 13 cards
-pub points_of-le : (hand : List Bool) → points_of hand ≤ 40
-points_of-le hand = omega (arith, all_honours, sum_by-le (λ c. cond (holds_card hand c) (points_of_rank (rank_of c)) 0) (λ c. points_of_rank (rank_of c)) (λ c. cond-le (points_of_rank (rank_of c)) (holds_card hand c)) pack)
-
-suit_honours : (suit : Suit) → sum_by (λ c. cond (is_in_suit suit c) (points_of_rank (rank_of c)) 0) pack ≡ 10
-unfolding pack
-suit_honours Spades = refl
-suit_honours Hearts = refl
-suit_honours Diamonds = refl
-suit_honours Clubs = refl
-
-pub points_in-le : (hand : List Bool) (suit : Suit) → points_in hand suit ≤ 10
-points_in-le hand suit = omega (arith, suit_honours suit, sum_by-le (λ c. cond (is_in_suit suit c && holds_card hand c) (points_of_rank (rank_of c)) 0) (λ c. cond (is_in_suit suit c) (points_of_rank (rank_of c)) 0) (λ c. both-le (points_of_rank (rank_of c)) (is_in_suit suit c) (holds_card hand c)) pack)
 
 suit_cards : (suit : Suit) → sum_by (λ c. cond (is_in_suit suit c) 1 0) pack ≡ 13
 unfolding pack
@@ -102,73 +81,11 @@ suit_cards Clubs = refl
 pub length_of-le : (hand : List Bool) (suit : Suit) → length_of hand suit ≤ 13
 length_of-le hand suit = omega (arith, suit_cards suit, sum_by-le (λ c. cond (is_in_suit suit c && holds_card hand c) 1 0) (λ c. cond (is_in_suit suit c) 1 0) (λ c. both-le 1 (is_in_suit suit c) (holds_card hand c)) pack)
 
-not_same : (x y : ℕ) → x ≢ y → (x == y) ≡ false
-not_same x y ne = grind (arith, nat_tests)
-
-no_points_above : (r : ℕ) (b : Bool) → 4 ≤ r → cond b (points_of_rank r) 0 ≡ 0
-no_points_above (suc (suc (suc (suc r)))) true h = refl
-no_points_above r false h = refl
-no_points_above zero true h = absurd (omega arith)
-no_points_above (suc zero) true h = absurd (omega arith)
-no_points_above (suc (suc zero)) true h = absurd (omega arith)
-no_points_above (suc (suc (suc zero))) true h = absurd (omega arith)
-
-no_honour : (r : ℕ) (b : Bool) → 4 ≤ r → 0 ≡ 4 * cond ((r == 0) && b) 1 0 + 3 * cond ((r == 1) && b) 1 0 + 2 * cond ((r == 2) && b) 1 0 + cond ((r == 3) && b) 1 0
-no_honour r b h = rw (not_same r 0 (omega arith), not_same r 1 (omega arith), not_same r 2 (omega arith), not_same r 3 (omega arith)) refl
-
--- a card's points, by its rank
-by_rank : (r : ℕ) (b : Bool) → cond b (points_of_rank r) 0 ≡ 4 * cond ((r == 0) && b) 1 0 + 3 * cond ((r == 1) && b) 1 0 + 2 * cond ((r == 2) && b) 1 0 + cond ((r == 3) && b) 1 0
-by_rank zero true = refl
-by_rank zero false = refl
-by_rank (suc zero) true = refl
-by_rank (suc zero) false = refl
-by_rank (suc (suc zero)) true = refl
-by_rank (suc (suc zero)) false = refl
-by_rank (suc (suc (suc zero))) true = refl
-by_rank (suc (suc (suc zero))) false = refl
-by_rank (suc (suc (suc (suc r)))) b = no_points_above (suc (suc (suc (suc r)))) b (omega arith) ∙ no_honour (suc (suc (suc (suc r)))) b (omega arith)
-
-sum_by_ranks : (b : ℕ → Bool) (xs : List ℕ) → sum_by (λ c. cond (b c) (points_of_rank (c % 13)) 0) xs
-    ≡ 4 * count_by (λ c. is_of_rank 0 c && b c) xs + 3 * count_by (λ c. is_of_rank 1 c && b c) xs + 2 * count_by (λ c. is_of_rank 2 c && b c) xs + count_by (λ c. is_of_rank 3 c && b c) xs
-sum_by_ranks b [] = refl
-sum_by_ranks b (x ∷ xs) =
-    omega (
-      arith,
-      sum_by-cons (λ c. cond (b c) (points_of_rank (c % 13)) 0) x xs,
-      sum_by-cons (λ c. cond (is_of_rank 0 c && b c) 1 0) x xs,
-      sum_by-cons (λ c. cond (is_of_rank 1 c && b c) 1 0) x xs,
-      sum_by-cons (λ c. cond (is_of_rank 2 c && b c) 1 0) x xs,
-      sum_by-cons (λ c. cond (is_of_rank 3 c && b c) 1 0) x xs,
-      by_rank (x % 13) (b x),
-      sum_by_ranks b xs,
-    )
-
 -- the number of a hand's cards under a mask, as the hand tells them
 pub ones_of : (mask m : ℕ) (q : ℕ → Bool) → mask < 2 ^ 52 → m ≡ mask_l (map q pack) → count_ones (bit_and mask m) ≡ count_by (λ c. q c && holds_card (cards_of_mask mask) c) pack
 ones_of mask m q h e =
     ap (λ t. count_ones (bit_and mask t)) e ∙ ones_under mask q h
     ∙ sum_by_same (λ c. cond (q c && (bit_at mask c == 1)) 1 0) (λ c. cond (q c && holds_card (cards_of_mask mask) c) 1 0) (λ c. ap (λ b. cond (q c && b) 1 0) (sym (card_at_mask mask c h))) pack
-
-rank_masks : (0x8004002001 ≡ mask_l (map (is_of_rank 0) pack)) × (0x10008004002 ≡ mask_l (map (is_of_rank 1) pack)) × (0x20010008004 ≡ mask_l (map (is_of_rank 2) pack)) × (0x40020010008 ≡ mask_l (map (is_of_rank 3) pack))
-unfolding pack
-rank_masks = (refl, refl, refl, refl)
-
-pub points_by_masks : (mask a k q j : ℕ) → mask < 2 ^ 52
-    → a ≡ count_ones (bit_and mask 0x8004002001) → k ≡ count_ones (bit_and mask 0x10008004002) → q ≡ count_ones (bit_and mask 0x20010008004) → j ≡ count_ones (bit_and mask 0x40020010008)
-    → 4 * a + 3 * k + 2 * q + j ≡ points_of (cards_of_mask mask)
-points_by_masks mask a k q j h ea ek eq ej =
-    omega (
-      arith,
-      ea,
-      ek,
-      eq,
-      ej,
-      ones_of mask 0x8004002001 (is_of_rank 0) h rank_masks.0,
-      ones_of mask 0x10008004002 (is_of_rank 1) h rank_masks.1,
-      ones_of mask 0x20010008004 (is_of_rank 2) h rank_masks.2,
-      ones_of mask 0x40020010008 (is_of_rank 3) h rank_masks.3,
-      sum_by_ranks (holds_card (cards_of_mask mask)) pack,
-    )
 
 pub length_under_mask : (suit : Suit) (mask m : ℕ) → mask < 2 ^ 52 → m ≡ mask_l (map (is_in_suit suit) pack) → count_ones (bit_and mask m) ≡ length_of (cards_of_mask mask) suit
 length_under_mask suit mask m h e = ones_of mask m (is_in_suit suit) h e
@@ -197,12 +114,13 @@ and_bit q mask c h =
 pub and-lt : (mask m : ℕ) → mask < 2 ^ 52 → bit_and mask m < 2 ^ 52
 and-lt mask m h = omega (arith, and_le_l mask m)
 
-pub points_in_mask : (suit : Suit) (mask m : ℕ) → mask < 2 ^ 52 → m ≡ mask_l (map (is_in_suit suit) pack) → points_of (cards_of_mask (bit_and mask m)) ≡ points_in (cards_of_mask mask) suit
-points_in_mask suit mask m h e =
+-- the total of the cards under a suit's mask is that of the suit's cards
+pub total_in_mask : (measure : Measure) (suit : Suit) (mask m : ℕ) → mask < 2 ^ 52 → m ≡ mask_l (map (is_in_suit suit) pack) → total_of measure (cards_of_mask (bit_and mask m)) ≡ total_in measure (cards_of_mask mask) suit
+total_in_mask measure suit mask m h e =
     let q : ℕ → Bool = is_in_suit suit in
-    ap (λ t. points_of (cards_of_mask (bit_and mask t))) e
-    ∙ sum_by_same (λ c. cond (holds_card (cards_of_mask (bit_and mask (mask_l (map q pack)))) c) (points_of_rank (c % 13)) 0) (λ c. cond (q c && holds_card (cards_of_mask mask) c) (points_of_rank (c % 13)) 0)
-    (λ c. ap (λ b. cond b (points_of_rank (c % 13)) 0) (card_at_mask (bit_and mask (mask_l (map q pack))) c (and-lt mask (mask_l (map q pack)) h) ∙ and_bit q mask c h ∙ ap (λ b. q c && b) (sym (card_at_mask mask c h)))) pack
+    ap (λ t. total_of measure (cards_of_mask (bit_and mask t))) e
+    ∙ sum_by_same (λ c. cond (holds_card (cards_of_mask (bit_and mask (mask_l (map q pack)))) c) (weight_of measure (c % 13)) 0) (λ c. cond (q c && holds_card (cards_of_mask mask) c) (weight_of measure (c % 13)) 0)
+    (λ c. ap (λ b. cond b (weight_of measure (c % 13)) 0) (card_at_mask (bit_and mask (mask_l (map q pack))) c (and-lt mask (mask_l (map q pack)) h) ∙ and_bit q mask c h ∙ ap (λ b. q c && b) (sym (card_at_mask mask c h)))) pack
 
 -- the masks of the suits
 pub suit_masks : (suit : Suit) → mask_of_suit suit ≡ mask_l (map (is_in_suit suit) pack)

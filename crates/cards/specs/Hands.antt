@@ -5,6 +5,8 @@ use Rattle.std.specs.List.Sorted.{IsPermutation}
 use Rattle.cards.specs.declared.seat.Seat.{Seat}
 use Rattle.cards.specs.declared.suit.Suit.{Suit}
 use Rattle.cards.specs.declared.suit.Suit.TheVariants.{Spades, Hearts, Diamonds, Clubs}
+use Rattle.cards.specs.declared.measure.Measure.{Measure}
+use Rattle.cards.specs.declared.measure.Measure.TheVariants.{Hcp, Controls}
 use Rattle.cards.specs.Pack.{seat_number, suit_number, is_in_suit, rank_of}
 use Rattle.cards.specs.Shuffle.{pack}
 
@@ -15,20 +17,28 @@ hand_of deal seat = map (λ holder. seat_number holder == seat_number seat) deal
 abbrev pub holds_card : List Bool → ℕ → Bool
 holds_card hand c = slice_index_or hand c false
 
--- ace 4, king 3, queen 2, jack 1
-abbrev pub points_of_rank : ℕ → ℕ
-points_of_rank zero = 4
-points_of_rank (suc zero) = 3
-points_of_rank (suc (suc zero)) = 2
-points_of_rank (suc (suc (suc zero))) = 1
-points_of_rank _ = 0
+-- what an ace, a king, a queen and a jack count by a measure; the other ranks count nothing
+abbrev pub weights : Measure → List ℕ
+weights Hcp = 4 ∷ 3 ∷ 2 ∷ 1 ∷ []
+weights Controls = 2 ∷ 1 ∷ 0 ∷ 0 ∷ []
+
+abbrev pub weight_of : Measure → ℕ → ℕ
+weight_of measure rank = slice_index_or (weights measure) rank 0
+
+-- what the hand counts, and what its cards of one suit count
+abbrev pub total_of : Measure → List Bool → ℕ
+total_of measure hand = sum_by (λ c. cond (holds_card hand c) (weight_of measure (rank_of c)) 0) pack
+
+abbrev pub total_in : Measure → List Bool → Suit → ℕ
+total_in measure hand suit =
+    sum_by (λ c. cond (is_in_suit suit c && holds_card hand c) (weight_of measure (rank_of c)) 0) pack
 
 -- the high card points of the hand, and those of one suit
 abbrev pub points_of : List Bool → ℕ
-points_of hand = sum_by (λ c. cond (holds_card hand c) (points_of_rank (rank_of c)) 0) pack
+points_of = total_of Hcp
 
 abbrev pub points_in : List Bool → Suit → ℕ
-points_in hand suit = sum_by (λ c. cond (is_in_suit suit c && holds_card hand c) (points_of_rank (rank_of c)) 0) pack
+points_in = total_in Hcp
 
 -- how many cards of the suit the hand has
 abbrev pub length_of : List Bool → Suit → ℕ

@@ -3,13 +3,13 @@
 ghost use Rattle.std.specs.Prelude.{◌≡◌, ℕ, ◌<◌, ◌≤◌, ◌^◌, ◌*◌, ◌↔◌, IsTrue};
 ghost use Rattle.std.specs.Int.{bit_at};
 ghost use Rattle.cards.specs.Pack.{suit_number};
-ghost use Rattle.cards.specs.Hands.{points_of, points_in, length_of, shape_of};
+ghost use Rattle.cards.specs.Hands.{points_of, points_in, total_of, total_in, length_of, shape_of};
 ghost use Rattle.cards.specs.Hands.{is_balanced, IsBalanced, has_rank, ranks_of};
 ghost use Rattle.cards.specs.Masks.{cards_of_mask};
 ghost use Rattle.cards.specs.BalancedInOrder.{IsBalancedInOrder};
 
-use crate::Suit;
-use crate::masks::{points_of_mask, suit_mask};
+use crate::masks::{suit_mask, total_of_mask};
+use crate::{Measure, Suit};
 use std::marker::Model;
 
 /// A seat's cards, which contracts see as a list of 52 truth values, one a card.
@@ -49,7 +49,7 @@ impl Hand {
         ensures value { result ≡ points_of self.now }
         ensures most { result ≤ 40 }
     {
-        points_of_mask(self.cards)
+        total_of_mask(Measure::Hcp, self.cards)
     }
 
     /// The high card points of the suit's cards alone. At most 10.
@@ -57,7 +57,24 @@ impl Hand {
         ensures value { result ≡ points_in self.now suit }
         ensures most { result ≤ 10 }
     {
-        points_of_mask(self.cards & suit_mask(suit))
+        self.total_in(Measure::Hcp, suit)
+    }
+
+    /// What the hand's cards count by the measure, together. At most 40.
+    pub fn total(&self, measure: Measure) -> u8
+        ensures value { result ≡ total_of measure self.now }
+        ensures most { result ≤ 40 }
+    {
+        total_of_mask(measure, self.cards)
+    }
+
+    /// What the suit's cards alone count by the measure. At most 10.
+    #[inline(always)]
+    pub fn total_in(&self, measure: Measure, suit: Suit) -> u8
+        ensures value { result ≡ total_in measure self.now suit }
+        ensures most { result ≤ 10 }
+    {
+        total_of_mask(measure, self.cards & suit_mask(suit))
     }
 
     /// How many cards of the suit the hand has, 0 to 13.

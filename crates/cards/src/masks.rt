@@ -1,11 +1,12 @@
 //! Sets of cards as masks of 52 bits: bit c is set if card c is in the set.
 
-ghost use Rattle.std.specs.Prelude.{◌≡◌, ◌<◌, ◌≤◌, ◌^◌, ◌==◌};
+ghost use Rattle.std.specs.Prelude.{◌≡◌, ◌<◌, ◌≤◌, ◌^◌, ◌==◌, List, Bool};
+ghost use Rattle.cards.specs.declared.suit.Suit.{Suit as ASuit};
 ghost use Rattle.cards.specs.Pack.{seat_number};
-ghost use Rattle.cards.specs.Hands.{points_of};
+ghost use Rattle.cards.specs.Hands.{total_of, total_in};
 ghost use Rattle.cards.specs.Masks.{cards_of_mask, mask_of_suit, seat_mask};
 
-use crate::{Seat, Suit};
+use crate::{Measure, Seat, Suit};
 
 const ACES: u64 = 0x80_0400_2001;
 
@@ -47,15 +48,19 @@ pub(crate) fn suit_mask(suit: Suit) -> u64
     }
 }
 
-/// The high card points of the cards.
-pub(crate) fn points_of_mask(cards: u64) -> u8
+/// What the cards count by the measure, and that no suit of a hand counts more than 10.
+#[inline(always)]
+pub(crate) fn total_of_mask(measure: Measure, cards: u64) -> u8
     requires { cards < 2 ^ 52 }
-    ensures value { result ≡ points_of (cards_of_mask cards) }
+    ensures value { result ≡ total_of measure (cards_of_mask cards) }
     ensures most { result ≤ 40 }
+    ensures in_suit { (hand : List Bool) (suit : ASuit) → total_in measure hand suit ≤ 10 }
 {
+    let weights = measure.weights();
     let aces = (cards & ACES).count_ones();
     let kings = (cards & KINGS).count_ones();
     let queens = (cards & QUEENS).count_ones();
     let jacks = (cards & JACKS).count_ones();
-    (4 * aces + 3 * kings + 2 * queens + jacks) as u8
+    let honours = u32::from(weights[0]) * aces + u32::from(weights[1]) * kings;
+    (honours + u32::from(weights[2]) * queens + u32::from(weights[3]) * jacks) as u8
 }

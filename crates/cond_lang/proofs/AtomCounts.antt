@@ -1,21 +1,34 @@
 -- A value has no more atoms than tokens.
 use Rattle.std.proofs.Common.{ℕ, ◌<◌, ◌≤◌, List, [], ◌∷◌, length, length-append, arith}
+use Rattle.cards.specs.declared.measure.Measure.{Measure}
+use Rattle.cards.specs.declared.measure.Measure.TheVariants.{Hcp}
+use Rattle.cards.specs.declared.seat.Seat.{Seat}
+use Rattle.cards.specs.declared.suit.Suit.{Suit}
 use Rattle.cond_lang.specs.declared.token.Token.{Token}
 use Rattle.cond_lang.specs.declared.token.Token.TheVariants.{Or, And, Close, Plus, Relation}
-use Rattle.cond_lang.specs.Form.{Amount, sum, number, points, suit_points, suit_length, Form, any_of, all_of, negation, compare, balanced, shape, pattern}
-use Rattle.cond_lang.specs.Grammar.{SpellsAtom, SpellsValue, atom, plus, a_number, hcp, hcp_in, len, SpellsCond, both, or, SpellsBoth, unit, and, SpellsUnit, not, brackets, comparison, is_balanced, has_shape, has_pattern, Spells}
+use Rattle.cond_lang.specs.Form.{Amount, sum, number, points, suit_points, total, suit_total, suit_length, measured, suit_measured, Form, any_of, all_of, negation, compare, balanced, shape, pattern}
+use Rattle.cond_lang.specs.Grammar.{SpellsAtom, SpellsValue, atom, plus, a_number, measure, measure_in, len, SpellsCond, both, or, SpellsBoth, unit, and, SpellsUnit, not, brackets, comparison, is_balanced, has_shape, has_pattern, Spells}
 use Rattle.cond_lang.specs.Limits.{atoms_of, HasAtMostAtoms}
+
+-- however the measure is written, it is one atom
+measured_count : (m : Measure) (q : Seat) → atoms_of (measured m q) ≤ 1
+measured_count Hcp q = omega arith
+measured_count m q = omega arith
+
+suit_measured_count : (m : Measure) (q : Seat) (s : Suit) → atoms_of (suit_measured m q s) ≤ 1
+suit_measured_count Hcp q s = omega arith
+suit_measured_count m q s = omega arith
 
 atom_count : {T : List Token} {a : Amount} → SpellsAtom T a → atoms_of a ≤ 1
 atom_count a_number = omega arith
-atom_count hcp = omega arith
-atom_count hcp_in = omega arith
+atom_count (measure {m} {q}) = measured_count m q
+atom_count (measure_in {m} {q} {s}) = suit_measured_count m q s
 atom_count len = omega arith
 
 atom_some : {T : List Token} {a : Amount} → SpellsAtom T a → 1 ≤ length T
 atom_some a_number = omega arith
-atom_some hcp = omega arith
-atom_some hcp_in = omega arith
+atom_some measure = omega arith
+atom_some measure_in = omega arith
 atom_some len = omega arith
 
 value_count : {T : List Token} {a : Amount} → SpellsValue T a → atoms_of a ≤ length T
@@ -61,4 +74,6 @@ some_atom (sum a b) = omega (arith, some_atom a)
 some_atom (number n) = omega arith
 some_atom (points q) = omega arith
 some_atom (suit_points q s) = omega arith
+some_atom (total m q) = omega arith
+some_atom (suit_total m q s) = omega arith
 some_atom (suit_length q s) = omega arith

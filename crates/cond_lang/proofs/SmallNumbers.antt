@@ -1,21 +1,26 @@
 -- A number of four digits is at most 9,999, and so are the numbers of the trees that tokens spell.
-use Rattle.std.proofs.Common.{◌≡◌, ℕ, ◌+◌, ◌-◌, ◌≤◌, true, List, [], ◌∷◌, ◌++◌, length, sym, subst, arith}
+use Rattle.std.proofs.Common.{◌≡◌, ℕ, ◌+◌, ◌-◌, ◌≤◌, ◌&&◌, Bool, true, false, List, [], ◌∷◌, ◌++◌, length, refl, sym, subst, arith}
+use Rattle.std.proofs.lemmas.Bool.{false≢true}
 use Rattle.std.proofs.lemmas.Bool.Decides.{nat_tests}
 use Rattle.std.specs.Prelude.{All, Contains}
 use Rattle.std.specs.List.{AllByRecursion, filter_map}
 use Rattle.std.proofs.lemmas.List.Elements.{All-from_recursion}
 use Rattle.std.specs.Char.{is_ascii_digit}
+use Rattle.cards.specs.declared.measure.Measure.{Measure}
+use Rattle.cards.specs.declared.measure.Measure.TheVariants.{Hcp}
+use Rattle.cards.specs.declared.seat.Seat.{Seat}
+use Rattle.cards.specs.declared.suit.Suit.{Suit}
 use Rattle.cond_lang.specs.declared.token.Token.{Token}
 use Rattle.cond_lang.specs.declared.token.Token.TheVariants.{Or, And, Number, Close, Plus, Relation}
 use Rattle.cond_lang.specs.declared.token.Placed.{Placed}
 use Rattle.cond_lang.specs.declared.token.Piece.{Piece}
 use Rattle.cond_lang.specs.declared.token.Piece.TheVariants.{Separator, Token as TokenPiece, StrayByte, UnknownWord, LongNumber}
 use Rattle.cond_lang.specs.Cut.{words, symbols, decimal, IsPiece, blank, word, no_word, number as number_piece, long, symbol, stray, Pieces, IsCut, end, piece, placed_from, token_at, HasTokens}
-use Rattle.cond_lang.specs.Form.{Amount, Form}
-use Rattle.cond_lang.specs.Grammar.{SpellsAtom, SpellsValue, atom, plus, a_number, hcp, hcp_in, len, SpellsCond, both, or, SpellsBoth, unit, and, SpellsUnit, not, brackets, comparison, is_balanced, has_shape, has_pattern, Spells}
+use Rattle.cond_lang.specs.Form.{Amount, Form, measured, suit_measured}
+use Rattle.cond_lang.specs.Grammar.{SpellsAtom, SpellsValue, atom, plus, a_number, measure, measure_in, len, SpellsCond, both, or, SpellsBoth, unit, and, SpellsUnit, not, brackets, comparison, is_balanced, has_shape, has_pattern, Spells}
 use Rattle.cond_lang.specs.Limits.{AddsNumbersUpTo, HasNumbersUpTo}
 use Rattle.cond_lang.specs.Place.{kinds}
-use Rattle.cond_lang.proofs.Tables.{at_entry}
+use Rattle.cond_lang.proofs.Tables.{Table, EachEntry, at_entry}
 
 -- a number among the tokens is at most 9,999
 abbrev IsSmall : Token → Type 0
@@ -38,13 +43,28 @@ small_decimal (b ∷ c ∷ d ∷ []) a h = omega (arith, digit b a.0, digit c a.
 small_decimal (b ∷ c ∷ d ∷ e ∷ []) a h = omega (arith, digit b a.0, digit c a.1.0, digit d a.1.1.0, digit e a.1.1.1.0)
 small_decimal (b ∷ c ∷ d ∷ e ∷ f ∷ more) a h = absurd (omega arith)
 
+-- no entry of the table is a number
+abbrev is_no_number : Token → Bool
+is_no_number (Number n) = false
+is_no_number t = true
+
+abbrev has_no_number : Table → Bool
+has_no_number [] = true
+has_no_number (e ∷ table) = is_no_number e.1 && has_no_number table
+
+small_and : (t : Token) (b : Bool) → (is_no_number t && b) ≡ true → IsSmall t × (b ≡ true)
+small_and (Number n) b h = absurd (false≢true h)
+small_and t b h = (tt, h)
+
+small_table : (table : Table) → has_no_number table ≡ true → EachEntry (λ p t. IsSmall t) table
+small_table [] h = tt
+small_table (e ∷ table) h = let both = small_and e.1 (has_no_number table) h in (both.0, small_table table both.1)
+
 small_word : (p : List ℕ) (t : Token) → Contains words (p, t) → IsSmall t
-small_word =
-    at_entry (λ p t. IsSmall t) words
-    (tt, (tt, (tt, (tt, (tt, (tt, (tt, (tt, (tt, (tt, (tt, (tt, (tt, (tt, (tt, (tt, tt))))))))))))))))
+small_word = at_entry (λ p t. IsSmall t) words (small_table words refl)
 
 small_symbol : (p : List ℕ) (t : Token) → Contains symbols (p, t) → IsSmall t
-small_symbol = at_entry (λ p t. IsSmall t) symbols (tt, (tt, (tt, (tt, (tt, (tt, (tt, (tt, (tt, (tt, (tt, tt)))))))))))
+small_symbol = at_entry (λ p t. IsSmall t) symbols (small_table symbols refl)
 
 abbrev IsSmallPiece : Piece → Type 0
 IsSmallPiece (TokenPiece t) = IsSmall t
@@ -89,10 +109,19 @@ right_small (c ∷ L) R a = right_small L R a.1
 behind_small : (L : List Token) (c : Token) (R : List Token) → AreSmall (L ++ c ∷ R) → AreSmall R
 behind_small L c R a = (right_small L (c ∷ R) a).1
 
+-- a measure adds no number
+small_measured : (m : Measure) (q : Seat) → AddsNumbersUpTo 9999 (measured m q)
+small_measured Hcp q = tt
+small_measured m q = tt
+
+small_suit_measured : (m : Measure) (q : Seat) (s : Suit) → AddsNumbersUpTo 9999 (suit_measured m q s)
+small_suit_measured Hcp q s = tt
+small_suit_measured m q s = tt
+
 small_atom : {T : List Token} {a : Amount} → SpellsAtom T a → AreSmall T → AddsNumbersUpTo 9999 a
 small_atom a_number s = s.0
-small_atom hcp s = tt
-small_atom hcp_in s = tt
+small_atom (measure {m} {q}) s = small_measured m q
+small_atom (measure_in {m} {q} {s = u}) s = small_suit_measured m q u
 small_atom len s = tt
 
 small_value : {T : List Token} {a : Amount} → SpellsValue T a → AreSmall T → AddsNumbersUpTo 9999 a

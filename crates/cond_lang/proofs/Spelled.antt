@@ -4,15 +4,15 @@ use Rattle.cond_lang.specs.declared.tree.Op.{Op}
 use Rattle.cond_lang.specs.declared.token.Token.{Token}
 use Rattle.cond_lang.specs.declared.token.Token.TheVariants.{Or, And, Not, Balanced, Shape, Pattern, Seat, Open, Close, Plus, Relation}
 use Rattle.cond_lang.specs.Form.{Amount, sum, Form, any_of, all_of, negation, compare, shape, pattern}
-use Rattle.cond_lang.specs.Grammar.{SpellsAtom, SpellsValue, atom, plus, a_number, hcp, hcp_in, len, four, SpellsCond, both, or, SpellsBoth, unit, and, SpellsUnit, not, brackets, comparison, is_balanced, has_shape, has_pattern, Spells}
+use Rattle.cond_lang.specs.Grammar.{SpellsAtom, SpellsValue, atom, plus, a_number, measure, measure_in, len, four, SpellsCond, both, or, SpellsBoth, unit, and, SpellsUnit, not, brackets, comparison, is_balanced, has_shape, has_pattern, Spells}
 use Rattle.cond_lang.specs.Reading.{got, after, front, closing, lengths, seat_and_lengths, relation, atom_of, comparing_by, a_value, sums, a_cond, a_both, a_unit, ors, ands, unit_by, reading}
 use Rattle.cond_lang.proofs.Enough.{reads}
 
 atom_reads : {A : List Token} {a : Amount} → SpellsAtom A a → (B : List Token) → atom_of (A ++ B) ≡ got a B
 unfolding atom_of
 atom_reads a_number B = refl
-atom_reads hcp B = refl
-atom_reads hcp_in B = refl
+atom_reads measure B = refl
+atom_reads measure_in B = refl
 atom_reads len B = refl
 
 value_reads : {A : List Token} {a : Amount} → SpellsValue A a → (B : List Token) → reading a_value (A ++ B) ≡ reading (sums a) B
@@ -43,8 +43,8 @@ compares {L} {R} {a} {b} o l r B n =
 
 atom_compares : {L : List Token} {a : Amount} → SpellsAtom L a → (X : List Token) → unit_by reading (L ++ X) ≡ comparing_by reading (L ++ X)
 atom_compares a_number X = refl
-atom_compares hcp X = refl
-atom_compares hcp_in X = refl
+atom_compares measure X = refl
+atom_compares measure_in X = refl
 atom_compares len X = refl
 
 unit_compares : {L : List Token} {a : Amount} → SpellsValue L a → (X : List Token) → unit_by reading (L ++ X) ≡ comparing_by reading (L ++ X)

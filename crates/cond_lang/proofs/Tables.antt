@@ -1,6 +1,7 @@
 -- Tables of words and symbols: what is looked up is an entry, and each entry is found.
-use Rattle.std.proofs.Common.{◌≡◌, ℕ, zero, suc, Bool, true, false, List, [], ◌∷◌, Some, None, refl, sym, ap, ◌∙◌, subst, arith, if◌then◌else◌}
+use Rattle.std.proofs.Common.{◌≡◌, ℕ, zero, suc, Bool, true, false, List, [], ◌∷◌, Option, Some, None, ◌&&◌, refl, sym, ap, ◌∙◌, subst, arith, if◌then◌else◌}
 use Rattle.std.specs.Prelude.{Contains}
+use Rattle.std.proofs.lemmas.Bool.{false≢true}
 use Rattle.std.proofs.lemmas.Slice.Eq.{bytes_eq-Decides}
 use Rattle.std.specs.Str.{bytes_eq}
 use Rattle.cond_lang.specs.declared.token.Token.{Token}
@@ -20,11 +21,29 @@ abbrev pub AreApart : Table → Type 0
 AreApart [] = Unit {0}
 AreApart (e ∷ table) = (token_of table e.0 ≡ None) × AreApart table
 
+-- the same as a test, which computes for any table
+abbrev is_none : Option Token → Bool
+is_none None = true
+is_none (Some t) = false
+
+abbrev are_apart : Table → Bool
+are_apart [] = true
+are_apart (e ∷ table) = is_none (token_of table e.0) && are_apart table
+
+none_and : (o : Option Token) (b : Bool) → (is_none o && b) ≡ true → (o ≡ None) × (b ≡ true)
+none_and None b h = (refl, h)
+none_and (Some t) b h = absurd (false≢true h)
+
+apart_by_test : (table : Table) → are_apart table ≡ true → AreApart table
+apart_by_test [] h = tt
+apart_by_test (e ∷ table) h =
+    let both = none_and (token_of table e.0) (are_apart table) h in (both.0, apart_by_test table both.1)
+
 pub words_apart : AreApart words
-words_apart = (refl, (refl, (refl, (refl, (refl, (refl, (refl, (refl, (refl, (refl, (refl, (refl, (refl, (refl, (refl, (refl, tt))))))))))))))))
+words_apart = apart_by_test words refl
 
 pub symbols_apart : AreApart symbols
-symbols_apart = (refl, (refl, (refl, (refl, (refl, (refl, (refl, (refl, (refl, (refl, (refl, tt)))))))))))
+symbols_apart = apart_by_test symbols refl
 
 found_at : (entry : List ℕ × Token) (table : Table) (p : List ℕ) (t : Token) → entry ≡ (p, t) → token_of (entry ∷ table) p ≡ Some t
 found_at entry table p t e =

@@ -1,14 +1,15 @@
 -- The readers that don't lead back to a condition.
 use Rattle.std.proofs.Common.{◌≡◌, ℕ, List, [], ◌∷◌, ◌++◌, refl, sym, ap, ◌∙◌, subst}
+use Rattle.cards.specs.declared.measure.Measure.{Measure as AMeasure}
 use Rattle.cards.specs.declared.seat.Seat.{Seat as ASeat}
 use Rattle.cards.specs.declared.seat.Seat.TheVariants.{North}
 use Rattle.cards.specs.declared.suit.Suit.TheVariants.{Spades}
 use Rattle.cond_lang.specs.declared.tree.Op.TheVariants.{Equal}
 use Rattle.cond_lang.specs.declared.token.Token.{Token}
-use Rattle.cond_lang.specs.declared.token.Token.TheVariants.{Hcp, Len, Seat, Suit, Number, Open, Close, Comma, Dash, Relation}
-use Rattle.cond_lang.specs.Form.{number, points, suit_points, suit_length}
-use Rattle.cond_lang.specs.Grammar.{SpellsAtom, a_number, hcp, hcp_in, len, four}
-use Rattle.cond_lang.specs.Reading.{Outcome, got, Reader, after, opened, closed, comma, dash, seat, suit, digits, relation, closing, and_suit, maybe_suit, opened_seat, atom_of, lengths, seat_and_lengths}
+use Rattle.cond_lang.specs.declared.token.Token.TheVariants.{Measure, Len, Seat, Suit, Number, Open, Close, Comma, Dash, Relation}
+use Rattle.cond_lang.specs.Form.{number, measured, suit_measured, suit_length}
+use Rattle.cond_lang.specs.Grammar.{SpellsAtom, a_number, measure, measure_in, len, four}
+use Rattle.cond_lang.specs.Reading.{Outcome, got, Reader, after, opened, closed, comma, dash, seat, suit, digits, relation, closing, and_suit, rest_of_measure, opened_seat, atom_of, lengths, seat_and_lengths}
 use Rattle.cond_lang.proofs.Sequences.{Reads, HasSome, reads_after, reads_as, reads_token, gets_token, stops_at, stops_at_end}
 
 -- nothing more
@@ -74,14 +75,14 @@ reads_opened_seat S =
     reads_then (λ _. Open ∷ []) (λ P q. P ≡ Open ∷ Seat q ∷ []) opened (λ _ R. seat R) S (opened S) (λ _. (Seat North ∷ [], North, refl)) (reads_opened S)
     (λ _ R. reads_as (λ P q. P ≡ Seat q ∷ []) _ seat seat R (seat R) (λ P q e. ap (λ L. Open ∷ L) e) (λ X. refl) (reads_seat R))
 
-pub reads_maybe_suit : (q : ASeat) (S : List Token) → Reads (λ Q. SpellsAtom (Hcp ∷ Open ∷ Seat q ∷ Q)) (maybe_suit q) S (maybe_suit q S)
-reads_maybe_suit q [] = stops_at_end _ (maybe_suit q) (Close ∷ [], points q, hcp) refl
-reads_maybe_suit q (Close ∷ S) = gets_token _ Close (maybe_suit q) S (points q) hcp (λ X. refl)
-reads_maybe_suit q (Comma ∷ S) =
-    reads_token _ _ Comma (λ S. after (suit S) (λ s R. closing (suit_points q s) R)) (maybe_suit q) S _ (λ P x m. m) (λ X. refl)
-    (reads_then (λ s. Suit s ∷ []) (λ Q. SpellsAtom (Hcp ∷ Open ∷ Seat q ∷ Comma ∷ Q)) suit (λ s R. closing (suit_points q s) R) S (suit S)
-    (λ s. (Close ∷ [], suit_points q s, hcp_in)) (reads_suit S) (λ s R. reads_closing _ (suit_points q s) R hcp_in))
-reads_maybe_suit q (c ∷ S) = stops_at _ c (maybe_suit q) S (Close ∷ [], points q, hcp) (λ X. refl)
+pub reads_rest_of_measure : (m : AMeasure) (q : ASeat) (S : List Token) → Reads (λ Q. SpellsAtom (Measure m ∷ Open ∷ Seat q ∷ Q)) (rest_of_measure m q) S (rest_of_measure m q S)
+reads_rest_of_measure m q [] = stops_at_end _ (rest_of_measure m q) (Close ∷ [], measured m q, measure) refl
+reads_rest_of_measure m q (Close ∷ S) = gets_token _ Close (rest_of_measure m q) S (measured m q) measure (λ X. refl)
+reads_rest_of_measure m q (Comma ∷ S) =
+    reads_token _ _ Comma (λ S. after (suit S) (λ s R. closing (suit_measured m q s) R)) (rest_of_measure m q) S _ (λ P x h. h) (λ X. refl)
+    (reads_then (λ s. Suit s ∷ []) (λ Q. SpellsAtom (Measure m ∷ Open ∷ Seat q ∷ Comma ∷ Q)) suit (λ s R. closing (suit_measured m q s) R) S (suit S)
+    (λ s. (Close ∷ [], suit_measured m q s, measure_in)) (reads_suit S) (λ s R. reads_closing _ (suit_measured m q s) R measure_in))
+reads_rest_of_measure m q (c ∷ S) = stops_at _ c (rest_of_measure m q) S (Close ∷ [], measured m q, measure) (λ X. refl)
 
 pub reads_and_suit : (S : List Token) → Reads (λ P s. P ≡ Comma ∷ Suit s ∷ Close ∷ []) and_suit S (and_suit S)
 reads_and_suit S =
@@ -97,10 +98,10 @@ pub reads_atom : (S : List Token) → Reads SpellsAtom atom_of S (atom_of S)
 unfolding atom_of
 reads_atom [] = stops_at_end _ atom_of some_atom refl
 reads_atom (Number n ∷ S) = gets_token _ (Number n) atom_of S (number n) a_number (λ X. refl)
-reads_atom (Hcp ∷ S) =
-    reads_token _ _ Hcp (λ S. after (opened_seat S) maybe_suit) atom_of S _ (λ P x m. m) (λ X. refl)
-    (reads_then (λ q. Open ∷ Seat q ∷ []) (λ Q. SpellsAtom (Hcp ∷ Q)) opened_seat maybe_suit S (opened_seat S)
-    (λ q. (Close ∷ [], points q, hcp)) (reads_opened_seat S) reads_maybe_suit)
+reads_atom (Measure m ∷ S) =
+    reads_token _ _ (Measure m) (λ S. after (opened_seat S) (rest_of_measure m)) atom_of S _ (λ P x h. h) (λ X. refl)
+    (reads_then (λ q. Open ∷ Seat q ∷ []) (λ Q. SpellsAtom (Measure m ∷ Q)) opened_seat (rest_of_measure m) S (opened_seat S)
+    (λ q. (Close ∷ [], measured m q, measure)) (reads_opened_seat S) (reads_rest_of_measure m))
 reads_atom (Len ∷ S) =
     reads_token _ _ Len (λ S. after (opened_seat S) (λ q R. after (and_suit R) (λ s. got (suit_length q s)))) atom_of S _ (λ P x m. m) (λ X. refl)
     (reads_then (λ q. Open ∷ Seat q ∷ []) (λ Q. SpellsAtom (Len ∷ Q)) opened_seat (λ q R. after (and_suit R) (λ s. got (suit_length q s))) S (opened_seat S)

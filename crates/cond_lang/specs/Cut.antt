@@ -3,26 +3,28 @@
 use Rattle.std.specs.Prelude.{◌≡◌, ℕ, ◌+◌, ◌*◌, ◌-◌, ◌<◌, ◌≤◌, Bool, true, false, ◌||◌, ◌==◌, List, [], ◌∷◌, ◌++◌, length, codes, fold, Option, Some, None, All, Contains}
 use Rattle.std.specs.List.{AllByRecursion, filter_map, sum_by}
 use Rattle.std.specs.Char.{is_ascii_lowercase, is_ascii_digit}
+use Rattle.cards.specs.declared.measure.Measure.TheVariants.{Hcp, Controls}
 use Rattle.cards.specs.declared.seat.Seat.TheVariants.{North, East, South, West}
 use Rattle.cards.specs.declared.suit.Suit.TheVariants.{Spades, Hearts, Diamonds, Clubs}
 use Rattle.cond_lang.specs.declared.tree.Op.TheVariants.{Equal, NotEqual, Less, AtMost, More, AtLeast}
 use Rattle.cond_lang.specs.declared.token.Token.{Token}
-use Rattle.cond_lang.specs.declared.token.Token.TheVariants.{Or, And, Not, Balanced, Shape, Pattern, Hcp, Len, Seat, Suit, Number, Open, Close, Comma, Dash, Plus, Relation}
+use Rattle.cond_lang.specs.declared.token.Token.TheVariants.{Or, And, Not, Balanced, Shape, Pattern, Measure, Len, Seat, Suit, Number, Open, Close, Comma, Dash, Plus, Relation}
 use Rattle.cond_lang.specs.declared.token.Placed.{Placed}
 use Rattle.cond_lang.specs.declared.token.Piece.{Piece}
 use Rattle.cond_lang.specs.declared.token.Piece.TheVariants.{Separator, Token as TokenPiece, StrayByte, UnknownWord, LongNumber}
 use Rattle.cond_lang.specs.declared.error.CondError.{CondError}
 use Rattle.cond_lang.specs.declared.error.CondError.TheVariants.{Byte, Word, Number as NumberFault}
 
--- the sixteen words, each with its token
+-- the known words, each with its token
 abbrev pub words : List (List ℕ × Token)
 words =
     (codes "or", Or) ∷ (codes "and", And) ∷ (codes "not", Not)
-    ∷ (codes "balanced", Balanced) ∷ (codes "shape", Shape) ∷ (codes "pattern", Pattern) ∷ (codes "hcp", Hcp) ∷ (codes "len", Len)
+    ∷ (codes "balanced", Balanced) ∷ (codes "shape", Shape) ∷ (codes "pattern", Pattern)
+    ∷ (codes "hcp", Measure Hcp) ∷ (codes "controls", Measure Controls) ∷ (codes "len", Len)
     ∷ (codes "north", Seat North) ∷ (codes "east", Seat East) ∷ (codes "south", Seat South) ∷ (codes "west", Seat West)
     ∷ (codes "spades", Suit Spades) ∷ (codes "hearts", Suit Hearts) ∷ (codes "diamonds", Suit Diamonds) ∷ (codes "clubs", Suit Clubs) ∷ []
 
--- the eleven symbols, each with its token
+-- the symbols, each with its token
 abbrev pub symbols : List (List ℕ × Token)
 symbols =
     (codes "(", Open) ∷ (codes ")", Close) ∷ (codes ",", Comma) ∷ (codes "-", Dash) ∷ (codes "+", Plus)

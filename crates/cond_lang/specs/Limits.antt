@@ -1,13 +1,15 @@
 -- The limits that every condition keeps: how many values a sum adds up, and how large a number is.
 use Rattle.std.specs.Prelude.{ℕ, ◌+◌, ◌≤◌, All}
-use Rattle.cond_lang.specs.Form.{Amount, sum, number, points, suit_points, suit_length, Form, any_of, all_of, negation, compare, balanced, shape, pattern}
+use Rattle.cond_lang.specs.Form.{Amount, sum, number, points, suit_points, total, suit_total, suit_length, Form, any_of, all_of, negation, compare, balanced, shape, pattern}
 
--- the atoms of a value: a number, points or a length is one
+-- the atoms of a value: a number, a measure or a length is one
 abbrev pub atoms_of : Amount → ℕ
 atoms_of (sum a b) = atoms_of a + atoms_of b
 atoms_of (number n) = 1
 atoms_of (points q) = 1
 atoms_of (suit_points q s) = 1
+atoms_of (total m q) = 1
+atoms_of (suit_total m q s) = 1
 atoms_of (suit_length q s) = 1
 
 -- each value in the tree has at most so many atoms
@@ -26,6 +28,8 @@ AddsNumbersUpTo m (sum a b) = AddsNumbersUpTo m a × AddsNumbersUpTo m b
 AddsNumbersUpTo m (number n) = n ≤ m
 AddsNumbersUpTo m (points q) = Unit {0}
 AddsNumbersUpTo m (suit_points q s) = Unit {0}
+AddsNumbersUpTo m (total k q) = Unit {0}
+AddsNumbersUpTo m (suit_total k q s) = Unit {0}
 AddsNumbersUpTo m (suit_length q s) = Unit {0}
 
 -- each number in the tree is at most m: those of its values, shapes and patterns

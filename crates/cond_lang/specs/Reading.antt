@@ -1,14 +1,15 @@
 -- Reading from the left with one token in sight, as a function of the tokens that are left: what the parser's own
 -- functions return. No public clause cites it.
 use Rattle.std.specs.Prelude.{◌≡◌, ℕ, zero, suc, ◌+◌, ◌*◌, List, [], ◌∷◌, length, Result, Ok, Err, Option, Some, None}
+use Rattle.cards.specs.declared.measure.Measure.{Measure as AMeasure}
 use Rattle.cards.specs.declared.seat.Seat.{Seat as ASeat}
 use Rattle.cards.specs.declared.suit.Suit.{Suit as ASuit}
 use Rattle.cond_lang.specs.declared.tree.Op.{Op}
 use Rattle.cond_lang.specs.declared.token.Token.{Token}
-use Rattle.cond_lang.specs.declared.token.Token.TheVariants.{Or, And, Not, Balanced, Shape, Pattern, Hcp, Len, Seat, Suit, Number, Open, Close, Comma, Dash, Plus, Relation}
+use Rattle.cond_lang.specs.declared.token.Token.TheVariants.{Or, And, Not, Balanced, Shape, Pattern, Measure, Len, Seat, Suit, Number, Open, Close, Comma, Dash, Plus, Relation}
 use Rattle.cond_lang.specs.declared.parser.Refusal.{Refusal}
 use Rattle.cond_lang.specs.declared.parser.Refusal.TheVariants.{Syntax, Memory}
-use Rattle.cond_lang.specs.Form.{Amount, sum, number, points, suit_points, suit_length, Form, any_of, all_of, negation, compare, balanced, shape, pattern}
+use Rattle.cond_lang.specs.Form.{Amount, sum, number, measured, suit_measured, suit_length, Form, any_of, all_of, negation, compare, balanced, shape, pattern}
 
 -- what was read and what is left, or where it stopped
 pub data Outcome (A : Type 0) : Type 0 where
@@ -63,9 +64,9 @@ abbrev pub and_suit : Reader ASuit
 and_suit S = after (comma S) (λ _ S. after (suit S) closing)
 
 -- ) or , suit )
-abbrev pub maybe_suit : ASeat → Reader Amount
-maybe_suit q (Comma ∷ S) = after (suit S) (λ s R. closing (suit_points q s) R)
-maybe_suit q S = closing (points q) S
+abbrev pub rest_of_measure : AMeasure → ASeat → Reader Amount
+rest_of_measure m q (Comma ∷ S) = after (suit S) (λ s R. closing (suit_measured m q s) R)
+rest_of_measure m q S = closing (measured m q) S
 
 -- ( seat
 abbrev pub opened_seat : Reader ASeat
@@ -73,7 +74,7 @@ opened_seat S = after (opened S) (λ _ R. seat R)
 
 unfoldable pub atom_of : Reader Amount
 atom_of (Number n ∷ S) = got (number n) S
-atom_of (Hcp ∷ S) = after (opened_seat S) maybe_suit
+atom_of (Measure m ∷ S) = after (opened_seat S) (rest_of_measure m)
 atom_of (Len ∷ S) = after (opened_seat S) (λ q R. after (and_suit R) (λ s. got (suit_length q s)))
 atom_of S = stuck S
 

@@ -6,13 +6,13 @@ ghost use Rattle.cond_lang.specs.Form.{Form, amount_of, form_of, any_of, all_of,
 ghost use Rattle.cond_lang.specs.Grammar.{Spells};
 ghost use Rattle.cond_lang.specs.Place.{kinds, offset_of, IsPlace};
 ghost use Rattle.cond_lang.specs.Reading.{Gives, front, opened, closed, comma, dash, seat, suit, digits, relation};
-ghost use Rattle.cond_lang.specs.Reading.{opened_seat, and_suit, maybe_suit, lengths, seat_and_lengths, atom_of};
+ghost use Rattle.cond_lang.specs.Reading.{opened_seat, and_suit, rest_of_measure, lengths, seat_and_lengths, atom_of};
 ghost use Rattle.cond_lang.specs.Reading.{reading, a_value, comparing_by, test_by, a_unit, a_both, a_cond, whole};
 
 use crate::error::CondError;
 use crate::token::{Placed, Token};
 use crate::tree::{Op, Tree, Value};
-use cards::{Seat, Suit};
+use cards::{Measure, Seat, Suit};
 use std::alloc::Global;
 use std::marker::Model;
 use thiserror::Error;
@@ -215,7 +215,7 @@ impl<'a> Parser<'a> {
         Ok((seat, lengths))
     }
 
-    /// A number, points or a length.
+    /// A number, a measure of a hand or suit, or a length.
     #[tactic(auto, unfolding(crate::specs::Reading::atom_of))]
     fn atom(&mut self) -> Result<Value, Refusal>
         ensures gives { Gives amount_of result self.new (atom_of self.old) }
@@ -226,10 +226,10 @@ impl<'a> Parser<'a> {
                 self.advance();
                 Ok(Value::Number(number))
             }
-            Some(Token::Hcp) => {
+            Some(Token::Measure(measure)) => {
                 self.advance();
                 let seat = self.opened_seat()?;
-                self.points_of(seat)
+                self.rest_of_measure(measure, seat)
             }
             Some(Token::Len) => {
                 self.advance();
@@ -241,19 +241,19 @@ impl<'a> Parser<'a> {
         }
     }
 
-    /// `)` or `, suit )` behind `hcp ( seat`
-    fn points_of(&mut self, seat: Seat) -> Result<Value, Refusal>
-        ensures gives { Gives amount_of result self.new (maybe_suit seat self.old) }
+    /// `)` or `, suit )` after `measure ( seat`
+    fn rest_of_measure(&mut self, measure: Measure, seat: Seat) -> Result<Value, Refusal>
+        ensures gives { Gives amount_of result self.new (rest_of_measure measure seat self.old) }
         ensures shorter { length self.new ≤ length self.old }
     {
         if let Some(Token::Comma) = self.peek() {
             self.advance();
             let suit = self.suit()?;
             self.close()?;
-            return Ok(Value::SuitPoints(seat, suit));
+            return Ok(Value::suit_measured(measure, seat, suit));
         }
         self.close()?;
-        Ok(Value::Points(seat))
+        Ok(Value::measured(measure, seat))
     }
 
     /// The tree on the heap.

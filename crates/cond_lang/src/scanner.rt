@@ -1,6 +1,6 @@
 //! The scanner: it cuts the whole text into pieces, and finds the leftmost faulty one before the parser starts.
 
-ghost use Rattle.std.specs.Prelude.{◌≡◌, ◌<◌, ◌≤◌, length, true, IfOk, IfErr};
+ghost use Rattle.std.specs.Prelude.{◌≡◌, ◌<◌, ◌≤◌, length, map, true, IfOk, IfErr};
 ghost use Rattle.std.specs.List.{AllByRecursion};
 ghost use Rattle.std.specs.Char.{is_ascii_lowercase, is_ascii_digit};
 ghost use Rattle.cond_lang.specs.Cut.{HasTokens, HasFault, words, decimal, is_separator};
@@ -10,10 +10,31 @@ use crate::error::CondError;
 use crate::token::{Piece, Placed, Token};
 use crate::tree::Op;
 use arrayvec::ArrayVec;
-use cards::{Seat, Suit};
+use cards::{Measure, Seat, Suit};
 
 /// The longest text that is read, in bytes.
 pub(crate) const MOST_BYTES: usize = 1024;
+
+/// The known words, each with its token: the table `words` of the definition.
+const WORDS: [(&[u8], Token); 17] = [
+    (b"or", Token::Or),
+    (b"and", Token::And),
+    (b"not", Token::Not),
+    (b"balanced", Token::Balanced),
+    (b"shape", Token::Shape),
+    (b"pattern", Token::Pattern),
+    (b"hcp", Token::Measure(Measure::Hcp)),
+    (b"controls", Token::Measure(Measure::Controls)),
+    (b"len", Token::Len),
+    (b"north", Token::Seat(Seat::North)),
+    (b"east", Token::Seat(Seat::East)),
+    (b"south", Token::Seat(Seat::South)),
+    (b"west", Token::Seat(Seat::West)),
+    (b"spades", Token::Suit(Suit::Spades)),
+    (b"hearts", Token::Suit(Suit::Hearts)),
+    (b"diamonds", Token::Suit(Suit::Diamonds)),
+    (b"clubs", Token::Suit(Suit::Clubs)),
+];
 
 /// The tokens of a text, or its leftmost faulty piece.
 pub(crate) fn scan(text: &[u8]) -> Result<ArrayVec<Placed, 1024>, CondError>
@@ -135,41 +156,20 @@ fn decimal(digits: &[u8]) -> u16
 fn word(text: &[u8]) -> Option<Token>
     ensures { result ≡ token_of words text.now }
 {
-    if text == b"or".as_slice() {
-        Some(Token::Or)
-    } else if text == b"and".as_slice() {
-        Some(Token::And)
-    } else if text == b"not".as_slice() {
-        Some(Token::Not)
-    } else if text == b"balanced".as_slice() {
-        Some(Token::Balanced)
-    } else if text == b"shape".as_slice() {
-        Some(Token::Shape)
-    } else if text == b"pattern".as_slice() {
-        Some(Token::Pattern)
-    } else if text == b"hcp".as_slice() {
-        Some(Token::Hcp)
-    } else if text == b"len".as_slice() {
-        Some(Token::Len)
-    } else if text == b"north".as_slice() {
-        Some(Token::Seat(Seat::North))
-    } else if text == b"east".as_slice() {
-        Some(Token::Seat(Seat::East))
-    } else if text == b"south".as_slice() {
-        Some(Token::Seat(Seat::South))
-    } else if text == b"west".as_slice() {
-        Some(Token::Seat(Seat::West))
-    } else if text == b"spades".as_slice() {
-        Some(Token::Suit(Suit::Spades))
-    } else if text == b"hearts".as_slice() {
-        Some(Token::Suit(Suit::Hearts))
-    } else if text == b"diamonds".as_slice() {
-        Some(Token::Suit(Suit::Diamonds))
-    } else if text == b"clubs".as_slice() {
-        Some(Token::Suit(Suit::Clubs))
-    } else {
-        None
+    look_up(&WORDS, text)
+}
+
+/// The token beside this text in a table.
+fn look_up(mut table: &[(&[u8], Token)], text: &[u8]) -> Option<Token>
+    ensures { result ≡ token_of (map (λ e. (e.0.now, e.1)) table.entry.now) text.now }
+{
+    while let [entry, rest @ ..] = table {
+        if text == entry.0 {
+            return Some(entry.1);
+        }
+        table = rest;
     }
+    None
 }
 
 /// The longest symbol that a text begins with, and its length.

@@ -1,6 +1,7 @@
 //! Tests with outside values.
 
 mod meaning;
+mod measures;
 mod random;
 mod refusals;
 mod trees;

@@ -1,9 +1,9 @@
 //! Tokens, and the pieces that a text is cut into.
 
 use crate::tree::Op;
-use cards::{Seat, Suit};
+use cards::{Measure, Seat, Suit};
 
-/// A token of the language: one of the sixteen words, a number of at most four digits, or one of the eleven symbols.
+/// A token of the language: a known word, a number of at most four digits, or a symbol.
 #[derive(Clone, Copy, Debug, Default, PartialEq, Eq)]
 pub enum Token {
     #[default]
@@ -13,7 +13,7 @@ pub enum Token {
     Balanced,
     Shape,
     Pattern,
-    Hcp,
+    Measure(Measure),
     Len,
     Seat(Seat),
     Suit(Suit),
@@ -40,7 +40,7 @@ pub enum Piece {
     Token(Token),
     /// A byte that begins nothing.
     StrayByte,
-    /// Letters that aren't one of the sixteen words.
+    /// Letters that aren't a known word.
     UnknownWord,
     /// A run of five or more digits.
     LongNumber,

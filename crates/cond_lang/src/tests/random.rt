@@ -30,7 +30,7 @@ impl Dice {
 }
 
 /// The words and symbols of the language, some numbers, and whole tests, so that more than the first token is read.
-const TOKENS: [&[u8]; 40] = [
+const TOKENS: [&[u8]; 42] = [
     b"or",
     b"and",
     b"not",
@@ -38,6 +38,7 @@ const TOKENS: [&[u8]; 40] = [
     b"shape",
     b"pattern",
     b"hcp",
+    b"controls",
     b"len",
     b"north",
     b"east",
@@ -64,6 +65,7 @@ const TOKENS: [&[u8]; 40] = [
     b"hcp(north)",
     b"len(south,clubs)",
     b"hcp(east,hearts)",
+    b"controls(east)",
     b"balanced(west)",
     b"shape(west,4-3-3-3)",
     b"pattern(north,5-4-3-1)",
@@ -96,7 +98,7 @@ fn random_token_lists(rt: HostRuntime) -> Result<(), Fail> {
         let mut text = Vec::new(rt.alloc());
         let most = if dice.below(100) == 0 { 250 } else { 12 };
         for _ in 0..dice.below(most) {
-            text.extend_from_slice(TOKENS[usize::from(dice.below(40))])?;
+            text.extend_from_slice(TOKENS[usize::from(dice.below(42))])?;
             text.push(b' ')?;
         }
         expect_sound(&rt, &text);

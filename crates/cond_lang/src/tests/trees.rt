@@ -2,7 +2,11 @@
 
 use super::*;
 
-fn expect_tree(rt: &(impl Abort + AllocGlobal), text: &str, tree: &str) -> Result<(), Fail> {
+pub(super) fn expect_tree(
+    rt: &(impl Abort + AllocGlobal),
+    text: &str,
+    tree: &str,
+) -> Result<(), Fail> {
     let spelled = format!(in rt.alloc(); "{:?}", condition(rt.alloc(), text)?.tree())?;
     assert_eq!(rt; spelled.as_str(), tree);
     Ok(())

@@ -1,4 +1,4 @@
-//! The twenty worked conditions of docs/CONDITIONS.md, each over six deals: the truths come from a plain evaluation of
+//! The worked conditions of docs/CONDITIONS.md, each over six deals: the truths come from a plain evaluation of
 //! the four hands, not from this crate.
 
 use super::*;
@@ -14,7 +14,7 @@ const DEALS: [&[u8]; 6] = [
 ];
 
 /// Each condition, and whether it is true of the six deals.
-const CONDITIONS: [(&str, [bool; 6]); 20] = [
+const CONDITIONS: [(&str, [bool; 6]); 21] = [
     // A strong notrump with North.
     (
         "hcp(north)>=15 and hcp(north)<=17 and balanced(north)",
@@ -111,6 +111,11 @@ const CONDITIONS: [(&str, [bool; 6]); 20] = [
     (
         "hcp(north)+hcp(south)>=18 and hcp(north)+hcp(south)<=22 and not balanced(north) and not balanced(east)",
         [true, false, false, false, false, false],
+    ),
+    // A slam with its controls.
+    (
+        "hcp(north)+hcp(south)>=30 and controls(north)+controls(south)>=10",
+        [false, false, false, true, false, false],
     ),
 ];
 

@@ -1,4 +1,6 @@
-use Rattle.std.proofs.Common.{◌≡◌, ◌+◌, refl, arith}
+use Rattle.std.proofs.Common.{◌≡◌, ◌+◌, ◌∙◌, refl, sym, ap, arith}
+use Rattle.cards.specs.Hands.{total_of, total_in}
+use Rattle.cond_lang.specs.Meaning.{value_in}
 use Rattle.cond_lang.specs.Limits.{atoms_of}
 use Rattle.cond_lang.specs.Form.{amount_of}
 use Rattle.cond_lang.proofs.AtomCounts.{some_atom}
@@ -16,3 +18,14 @@ value_in-sum_in-requires t c =
     let right = amount_of c.deref-in-Sum.result.now in
     let all : atoms_of (amount_of c.args.value.now) ≡ atoms_of left + atoms_of right = rw (c.in-Sum.is, c.deref.ensures, c.deref-in-Sum.ensures) refl in
     (omega (arith, some_atom left, all), omega (arith, c.requires, all))
+
+pub value_in-returns-in-Total-clause-value : goal.value_in-returns-in-Total-clause-value
+value_in-returns-in-Total-clause-value t c =
+    c.from-in-Total.ensures ∙ c.total.ensures.value ∙ ap (total_of c.in-Total.measure) c.hand-in-Total.ensures.value
+    ∙ ap (λ v. value_in c.args.deal.now (amount_of v)) (sym c.in-Total.is)
+
+pub value_in-returns-in-SuitTotal-clause-value : goal.value_in-returns-in-SuitTotal-clause-value
+value_in-returns-in-SuitTotal-clause-value t c =
+    c.from-in-SuitTotal.ensures ∙ c.total_in.ensures.value
+    ∙ ap (λ h. total_in c.in-SuitTotal.measure h c.in-SuitTotal.suit) c.hand-in-SuitTotal.ensures.value
+    ∙ ap (λ v. value_in c.args.deal.now (amount_of v)) (sym c.in-SuitTotal.is)
