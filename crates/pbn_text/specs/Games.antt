@@ -52,7 +52,8 @@ letters = codes "AKQJT98765432"
 -- the letters of the ranks that the hand has in the suit, the ace first
 unfoldable pub suit_text : List Bool → Suit → List ℕ
 suit_text hand suit =
-    map (slice_index letters) (filter (λ rank. holds_card hand (13 * suit_number suit + rank)) (range_with_len 0 13))
+    map (slice_index letters)
+    (filter (λ rank. holds_card hand (13 * suit_number suit + rank)) (range_with_len 0 13))
 
 abbrev pub hand_text : List Bool → List ℕ
 hand_text hand =

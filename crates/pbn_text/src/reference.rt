@@ -44,8 +44,8 @@ pub fn game(board: u64, heading: &Heading, deal: &Deal) -> ArrayVec<u8, 400>
     print_game(heading, &Board::by_law(board, 0, *deal))
 }
 
-/// Prints games one at a time by the reference: what a reference run writes with. Contracts see
-/// the heading and the text that was printed last.
+/// Prints games under one heading, one at a time, each line by line: what a reference run writes
+/// with. Contracts see the heading and the text that was printed last.
 #[derive(Drop)]
 pub struct Reference {
     heading: Heading,

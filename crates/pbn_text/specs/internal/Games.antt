@@ -10,6 +10,7 @@ pub game_has_byte : (heading : HeadingView) (board : Board) → 0 < length (game
 unfolding game_text
 game_has_byte heading board = simp length-append (omega arith)
 
-pub game_by_law : (heading : HeadingView) (number candidate : ℕ) (deal : List Seat) → game_text heading (board_by_law number candidate deal) ≡ game number heading deal
+pub game_by_law : (heading : HeadingView) (number candidate : ℕ) (deal : List Seat)
+    → game_text heading (board_by_law number candidate deal) ≡ game number heading deal
 unfolding game game_text
 game_by_law heading number candidate deal = refl

@@ -5,7 +5,8 @@ use Rattle.cards.specs.declared.seat.Seat.TheVariants.{North, East, South, West}
 use Rattle.cards.specs.Hands.{hand_of}
 use Rattle.boards.specs.declared.law2.Vul.{Vul}
 use Rattle.boards.specs.declared.law2.Vul.TheVariants.{Neither, NorthSouth, EastWest, Both}
-use Rattle.pbn_text.specs.Games.{HeadingView, heading_text, tag, dealer_text, vulnerable_text, hand_text, deal_text}
+use Rattle.pbn_text.specs.Games.{HeadingView, heading_text, tag, dealer_text}
+use Rattle.pbn_text.specs.Games.{vulnerable_text, hand_text, deal_text}
 
 -- the end of each tag line
 abbrev pub closing : List ℕ

@@ -1,5 +1,6 @@
 -- The text of a suit by the set of its ranks: bit 0 is the ace, bit 12 the two.
-use Rattle.std.specs.Prelude.{◌≡◌, ℕ, ◌+◌, ◌<◌, ◌≤◌, ◌^◌, ◌==◌, Bool, List, [], ◌++◌, length, take, map, codes, slice_index, slice_index_or}
+use Rattle.std.specs.Prelude.{◌≡◌, ℕ, ◌+◌, ◌<◌, ◌≤◌, ◌^◌, ◌==◌, Bool, List, []}
+use Rattle.std.specs.Prelude.{◌++◌, length, take, map, codes, slice_index, slice_index_or}
 use Rattle.std.specs.Int.{bit_at}
 use Rattle.std.specs.List.{range_with_len}
 use Rattle.cards.specs.declared.suit.Suit.TheVariants.{Spades}
