@@ -1,4 +1,5 @@
--- Laws of Duplicate Bridge, Law 2: dealer and vulnerability of boards 1 to 16; board 17 is as board 1, and so on.
+-- Laws of Duplicate Bridge, Law 2: dealer and vulnerability of boards 1 to 16; board 17 is as board
+-- 1, and so on.
 use Rattle.std.specs.Prelude.{ℕ, ◌-◌, ◌%◌, List, [], ◌∷◌, slice_index_or}
 use Rattle.cards.specs.declared.seat.Seat.{Seat}
 use Rattle.cards.specs.declared.seat.Seat.TheVariants.{North, East, South, West}

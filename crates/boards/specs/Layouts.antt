@@ -1,4 +1,5 @@
--- How a notation lays a text out: what comes before the boards, the text of each board, and what comes after them.
+-- How a notation lays a text out: what comes before the boards, the text of each board, and what
+-- comes after them.
 use Rattle.std.specs.Prelude.{ℕ, List}
 use Rattle.boards.specs.declared.board.Board.{Board}
 

@@ -11,7 +11,7 @@ use Rattle.lanes.specs.Views.{OutView}
 use Rattle.lanes.proofs.Places.{turns-none}
 use Rattle.lanes.proofs.Sums.{turns-here, turns-elsewhere}
 use Rattle.dealrun.specs.Plans.{Planned}
-use Rattle.dealrun.specs.Sinks.{append_known, AppendsPart}
+use Rattle.dealrun.specs.Appended.{append_known, AppendsPart}
 use Rattle.dealrun.specs.Text.{board_of, text_of_boards}
 use Rattle.dealrun.specs.MergedVerdicts.{in_turn, boards_in, boards_after}
 use Rattle.dealrun.specs.internal.Writing.{board_text, printed, board_count, taken_lists, TakenInTurn, StaysShort, WriterSoFar, WriterBrokeOff}

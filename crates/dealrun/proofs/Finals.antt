@@ -12,7 +12,7 @@ use Rattle.lanes.specs.Views.{OutView}
 use Rattle.lanes.specs.Prefixes.{IsPrefix, IsProperPrefix}
 use Rattle.lanes.proofs.Places.{turns-none}
 use Rattle.dealrun.specs.Plans.{Planned}
-use Rattle.dealrun.specs.Sinks.{append_known}
+use Rattle.dealrun.specs.Appended.{append_known}
 use Rattle.dealrun.specs.MergedVerdicts.{verdicts_for, taken_in_all}
 use Rattle.dealrun.specs.internal.Ends.{Completes}
 use Rattle.dealrun.specs.internal.Joins.{ByNumber, Owes, JoinedAs, Below, WholeIfSettled, IsSettled, BeginningAt, UnsettledAt, AllWhole}

@@ -12,8 +12,9 @@ use Rattle.cards.specs.Shuffle.{drawn_places}
 use Rattle.cond_lang.specs.Form.{Form}
 use Rattle.cond_lang.specs.Meaning.{holds}
 use Rattle.dealrun.specs.Plans.{Planned}
-use Rattle.dealrun.specs.Sinks.{append_known, AppendsAll, AppendsPart}
-use Rattle.dealrun.specs.Text.{BreaksOffIn, accepted, accepted_among, board_of, limited, text_of}
+use Rattle.dealrun.specs.Appended.{append_known, AppendsAll, AppendsPart}
+use Rattle.dealrun.specs.Reference.{BreaksOffIn}
+use Rattle.dealrun.specs.Text.{accepted, accepted_among, board_of, limited, text_of}
 use Rattle.dealrun.proofs.SinkLemmas.{append_known-append}
 use Rattle.dealrun.proofs.BoardLists.{IsWithin, accepted_among-more, accepted_among-none, accepted_among-parts, limited-all, limited-full, limited-next, text_of-append, text_of-more, text_of-none, within_more}
 

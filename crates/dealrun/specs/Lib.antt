@@ -1,3 +1,4 @@
+pub mod Appended
 pub mod Sinks
 pub mod Fuses
 pub mod Values
@@ -6,4 +7,5 @@ pub mod Text
 pub mod MergedVerdicts
 pub mod Outcomes
 pub mod Pbn
+pub mod Reference
 pub mod internal

@@ -1,5 +1,5 @@
--- What holds when a run returns. The headline is two records: what was taken from the lanes of a run that ended Ok, and
--- what was written. The rest says what holds however a run ends.
+-- What holds when a run returns. The headline is two records: what was taken from the lanes of a
+-- run that ended Ok, and what was written. The rest says what holds however a run ends.
 use Rattle.std.specs.Prelude.{ℕ, ◌+◌, ◌-◌, ◌≡◌, ◌≢◌, ◌<◌, ◌≤◌, ◌⊎◌, List, [], ◌++◌, All, length, map, take, Option, Some, true, false, slice_get}
 use Rattle.std.specs.List.{enumerate_from, range_with_len}
 use Rattle.boards.specs.Layouts.{Layout}
@@ -13,7 +13,7 @@ use Rattle.lanes.specs.Prefixes.{IsPrefix, IsProperPrefix}
 use Rattle.dealrun.specs.declared.cause.Cause.{Cause}
 use Rattle.dealrun.specs.declared.cause.Cause.TheVariants.{Memory, Spawn, Output, Stopped, Unclosed}
 use Rattle.dealrun.specs.Plans.{Planned}
-use Rattle.dealrun.specs.Sinks.{AppendsAll, AppendsPart}
+use Rattle.dealrun.specs.Appended.{AppendsAll, AppendsPart}
 use Rattle.dealrun.specs.Text.{accepted_among, accepted, boards_of, text_of_boards, text_of, text_in, end_of}
 use Rattle.dealrun.specs.MergedVerdicts.{verdicts_for, taken_in_all, boards_taken}
 
@@ -36,7 +36,8 @@ contents_of l = l.taken ++ l.left
 
 -- ---- the headline: a run that ended Ok
 
--- the lanes: what was taken from each is its worker's verdicts, each once, in the order sent, nothing after its close
+-- the lanes: what was taken from each is its worker's verdicts, each once, in the order sent,
+-- nothing after its close
 pub record TakesWhatIsOwed (plan : Planned) (form : Form) (lanes : List OutView) (boards : ℕ) : Type 0 where
   -- there is a lane for each worker, and its first verdicts were taken, as many as are needed
   pub taken :
@@ -51,7 +52,8 @@ pub record TakesWhatIsOwed (plan : Planned) (form : Form) (lanes : List OutView)
       plan.limit ≢ Some boards
       → (map (λ l. l.taken) lanes ≡ for_each_worker plan (verdicts_for plan form)) × All (λ l. l.left ≡ []) lanes
 
--- the text: the boards of the accepted ones of the one candidate sequence, each deal a partition of the pack
+-- the text: the boards of the accepted ones of the one candidate sequence, each deal a partition of
+-- the pack
 pub record WritesTextIn (layout : Layout) (plan : Planned) (form : Form) (boards : ℕ) (old new : Option (List ℕ)) : Type 0 where
   pub bytes : AppendsAll old new (text_in layout plan form)
   pub boards_are : boards ≡ length (accepted plan form)
@@ -75,7 +77,8 @@ pub record AreLanesConsistent (plan : Planned) (form : Form) (lanes : List OutVi
       → m ≤ taken_in_all lanes
       → boards_taken plan lanes m ≡ boards_of plan (accepted_among plan.seed plan.first form m)
 
--- of the last piece the end is missing: of the header if nothing was taken, else of the board of the m-th verdict
+-- of the last piece the end is missing: of the header if nothing was taken, else of the board of
+-- the m-th verdict
 pub record BreaksOffLastPiece (layout : Layout) (plan : Planned) (lanes : List OutView) (m boards : ℕ) (old new : Option (List ℕ)) : Type 0 where
   pub part : AppendsPart old new (text_of_boards layout (boards_taken plan lanes m))
   pub before : 0 < m → (more : List ℕ) × (text_of_boards layout (boards_taken plan lanes (m - 1)) ++ more ≡ part.front)
@@ -88,7 +91,8 @@ pub record BreaksOffFooter (layout : Layout) (plan : Planned) (form : Form) (lan
   pub before : (more : List ℕ) × (text_of layout plan (accepted plan form) ++ more ≡ part.front)
   pub boards_are : boards ≡ length (accepted plan form)
 
--- worker w ended before it had sent all, and is the least such worker: the settled lanes below are whole
+-- worker w ended before it had sent all, and is the least such worker: the settled lanes below are
+-- whole
 pub record IsLeastStopped (plan : Planned) (form : Form) (lanes : List OutView) (w : ℕ) : Type 0 where
   pub lane : OutView
   pub at : slice_get lanes w ≡ Some lane
@@ -96,8 +100,8 @@ pub record IsLeastStopped (plan : Planned) (form : Form) (lanes : List OutView) 
   pub part : IsProperPrefix (contents_of lane) (verdicts_for plan form w)
   pub below : EachLane lanes (λ v l. v < w → l.settled ≡ true → contents_of l ≡ verdicts_for plan form v)
 
--- the lane of worker w can't say how it ended, and is the least such lane. Unless the limit of boards was met, each
--- settled lane is whole
+-- the lane of worker w can't say how it ended, and is the least such lane. Unless the limit of
+-- boards was met, each settled lane is whole
 pub record IsLeastUnclosed (plan : Planned) (form : Form) (lanes : List OutView) (w boards : ℕ) : Type 0 where
   pub lane : OutView
   pub at : slice_get lanes w ≡ Some lane
@@ -112,7 +116,8 @@ pub record IsFirstNotStarted (plan : Planned) (lanes : List OutView) (n : ℕ) :
   pub worker : n < plan.workers
   pub unsettled : EachLane lanes (λ w l. n ≤ w → l.settled ≡ false)
 
--- a run whose sink took all that it was given: the lanes, and the bytes and the boards of what was taken
+-- a run whose sink took all that it was given: the lanes, and the bytes and the boards of what was
+-- taken
 pub record StandsCompleteIn (layout : Layout) (closing : List ℕ) (plan : Planned) (form : Form) (lanes : List OutView) (boards : ℕ) (old new : Option (List ℕ)) : Type 0 where
   pub lanes_are : AreLanesConsistent plan form lanes
   pub bytes_are : AppendsAll old new (text_of_boards layout (boards_taken plan lanes (taken_in_all lanes)) ++ closing)

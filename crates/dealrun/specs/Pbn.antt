@@ -1,18 +1,16 @@
--- The run in Portable Bridge Notation: the definitions of any layout, at PBN's under the plan's heading. PBN has no footer.
+-- The run in Portable Bridge Notation: the definitions of any layout, at PBN's under the plan's
+-- heading. PBN has no footer.
 use Rattle.std.specs.Prelude.{ℕ, List, [], Option}
 use Rattle.cond_lang.specs.Form.{Form}
 use Rattle.lanes.specs.Views.{OutView}
 use Rattle.pbn_text.specs.Games.{pbn}
 use Rattle.dealrun.specs.declared.cause.Cause.{Cause}
 use Rattle.dealrun.specs.Plans.{Planned}
-use Rattle.dealrun.specs.Text.{BreaksOffIn, text_in}
+use Rattle.dealrun.specs.Text.{text_in}
 use Rattle.dealrun.specs.Outcomes.{InterruptedIn, StandsCompleteIn, WritesTextIn}
 
 abbrev pub text : Planned → Form → List ℕ
 text plan form = text_in (pbn plan.heading) plan form
-
-abbrev pub BreaksOffText : Option (List ℕ) → Option (List ℕ) → Planned → List ℕ → ℕ → Type 0
-BreaksOffText old new plan numbers boards = BreaksOffIn (pbn plan.heading) old new plan numbers boards
 
 abbrev pub WritesText : Planned → Form → ℕ → Option (List ℕ) → Option (List ℕ) → Type 0
 WritesText plan form boards old new = WritesTextIn (pbn plan.heading) plan form boards old new

@@ -4,8 +4,9 @@ use Rattle.pbn_text.specs.Games.{HeadingView}
 use Rattle.dealrun.specs.declared.plan.PlanError.{PlanError}
 use Rattle.dealrun.specs.declared.plan.PlanError.TheVariants.{Range, Workers, Capacity}
 
--- the candidates `first` to `first + count - 1` of a seed are tried by `workers` workers, each at most `capacity`
--- verdicts ahead; at most `limit` boards are written, from `first_board` on, under a heading
+-- the candidates `first` to `first + count - 1` of a seed are tried by `workers` workers, each at
+-- most `capacity` verdicts ahead; at most `limit` boards are written, from `first_board` on, under
+-- a heading
 pub record Planned : Type 0 where
   pub seed : ℕ
   pub first : ℕ

@@ -1,19 +1,6 @@
--- What a call adds to a sink. The bytes of a sink are `Some` of the list taken so far, or `None` of a sink
--- that doesn't tell them; appending to an untold list leaves it untold.
-use Rattle.std.specs.Prelude.{◌≡◌, ◌<◌, ◌≤◌, ◌+◌, ◌++◌, ℕ, List, length, take, Option, Result, MatchResult}
-pub use Rattle.std.specs.Io.KnownBytes.{append_known}
-
--- the whole text was appended
-abbrev pub AppendsAll : Option (List ℕ) → Option (List ℕ) → List ℕ → Type 0
-AppendsAll old new text = new ≡ append_known old text
-
--- a proper prefix of the text was appended
-pub record AppendsPart (old new : Option (List ℕ)) (text : List ℕ) : Type 0 where
-  pub front : List ℕ
-  pub rest : List ℕ
-  pub is_text : front ++ rest ≡ text
-  pub is_proper : 0 < length rest
-  pub appended : new ≡ append_known old front
+-- What a call adds to a sink.
+use Rattle.std.specs.Prelude.{◌≡◌, ◌<◌, ◌≤◌, ◌+◌, ℕ, List, length, take, Option, Result, MatchResult}
+use Rattle.dealrun.specs.Appended.{append_known, AppendsAll, AppendsPart}
 
 -- the whole text at Ok, and a proper prefix of it at Err
 abbrev pub AppendsOrBreaksOff : {T E : Type 0} → Option (List ℕ) → Option (List ℕ) → Result T E → List ℕ → Type 0

@@ -1,6 +1,6 @@
--- The text of a plan under a condition, in any layout: the boards of the accepted ones of the one candidate sequence.
--- Neither the workers nor the capacity of the lanes are named.
-use Rattle.std.specs.Prelude.{◌<◌, ◌≤◌, ℕ, ◌+◌, ◌==◌, List, ◌++◌, length, map, filter, take, Option, None, Some}
+-- The text of a plan under a condition, in any layout: the boards of the accepted ones of the one
+-- candidate sequence. Neither the workers nor the capacity of the lanes are named.
+use Rattle.std.specs.Prelude.{ℕ, ◌+◌, ◌==◌, List, ◌++◌, length, map, filter, take, Option, None, Some}
 use Rattle.std.specs.List.{enumerate_from, flat_map, position_or_len, range_with_len}
 use Rattle.boards.specs.declared.board.Board.{Board}
 use Rattle.boards.specs.Law2.{board_by_law}
@@ -10,7 +10,6 @@ use Rattle.cards.specs.Candidates.{candidate}
 use Rattle.cond_lang.specs.Form.{Form}
 use Rattle.cond_lang.specs.Meaning.{holds}
 use Rattle.dealrun.specs.Plans.{Planned}
-use Rattle.dealrun.specs.Sinks.{AppendsPart}
 
 -- the numbers of the accepted ones among n candidates from `first` on, in order
 unfoldable pub accepted_among : ℕ → ℕ → Form → ℕ → List ℕ
@@ -52,12 +51,3 @@ end_of plan form = ends_at plan.limit
     ends_at : Option ℕ → ℕ
     ends_at None = plan.count
     ends_at (Some most) = position_or_len (λ m. length (accepted_among plan.seed plan.first form m) == most) (range_with_len 0 plan.count)
-
--- a text was broken off: a proper prefix of it was appended, with this many whole boards
-pub record BreaksOffIn (layout : Layout) (old new : Option (List ℕ)) (plan : Planned) (numbers : List ℕ) (boards : ℕ) : Type 0 where
-  pub part : AppendsPart old new (text_of layout plan numbers ++ layout.footer)
-  pub few : boards ≤ length numbers
-  -- the last byte of the last whole board was written
-  pub whole : 0 < boards → length (text_of layout plan (take boards numbers)) ≤ length part.front
-  -- and that of the next board was not, if there is one
-  pub broken : boards < length numbers → length part.front < length (text_of layout plan (take (boards + 1) numbers))

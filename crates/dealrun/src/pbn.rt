@@ -2,9 +2,11 @@
 
 ghost use Rattle.std.specs.Prelude.{◌≡◌, ◌-◌, ◌^◌, ◌<◌, length, IfOk, MatchResult};
 ghost use Rattle.dealrun.specs.Outcomes.{FaultsAfter, TakesWhatIsOwed};
-ghost use Rattle.dealrun.specs.Pbn.{BreaksOffText, InterruptedOutcome, StandsComplete, WritesText};
+ghost use Rattle.dealrun.specs.Reference.{BreaksOffText};
+ghost use Rattle.dealrun.specs.Pbn.{InterruptedOutcome, StandsComplete, WritesText};
 ghost use Rattle.dealrun.specs.Pbn.{text};
-ghost use Rattle.dealrun.specs.Sinks.{AppendsAll, CountsFault};
+ghost use Rattle.dealrun.specs.Appended.{AppendsAll};
+ghost use Rattle.dealrun.specs.Sinks.{CountsFault};
 ghost use Rattle.dealrun.specs.Text.{accepted};
 
 use crate::plan::Plan;

@@ -3,8 +3,10 @@
 
 ghost use Rattle.std.specs.Prelude.{◌≡◌, ◌+◌, ◌-◌, ◌*◌, ◌<◌, ◌≤◌, ◌^◌, length, IfOk, MatchResult};
 ghost use Rattle.cards.specs.Candidates.{state_before};
-ghost use Rattle.dealrun.specs.Sinks.{AppendsAll, CountsFault};
-ghost use Rattle.dealrun.specs.Text.{BreaksOffIn, accepted, text_in, text_of};
+ghost use Rattle.dealrun.specs.Appended.{AppendsAll};
+ghost use Rattle.dealrun.specs.Sinks.{CountsFault};
+ghost use Rattle.dealrun.specs.Reference.{BreaksOffIn};
+ghost use Rattle.dealrun.specs.Text.{accepted, text_in, text_of};
 
 use crate::next_board::{is_full, put_board};
 use crate::plan::Plan;

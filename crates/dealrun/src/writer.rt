@@ -4,7 +4,8 @@ ghost use Rattle.std.specs.Prelude.{◌≡◌, ◌-◌, ◌+◌, ◌<◌, ◌≤
 ghost use Rattle.std.specs.Prelude.{Option, cond, map, vec_len, OnOk, OnErr, MatchResult, IfOk};
 ghost use Rattle.std.specs.Prelude.{IsTrue, slice_index_or, true, Some, ◌⊎◌};
 ghost use Rattle.lanes.specs.declared.verdict.Verdict.{Verdict};
-ghost use Rattle.dealrun.specs.Sinks.{append_known, AppendsPart, CountsFault};
+ghost use Rattle.dealrun.specs.Appended.{append_known, AppendsPart};
+ghost use Rattle.dealrun.specs.Sinks.{CountsFault};
 ghost use Rattle.dealrun.specs.internal.Writing.{board_text, KeepsLanes, WriterSoFar};
 ghost use Rattle.dealrun.specs.internal.Writing.{WriterBrokeOff};
 ghost use Rattle.dealrun.specs.internal.Joins.{AllWhole};

@@ -9,7 +9,7 @@ use Rattle.cond_lang.specs.Text.{SpellsTree}
 use Rattle.cond_lang.specs.declared.tree.Op.TheVariants.{Equal}
 use Rattle.pbn_text.specs.Labels.{IsDate, IsLabel}
 use Rattle.dealrun.specs.Plans.{Planned}
-use Rattle.dealrun.specs.Sinks.{AppendsAll}
+use Rattle.dealrun.specs.Appended.{AppendsAll}
 use Rattle.dealrun.specs.Pbn.{text}
 use Rattle.dealrun.specs.Values.{lines}
 use Rattle.deals_cli.specs.CommandLine.{kinds_for}

@@ -1,4 +1,5 @@
--- What contracts see of the end of a lane into which a worker sends, of a closed end, and of the turns.
+-- What contracts see of the end of a lane into which a worker sends, of a closed end, and of the
+-- turns.
 use Rattle.std.specs.Prelude.{◌≡◌, ℕ, true, List, ◌∷◌}
 use Rattle.lanes.specs.declared.verdict.Verdict.{Verdict}
 use Rattle.lanes.specs.Views.{Ring, OutView}

@@ -25,8 +25,9 @@ pub enum WorkEnd {
     Unclosed,
 }
 
-/// Sends the verdicts of the job's share in order, until all are sent, the gate returns false or the stop flag
-/// is up. In the last two cases it raises the flag, and then closes the lane. It may wait.
+/// Sends the verdicts of the job's share in order, until all are sent, the gate returns false or
+/// the stop flag is up. In the last two cases it raises the flag, and then closes the lane. It may
+/// wait.
 pub fn work<R: Wait + Drop, G: Gate + Drop>(
     rt: R,
     job: Job,
@@ -86,7 +87,8 @@ fn send_all<R: Wait, G: Gate>(
     true
 }
 
-/// Sends a verdict as soon as there is room. Returns false, and sends nothing, if the stop flag is up.
+/// Sends a verdict as soon as there is room. Returns false, and sends nothing, if the stop flag is
+/// up.
 fn send<R: Wait>(
     rt: &R,
     lane: &mut LaneIn,

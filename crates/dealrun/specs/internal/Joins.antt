@@ -1,5 +1,5 @@
--- What is known of the lanes once their workers were joined, lane by lane: item k of a list is said of with any default,
--- as `slice_index_or lanes k e`, where k is within the list.
+-- What is known of the lanes once their workers were joined, lane by lane: item k of a list is said
+-- of with any default, as `slice_index_or lanes k e`, where k is within the list.
 use Rattle.std.specs.Prelude.{◌≡◌, ◌<◌, ℕ, true, false, List, map, slice_index_or, Option, Some, None, MatchOption}
 use Rattle.std.specs.List.{range_with_len}
 use Rattle.lanes.specs.declared.verdict.Verdict.{Verdict}
@@ -38,7 +38,8 @@ BeginningAt k lists lanes = (d : List Verdict) (e : OutView) → ((slice_index_o
 abbrev pub UnsettledAt : ℕ → List OutView → Type 0
 UnsettledAt k lanes = (e : OutView) → (slice_index_or lanes k e).settled ≡ false
 
--- the first n workers were joined, and these are the least that was stopped and the least that was not closed
+-- the first n workers were joined, and these are the least that was stopped and the least that was
+-- not closed
 pub record JoinedAs (n : ℕ) (lists : List (List Verdict)) (lanes : List OutView) (stopped unclosed : Option ℕ) : Type 0 where
   pub parts : Below PartIfSettled n lists lanes
   pub stopped_is : MatchOption stopped (Below WholeIfSettled n lists lanes) (λ s. (s < n) × Below WholeIfSettled s lists lanes × BeginningAt s lists lanes)

@@ -1,4 +1,5 @@
--- How a failure inside the program becomes its status, and what a failure leaves. No public clause cites it.
+-- How a failure inside the program becomes its status, and what a failure leaves. No public clause
+-- cites it.
 use Rattle.std.specs.Prelude.{◌≡◌, ◌⊎◌, ℕ, Bool, true, false, Result, Ok, Err}
 use Rattle.clap.specs.declared.error.kind.ErrorKind.{ErrorKind}
 use Rattle.cond_lang.specs.declared.error.CondError.{CondError}

@@ -1,4 +1,5 @@
--- What the options of a command were given, as the parsed request has it. No public clause cites it.
+-- What the options of a command were given, as the parsed request has it. No public clause cites
+-- it.
 use Rattle.std.specs.Prelude.{◌≤◌, ◌^◌, option_map}
 use Rattle.deals_cli.specs.Requests.{Making, Wish, stream, make}
 use Rattle.deals_cli.specs.declared.request.MakeRequest.{MakeRequest}

@@ -7,8 +7,8 @@ use Rattle.pbn_text.specs.internal.Lines.{prefix_text}
 abbrev pub number_end : ℕ
 number_end = 272
 
--- the heading's lines and the opening of the board's line start at `start`, and the board's number at
--- `number_start`
+-- the heading's lines and the opening of the board's line start at `start`, and the board's number
+-- at `number_start`
 pub record IsPrefix (buffer : List ℕ) (heading : HeadingView) (start number_start number : ℕ)
     : Type 0 where
   pub order : start ≤ number_start

@@ -1,5 +1,5 @@
 use Rattle.std.proofs.Common.{◌∙◌, ap, inr, subst}
-use Rattle.dealrun.specs.Sinks.{append_known, AppendsPart}
+use Rattle.dealrun.specs.Appended.{append_known, AppendsPart}
 use Rattle.dealrun.proofs.Endings.{closed, footer_broken}
 use Rattle.dealrun.proofs.runs.write_footer.Goals as goal
 

@@ -1,7 +1,7 @@
 use Rattle.std.proofs.Common.{◌≡◌}
 use Rattle.lcg48.specs.Sequence.{state_at}
 use Rattle.dealrun.specs.Values.{lines}
-use Rattle.dealrun.specs.Sinks.{AppendsAll}
+use Rattle.dealrun.specs.Appended.{AppendsAll}
 use Rattle.dealrun.proofs.values.stream.Given as goal
 
 abbrev pub invariant-loop : goal.invariant-loop
