@@ -8,7 +8,7 @@ use Rattle.std.proofs.lemmas.Bool.Decides.{nat_tests}
 use Rattle.std.proofs.lemmas.List.Elements.{All-get_or, All-contains}
 use Rattle.std.proofs.lemmas.List.Sorted.{IsPermutation-sym, IsPermutation-trans, IsPermutation-reverse, All-permutation, Contains-permutation, sum_by-IsPermutation}
 use Rattle.cards.specs.Hands.{is_rearrangement, is_balanced, IsBalanced}
-use Rattle.cards.specs.BalancedInOrder.{IsBalancedInOrder}
+use Rattle.cards.specs.internal.BalancedInOrder.{IsBalancedInOrder}
 use Rattle.cards.proofs.Rearranging.{rearrangement_is_permutation}
 
 -- what four numbers in another order keep: the sum, and bounds

@@ -17,7 +17,7 @@ use Rattle.cards.specs.Pack.{seat_number}
 use Rattle.cards.specs.Shuffle.{pack}
 use Rattle.cards.specs.Deals.{IsPartition}
 use Rattle.cards.specs.Hands.{hand_of}
-use Rattle.cards.specs.Masks.{cards_of_mask, seat_mask, seat_in, seats_of_masks}
+use Rattle.cards.specs.internal.Masks.{cards_of_mask, seat_mask, seat_in, seats_of_masks}
 
 -- the bit of a card in a seat's mask
 pub bit_at_seat : (deal : List Seat) (seat : Seat) (c : ℕ) → c < length deal → bit_at (seat_mask deal seat) c ≡ cond (seat_number (get_or deal c North) == seat_number seat) 1 0

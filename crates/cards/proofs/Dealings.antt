@@ -10,8 +10,8 @@ use lib.Lanes.{mask_l}
 use Rattle.lcg48.specs.Sequence.{step, state_after}
 use Rattle.cards.specs.Shuffle.{IsPlaces, place_of, drawn_places, pack}
 use Rattle.cards.specs.Deals.{dealt, IsPartition}
-use Rattle.cards.specs.Exchanges.{IsDealing, stands_within}
-use Rattle.cards.specs.Masks.{IsMasks, seats_of_masks}
+use Rattle.cards.specs.internal.Exchanges.{IsDealing, stands_within}
+use Rattle.cards.specs.internal.Masks.{IsMasks, seats_of_masks}
 use Rattle.cards.proofs.Drawing.{state_after-zero, state_after-more}
 use Rattle.cards.proofs.Tracing.{get_or-pack, length-pack}
 use Rattle.cards.proofs.Settling.{traced_at_first, traced_on, dealt_is_partition, masks_of_dealt}

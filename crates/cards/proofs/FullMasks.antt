@@ -12,7 +12,7 @@ use Rattle.cards.specs.declared.seat.Seat.{Seat}
 use Rattle.cards.specs.declared.seat.Seat.TheVariants.{North, East, South, West}
 use Rattle.cards.specs.Pack.{seat_number}
 use Rattle.cards.specs.Deals.{IsPartition}
-use Rattle.cards.specs.Masks.{seat_mask, seats_of_masks, IsFull, IsMasks}
+use Rattle.cards.specs.internal.Masks.{seat_mask, seats_of_masks, IsFull, IsMasks}
 use Rattle.cards.proofs.DealMasks.{bit_at_seat, seat_mask-lt, masks_view}
 
 -- the bit of one seat at a card of another's

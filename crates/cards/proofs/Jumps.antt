@@ -2,7 +2,7 @@
 use Rattle.std.proofs.Common.{◌≡◌, ℕ, ◌+◌, ◌*◌, sym, ◌∙◌, ap, arith}
 use Rattle.lcg48.specs.Sequence.{seeded_state, state_after}
 use Rattle.lcg48.proofs.Walks.{state_after-add}
-use Rattle.cards.specs.Candidates.{CandidatesView, GoesOnAt}
+use Rattle.cards.specs.CandidateWalks.{CandidatesView, GoesOnAt}
 
 -- after the draws of candidate k, and past those of step - 1 others
 pub past : (seed k step : ℕ) (view : CandidatesView) (x y z gap : ℕ) → GoesOnAt view seed k step

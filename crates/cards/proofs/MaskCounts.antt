@@ -18,8 +18,8 @@ use Rattle.cards.specs.Pack.{is_in_suit, rank_of}
 use Rattle.cards.specs.Shuffle.{pack}
 use Rattle.cards.specs.declared.measure.Measure.{Measure}
 use Rattle.cards.specs.Hands.{holds_card, weight_of, total_of, total_in, length_of}
-use Rattle.cards.specs.Masks.{cards_of_mask, mask_of_suit}
-use Rattle.cards.specs.MaskBits.{bit_at_pack, mask-pack-lt, same_masks, mask_of_cards}
+use Rattle.cards.specs.internal.Masks.{cards_of_mask, mask_of_suit}
+use Rattle.cards.specs.internal.MaskBits.{bit_at_pack, mask-pack-lt, same_masks, mask_of_cards}
 
 -- what a mask shows of a card
 pub card_at_mask : (mask c : ℕ) → mask < 2 ^ 52 → holds_card (cards_of_mask mask) c ≡ (bit_at mask c == 1)

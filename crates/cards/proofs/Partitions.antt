@@ -10,7 +10,7 @@ use Rattle.lcg48.specs.Sequence.{state_after}
 use Rattle.cards.specs.Shuffle.{IsPlaces, card_at, place_of, drawn_places, pack}
 use Rattle.cards.specs.Deals.{IsPartition, dealt}
 use Rattle.cards.specs.Candidates.{candidate, state_before}
-use Rattle.cards.specs.Exchanges.{IsTraced}
+use Rattle.cards.specs.internal.Exchanges.{IsTraced}
 use Rattle.cards.proofs.Tracing.{traced-none}
 use Rattle.cards.proofs.Settling.{long, traced_at_first, traced_on, dealt_is_partition}
 

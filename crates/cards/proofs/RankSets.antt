@@ -9,7 +9,7 @@ use Rattle.std.proofs.lemmas.Nat.Bits.{bit_at-lt, bit_at_and, bit_at_ones}
 use Rattle.cards.specs.declared.suit.Suit.{Suit}
 use Rattle.cards.specs.Pack.{suit_number}
 use Rattle.cards.specs.Hands.{holds_card, has_rank}
-use Rattle.cards.specs.Masks.{cards_of_mask}
+use Rattle.cards.specs.internal.Masks.{cards_of_mask}
 use Rattle.cards.proofs.MaskCounts.{card_at_mask}
 
 min_one : (x : ℕ) → x < 2 → min x 1 ≡ x

@@ -18,10 +18,10 @@ use Rattle.cards.specs.declared.seat.Seat.TheVariants.{North, East, South, West}
 use Rattle.cards.specs.Pack.{seat_number, seat_of_number, seat_at_position}
 use Rattle.cards.specs.Shuffle.{IsPlaces, card_at, pack, traced}
 use Rattle.cards.specs.Deals.{position_of, dealt, IsPartition}
-use Rattle.cards.specs.Exchanges.{IsTraced, stands_within}
+use Rattle.cards.specs.internal.Exchanges.{IsTraced, stands_within}
 use Rattle.cards.specs.Hands.{hand_of}
-use Rattle.cards.specs.Masks.{seat_mask, seats_of_masks, IsMasks}
-use Rattle.cards.specs.MaskBits.{bit_at_pack, mask-pack-lt, same_masks}
+use Rattle.cards.specs.internal.Masks.{seat_mask, seats_of_masks, IsMasks}
+use Rattle.cards.specs.internal.MaskBits.{bit_at_pack, mask-pack-lt, same_masks}
 use Rattle.cards.proofs.Tracing.{length-pack, before_exchanges, exchange, settled, traced-none}
 use Rattle.cards.proofs.DealMasks.{masks_view}
 use Rattle.cards.proofs.FullMasks.{masks_of_partition}

@@ -12,7 +12,7 @@ use Rattle.cards.specs.declared.suit.Suit.TheVariants.{Spades, Hearts, Diamonds,
 use Rattle.cards.specs.Pack.{is_in_suit, rank_of}
 use Rattle.cards.specs.Shuffle.{pack}
 use Rattle.cards.specs.Hands.{holds_card, weights, total_of, total_in}
-use Rattle.cards.specs.Masks.{cards_of_mask}
+use Rattle.cards.specs.internal.Masks.{cards_of_mask}
 use Rattle.cards.proofs.MaskCounts.{sum_by-le, cond-le, both-le, ones_of}
 
 -- the cards of a rank

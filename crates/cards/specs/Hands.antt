@@ -27,7 +27,8 @@ weight_of measure rank = slice_index_or (weights measure) rank 0
 
 -- what the hand counts, and what its cards of one suit count
 abbrev pub total_of : Measure → List Bool → ℕ
-total_of measure hand = sum_by (λ c. cond (holds_card hand c) (weight_of measure (rank_of c)) 0) pack
+total_of measure hand =
+    sum_by (λ c. cond (holds_card hand c) (weight_of measure (rank_of c)) 0) pack
 
 abbrev pub total_in : Measure → List Bool → Suit → ℕ
 total_in measure hand suit =
@@ -46,7 +47,9 @@ length_of hand suit = count_by (λ c. is_in_suit suit c && holds_card hand c) pa
 
 -- the four lengths in the order of the suits
 abbrev pub shape_of : List Bool → List ℕ
-shape_of hand = length_of hand Spades ∷ length_of hand Hearts ∷ length_of hand Diamonds ∷ length_of hand Clubs ∷ []
+shape_of hand =
+    length_of hand Spades ∷ length_of hand Hearts ∷ length_of hand Diamonds
+    ∷ length_of hand Clubs ∷ []
 
 -- the number put at each place of the list
 abbrev pub put_anywhere : ℕ → List ℕ → List (List ℕ)

@@ -3,7 +3,5 @@ pub mod Shuffle
 pub mod Deals
 pub mod Hands
 pub mod Candidates
-pub mod Masks
-pub mod MaskBits
-pub mod BalancedInOrder
-pub mod Exchanges
+pub mod CandidateWalks
+pub mod internal

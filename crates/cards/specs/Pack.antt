@@ -27,7 +27,8 @@ suit_number Hearts = 1
 suit_number Diamonds = 2
 suit_number Clubs = 3
 
--- card c is number 13 * suit + rank; the ranks are ace 0, king 1, queen 2, jack 3, ten 4 down to two 12
+-- card c is number 13 * suit + rank; the ranks are ace 0, king 1, queen 2, jack 3, ten 4 down to
+-- two 12
 abbrev pub is_in_suit : Suit → ℕ → Bool
 is_in_suit suit c = c / 13 == suit_number suit
 

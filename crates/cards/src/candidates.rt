@@ -1,7 +1,8 @@
 //! The candidates of a seed, from one on: deal after deal, with a jump over those between.
 
 ghost use Rattle.std.specs.Prelude.{◌≡◌, ℕ, ◌+◌, ◌<◌, ◌≤◌, ◌^◌};
-ghost use Rattle.cards.specs.Candidates.{candidate, GoesOnAt};
+ghost use Rattle.cards.specs.Candidates.{candidate};
+ghost use Rattle.cards.specs.CandidateWalks.{GoesOnAt};
 
 use crate::Deal;
 use lcg48::{Lcg48, Steps, Stride};
@@ -24,7 +25,7 @@ pub struct Candidates {
 }
 
 impl Model for Candidates {
-    ghost use Rattle.cards.specs.Candidates.{CandidatesView};
+    ghost use Rattle.cards.specs.CandidateWalks.{CandidatesView};
 
     ghost Value = { CandidatesView };
 

@@ -5,15 +5,15 @@ ghost use Rattle.std.specs.Int.{bit_at};
 ghost use Rattle.cards.specs.Pack.{suit_number};
 ghost use Rattle.cards.specs.Hands.{points_of, points_in, total_of, total_in, length_of, shape_of};
 ghost use Rattle.cards.specs.Hands.{is_balanced, IsBalanced, has_rank, ranks_of};
-ghost use Rattle.cards.specs.Masks.{cards_of_mask};
-ghost use Rattle.cards.specs.BalancedInOrder.{IsBalancedInOrder};
+ghost use Rattle.cards.specs.internal.Masks.{cards_of_mask};
+ghost use Rattle.cards.specs.internal.BalancedInOrder.{IsBalancedInOrder};
 
 use crate::masks::{suit_mask, total_of_mask};
 use crate::{Measure, Suit};
 use std::marker::Model;
 
 /// A seat's cards, which contracts see as a list of 52 truth values, one a card.
-#[tactic(auto, using(crate::specs::MaskBits::mask_of_cards))]
+#[tactic(auto, using(crate::specs::internal::MaskBits::mask_of_cards))]
 #[derive(Clone, Copy, PartialEq, Eq, Debug)]
 pub struct Hand {
     cards: u64,
@@ -22,8 +22,8 @@ pub struct Hand {
 impl Model for Hand {
     ghost use Rattle.std.specs.Prelude.{List, Bool, ◌<◌, ◌^◌, refl};
     ghost use lib.Lanes.{mask_l};
-    ghost use Rattle.cards.specs.Masks.{cards_of_mask};
-    ghost use Rattle.cards.specs.MaskBits.{mask_of_cards};
+    ghost use Rattle.cards.specs.internal.Masks.{cards_of_mask};
+    ghost use Rattle.cards.specs.internal.MaskBits.{mask_of_cards};
 
     ghost Value = { List Bool };
 

@@ -12,6 +12,7 @@ pub mod laws;
 mod masks;
 mod measure;
 mod places;
+mod reference;
 mod seat;
 mod shuffle;
 mod suit;

@@ -4,7 +4,7 @@ ghost use Rattle.std.specs.Prelude.{◌≡◌, ◌<◌, ◌≤◌, ◌^◌, ◌=
 ghost use Rattle.cards.specs.declared.suit.Suit.{Suit as ASuit};
 ghost use Rattle.cards.specs.Pack.{seat_number};
 ghost use Rattle.cards.specs.Hands.{total_of, total_in};
-ghost use Rattle.cards.specs.Masks.{cards_of_mask, mask_of_suit, seat_mask};
+ghost use Rattle.cards.specs.internal.Masks.{cards_of_mask, mask_of_suit, seat_mask};
 
 use crate::{Measure, Seat, Suit};
 

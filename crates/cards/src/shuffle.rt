@@ -1,11 +1,13 @@
-//! Algorithm P: the exchanges of cards, and the cards of four hands as they settle.
+//! Algorithm P as `Deal::draw` runs it: thirteen exchanges for each hand, with the places drawn
+//! when they are needed, and the masks of the cards that they leave. `reference` has the same over
+//! places drawn before.
 
 ghost use Rattle.std.specs.Prelude.{◌≡◌, ℕ, ◌-◌, ◌<◌, ◌≤◌, ◌^◌, map};
 ghost use Rattle.std.specs.List.Sorted.{IsPermutation};
 ghost use lib.Lanes.{mask_l};
 ghost use Rattle.lcg48.specs.Sequence.{step};
-ghost use Rattle.cards.specs.Shuffle.{IsPlaces, card_at, drawn_places, pack as pack_in_order};
-ghost use Rattle.cards.specs.Exchanges.{IsDealing, IsTraced, stands_within};
+ghost use Rattle.cards.specs.Shuffle.{card_at, drawn_places, pack as pack_in_order};
+ghost use Rattle.cards.specs.internal.Exchanges.{IsDealing, stands_within};
 
 use crate::places::place_for;
 use lcg48::Lcg48;
@@ -17,50 +19,11 @@ pub(crate) const PACK: [u8; 52] = [
     50, 51,
 ];
 
-/// The exchanges down to thirteen positions, the last of which is this one, and the mask of the
-/// cards that they leave there. No later exchange touches these positions.
-pub(crate) fn settle(pack: &mut [u8; 52], places: &[u8; 51], last: usize) -> u64
-    requires places { IsPlaces places.now }
-    requires from { 12 ≤ last }
-    requires to { last ≤ 51 }
-    requires traced { IsTraced places.now pack.old last }
-    ensures traced { IsTraced places.now pack.new (last - 13) }
-    ensures mask { result ≡ mask_l (map (stands_within places.now (last - 12) last) pack_in_order) }
-{
-    let mut mask = 0;
-    for k in 0..13 {
-        let card = exchange(pack, places, last - k);
-        mask |= 1 << card;
-    }
-    mask
-}
-
-/// The exchange at a position, and the card that stays there. At position 0 nothing is left to do.
-///
-/// It is written out, since a `swap` first asks whether the two positions are the same.
-fn exchange(pack: &mut [u8; 52], places: &[u8; 51], position: usize) -> u8
-    requires places { IsPlaces places.now }
-    requires inside { position < 52 }
-    requires traced { IsTraced places.now pack.old position }
-    ensures traced { IsTraced places.now pack.new (position - 1) }
-    ensures card { result ≡ card_at places.now position }
-    ensures below { result < 52 }
-{
-    if position == 0 {
-        return pack[0];
-    }
-    let place = usize::from(places[51 - position]);
-    let card = pack[place];
-    let other = pack[position];
-    pack[position] = card;
-    pack[place] = other;
-    card
-}
-
-/// As `settle`, with each place drawn when it is needed. Two steps at a time are quicker than one
-/// after the other.
+/// Runs the exchanges for the thirteen positions ending at `last`, and returns the mask of the
+/// cards left there, which no later exchange touches. Each place is drawn when it is needed: two
+/// draws at a time are quicker than one after the other.
 #[inline(always)]
-pub(crate) fn settle_drawn(pack: &mut [u8; 52], generator: &mut Lcg48, last: usize) -> u64
+pub(crate) fn deal_hand(pack: &mut [u8; 52], generator: &mut Lcg48, last: usize) -> u64
     requires from { 12 ≤ last }
     requires to { last ≤ 51 }
     requires whole { IsPermutation pack_in_order pack.old }
@@ -74,17 +37,17 @@ pub(crate) fn settle_drawn(pack: &mut [u8; 52], generator: &mut Lcg48, last: usi
 {
     let mut mask = 0;
     for pair in 0..6 {
-        let (upper, lower) = exchange_two(pack, generator, last - 2 * pair);
+        let (upper, lower) = exchange_next_two(pack, generator, last - 2 * pair);
         mask |= 1 << upper;
         mask |= 1 << lower;
     }
-    let card = exchange_drawn(pack, generator, last - 12);
+    let card = exchange_next(pack, generator, last - 12);
     mask |= 1 << card;
     mask
 }
 
 /// The exchanges at a position and at the one below it, with the next two draws.
-fn exchange_two(pack: &mut [u8; 52], generator: &mut Lcg48, position: usize) -> (u8, u8)
+fn exchange_next_two(pack: &mut [u8; 52], generator: &mut Lcg48, position: usize) -> (u8, u8)
     requires above { 2 ≤ position }
     requires inside { position < 52 }
     requires whole { IsPermutation pack_in_order pack.old }
@@ -99,13 +62,14 @@ fn exchange_two(pack: &mut [u8; 52], generator: &mut Lcg48, position: usize) -> 
         × (result.1 ≡ card_at (drawn_places x) (position - 1)) }
 {
     let (first, second) = generator.next_two();
-    let upper = exchange_by(pack, first, position);
-    let lower = exchange_by(pack, second, position - 1);
+    let upper = exchange_with(pack, first, position);
+    let lower = exchange_with(pack, second, position - 1);
     (upper, lower)
 }
 
-/// As `exchange`, with the place drawn.
-fn exchange_drawn(pack: &mut [u8; 52], generator: &mut Lcg48, position: usize) -> u8
+/// The exchange at a position with the next draw, and the card that stays there. At position 0
+/// nothing is left to do.
+fn exchange_next(pack: &mut [u8; 52], generator: &mut Lcg48, position: usize) -> u8
     requires inside { position < 52 }
     requires whole { IsPermutation pack_in_order pack.old }
     ensures whole { IsPermutation pack_in_order pack.new }
@@ -120,11 +84,13 @@ fn exchange_drawn(pack: &mut [u8; 52], generator: &mut Lcg48, position: usize) -
     if position == 0 {
         return pack[0];
     }
-    exchange_by(pack, generator.next(), position)
+    exchange_with(pack, generator.next(), position)
 }
 
 /// The exchange at a position above 0 by this draw, and the card that stays there.
-fn exchange_by(pack: &mut [u8; 52], draw: u64, position: usize) -> u8
+///
+/// It is written out, since a `swap` first asks whether the two positions are the same.
+fn exchange_with(pack: &mut [u8; 52], draw: u64, position: usize) -> u8
     requires above { 0 < position }
     requires inside { position < 52 }
     requires draw { draw < 2 ^ 48 }

@@ -3,7 +3,7 @@ use Rattle.std.proofs.Common.{◌≡◌, ℕ, zero, suc, ◌≤◌, List, [], �
 use Rattle.std.proofs.Math.Seq.{take-append_seam, drop-append_seam}
 use Rattle.cond_lang.specs.declared.token.Piece.{Piece}
 use Rattle.cond_lang.specs.Cut.{Pieces, IsCut, end, piece}
-use Rattle.cond_lang.specs.Scanning.{piece_at}
+use Rattle.cond_lang.specs.internal.Scanning.{piece_at}
 use Rattle.cond_lang.proofs.Pieces.{only_piece, first_piece}
 
 cut_within : (n : ℕ) (s : List ℕ) → length s ≤ n → (ps : Pieces) × IsCut s ps

@@ -14,7 +14,7 @@ use Rattle.cond_lang.specs.Cut.{symbols, IsRun, IsPiece, number as number_piece,
 use Rattle.cond_lang.specs.Form.{Form, number, compare}
 use Rattle.cond_lang.specs.Grammar.{atom, a_number, both, unit, comparison, Spells, IsViable, IsFirstFault}
 use Rattle.cond_lang.specs.Place.{kinds, offset_of}
-use Rattle.cond_lang.specs.Reading.{Outcome, got, stuck, whole}
+use Rattle.cond_lang.specs.internal.Reading.{Outcome, got, stuck, whole}
 use Rattle.cond_lang.specs.Text.{SpellsTree, HasSyntaxFault}
 use Rattle.cond_lang.proofs.Cuts.{some_cut}
 use Rattle.cond_lang.proofs.Place.{first_fault, whole_all}

@@ -10,7 +10,7 @@ use Rattle.cond_lang.specs.declared.token.Token.TheVariants.{Number, Relation}
 use Rattle.cond_lang.specs.declared.token.Piece.{Piece}
 use Rattle.cond_lang.specs.declared.token.Piece.TheVariants.{Separator, Token as TokenPiece, StrayByte, UnknownWord, LongNumber}
 use Rattle.cond_lang.specs.Cut.{words, symbols, is_separator, IsRun, decimal, BeginsWithSymbol, IsPiece, blank, word, no_word, number, long, symbol, stray}
-use Rattle.cond_lang.specs.Scanning.{token_of, run, begins_with, symbol_after, token_or, word_piece, number_piece, symbol_piece, piece_at}
+use Rattle.cond_lang.specs.internal.Scanning.{token_of, run, begins_with, symbol_after, token_or, word_piece, number_piece, symbol_piece, piece_at}
 use Rattle.cond_lang.proofs.Tables.{pick, words_apart, token_of-entry, entry_of, at_entry}
 use Rattle.cond_lang.proofs.Runs.{run-append, run_split, lowercase_no_separator, digit_no_separator, digit_no_lowercase}
 use Rattle.cond_lang.proofs.Symbols.{IsAtLeast, goes_on, IsSymbolOf, symbol_is, fits}

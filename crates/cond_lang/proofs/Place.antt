@@ -9,7 +9,7 @@ use Rattle.std.proofs.Math.Seq.{take-append_seam, take-append-add}
 use Rattle.cond_lang.specs.declared.token.Token.{Token}
 use Rattle.cond_lang.specs.Form.{Form}
 use Rattle.cond_lang.specs.Grammar.{SpellsCond, Spells, IsViable, IsFirstFault}
-use Rattle.cond_lang.specs.Reading.{Outcome, got, stuck, Reader, after, front, a_cond, steps, reading, ended, whole}
+use Rattle.cond_lang.specs.internal.Reading.{Outcome, got, stuck, Reader, after, front, a_cond, steps, reading, ended, whole}
 use Rattle.cond_lang.proofs.Sequences.{Reads, reads_after, gets_at_end, stops_at}
 use Rattle.cond_lang.proofs.Steps.{steps_reads}
 use Rattle.cond_lang.proofs.Enough.{reading-steps}

@@ -7,7 +7,7 @@ use Rattle.cond_lang.specs.declared.token.Piece.{Piece}
 use Rattle.cond_lang.specs.declared.token.Piece.TheVariants.{Separator, Token as TokenPiece}
 use Rattle.cond_lang.specs.declared.error.CondError.{CondError}
 use Rattle.cond_lang.specs.Cut.{Pieces, IsCut, end, piece, HasTokens, HasFault}
-use Rattle.cond_lang.specs.Scanning.{piece_at}
+use Rattle.cond_lang.specs.internal.Scanning.{piece_at}
 use Rattle.cond_lang.proofs.Cuts.{some_cut}
 use Rattle.cond_lang.proofs.Pieces.{only_piece}
 use Rattle.cond_lang.proofs.Told.{Told, and_then_more, with_piece, told_from, told_tokens, told_fault}

@@ -5,7 +5,7 @@ use Rattle.cond_lang.specs.declared.token.Token.{Token}
 use Rattle.cond_lang.specs.declared.token.Token.TheVariants.{Or, And, Not, Balanced, Shape, Pattern, Seat, Open, Close, Plus, Relation}
 use Rattle.cond_lang.specs.Form.{Amount, sum, Form, any_of, all_of, negation, compare, shape, pattern}
 use Rattle.cond_lang.specs.Grammar.{SpellsAtom, SpellsValue, atom, plus, a_number, measure, measure_in, len, four, SpellsCond, both, or, SpellsBoth, unit, and, SpellsUnit, not, brackets, comparison, is_balanced, has_shape, has_pattern, Spells}
-use Rattle.cond_lang.specs.Reading.{got, after, front, closing, lengths, seat_and_lengths, relation, atom_of, comparing_by, a_value, sums, a_cond, a_both, a_unit, ors, ands, unit_by, reading}
+use Rattle.cond_lang.specs.internal.Reading.{got, after, front, closing, lengths, seat_and_lengths, relation, atom_of, comparing_by, a_value, sums, a_cond, a_both, a_unit, ors, ands, unit_by, reading}
 use Rattle.cond_lang.proofs.Enough.{reads}
 
 atom_reads : {A : List Token} {a : Amount} → SpellsAtom A a → (B : List Token) → atom_of (A ++ B) ≡ got a B

@@ -6,9 +6,9 @@ use Rattle.cond_lang.specs.declared.token.Token.{Token}
 use Rattle.cond_lang.specs.declared.token.Token.TheVariants.{Or, And, Not, Balanced, Shape, Pattern, Seat, Number, Open, Close, Plus, Relation}
 use Rattle.cond_lang.specs.Form.{Amount, sum, number, Form, any_of, all_of, negation, compare, balanced, shape, pattern}
 use Rattle.cond_lang.specs.Grammar.{SpellsAtom, SpellsValue, atom, plus, a_number, SpellsCond, both, or, SpellsBoth, unit, and, SpellsUnit, not, brackets, comparison, is_balanced, has_shape, has_pattern}
-use Rattle.cond_lang.specs.Reading.{got, after, closing, opened_seat, seat_and_lengths, relation, atom_of, comparing_by, sums_by, a_value, sums, Of, Readers, Goal, a_cond, a_both, a_unit, ors, ands, unit_by, ors_by, ands_by, step, steps}
+use Rattle.cond_lang.specs.internal.Reading.{got, after, closing, open_seat, seat_and_lengths, relation, atom_of, comparing_by, sums_by, a_value, sums, Of, Readers, Goal, a_cond, a_both, a_unit, ors, ands, unit_by, ors_by, ands_by, step, steps}
 use Rattle.cond_lang.proofs.Sequences.{Reads, HasSome, reads_after, reads_token, gets_at, gets_at_end, reads_like, like_at, like_at_end}
-use Rattle.cond_lang.proofs.Terminals.{gets, reads_then, reads_closing, reads_opened_seat, AreSeatAndLengths, reads_seat_and_lengths, reads_relation, reads_atom}
+use Rattle.cond_lang.proofs.Terminals.{gets, reads_then, reads_closing, reads_open_seat, AreSeatAndLengths, reads_seat_and_lengths, reads_relation, reads_atom}
 
 -- what a goal's tokens mean: behind the first part of a chain, what they make of it
 abbrev pub Means : (g : Goal) → List Token → Of g → Type 0
@@ -86,9 +86,9 @@ module _ (r : Readers) (k : (g : Goal) (S : List Token) → Reads (Means g) (r g
       (reads_after SpellsCond (λ a P t. (P ≡ Close ∷ []) × (t ≡ a)) (λ P. SpellsUnit (Open ∷ P)) (r a_cond) closing S (r a_cond S)
       (λ P Q a t h m. rw (m.0, m.1) (brackets h)) (λ a. (Close ∷ [], a, (refl, refl))) (k a_cond S) (λ a R. reads_closing _ a R (refl, refl)))
   unit_reads (Balanced ∷ S) =
-      reads_token (λ P. SpellsUnit (Balanced ∷ P)) SpellsUnit Balanced (λ S. after (opened_seat S) (λ q R. closing (balanced q) R)) (unit_by r) S _ (λ P x m. m) (λ X. refl)
-      (reads_then (λ q. Open ∷ Seat q ∷ []) (λ P. SpellsUnit (Balanced ∷ P)) opened_seat (λ q R. closing (balanced q) R) S (opened_seat S)
-      (λ q. (Close ∷ [], balanced q, is_balanced)) (reads_opened_seat S) (λ q R. reads_closing _ (balanced q) R is_balanced))
+      reads_token (λ P. SpellsUnit (Balanced ∷ P)) SpellsUnit Balanced (λ S. after (open_seat S) (λ q R. closing (balanced q) R)) (unit_by r) S _ (λ P x m. m) (λ X. refl)
+      (reads_then (λ q. Open ∷ Seat q ∷ []) (λ P. SpellsUnit (Balanced ∷ P)) open_seat (λ q R. closing (balanced q) R) S (open_seat S)
+      (λ q. (Close ∷ [], balanced q, is_balanced)) (reads_open_seat S) (λ q R. reads_closing _ (balanced q) R is_balanced))
   unit_reads (Shape ∷ S) =
       reads_token (λ P. SpellsUnit (Shape ∷ P)) SpellsUnit Shape (λ S. after (seat_and_lengths S) (λ p R. got (shape p.0 p.1) R)) (unit_by r) S _ (λ P x m. m) (λ X. refl)
       (reads_after AreSeatAndLengths (λ p Q t. (Q ≡ []) × (t ≡ shape p.0 p.1)) (λ P. SpellsUnit (Shape ∷ P)) seat_and_lengths (λ p R. got (shape p.0 p.1) R) S (seat_and_lengths S)

@@ -6,7 +6,7 @@ use Rattle.cond_lang.specs.declared.tree.Op.TheVariants.{Equal, NotEqual, Less, 
 use Rattle.cond_lang.specs.declared.token.Token.{Token}
 use Rattle.cond_lang.specs.declared.token.Token.TheVariants.{Open, Close, Comma, Dash, Plus, Relation}
 use Rattle.cond_lang.specs.Cut.{symbols, BeginsWithSymbol}
-use Rattle.cond_lang.specs.Scanning.{token_of, begins_with, symbol_after, symbol_at}
+use Rattle.cond_lang.specs.internal.Scanning.{token_of, begins_with, symbol_after, symbol_at}
 use Rattle.cond_lang.proofs.Tables.{pick, at_entry}
 
 -- an option holds a symbol of at least n bytes

@@ -6,7 +6,7 @@ use Rattle.std.proofs.lemmas.Slice.Eq.{bytes_eq-Decides}
 use Rattle.std.specs.Str.{bytes_eq}
 use Rattle.cond_lang.specs.declared.token.Token.{Token}
 use Rattle.cond_lang.specs.Cut.{words, symbols}
-use Rattle.cond_lang.specs.Scanning.{token_of}
+use Rattle.cond_lang.specs.internal.Scanning.{token_of}
 
 abbrev pub Table : Type 0
 Table = List (List ℕ × Token)

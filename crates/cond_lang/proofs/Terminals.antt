@@ -9,7 +9,7 @@ use Rattle.cond_lang.specs.declared.token.Token.{Token}
 use Rattle.cond_lang.specs.declared.token.Token.TheVariants.{Measure, Len, Seat, Suit, Number, Open, Close, Comma, Dash, Relation}
 use Rattle.cond_lang.specs.Form.{number, measured, suit_measured, suit_length}
 use Rattle.cond_lang.specs.Grammar.{SpellsAtom, a_number, measure, measure_in, len, four}
-use Rattle.cond_lang.specs.Reading.{Outcome, got, Reader, after, opened, closed, comma, dash, seat, suit, digits, relation, closing, and_suit, rest_of_measure, opened_seat, atom_of, lengths, seat_and_lengths}
+use Rattle.cond_lang.specs.internal.Reading.{Outcome, got, Reader, after, opened, closed, comma, dash, seat, suit, digits, relation, closing, comma_suit_close, rest_of_measure, open_seat, atom_of, lengths, seat_and_lengths}
 use Rattle.cond_lang.proofs.Sequences.{Reads, HasSome, reads_after, reads_as, reads_token, gets_token, stops_at, stops_at_end}
 
 -- nothing more
@@ -70,8 +70,8 @@ pub reads_closing : {A : Type 0} (K : List Token → A → Type 0) (x : A) (S : 
 reads_closing K x S m =
     reads_then (λ _. Close ∷ []) K closed (λ _ R. got x R) S (closed S) (λ _. ([], x, m)) (reads_closed S) (λ _ R. gets _ x R m)
 
-pub reads_opened_seat : (S : List Token) → Reads (λ P q. P ≡ Open ∷ Seat q ∷ []) opened_seat S (opened_seat S)
-reads_opened_seat S =
+pub reads_open_seat : (S : List Token) → Reads (λ P q. P ≡ Open ∷ Seat q ∷ []) open_seat S (open_seat S)
+reads_open_seat S =
     reads_then (λ _. Open ∷ []) (λ P q. P ≡ Open ∷ Seat q ∷ []) opened (λ _ R. seat R) S (opened S) (λ _. (Seat North ∷ [], North, refl)) (reads_opened S)
     (λ _ R. reads_as (λ P q. P ≡ Seat q ∷ []) _ seat seat R (seat R) (λ P q e. ap (λ L. Open ∷ L) e) (λ X. refl) (reads_seat R))
 
@@ -84,8 +84,8 @@ reads_rest_of_measure m q (Comma ∷ S) =
     (λ s. (Close ∷ [], suit_measured m q s, measure_in)) (reads_suit S) (λ s R. reads_closing _ (suit_measured m q s) R measure_in))
 reads_rest_of_measure m q (c ∷ S) = stops_at _ c (rest_of_measure m q) S (Close ∷ [], measured m q, measure) (λ X. refl)
 
-pub reads_and_suit : (S : List Token) → Reads (λ P s. P ≡ Comma ∷ Suit s ∷ Close ∷ []) and_suit S (and_suit S)
-reads_and_suit S =
+pub reads_comma_suit_close : (S : List Token) → Reads (λ P s. P ≡ Comma ∷ Suit s ∷ Close ∷ []) comma_suit_close S (comma_suit_close S)
+reads_comma_suit_close S =
     reads_then (λ _. Comma ∷ []) (λ P s. P ≡ Comma ∷ Suit s ∷ Close ∷ []) comma (λ _ S. after (suit S) closing) S (comma S)
     (λ _. (Suit Spades ∷ Close ∷ [], Spades, refl)) (reads_comma S)
     (λ _ R. reads_then (λ s. Suit s ∷ []) (λ P s. Comma ∷ P ≡ Comma ∷ Suit s ∷ Close ∷ []) suit closing R (suit R)
@@ -99,15 +99,15 @@ unfolding atom_of
 reads_atom [] = stops_at_end _ atom_of some_atom refl
 reads_atom (Number n ∷ S) = gets_token _ (Number n) atom_of S (number n) a_number (λ X. refl)
 reads_atom (Measure m ∷ S) =
-    reads_token _ _ (Measure m) (λ S. after (opened_seat S) (rest_of_measure m)) atom_of S _ (λ P x h. h) (λ X. refl)
-    (reads_then (λ q. Open ∷ Seat q ∷ []) (λ Q. SpellsAtom (Measure m ∷ Q)) opened_seat (rest_of_measure m) S (opened_seat S)
-    (λ q. (Close ∷ [], measured m q, measure)) (reads_opened_seat S) (reads_rest_of_measure m))
+    reads_token _ _ (Measure m) (λ S. after (open_seat S) (rest_of_measure m)) atom_of S _ (λ P x h. h) (λ X. refl)
+    (reads_then (λ q. Open ∷ Seat q ∷ []) (λ Q. SpellsAtom (Measure m ∷ Q)) open_seat (rest_of_measure m) S (open_seat S)
+    (λ q. (Close ∷ [], measured m q, measure)) (reads_open_seat S) (reads_rest_of_measure m))
 reads_atom (Len ∷ S) =
-    reads_token _ _ Len (λ S. after (opened_seat S) (λ q R. after (and_suit R) (λ s. got (suit_length q s)))) atom_of S _ (λ P x m. m) (λ X. refl)
-    (reads_then (λ q. Open ∷ Seat q ∷ []) (λ Q. SpellsAtom (Len ∷ Q)) opened_seat (λ q R. after (and_suit R) (λ s. got (suit_length q s))) S (opened_seat S)
-    (λ q. (Comma ∷ Suit Spades ∷ Close ∷ [], suit_length q Spades, len)) (reads_opened_seat S)
-    (λ q R. reads_then (λ s. Comma ∷ Suit s ∷ Close ∷ []) (λ Q. SpellsAtom (Len ∷ Open ∷ Seat q ∷ Q)) and_suit (λ s. got (suit_length q s)) R (and_suit R)
-    (λ s. ([], suit_length q s, len)) (reads_and_suit R) (λ s R. gets _ (suit_length q s) R len)))
+    reads_token _ _ Len (λ S. after (open_seat S) (λ q R. after (comma_suit_close R) (λ s. got (suit_length q s)))) atom_of S _ (λ P x m. m) (λ X. refl)
+    (reads_then (λ q. Open ∷ Seat q ∷ []) (λ Q. SpellsAtom (Len ∷ Q)) open_seat (λ q R. after (comma_suit_close R) (λ s. got (suit_length q s))) S (open_seat S)
+    (λ q. (Comma ∷ Suit Spades ∷ Close ∷ [], suit_length q Spades, len)) (reads_open_seat S)
+    (λ q R. reads_then (λ s. Comma ∷ Suit s ∷ Close ∷ []) (λ Q. SpellsAtom (Len ∷ Open ∷ Seat q ∷ Q)) comma_suit_close (λ s. got (suit_length q s)) R (comma_suit_close R)
+    (λ s. ([], suit_length q s, len)) (reads_comma_suit_close R) (λ s R. gets _ (suit_length q s) R len)))
 reads_atom (c ∷ S) = stops_at _ c atom_of S some_atom (λ X. refl)
 
 -- four numbers with dashes between them
@@ -144,8 +144,8 @@ joined q P Q n t (a, b, c, d, e, i) m = (a, b, c, d, ap (λ t. t.1) m.0 ∙ e, r
 pub reads_seat_and_lengths : (S : List Token) → Reads AreSeatAndLengths seat_and_lengths S (seat_and_lengths S)
 unfolding seat_and_lengths
 reads_seat_and_lengths S =
-    reads_then (λ q. Open ∷ Seat q ∷ []) AreSeatAndLengths opened_seat _ S (opened_seat S)
-    (λ q. (Comma ∷ Number 0 ∷ Dash ∷ Number 0 ∷ Dash ∷ Number 0 ∷ Dash ∷ Number 0 ∷ Close ∷ [], (q, (0 ∷ 0 ∷ 0 ∷ 0 ∷ [])), (0, 0, 0, 0, refl, refl))) (reads_opened_seat S)
+    reads_then (λ q. Open ∷ Seat q ∷ []) AreSeatAndLengths open_seat _ S (open_seat S)
+    (λ q. (Comma ∷ Number 0 ∷ Dash ∷ Number 0 ∷ Dash ∷ Number 0 ∷ Dash ∷ Number 0 ∷ Close ∷ [], (q, (0 ∷ 0 ∷ 0 ∷ 0 ∷ [])), (0, 0, 0, 0, refl, refl))) (reads_open_seat S)
     (λ q S. reads_then (λ _. Comma ∷ []) (λ P. AreSeatAndLengths (Open ∷ Seat q ∷ P)) comma _ S (comma S)
     (λ _. (Number 0 ∷ Dash ∷ Number 0 ∷ Dash ∷ Number 0 ∷ Dash ∷ Number 0 ∷ Close ∷ [], (q, (0 ∷ 0 ∷ 0 ∷ 0 ∷ [])), (0, 0, 0, 0, refl, refl))) (reads_comma S)
     (λ _ S. reads_after AreLengths (λ n P t. (t ≡ (q, n)) × (P ≡ Close ∷ [])) (λ P. AreSeatAndLengths (Open ∷ Seat q ∷ Comma ∷ P)) lengths (λ n S. closing (q, n) S) S (lengths S)

@@ -1,5 +1,5 @@
--- A text is cut into pieces, each the longest that fits at its place: words, numbers, symbols, separators, and bytes
--- that begin none of these.
+-- A text is cut into pieces, each the longest that fits at its place: words, numbers, symbols,
+-- separators, and bytes that begin none of these.
 use Rattle.std.specs.Prelude.{◌≡◌, ℕ, ◌+◌, ◌*◌, ◌-◌, ◌<◌, ◌≤◌, Bool, true, false, ◌||◌, ◌==◌, List, [], ◌∷◌, ◌++◌, length, codes, fold, Option, Some, None, All, Contains}
 use Rattle.std.specs.List.{AllByRecursion, filter_map, sum_by}
 use Rattle.std.specs.Char.{is_ascii_lowercase, is_ascii_digit}
@@ -18,18 +18,40 @@ use Rattle.cond_lang.specs.declared.error.CondError.TheVariants.{Byte, Word, Num
 -- the known words, each with its token
 abbrev pub words : List (List ℕ × Token)
 words =
-    (codes "or", Or) ∷ (codes "and", And) ∷ (codes "not", Not)
-    ∷ (codes "balanced", Balanced) ∷ (codes "shape", Shape) ∷ (codes "pattern", Pattern)
-    ∷ (codes "hcp", Measure Hcp) ∷ (codes "controls", Measure Controls) ∷ (codes "len", Len)
-    ∷ (codes "north", Seat North) ∷ (codes "east", Seat East) ∷ (codes "south", Seat South) ∷ (codes "west", Seat West)
-    ∷ (codes "spades", Suit Spades) ∷ (codes "hearts", Suit Hearts) ∷ (codes "diamonds", Suit Diamonds) ∷ (codes "clubs", Suit Clubs) ∷ []
+    (codes "or", Or)
+    ∷ (codes "and", And)
+    ∷ (codes "not", Not)
+    ∷ (codes "balanced", Balanced)
+    ∷ (codes "shape", Shape)
+    ∷ (codes "pattern", Pattern)
+    ∷ (codes "hcp", Measure Hcp)
+    ∷ (codes "controls", Measure Controls)
+    ∷ (codes "len", Len)
+    ∷ (codes "north", Seat North)
+    ∷ (codes "east", Seat East)
+    ∷ (codes "south", Seat South)
+    ∷ (codes "west", Seat West)
+    ∷ (codes "spades", Suit Spades)
+    ∷ (codes "hearts", Suit Hearts)
+    ∷ (codes "diamonds", Suit Diamonds)
+    ∷ (codes "clubs", Suit Clubs)
+    ∷ []
 
 -- the symbols, each with its token
 abbrev pub symbols : List (List ℕ × Token)
 symbols =
-    (codes "(", Open) ∷ (codes ")", Close) ∷ (codes ",", Comma) ∷ (codes "-", Dash) ∷ (codes "+", Plus)
-    ∷ (codes "==", Relation Equal) ∷ (codes "!=", Relation NotEqual)
-    ∷ (codes "<", Relation Less) ∷ (codes "<=", Relation AtMost) ∷ (codes ">", Relation More) ∷ (codes ">=", Relation AtLeast) ∷ []
+    (codes "(", Open)
+    ∷ (codes ")", Close)
+    ∷ (codes ",", Comma)
+    ∷ (codes "-", Dash)
+    ∷ (codes "+", Plus)
+    ∷ (codes "==", Relation Equal)
+    ∷ (codes "!=", Relation NotEqual)
+    ∷ (codes "<", Relation Less)
+    ∷ (codes "<=", Relation AtMost)
+    ∷ (codes ">", Relation More)
+    ∷ (codes ">=", Relation AtLeast)
+    ∷ []
 
 -- a space, a tab or a line feed
 abbrev pub is_separator : ℕ → Bool

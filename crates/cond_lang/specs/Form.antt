@@ -1,4 +1,5 @@
--- A condition's tree without the addresses that its boxes have in memory: two trees are equal if their forms are.
+-- A condition's tree without the addresses that its boxes have in memory: two trees are equal if
+-- their forms are.
 use Rattle.std.specs.Prelude.{ℕ, List}
 use Rattle.cards.specs.declared.measure.Measure.{Measure}
 use Rattle.cards.specs.declared.measure.Measure.TheVariants.{Hcp}
@@ -10,7 +11,8 @@ use Rattle.cond_lang.specs.declared.tree.Value.TheVariants.{Sum', Number, Points
 use Rattle.cond_lang.specs.declared.tree.Tree.{Tree}
 use Rattle.cond_lang.specs.declared.tree.Tree.TheVariants.{AnyOf', AllOf', Negation', Compare, Balanced, Shape, Pattern}
 
--- a value: the high card points have `points` and `suit_points`, each other measure `total` and `suit_total`
+-- a value: the high card points have `points` and `suit_points`, each other measure `total` and
+-- `suit_total`
 pub data Amount : Type 0 where
   sum : Amount → Amount → Amount
   number : ℕ → Amount

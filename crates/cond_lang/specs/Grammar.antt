@@ -18,7 +18,9 @@ use Rattle.cond_lang.specs.Form.{Amount, sum, number, measured, suit_measured, s
 -- a number, a measure of a hand or of one of its suits, or a length
 pub data SpellsAtom : List Token → Amount → Type 0 where
   a_number : {n : ℕ} → SpellsAtom (Number n ∷ []) (number n)
-  measure : {m : AMeasure} {q : ASeat} → SpellsAtom (Measure m ∷ Open ∷ Seat q ∷ Close ∷ []) (measured m q)
+  measure :
+      {m : AMeasure} {q : ASeat}
+      → SpellsAtom (Measure m ∷ Open ∷ Seat q ∷ Close ∷ []) (measured m q)
   measure_in :
       {m : AMeasure} {q : ASeat} {s : ASuit}
       → SpellsAtom (Measure m ∷ Open ∷ Seat q ∷ Comma ∷ Suit s ∷ Close ∷ []) (suit_measured m q s)
@@ -88,8 +90,8 @@ Spells T t = SpellsCond T t
 abbrev pub IsViable : List Token → Type 0
 IsViable T = (more : List Token) × (t : Form) × Spells (T ++ more) t
 
--- n is the first fault: the n tokens before it are viable, and with the next one they aren't; or there is no next one, and
--- the whole list spells nothing
+-- n is the first fault: the n tokens before it are viable, and with the next one they aren't; or
+-- there is no next one, and the whole list spells nothing
 pub record IsFirstFault (T : List Token) (n : ℕ) : Type 0 where
   pub within : n ≤ length T
   pub before : IsViable (take n T)

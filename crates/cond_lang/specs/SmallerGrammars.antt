@@ -1,5 +1,5 @@
--- Two smaller grammars: one whose values are atoms alone, and one whose only measure is hcp. What they spell, the whole
--- grammar spells too.
+-- Two smaller grammars: one whose values are atoms alone, and one whose only measure is hcp. What
+-- they spell, the whole grammar spells too.
 use Rattle.std.specs.Prelude.{ℕ, List, [], ◌∷◌}
 use Rattle.cards.specs.declared.measure.Measure.TheVariants.{Hcp}
 use Rattle.cards.specs.declared.seat.Seat.{Seat as ASeat}

@@ -12,7 +12,7 @@ ghost use Rattle.cond_lang.specs.Text.{SpellsTree, IsDue, IsUnlessMemory};
 use crate::error::CondError;
 use crate::meaning;
 use crate::parser::parse_tokens;
-use crate::scanner::{MOST_BYTES, scan};
+use crate::scanner::{MAX_BYTES, scan};
 use crate::tree::{Op, Tree, Value};
 use cards::Deal;
 use std::alloc::Global;
@@ -20,8 +20,8 @@ use std::marker::Model;
 
 /// A condition on a deal, which contracts see as its tree's form.
 ///
-/// Each of its values adds up at most 1,024 numbers, points and lengths, so that a sum is a `u32`, and each of its
-/// numbers is at most 9,999.
+/// Each of its values adds up at most 1,024 numbers, points and lengths, so that a sum is a `u32`,
+/// and each of its numbers is at most 9,999.
 #[derive(Debug, Drop)]
 pub struct Cond {
     alloc: Global,
@@ -30,7 +30,7 @@ pub struct Cond {
 
 impl Model for Cond {
     ghost use Rattle.cond_lang.specs.Form.{Form, form_of};
-    ghost use Rattle.cond_lang.specs.FormCode.{form_code};
+    ghost use Rattle.cond_lang.specs.internal.FormCode.{form_code};
     ghost use Rattle.cond_lang.specs.Limits.{IsWithinLimits};
 
     ghost Value = { Form };
@@ -44,19 +44,21 @@ impl Model for Cond {
 
 /// The condition that a text spells.
 ///
-/// A text of more than 1,024 bytes is `TooLong`. Otherwise the leftmost faulty piece of the whole text is refused, as
-/// `Byte`, `Word` or `Number` with its offset. A text without one that spells no condition is `Syntax`, at the first
-/// token that no condition goes on with, or at the text's length. `Memory` comes when a growth was refused.
+/// A text of more than 1,024 bytes is `TooLong`. Otherwise the leftmost faulty piece of the whole
+/// text is refused, as `Byte`, `Word` or `Number` with its offset. A text without one that spells
+/// no condition is `Syntax`, at the first token that no condition goes on with, or at the text's
+/// length. `Memory` comes when an allocation failed.
 pub fn parse(alloc: Global, text: &[u8]) -> Result<Cond, CondError>
     ensures too_long { (result ≡ Err CondError.TooLong) ↔ (1024 < length text.now) }
     ensures fault { (e : Fault) → length text.now ≤ 1024 → HasFault text.now e → result ≡ Err e }
-    ensures spelled { (t : Form) → length text.now ≤ 1024 → SpellsTree text.now t → IsUnlessMemory result t }
+    ensures spelled { (t : Form)
+        → length text.now ≤ 1024 → SpellsTree text.now t → IsUnlessMemory result t }
 
     // What comes back is due: the tree is the text's, and each refusal has its reason.
     ensures tree { IfOk result (λ c. SpellsTree text.now c) }
     ensures refused { IfErr result (λ e. IsDue text.now e) }
 {
-    if text.len() > MOST_BYTES {
+    if text.len() > MAX_BYTES {
         return Err(CondError::TooLong);
     }
     let tokens = scan(text)?;
@@ -77,7 +79,7 @@ impl Cond {
         Cond { alloc, tree }
     }
 
-    /// An equal condition. Its only refusal is `Memory`, and it comes only when a growth was refused.
+    /// An equal condition. Its only error is `Memory`, which comes only when an allocation failed.
     pub fn try_clone(&self) -> Result<Cond, CondError>
         ensures { IsUnlessMemory result self.now }
     {
@@ -97,7 +99,8 @@ impl Cond {
         meaning::holds(&self.tree, deal)
     }
 
-    /// The tree of the condition: each of its values has at most 1,024 atoms, and each number is at most 9,999.
+    /// The tree of the condition: each of its values has at most 1,024 atoms, and each number is at
+    /// most 9,999.
     pub fn tree(&self) -> &Tree
         ensures form { form_of result.now ≡ self.now }
         ensures few { HasAtMostAtoms 1024 self.now }

@@ -1,8 +1,9 @@
-//! The condition language: texts such as `hcp(north)+hcp(south)>=26 and not balanced(north)`, the trees that they spell,
-//! and what these mean of a deal.
+//! The condition language: texts such as `hcp(north)+hcp(south)>=26 and not balanced(north)`, the
+//! trees that they spell, and what these mean of a deal.
 //!
-//! `parse` cuts the whole text into pieces first (`scanner`), and then reads the tokens from the left, one in sight
-//! (`parser`). Contracts see a `Cond` as its tree's `Form`, which is the tree without the addresses of its boxes.
+//! `parse` cuts the whole text into pieces first (`scanner`), and then reads the tokens from the
+//! left, one in sight (`parser`). Contracts see a `Cond` as its tree's `Form`, which is the tree
+//! without the addresses of its boxes.
 #![tactic(auto)]
 
 mod condition;

@@ -1,13 +1,14 @@
-//! The parser: it reads the tokens from the left, with one token in sight, and builds the tree as it goes.
+//! The parser: it reads the tokens from the left, with one token in sight, and builds the tree as
+//! it goes.
 
 ghost use Rattle.std.specs.Prelude.{◌≡◌, ◌≢◌, ◌≤◌, ◌⊎◌, ℕ, List, ◌∷◌, length, IfOk, IfErr, Err};
 ghost use Rattle.cond_lang.specs.declared.token.Token.{Token as AToken};
 ghost use Rattle.cond_lang.specs.Form.{Form, amount_of, form_of, any_of, all_of, negation};
 ghost use Rattle.cond_lang.specs.Grammar.{Spells};
 ghost use Rattle.cond_lang.specs.Place.{kinds, offset_of, IsPlace};
-ghost use Rattle.cond_lang.specs.Reading.{Gives, front, opened, closed, comma, dash, seat, suit, digits, relation};
-ghost use Rattle.cond_lang.specs.Reading.{opened_seat, and_suit, rest_of_measure, lengths, seat_and_lengths, atom_of};
-ghost use Rattle.cond_lang.specs.Reading.{reading, a_value, comparing_by, test_by, a_unit, a_both, a_cond, whole};
+ghost use Rattle.cond_lang.specs.internal.Reading.{Gives, front, opened, closed, comma, dash, seat, suit, digits, relation};
+ghost use Rattle.cond_lang.specs.internal.Reading.{open_seat, comma_suit_close, rest_of_measure, lengths, seat_and_lengths, atom_of};
+ghost use Rattle.cond_lang.specs.internal.Reading.{reading, a_value, comparing_by, test_by, a_unit, a_both, a_cond, whole};
 
 use crate::error::CondError;
 use crate::token::{Placed, Token};
@@ -23,7 +24,7 @@ pub(crate) enum Refusal {
     /// No condition goes on with the token in sight.
     #[error("syntax")]
     Syntax,
-    /// A growth was refused.
+    /// An allocation failed.
     #[error("out of memory")]
     Memory,
 }
@@ -167,8 +168,8 @@ impl<'a> Parser<'a> {
     }
 
     /// `( seat`
-    fn opened_seat(&mut self) -> Result<Seat, Refusal>
-        ensures gives { Gives (λ q. q) result self.new (opened_seat self.old) }
+    fn open_seat(&mut self) -> Result<Seat, Refusal>
+        ensures gives { Gives (λ q. q) result self.new (open_seat self.old) }
         ensures shorter { length self.new ≤ length self.old }
     {
         self.open()?;
@@ -176,8 +177,8 @@ impl<'a> Parser<'a> {
     }
 
     /// `, suit )`
-    fn suit_in_brackets(&mut self) -> Result<Suit, Refusal>
-        ensures gives { Gives (λ s. s) result self.new (and_suit self.old) }
+    fn comma_suit_close(&mut self) -> Result<Suit, Refusal>
+        ensures gives { Gives (λ s. s) result self.new (comma_suit_close self.old) }
         ensures shorter { length self.new ≤ length self.old }
     {
         self.comma()?;
@@ -187,7 +188,7 @@ impl<'a> Parser<'a> {
     }
 
     /// `number - number - number - number`
-    #[tactic(auto, unfolding(crate::specs::Reading::lengths))]
+    #[tactic(auto, unfolding(crate::specs::internal::Reading::lengths))]
     fn lengths(&mut self) -> Result<[u16; 4], Refusal>
         ensures gives { Gives (λ n. n) result self.new (lengths self.old) }
         ensures shorter { length self.new ≤ length self.old }
@@ -203,12 +204,12 @@ impl<'a> Parser<'a> {
     }
 
     /// `( seat , number - number - number - number )`
-    #[tactic(auto, unfolding(crate::specs::Reading::seat_and_lengths))]
+    #[tactic(auto, unfolding(crate::specs::internal::Reading::seat_and_lengths))]
     fn seat_and_lengths(&mut self) -> Result<(Seat, [u16; 4]), Refusal>
         ensures gives { Gives (λ p. (p.0, p.1)) result self.new (seat_and_lengths self.old) }
         ensures shorter { length self.new ≤ length self.old }
     {
-        let seat = self.opened_seat()?;
+        let seat = self.open_seat()?;
         self.comma()?;
         let lengths = self.lengths()?;
         self.close()?;
@@ -216,7 +217,7 @@ impl<'a> Parser<'a> {
     }
 
     /// A number, a measure of a hand or suit, or a length.
-    #[tactic(auto, unfolding(crate::specs::Reading::atom_of))]
+    #[tactic(auto, unfolding(crate::specs::internal::Reading::atom_of))]
     fn atom(&mut self) -> Result<Value, Refusal>
         ensures gives { Gives amount_of result self.new (atom_of self.old) }
         ensures shorter { length self.new ≤ length self.old }
@@ -228,13 +229,13 @@ impl<'a> Parser<'a> {
             }
             Some(Token::Measure(measure)) => {
                 self.advance();
-                let seat = self.opened_seat()?;
+                let seat = self.open_seat()?;
                 self.rest_of_measure(measure, seat)
             }
             Some(Token::Len) => {
                 self.advance();
-                let seat = self.opened_seat()?;
-                let suit = self.suit_in_brackets()?;
+                let seat = self.open_seat()?;
+                let suit = self.comma_suit_close()?;
                 Ok(Value::Length(seat, suit))
             }
             _ => Err(Refusal::Syntax),
@@ -307,7 +308,7 @@ impl<'a> Parser<'a> {
         match self.peek() {
             Some(Token::Balanced) => {
                 self.advance();
-                let seat = self.opened_seat()?;
+                let seat = self.open_seat()?;
                 self.close()?;
                 Ok(Tree::Balanced(seat))
             }
@@ -347,7 +348,8 @@ impl<'a> Parser<'a> {
     /// Both trees.
     #[inline(never)]
     fn all_of(&self, left: Box<Tree>, right: Box<Tree>) -> Result<Box<Tree>, Refusal>
-        ensures ok { IfOk result (λ b. form_of b.value ≡ all_of (form_of left.value) (form_of right.value)) }
+        ensures ok { IfOk result (λ b.
+            form_of b.value ≡ all_of (form_of left.value) (form_of right.value)) }
         ensures err { result ≢ Err Refusal.Syntax }
     {
         self.boxed(Tree::AllOf(left, right))
@@ -356,14 +358,16 @@ impl<'a> Parser<'a> {
     /// One of the two trees, or both.
     #[inline(never)]
     fn any_of(&self, left: Box<Tree>, right: Box<Tree>) -> Result<Box<Tree>, Refusal>
-        ensures ok { IfOk result (λ b. form_of b.value ≡ any_of (form_of left.value) (form_of right.value)) }
+        ensures ok { IfOk result (λ b.
+            form_of b.value ≡ any_of (form_of left.value) (form_of right.value)) }
         ensures err { result ≢ Err Refusal.Syntax }
     {
         self.boxed(Tree::AnyOf(left, right))
     }
 
-    // A text has up to 1,024 opening brackets, and each keeps a frame of the next three functions on the stack. So they
-    // carry trees in boxes, and leave the rest to functions that aren't inlined.
+    // A text has up to 1,024 opening brackets, and each keeps a frame of the next three functions
+    // on the stack. So they carry trees in boxes, and leave the rest to functions that aren't
+    // inlined.
 
     /// One test.
     #[cycle(conditions)]
@@ -421,7 +425,7 @@ impl<'a> Parser<'a> {
     }
 
     /// One condition, and no more.
-    #[tactic(auto, unfolding(crate::specs::Reading::whole))]
+    #[tactic(auto, unfolding(crate::specs::internal::Reading::whole))]
     pub(crate) fn whole(&mut self) -> Result<Tree, Refusal>
         ensures gives { Gives form_of result self.new (whole self.old) }
         ensures shorter { length self.new ≤ length self.old }
@@ -437,9 +441,11 @@ impl<'a> Parser<'a> {
 /// The tree that the tokens spell, which are those of a text of `end` bytes.
 pub(crate) fn parse_tokens(alloc: Global, tokens: &[Placed], end: usize) -> Result<Tree, CondError>
     ensures spelled { IfOk result (λ t. Spells (kinds tokens.now) (form_of t)) }
-    ensures found { (t : Form) → Spells (kinds tokens.now) t → IfErr result (λ e. e ≡ CondError.Memory) }
+    ensures found { (t : Form)
+        → Spells (kinds tokens.now) t → IfErr result (λ e. e ≡ CondError.Memory) }
     ensures place { (at : ℕ) → result ≡ Err (CondError.Syntax at) → IsPlace tokens.now end at }
-    ensures errors { IfErr result (λ e. (e ≡ CondError.Memory) ⊎ ((at : ℕ) × (e ≡ CondError.Syntax at))) }
+    ensures errors { IfErr result (λ e.
+        (e ≡ CondError.Memory) ⊎ ((at : ℕ) × (e ≡ CondError.Syntax at))) }
 {
     let mut parser = Parser::new(alloc, tokens);
     match parser.whole() {

@@ -1,10 +1,11 @@
-//! The scanner: it cuts the whole text into pieces, and finds the leftmost faulty one before the parser starts.
+//! The scanner: it cuts the whole text into pieces, and finds the leftmost faulty one before the
+//! parser starts.
 
 ghost use Rattle.std.specs.Prelude.{◌≡◌, ◌<◌, ◌≤◌, length, map, true, IfOk, IfErr};
 ghost use Rattle.std.specs.List.{AllByRecursion};
 ghost use Rattle.std.specs.Char.{is_ascii_lowercase, is_ascii_digit};
 ghost use Rattle.cond_lang.specs.Cut.{HasTokens, HasFault, words, decimal, is_separator};
-ghost use Rattle.cond_lang.specs.Scanning.{token_of, run, begins_with, symbol_at, word_piece, number_piece, piece_at};
+ghost use Rattle.cond_lang.specs.internal.Scanning.{token_of, run, begins_with, symbol_at, word_piece, number_piece, piece_at};
 
 use crate::error::CondError;
 use crate::token::{Piece, Placed, Token};
@@ -13,7 +14,7 @@ use arrayvec::ArrayVec;
 use cards::{Measure, Seat, Suit};
 
 /// The longest text that is read, in bytes.
-pub(crate) const MOST_BYTES: usize = 1024;
+pub(crate) const MAX_BYTES: usize = 1024;
 
 /// The known words, each with its token: the table `words` of the definition.
 const WORDS: [(&[u8], Token); 17] = [
@@ -72,10 +73,10 @@ fn first_piece(text: &[u8]) -> (Piece, usize)
     if is_separator(first) {
         (Piece::Separator, 1)
     } else if first.is_ascii_lowercase() {
-        let count = letters(text);
+        let count = letter_run_len(text);
         (word_piece(&text[..count]), count)
     } else if first.is_ascii_digit() {
-        let count = digits(text);
+        let count = digit_run_len(text);
         (number_piece(&text[..count]), count)
     } else {
         match symbol(text) {
@@ -92,7 +93,7 @@ fn is_separator(byte: u8) -> bool
 }
 
 /// How many small letters a text begins with.
-fn letters(text: &[u8]) -> usize
+fn letter_run_len(text: &[u8]) -> usize
     ensures value { result ≡ run is_ascii_lowercase text.now }
     ensures within { result ≤ length text.now }
 {
@@ -105,7 +106,7 @@ fn letters(text: &[u8]) -> usize
 }
 
 /// How many digits a text begins with.
-fn digits(text: &[u8]) -> usize
+fn digit_run_len(text: &[u8]) -> usize
     ensures value { result ≡ run is_ascii_digit text.now }
     ensures within { result ≤ length text.now }
 {

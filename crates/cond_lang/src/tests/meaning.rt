@@ -13,7 +13,8 @@ fn in_order() -> Result<Deal, Fail> {
     Ok(Deal::shuffled(&Places::new(places).ok_or("places")?))
 }
 
-/// The text's condition and a clone of it, each asked on the deal that is in order and on the worked one.
+/// The text's condition and a clone of it, each asked on the deal that is in order and on the
+/// worked one.
 fn asked(alloc: Global, text: &str) -> Result<[bool; 4], Fail> {
     let cond = condition(alloc, text)?;
     let clone = cond.try_clone()?;

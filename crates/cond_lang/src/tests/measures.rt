@@ -1,4 +1,5 @@
-//! Measures of a hand beside its points: what their texts spell, what they count, and where they are refused.
+//! Measures of a hand beside its points: what their texts spell, what they count, and where they
+//! are refused.
 
 use super::trees::expect_tree;
 use super::*;
@@ -18,8 +19,9 @@ fn trees_of_controls(rt: HostRuntime) -> Result<(), Fail> {
     )
 }
 
-/// Counted by hand: North has the ace and king of diamonds and the ace of clubs, East the ace of spades
-/// and the king of hearts, South the king of clubs, West the king of spades and the ace of hearts.
+/// Counted by hand: North has the ace and king of diamonds and the ace of clubs, East the ace of
+/// spades and the king of hearts, South the king of clubs, West the king of spades and the ace of
+/// hearts.
 #[test]
 fn controls_of_the_worked_deal(rt: HostRuntime) -> Result<(), Fail> {
     let deal = deal(WORKED)?;

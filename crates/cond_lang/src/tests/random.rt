@@ -1,4 +1,5 @@
-//! Random texts: whatever they are, `parse` returns, and a refusal stands at the place that the definition says.
+//! Random texts: whatever they are, `parse` returns, and a refusal stands at the place that the
+//! definition says.
 
 ghost use Rattle.std.specs.Prelude.{◌<◌};
 
@@ -29,7 +30,8 @@ impl Dice {
     }
 }
 
-/// The words and symbols of the language, some numbers, and whole tests, so that more than the first token is read.
+/// The words and symbols of the language, some numbers, and whole tests, so that more than the
+/// first token is read.
 const TOKENS: [&[u8]; 42] = [
     b"or",
     b"and",
@@ -75,8 +77,8 @@ const TOKENS: [&[u8]; 42] = [
     b"not (",
 ];
 
-/// What must hold of a result: if a text is refused as syntax, the part before the fault is refused nowhere but at its
-/// own end.
+/// What must hold of a result: if a text is refused as syntax, the part before the fault is refused
+/// nowhere but at its own end.
 fn expect_sound(rt: &(impl Abort + AllocGlobal), text: &[u8]) {
     let Err(CondError::Syntax { at }) = parse(rt.alloc(), text) else {
         return;

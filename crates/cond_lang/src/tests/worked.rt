@@ -1,5 +1,5 @@
-//! The worked conditions of docs/CONDITIONS.md, each over six deals: the truths come from a plain evaluation of
-//! the four hands, not from this crate.
+//! The worked conditions of docs/CONDITIONS.md, each over six deals: the truths come from a plain
+//! evaluation of the four hands, not from this crate.
 
 use super::*;
 

@@ -4,7 +4,7 @@ use Rattle.std.proofs.lemmas.Bool.Decides.{nat_tests}
 use Rattle.cards.specs.declared.seat.Seat.{Seat}
 use Rattle.cards.specs.declared.seat.Seat.TheVariants.{North, East, South, West}
 use Rattle.cards.specs.Deals.{IsPartition}
-use Rattle.cards.specs.Masks.{seat_mask, seats_of_masks}
+use Rattle.cards.specs.internal.Masks.{seat_mask, seats_of_masks}
 use Rattle.cards.proofs.DealMasks.{masks_of_seats}
 use Rattle.cards.proofs.laws.equality.Goals as goal
 

@@ -1,5 +1,5 @@
 use Rattle.std.proofs.Common.{◌≡◌, length, arith}
-use Rattle.cards.specs.Masks.{cards_of_mask}
+use Rattle.cards.specs.internal.Masks.{cards_of_mask}
 use Rattle.cards.proofs.WeightedCounts.{total_as_read, total_of-le, total_in-le}
 use Rattle.cards.proofs.masks.total_of_mask.Goals as goal
 

@@ -1,5 +1,5 @@
 use Rattle.std.proofs.Common.{◌≡◌, map, length}
-use Rattle.cond_lang.specs.Scanning.{token_of}
+use Rattle.cond_lang.specs.internal.Scanning.{token_of}
 use Rattle.cond_lang.proofs.scanner.look_up.Given as goal
 
 abbrev pub invariant-loop-table : goal.invariant-loop-table

@@ -3,7 +3,7 @@ use Rattle.lanes.specs.Jobs.{verdicts_of}
 use Rattle.lanes.specs.Verdicts.{verdict_of}
 use Rattle.lanes.proofs.VerdictLists.{length-verdicts, one_more}
 use Rattle.lanes.proofs.VerdictLists.{verdict_made}
-use Rattle.cards.specs.Candidates.{GoesOnAt}
+use Rattle.cards.specs.CandidateWalks.{GoesOnAt}
 use Rattle.lanes.proofs.Prefixes.{proper, whole}
 use Rattle.lanes.proofs.worker.send_all.Goals as goal
 

@@ -1,5 +1,5 @@
 use Rattle.std.proofs.Common.{◌≡◌, ◌+◌, ◌*◌, take}
-use Rattle.cards.specs.Candidates.{GoesOnAt}
+use Rattle.cards.specs.CandidateWalks.{GoesOnAt}
 use Rattle.lanes.specs.Jobs.{verdicts_of}
 use Rattle.lanes.proofs.worker.send_all.Given as goal
 

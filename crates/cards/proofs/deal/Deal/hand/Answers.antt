@@ -1,5 +1,5 @@
 use Rattle.std.proofs.Common.{◌∙◌, ap}
-use Rattle.cards.specs.Masks.{cards_of_mask}
+use Rattle.cards.specs.internal.Masks.{cards_of_mask}
 use Rattle.cards.proofs.DealMasks.{cards_of_seat}
 use Rattle.cards.proofs.deal.Deal.hand.Goals as goal
 

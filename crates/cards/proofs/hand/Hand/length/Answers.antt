@@ -1,5 +1,5 @@
 use Rattle.std.proofs.Common.{◌∙◌, arith}
-use Rattle.cards.specs.Masks.{cards_of_mask}
+use Rattle.cards.specs.internal.Masks.{cards_of_mask}
 use Rattle.cards.proofs.MaskCounts.{length_under_mask, suit_masks, length_of-le}
 use Rattle.cards.proofs.hand.Hand.length.Goals as goal
 

@@ -1,5 +1,5 @@
 use Rattle.std.proofs.Common.{◌∙◌, arith}
-use Rattle.cards.specs.Masks.{cards_of_mask}
+use Rattle.cards.specs.internal.Masks.{cards_of_mask}
 use Rattle.cards.proofs.MaskCounts.{total_in_mask, suit_masks}
 use Rattle.cards.proofs.hand.Hand.total_in.Goals as goal
 

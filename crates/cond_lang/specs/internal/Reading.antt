@@ -1,5 +1,5 @@
--- Reading from the left with one token in sight, as a function of the tokens that are left: what the parser's own
--- functions return. No public clause cites it.
+-- Reading from the left with one token in sight, as a function of the tokens that are left: what
+-- the parser's own functions return.
 use Rattle.std.specs.Prelude.{◌≡◌, ℕ, zero, suc, ◌+◌, ◌*◌, List, [], ◌∷◌, length, Result, Ok, Err, Option, Some, None}
 use Rattle.cards.specs.declared.measure.Measure.{Measure as AMeasure}
 use Rattle.cards.specs.declared.seat.Seat.{Seat as ASeat}
@@ -60,8 +60,8 @@ abbrev pub closing : {A : Type 0} → A → Reader A
 closing x S = after (closed S) (λ _ R. got x R)
 
 -- , suit )
-abbrev pub and_suit : Reader ASuit
-and_suit S = after (comma S) (λ _ S. after (suit S) closing)
+abbrev pub comma_suit_close : Reader ASuit
+comma_suit_close S = after (comma S) (λ _ S. after (suit S) closing)
 
 -- ) or , suit )
 abbrev pub rest_of_measure : AMeasure → ASeat → Reader Amount
@@ -69,13 +69,13 @@ rest_of_measure m q (Comma ∷ S) = after (suit S) (λ s R. closing (suit_measur
 rest_of_measure m q S = closing (measured m q) S
 
 -- ( seat
-abbrev pub opened_seat : Reader ASeat
-opened_seat S = after (opened S) (λ _ R. seat R)
+abbrev pub open_seat : Reader ASeat
+open_seat S = after (opened S) (λ _ R. seat R)
 
 unfoldable pub atom_of : Reader Amount
 atom_of (Number n ∷ S) = got (number n) S
-atom_of (Measure m ∷ S) = after (opened_seat S) (rest_of_measure m)
-atom_of (Len ∷ S) = after (opened_seat S) (λ q R. after (and_suit R) (λ s. got (suit_length q s)))
+atom_of (Measure m ∷ S) = after (open_seat S) (rest_of_measure m)
+atom_of (Len ∷ S) = after (open_seat S) (λ q R. after (comma_suit_close R) (λ s. got (suit_length q s)))
 atom_of S = stuck S
 
 unfoldable pub lengths : Reader (List ℕ)
@@ -84,7 +84,7 @@ lengths S = after (digits S) (λ a S. after (dash S) (λ _ S. after (digits S) (
 
 -- ( seat , a - b - c - d )
 unfoldable pub seat_and_lengths : Reader (ASeat × List ℕ)
-seat_and_lengths S = after (opened_seat S) (λ q S. after (comma S) (λ _ S. after (lengths S) (λ n S. closing (q, n) S)))
+seat_and_lengths S = after (open_seat S) (λ q S. after (comma S) (λ _ S. after (lengths S) (λ n S. closing (q, n) S)))
 
 -- what is to be read: a rule of the grammar, or the rest of a chain behind its first part
 pub data Goal : Type 0 where
@@ -118,7 +118,7 @@ sums_by r a S = got a S
 
 -- a test with no `not` and no bracket before it
 abbrev pub test_by : Readers → Reader Form
-test_by r (Balanced ∷ S) = after (opened_seat S) (λ q R. closing (balanced q) R)
+test_by r (Balanced ∷ S) = after (open_seat S) (λ q R. closing (balanced q) R)
 test_by r (Shape ∷ S) = after (seat_and_lengths S) (λ p R. got (shape p.0 p.1) R)
 test_by r (Pattern ∷ S) = after (seat_and_lengths S) (λ p R. got (pattern p.0 p.1) R)
 test_by r S = comparing_by r S

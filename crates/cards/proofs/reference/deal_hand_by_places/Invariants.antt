@@ -1,7 +1,7 @@
 use Rattle.std.proofs.Common.{◌≡◌, ℕ, ◌+◌, ◌-◌, ◌^◌, ◌<◌, cond}
 use Rattle.std.specs.Int.{bit_at}
-use Rattle.cards.specs.Exchanges.{IsTraced, stands_within}
-use Rattle.cards.proofs.shuffle.settle.Given as goal
+use Rattle.cards.specs.internal.Exchanges.{IsTraced, stands_within}
+use Rattle.cards.proofs.reference.deal_hand_by_places.Given as goal
 
 abbrev pub invariant-loop-k : goal.invariant-loop-k
 invariant-loop-k l = record {

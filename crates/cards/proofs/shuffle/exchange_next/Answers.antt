@@ -2,7 +2,7 @@ use Rattle.std.proofs.Common.{◌-◌, ◌∙◌, get_or, sym, ap, arith}
 use Rattle.cards.specs.Shuffle.{drawn_places}
 use Rattle.cards.proofs.Settling.{settled_card}
 use Rattle.cards.proofs.Dealings.{card-below, dealing_at, drawn_ok}
-use Rattle.cards.proofs.shuffle.exchange_drawn.Goals as goal
+use Rattle.cards.proofs.shuffle.exchange_next.Goals as goal
 
 pub returns-then-position-eq0-clause-below : goal.returns-then-position-eq0-clause-below
 returns-then-position-eq0-clause-below c = card-below c.args.pack.now 0 c.requires.whole (omega arith)

@@ -8,7 +8,7 @@ use Rattle.std.proofs.lemmas.Nat.Bits.{same_from_bits_below, bit_at-lt}
 use Rattle.std.proofs.lemmas.Simd.{mask_l-lt, bit_mask_l}
 use lib.Lanes.{mask_l}
 use Rattle.cards.specs.Shuffle.{pack}
-use Rattle.cards.specs.Masks.{cards_of_mask}
+use Rattle.cards.specs.internal.Masks.{cards_of_mask}
 
 pub test_bit : (b : ℕ) → b < 2 → cond (b == 1) 1 0 ≡ b
 test_bit b h = grind (arith, nat_tests)

@@ -1,4 +1,4 @@
--- What the scanner's own functions return. No public clause cites it.
+-- What the scanner's own functions return.
 use Rattle.std.specs.Prelude.{ℕ, suc, ◌==◌, nat_le, Bool, false, List, [], ◌∷◌, length, take, Option, Some, None, if◌then◌else◌}
 use Rattle.std.specs.Str.{bytes_eq}
 use Rattle.std.specs.Char.{is_ascii_lowercase, is_ascii_digit}

@@ -1,5 +1,5 @@
--- How a form is stored: as a tree of numbers that gives it back, by which proofs tell two forms apart. No public clause
--- cites it.
+-- How a form is stored: as a tree of numbers that gives it back, by which proofs tell two forms
+-- apart.
 use Rattle.std.specs.Prelude.{◌≡◌, ℕ, zero, suc, List, [], ◌∷◌, refl}
 use Rattle.std.proofs.Common.{sym, ap, ◌∙◌}
 use base.Stored.{Gv, gnil, gnum, gcons, Coded}
@@ -93,7 +93,8 @@ suit_from v = suit_of_number (number_of v)
 abbrev measure_from : Gv → Measure
 measure_from v = measure_of_number (number_of v)
 
--- each kind of value is its number and then its parts: a new kind has a line in each of the next three
+-- each kind of value is its number and then its parts: a new kind has a line in each of the next
+-- three
 abbrev amount_stored : Amount → Gv
 amount_stored (sum a b) = gcons (gnum 0) (gcons (amount_stored a) (amount_stored b))
 amount_stored (number n) = gcons (gnum 1) (gnum n)

@@ -4,7 +4,7 @@ use Rattle.std.proofs.lemmas.List.Sorted.{IsPermutation-swap, IsPermutation-tran
 use Rattle.cards.specs.Shuffle.{drawn_places}
 use Rattle.cards.proofs.Settling.{settled_card}
 use Rattle.cards.proofs.Dealings.{card-below, dealt_on, drawn_ok}
-use Rattle.cards.proofs.shuffle.exchange_by.Goals as goal
+use Rattle.cards.proofs.shuffle.exchange_with.Goals as goal
 
 pub returns-clause-whole : goal.returns-clause-whole
 returns-clause-whole c =

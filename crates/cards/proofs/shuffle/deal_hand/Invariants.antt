@@ -2,8 +2,8 @@ use Rattle.std.proofs.Common.{◌≡◌, ℕ, ◌+◌, ◌-◌, ◌*◌, ◌^◌
 use Rattle.std.specs.Int.{bit_at}
 use Rattle.std.specs.List.Sorted.{IsPermutation}
 use Rattle.cards.specs.Shuffle.{drawn_places, pack}
-use Rattle.cards.specs.Exchanges.{IsDealing, stands_within}
-use Rattle.cards.proofs.shuffle.settle_drawn.Given as goal
+use Rattle.cards.specs.internal.Exchanges.{IsDealing, stands_within}
+use Rattle.cards.proofs.shuffle.deal_hand.Given as goal
 
 abbrev pub invariant-loop-pair : goal.invariant-loop-pair
 invariant-loop-pair l = record {

@@ -5,8 +5,8 @@ use Rattle.lcg48.specs.Sequence.{state_after}
 use Rattle.cards.specs.Shuffle.{traced, card_at, pack, drawn_places}
 use Rattle.cards.specs.Deals.{position_of}
 
--- the cards while the exchanges for n + 1, .., 2 are to come: traced back through them, position i leads to where its
--- card stands now
+-- the cards while the exchanges for n + 1, .., 2 are to come: traced back through them, position i
+-- leads to where its card stands now
 pub record IsTraced (places cards : List ℕ) (n : ℕ) : Type 0 where
   pub whole : IsPermutation pack cards
   pub card : (i : ℕ) → i < 52 → slice_index cards (traced places i n) ≡ card_at places i

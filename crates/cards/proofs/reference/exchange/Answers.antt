@@ -1,10 +1,10 @@
 use Rattle.std.proofs.Common.{◌-◌, ◌<◌, ◌∙◌, get_or, sym, ap, arith, subst, length}
 use Rattle.std.proofs.lemmas.List.Edits.{swap_is, swapped_from_swap}
 use Rattle.std.proofs.lemmas.List.Sorted.{IsPermutation-swap}
-use Rattle.cards.specs.Exchanges.{IsTraced}
+use Rattle.cards.specs.internal.Exchanges.{IsTraced}
 use Rattle.cards.proofs.Settling.{traced_on, settled_card}
 use Rattle.cards.proofs.Tracing.{card_at-below}
-use Rattle.cards.proofs.shuffle.exchange.Goals as goal
+use Rattle.cards.proofs.reference.exchange.Goals as goal
 
 pub returns-then-position-eq0-clause-card : goal.returns-then-position-eq0-clause-card
 returns-then-position-eq0-clause-card c =

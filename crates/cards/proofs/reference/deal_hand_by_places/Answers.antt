@@ -1,7 +1,7 @@
 use Rattle.std.proofs.Common.{arith, subst}
-use Rattle.cards.specs.Exchanges.{IsTraced}
+use Rattle.cards.specs.internal.Exchanges.{IsTraced}
 use Rattle.cards.proofs.Settling.{one_settles_at, mask_fits, mask_settles_at}
-use Rattle.cards.proofs.shuffle.settle.Goals as goal
+use Rattle.cards.proofs.reference.deal_hand_by_places.Goals as goal
 
 pub loop-k-preserved : goal.loop-k-preserved
 loop-k-preserved c = record {

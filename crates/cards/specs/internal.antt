@@ -1,0 +1,5 @@
+-- What only bodies and lemmas use: no public clause names any of it.
+pub mod Masks
+pub mod MaskBits
+pub mod BalancedInOrder
+pub mod Exchanges

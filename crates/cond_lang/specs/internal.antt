@@ -1,0 +1,4 @@
+-- What only bodies and lemmas use: no public clause names any of it.
+pub mod FormCode
+pub mod Reading
+pub mod Scanning
