@@ -7,7 +7,8 @@ use Rattle.std.specs.Ordering.{nat_cmp, is_lt}
 use Rattle.std.proofs.lemmas.Bool.Decides.{nat_tests}
 use Rattle.std.proofs.lemmas.List.Elements.{All-get_or, All-contains}
 use Rattle.std.proofs.lemmas.List.Sorted.{IsPermutation-sym, IsPermutation-trans, IsPermutation-reverse, All-permutation, Contains-permutation, sum_by-IsPermutation}
-use Rattle.cards.specs.Hands.{is_rearrangement, is_balanced, IsBalanced}
+use Rattle.cards.specs.Hands.{is_rearrangement, is_balanced}
+use Rattle.cards.specs.Balanced.{IsBalanced}
 use Rattle.cards.specs.internal.BalancedInOrder.{IsBalancedInOrder}
 use Rattle.cards.proofs.Rearranging.{rearrangement_is_permutation}
 

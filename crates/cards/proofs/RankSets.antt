@@ -8,7 +8,8 @@ use Rattle.std.proofs.lemmas.Nat.{shr-shr}
 use Rattle.std.proofs.lemmas.Nat.Bits.{bit_at-lt, bit_at_and, bit_at_ones}
 use Rattle.cards.specs.declared.suit.Suit.{Suit}
 use Rattle.cards.specs.Pack.{suit_number}
-use Rattle.cards.specs.Hands.{holds_card, has_rank}
+use Rattle.cards.specs.Hands.{holds_card}
+use Rattle.cards.specs.Ranks.{has_rank}
 use Rattle.cards.specs.internal.Masks.{cards_of_mask}
 use Rattle.cards.proofs.MaskCounts.{card_at_mask}
 

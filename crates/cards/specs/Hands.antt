@@ -1,7 +1,6 @@
 -- A hand is the list of 52 truth values "this card is the seat's".
-use Rattle.std.specs.Prelude.{ℕ, zero, suc, ◌+◌, ◌*◌, ◌==◌, ◌&&◌, ◌||◌, ◌⊎◌, Bool, true, false, cond, List, [], ◌∷◌, map, count_by, slice_index_or}
+use Rattle.std.specs.Prelude.{ℕ, zero, suc, ◌+◌, ◌*◌, ◌==◌, ◌&&◌, ◌||◌, Bool, true, false, cond, List, [], ◌∷◌, map, count_by, slice_index_or}
 use Rattle.std.specs.List.{flat_map, list_any, range_with_len, sum_by}
-use Rattle.std.specs.List.Sorted.{IsPermutation}
 use Rattle.cards.specs.declared.seat.Seat.{Seat}
 use Rattle.cards.specs.declared.suit.Suit.{Suit}
 use Rattle.cards.specs.declared.suit.Suit.TheVariants.{Spades, Hearts, Diamonds, Clubs}
@@ -85,16 +84,3 @@ one_five = 5 ∷ 3 ∷ 3 ∷ 2 ∷ []
 abbrev pub is_balanced : List ℕ → Bool
 is_balanced shape =
     is_rearrangement shape flat || is_rearrangement shape two_fours || is_rearrangement shape one_five
-
--- the same as a fact
-abbrev pub IsBalanced : List ℕ → Type 0
-IsBalanced shape =
-    IsPermutation shape flat ⊎ IsPermutation shape two_fours ⊎ IsPermutation shape one_five
-
--- whether the hand has the rank of the suit
-abbrev pub has_rank : List Bool → Suit → ℕ → Bool
-has_rank hand suit rank = holds_card hand (13 * suit_number suit + rank)
-
--- which of the suit's thirteen ranks the hand has, the ace first
-abbrev pub ranks_of : List Bool → Suit → List Bool
-ranks_of hand suit = map (has_rank hand suit) (range_with_len 0 13)

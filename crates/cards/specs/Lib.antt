@@ -2,6 +2,8 @@ pub mod Pack
 pub mod Shuffle
 pub mod Deals
 pub mod Hands
+pub mod Balanced
+pub mod Ranks
 pub mod Candidates
 pub mod CandidateWalks
 pub mod internal

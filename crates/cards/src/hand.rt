@@ -4,7 +4,9 @@ ghost use Rattle.std.specs.Prelude.{◌≡◌, ℕ, ◌<◌, ◌≤◌, ◌^◌,
 ghost use Rattle.std.specs.Int.{bit_at};
 ghost use Rattle.cards.specs.Pack.{suit_number};
 ghost use Rattle.cards.specs.Hands.{points_of, points_in, total_of, total_in, length_of, shape_of};
-ghost use Rattle.cards.specs.Hands.{is_balanced, IsBalanced, has_rank, ranks_of};
+ghost use Rattle.cards.specs.Hands.{is_balanced};
+ghost use Rattle.cards.specs.Balanced.{IsBalanced};
+ghost use Rattle.cards.specs.Ranks.{has_rank, ranks_of};
 ghost use Rattle.cards.specs.internal.Masks.{cards_of_mask};
 ghost use Rattle.cards.specs.internal.BalancedInOrder.{IsBalancedInOrder};
 

@@ -4,7 +4,8 @@
 ghost use Rattle.std.specs.Prelude.{◌≡◌, ℕ, List, map, ◌↔◌, IsTrue};
 ghost use Rattle.std.specs.List.Sorted.{IsPermutation};
 ghost use Rattle.cards.specs.Shuffle.{IsPlaces, card_at, pack};
-ghost use Rattle.cards.specs.Hands.{is_rearrangement, is_balanced, IsBalanced};
+ghost use Rattle.cards.specs.Hands.{is_rearrangement, is_balanced};
+ghost use Rattle.cards.specs.Balanced.{IsBalanced};
 ghost use Rattle.cards.specs.Candidates.{candidate};
 ghost use Rattle.cards.specs.Deals.{IsPartition};
 

@@ -10,7 +10,8 @@ use Rattle.std.proofs.lemmas.Nat.Bits.{shr_and_one, bit_at-lt}
 use Rattle.cards.specs.declared.suit.Suit.{Suit}
 use Rattle.cards.specs.declared.suit.Suit.TheVariants.{Spades}
 use Rattle.cards.specs.Pack.{suit_number}
-use Rattle.cards.specs.Hands.{holds_card, has_rank, ranks_of}
+use Rattle.cards.specs.Hands.{holds_card}
+use Rattle.cards.specs.Ranks.{has_rank, ranks_of}
 use Rattle.pbn_text.specs.Games.{letters, suit_text}
 use Rattle.pbn_text.specs.internal.SuitTexts.{ranks_in, set_text, IsSuitText}
 use Rattle.pbn_text.proofs.Suits.{first_ranks, first_ranks-all, one_written, one_passed}

@@ -1,6 +1,7 @@
 use Rattle.std.proofs.Common.{◌↔◌, ◌∙◌, ap, arith, sym, subst}
 use Rattle.std.specs.Prelude.{IsTrue}
-use Rattle.cards.specs.Hands.{shape_of, is_balanced, IsBalanced}
+use Rattle.cards.specs.Hands.{shape_of, is_balanced}
+use Rattle.cards.specs.Balanced.{IsBalanced}
 use Rattle.cards.proofs.Balance.{balanced_by_sorting, balanced_is}
 use Rattle.cards.proofs.hand.Hand.balanced.Goals as goal
 
