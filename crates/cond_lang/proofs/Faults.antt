@@ -10,12 +10,16 @@ use Rattle.cond_lang.specs.declared.token.Token.TheVariants.{Number, Relation}
 use Rattle.cond_lang.specs.declared.token.Placed.{Placed}
 use Rattle.cond_lang.specs.declared.error.CondError.{CondError}
 use Rattle.cond_lang.specs.declared.token.Piece.TheVariants.{Token as TokenPiece}
-use Rattle.cond_lang.specs.Cut.{symbols, IsRun, IsPiece, number as number_piece, symbol, Pieces, IsCut, end, piece, HasTokens, HasFault}
+use Rattle.cond_lang.specs.Cut.{symbols, IsRun, IsPiece, number as number_piece, symbol, Pieces, IsCut, end, piece, HasTokens}
+use Rattle.cond_lang.specs.Faults.{HasFault}
 use Rattle.cond_lang.specs.Form.{Form, number, compare}
-use Rattle.cond_lang.specs.Grammar.{atom, a_number, both, unit, comparison, Spells, IsViable, IsFirstFault}
-use Rattle.cond_lang.specs.Place.{kinds, offset_of}
+use Rattle.cond_lang.specs.Grammar.{atom, a_number, both, unit, comparison, Spells}
+use Rattle.cond_lang.specs.Faults.{IsViable, IsFirstFault}
+use Rattle.cond_lang.specs.Text.{kinds}
+use Rattle.cond_lang.specs.Faults.{offset_of}
 use Rattle.cond_lang.specs.internal.Reading.{Outcome, got, stuck, whole}
-use Rattle.cond_lang.specs.Text.{SpellsTree, HasSyntaxFault}
+use Rattle.cond_lang.specs.Text.{SpellsTree}
+use Rattle.cond_lang.specs.Faults.{HasSyntaxFault}
 use Rattle.cond_lang.proofs.Cuts.{some_cut}
 use Rattle.cond_lang.proofs.Place.{first_fault, whole_all}
 use Rattle.cond_lang.proofs.Symbols.{fits}

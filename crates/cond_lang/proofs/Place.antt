@@ -4,11 +4,13 @@ use Rattle.std.proofs.lemmas.List.{length-map}
 use Rattle.cond_lang.specs.declared.token.Placed.{Placed}
 use Rattle.cond_lang.specs.declared.error.CondError.{CondError}
 use Rattle.cond_lang.specs.declared.error.CondError.TheVariants.{Syntax}
-use Rattle.cond_lang.specs.Place.{kinds, offset_of}
+use Rattle.cond_lang.specs.Text.{kinds}
+use Rattle.cond_lang.specs.Faults.{offset_of}
 use Rattle.std.proofs.Math.Seq.{take-append_seam, take-append-add}
 use Rattle.cond_lang.specs.declared.token.Token.{Token}
 use Rattle.cond_lang.specs.Form.{Form}
-use Rattle.cond_lang.specs.Grammar.{SpellsCond, Spells, IsViable, IsFirstFault}
+use Rattle.cond_lang.specs.Grammar.{SpellsCond, Spells}
+use Rattle.cond_lang.specs.Faults.{IsViable, IsFirstFault}
 use Rattle.cond_lang.specs.internal.Reading.{Outcome, got, stuck, Reader, after, front, a_cond, steps, reading, ended, whole}
 use Rattle.cond_lang.proofs.Sequences.{Reads, reads_after, gets_at_end, stops_at}
 use Rattle.cond_lang.proofs.Steps.{steps_reads}

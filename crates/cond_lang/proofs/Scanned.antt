@@ -6,7 +6,8 @@ use Rattle.cond_lang.specs.declared.token.Placed.{Placed}
 use Rattle.cond_lang.specs.declared.token.Piece.{Piece}
 use Rattle.cond_lang.specs.declared.token.Piece.TheVariants.{Separator, Token as TokenPiece}
 use Rattle.cond_lang.specs.declared.error.CondError.{CondError}
-use Rattle.cond_lang.specs.Cut.{Pieces, IsCut, end, piece, HasTokens, HasFault}
+use Rattle.cond_lang.specs.Cut.{Pieces, IsCut, end, piece, HasTokens}
+use Rattle.cond_lang.specs.Faults.{HasFault}
 use Rattle.cond_lang.specs.internal.Scanning.{piece_at}
 use Rattle.cond_lang.proofs.Cuts.{some_cut}
 use Rattle.cond_lang.proofs.Pieces.{only_piece}

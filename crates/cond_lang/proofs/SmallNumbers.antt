@@ -19,7 +19,7 @@ use Rattle.cond_lang.specs.Cut.{words, symbols, decimal, IsPiece, blank, word, n
 use Rattle.cond_lang.specs.Form.{Amount, Form, measured, suit_measured}
 use Rattle.cond_lang.specs.Grammar.{SpellsAtom, SpellsValue, atom, plus, a_number, measure, measure_in, len, SpellsCond, both, or, SpellsBoth, unit, and, SpellsUnit, not, brackets, comparison, is_balanced, has_shape, has_pattern, Spells}
 use Rattle.cond_lang.specs.Limits.{AddsNumbersUpTo, HasNumbersUpTo}
-use Rattle.cond_lang.specs.Place.{kinds}
+use Rattle.cond_lang.specs.Text.{kinds}
 use Rattle.cond_lang.proofs.Tables.{Table, EachEntry, at_entry}
 
 -- a number among the tokens is at most 9,999

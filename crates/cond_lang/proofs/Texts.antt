@@ -8,9 +8,11 @@ use Rattle.cond_lang.specs.declared.error.CondError.{CondError}
 use Rattle.cond_lang.specs.declared.error.CondError.TheVariants.{TooLong, Byte, Word, Number, Syntax, Memory}
 use Rattle.cond_lang.specs.Form.{Form}
 use Rattle.cond_lang.specs.Grammar.{Spells}
-use Rattle.cond_lang.specs.Place.{kinds}
-use Rattle.cond_lang.specs.Cut.{fault_at, bytes_of, HasTokens, HasFault}
-use Rattle.cond_lang.specs.Text.{SpellsTree, IsDue}
+use Rattle.cond_lang.specs.Text.{kinds}
+use Rattle.cond_lang.specs.Cut.{fault_at, HasTokens}
+use Rattle.cond_lang.specs.Faults.{bytes_of, HasFault}
+use Rattle.cond_lang.specs.Text.{SpellsTree}
+use Rattle.cond_lang.specs.Faults.{IsDue}
 use Rattle.cond_lang.proofs.Cuts.{one_cut}
 use Rattle.cond_lang.proofs.Spelled.{one_tree}
 use Rattle.cond_lang.proofs.Told.{told_from, tokens_told, fault_told}

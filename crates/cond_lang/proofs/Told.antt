@@ -8,7 +8,8 @@ use Rattle.cond_lang.specs.declared.token.Piece.{Piece}
 use Rattle.cond_lang.specs.declared.token.Piece.TheVariants.{Separator, Token as TokenPiece, StrayByte, UnknownWord, LongNumber}
 use Rattle.cond_lang.specs.declared.error.CondError.{CondError}
 use Rattle.cond_lang.specs.declared.error.CondError.TheVariants.{Byte, Word, Number}
-use Rattle.cond_lang.specs.Cut.{Pieces, IsCut, placed_from, token_at, fault_at, IsSound, tokens_of, bytes_of, HasTokens, HasFault}
+use Rattle.cond_lang.specs.Cut.{Pieces, IsCut, placed_from, token_at, fault_at, IsSound, tokens_of, HasTokens}
+use Rattle.cond_lang.specs.Faults.{bytes_of, HasFault}
 
 -- tokens, or a fault
 abbrev pub Told : Type 0

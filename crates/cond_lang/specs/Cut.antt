@@ -1,7 +1,7 @@
 -- A text is cut into pieces, each the longest that fits at its place: words, numbers, symbols,
 -- separators, and bytes that begin none of these.
 use Rattle.std.specs.Prelude.{◌≡◌, ℕ, ◌+◌, ◌*◌, ◌-◌, ◌<◌, ◌≤◌, Bool, true, false, ◌||◌, ◌==◌, List, [], ◌∷◌, ◌++◌, length, codes, fold, Option, Some, None, All, Contains}
-use Rattle.std.specs.List.{AllByRecursion, filter_map, sum_by}
+use Rattle.std.specs.List.{AllByRecursion, filter_map}
 use Rattle.std.specs.Char.{is_ascii_lowercase, is_ascii_digit}
 use Rattle.cards.specs.declared.measure.Measure.TheVariants.{Hcp, Controls}
 use Rattle.cards.specs.declared.seat.Seat.TheVariants.{North, East, South, West}
@@ -137,22 +137,9 @@ IsSound p = (at : ℕ) → fault_at at p.1 ≡ None
 abbrev pub tokens_of : Pieces → List Placed
 tokens_of ps = filter_map (λ p. token_at p.0 p.1) (placed_from 0 ps)
 
--- how many bytes the pieces have together
-abbrev pub bytes_of : Pieces → ℕ
-bytes_of ps = sum_by (λ p. length p.0) ps
-
 -- no piece of the text is faulty, and these are its tokens
 pub record HasTokens (text : List ℕ) (tokens : List Placed) : Type 0 where
   pub pieces : Pieces
   pub cut : IsCut text pieces
   pub clean : All IsSound pieces
   pub found : tokens ≡ tokens_of pieces
-
--- some pieces of the text are sound, and the one behind them has this fault
-pub record HasFault (text : List ℕ) (fault : CondError) : Type 0 where
-  pub before : Pieces
-  pub faulty : List ℕ × Piece
-  pub after : Pieces
-  pub cut : IsCut text (before ++ faulty ∷ after)
-  pub clean : All IsSound before
-  pub found : fault_at (bytes_of before) faulty.1 ≡ Some fault

@@ -6,7 +6,7 @@
 --     value = atom ( "+" atom )*
 --     atom  = number | measure "(" seat [ "," suit ] ")" | "len" "(" seat "," suit ")"
 -- Chains group to the left, and brackets leave no node.
-use Rattle.std.specs.Prelude.{◌≡◌, ℕ, ◌+◌, ◌<◌, ◌≤◌, List, [], ◌∷◌, ◌++◌, length, take}
+use Rattle.std.specs.Prelude.{ℕ, List, [], ◌∷◌, ◌++◌}
 use Rattle.cards.specs.declared.measure.Measure.{Measure as AMeasure}
 use Rattle.cards.specs.declared.seat.Seat.{Seat as ASeat}
 use Rattle.cards.specs.declared.suit.Suit.{Suit as ASuit}
@@ -85,15 +85,3 @@ SpellsCond = CondOf SpellsValue
 -- the whole list is one condition
 abbrev pub Spells : List Token → Form → Type 0
 Spells T t = SpellsCond T t
-
--- some list that begins with it spells a tree
-abbrev pub IsViable : List Token → Type 0
-IsViable T = (more : List Token) × (t : Form) × Spells (T ++ more) t
-
--- n is the first fault: the n tokens before it are viable, and with the next one they aren't; or
--- there is no next one, and the whole list spells nothing
-pub record IsFirstFault (T : List Token) (n : ℕ) : Type 0 where
-  pub within : n ≤ length T
-  pub before : IsViable (take n T)
-  pub with_it : n < length T → IsViable (take (n + 1) T) → ⊥
-  pub at_end : n ≡ length T → (t : Form) → Spells T t → ⊥

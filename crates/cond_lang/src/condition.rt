@@ -3,11 +3,12 @@
 ghost use Rattle.std.specs.Prelude.{◌≡◌, ◌<◌, ◌≤◌, ◌↔◌, length, IfOk, IfErr};
 ghost use Rattle.cond_lang.specs.declared.error.CondError.{CondError as Fault};
 ghost use Rattle.cond_lang.specs.declared.tree.Op.TheVariants.{Equal};
-ghost use Rattle.cond_lang.specs.Cut.{HasFault};
+ghost use Rattle.cond_lang.specs.Faults.{HasFault};
 ghost use Rattle.cond_lang.specs.Form.{Form, form_of, compare, number};
 ghost use Rattle.cond_lang.specs.Limits.{HasAtMostAtoms, HasNumbersUpTo};
 ghost use Rattle.cond_lang.specs.Meaning.{holds};
-ghost use Rattle.cond_lang.specs.Text.{SpellsTree, IsDue, IsUnlessMemory};
+ghost use Rattle.cond_lang.specs.Text.{SpellsTree};
+ghost use Rattle.cond_lang.specs.Faults.{IsDue, IsUnlessMemory};
 
 use crate::error::CondError;
 use crate::meaning;

@@ -5,7 +5,8 @@ ghost use Rattle.std.specs.Prelude.{◌≡◌, ◌≢◌, ◌≤◌, ◌⊎◌, 
 ghost use Rattle.cond_lang.specs.declared.token.Token.{Token as AToken};
 ghost use Rattle.cond_lang.specs.Form.{Form, amount_of, form_of, any_of, all_of, negation};
 ghost use Rattle.cond_lang.specs.Grammar.{Spells};
-ghost use Rattle.cond_lang.specs.Place.{kinds, offset_of, IsPlace};
+ghost use Rattle.cond_lang.specs.Text.{kinds};
+ghost use Rattle.cond_lang.specs.Faults.{offset_of, IsPlace};
 ghost use Rattle.cond_lang.specs.internal.Reading.{Gives, front, opened, closed, comma, dash, seat, suit, digits, relation};
 ghost use Rattle.cond_lang.specs.internal.Reading.{open_seat, comma_suit_close, rest_of_measure, lengths, seat_and_lengths, atom_of};
 ghost use Rattle.cond_lang.specs.internal.Reading.{reading, a_value, comparing_by, test_by, a_unit, a_both, a_cond, whole};

@@ -4,7 +4,8 @@
 ghost use Rattle.std.specs.Prelude.{◌≡◌, ◌<◌, ◌≤◌, length, map, true, IfOk, IfErr};
 ghost use Rattle.std.specs.List.{AllByRecursion};
 ghost use Rattle.std.specs.Char.{is_ascii_lowercase, is_ascii_digit};
-ghost use Rattle.cond_lang.specs.Cut.{HasTokens, HasFault, words, decimal, is_separator};
+ghost use Rattle.cond_lang.specs.Cut.{HasTokens, words, decimal, is_separator};
+ghost use Rattle.cond_lang.specs.Faults.{HasFault};
 ghost use Rattle.cond_lang.specs.internal.Scanning.{token_of, run, begins_with, symbol_at, word_piece, number_piece, piece_at};
 
 use crate::error::CondError;

@@ -1,7 +1,7 @@
 use Rattle.std.proofs.Common.{ap, ◌∙◌, arith, Err}
 use Rattle.std.proofs.lemmas.Result.{err_from_is_err_and}
 use Rattle.cond_lang.specs.Form.{form_of}
-use Rattle.cond_lang.specs.Place.{kinds}
+use Rattle.cond_lang.specs.Text.{kinds}
 use Rattle.cond_lang.proofs.Texts.{piece_too_long, piece_refused, piece_fault, piece_spelled, no_tokens, one_text_tree, its_tokens_spell, few_kinds}
 use Rattle.cond_lang.proofs.AtomCounts.{few_atoms}
 use Rattle.cond_lang.proofs.SmallNumbers.{small_numbers}

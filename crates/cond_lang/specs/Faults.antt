@@ -1,0 +1,73 @@
+-- Why a text is refused, and where.
+use Rattle.std.specs.Prelude.{◌≡◌, ℕ, ◌+◌, ◌<◌, ◌≤◌, List, ◌∷◌, ◌++◌, All, length, take, Option, Some, None, Result, MatchResult, slice_get}
+use Rattle.std.specs.List.{sum_by}
+use Rattle.cond_lang.specs.declared.token.Token.{Token}
+use Rattle.cond_lang.specs.declared.token.Placed.{Placed}
+use Rattle.cond_lang.specs.declared.token.Piece.{Piece}
+use Rattle.cond_lang.specs.declared.error.CondError.{CondError}
+use Rattle.cond_lang.specs.declared.error.CondError.TheVariants.{TooLong, Byte, Word, Number, Syntax, Memory}
+use Rattle.cond_lang.specs.Cut.{Pieces, IsCut, IsSound, fault_at, HasTokens}
+use Rattle.cond_lang.specs.Form.{Form}
+use Rattle.cond_lang.specs.Grammar.{Spells}
+use Rattle.cond_lang.specs.Text.{kinds}
+
+-- ---- faulty pieces
+
+-- how many bytes the pieces have together
+abbrev pub bytes_of : Pieces → ℕ
+bytes_of ps = sum_by (λ p. length p.0) ps
+
+-- some pieces of the text are sound, and the one after them has this fault
+pub record HasFault (text : List ℕ) (fault : CondError) : Type 0 where
+  pub before : Pieces
+  pub faulty : List ℕ × Piece
+  pub after : Pieces
+  pub cut : IsCut text (before ++ faulty ∷ after)
+  pub clean : All IsSound before
+  pub found : fault_at (bytes_of before) faulty.1 ≡ Some fault
+
+-- ---- tokens that spell no tree
+
+-- some list that begins with it spells a tree
+abbrev pub IsViable : List Token → Type 0
+IsViable T = (more : List Token) × (t : Form) × Spells (T ++ more) t
+
+-- n is the first fault: the n tokens before it are viable, and with the next one they aren't; or
+-- there is no next one, and the whole list spells nothing
+pub record IsFirstFault (T : List Token) (n : ℕ) : Type 0 where
+  pub within : n ≤ length T
+  pub before : IsViable (take n T)
+  pub with_it : n < length T → IsViable (take (n + 1) T) → ⊥
+  pub at_end : n ≡ length T → (t : Form) → Spells T t → ⊥
+
+-- the token's offset, or the end
+abbrev pub offset_or : Option Placed → ℕ → ℕ
+offset_or None end = end
+offset_or (Some s) end = s.at
+
+-- the offset of token n, or the end of the text
+abbrev pub offset_of : List Placed → ℕ → ℕ → ℕ
+offset_of placed end n = offset_or (slice_get placed n) end
+
+-- at is the offset of the first token that no condition goes on with, or the end
+abbrev pub IsPlace : List Placed → ℕ → ℕ → Type 0
+IsPlace placed end at = (n : ℕ) × IsFirstFault (kinds placed) n × (at ≡ offset_of placed end n)
+
+-- the text has no faulty piece, its tokens spell no tree, and this is where they go wrong
+pub record HasSyntaxFault (text : List ℕ) (at : ℕ) : Type 0 where
+  pub tokens : List Placed
+  pub cut : HasTokens text tokens
+  pub place : IsPlace tokens (length text) at
+
+-- a refusal is given only when it is due; memory can run out at any text
+abbrev pub IsDue : List ℕ → CondError → Type 0
+IsDue text TooLong = 1024 < length text
+IsDue text (Byte at) = HasFault text (Byte at)
+IsDue text (Word at) = HasFault text (Word at)
+IsDue text (Number at) = HasFault text (Number at)
+IsDue text (Syntax at) = HasSyntaxFault text at
+IsDue text Memory = Unit {0}
+
+-- the result is this tree, unless memory ran out
+abbrev pub IsUnlessMemory : Result Form CondError → Form → Type 0
+IsUnlessMemory result tree = MatchResult result (λ t. t ≡ tree) (λ e. e ≡ Memory)
