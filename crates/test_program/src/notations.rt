@@ -25,7 +25,7 @@ impl Digits {
 impl Notation for Digits {
     ghost layout = { λ _. record {
       header = codes "begin\n";
-      board = λ b. 48 + b.number % 10 ∷ 32 ∷ 48 + b.candidate % 10 ∷ 10 ∷ [];
+      board = λ b. (48 + b.number % 10) ∷ 32 ∷ (48 + b.candidate % 10) ∷ 10 ∷ [];
       footer = codes "end\n";
     } };
 
