@@ -26,7 +26,7 @@ use std::{hint, thread};
 const MAX_SPINS: usize = 4096;
 
 /// More workers than this and their writer are taken to be more threads than there are cores:
-/// whoever waits then lets the others run in place of spinning.
+/// a worker that waits then lets the others run instead of spinning.
 const FEW_WORKERS: u32 = 3;
 
 /// How many spins a verdict of the other end takes, about, so that a pause lasts about a lane's
