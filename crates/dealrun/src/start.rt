@@ -9,7 +9,7 @@ ghost use Rattle.dealrun.specs.MergedVerdicts.{verdicts_for};
 
 use crate::plan::Plan;
 use cond_lang::Cond;
-use lanes::{Gate, Job, LaneIn, LaneOut, Share, WorkEnd, lane, work};
+use lanes::{Gate, Job, LaneIn, LaneOut, Share, WorkEnd, lane_in_blocks, work};
 use std::alloc::{AllocError, Global};
 use std::snapshot::Snapshot;
 use std::sync::atomic::AtomicBool;
@@ -64,7 +64,7 @@ fn assign<R: Clone, G: Drop>(
     let Ok(cond) = cond.try_clone() else {
         return Err(AllocError);
     };
-    let Ok((sender, taker)) = lane(alloc, plan.capacity()) else {
+    let Ok((sender, taker)) = lane_in_blocks(alloc, plan.capacity()) else {
         return Err(AllocError);
     };
     let seed = plan.seed();

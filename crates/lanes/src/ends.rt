@@ -1,14 +1,18 @@
 //! The two ends of a lane, which is a bounded ring between one worker and the writer.
 
-ghost use Rattle.std.specs.Prelude.{◌≡◌, ◌+◌, ◌<◌, ◌≤◌, ◌↔◌, ◌⊎◌, [], ◌∷◌, ◌++◌, length, IsTrue, IsOk, IsSome, IsErrOf, OnOk, IfOk, IfErr, IfSome, IfNone, true, false};
+ghost use Rattle.std.specs.Prelude.{◌≡◌, ◌+◌, ◌*◌, ◌/◌, ◌<◌, ◌≤◌, ◌↔◌, ◌⊎◌, min, [], ◌∷◌, ◌++◌, length, IsTrue, IsOk, IsSome, IsErrOf, OnOk, IfOk, IfErr, IfSome, IfNone, true, false};
 ghost use Rattle.lanes.specs.declared.ends.LaneError.TheVariants.{Capacity, Memory};
 
+use crate::block::{Block, MAX_BLOCK};
 use crate::limits::MAX_CAPACITY;
 use crate::verdict::Verdict;
 use rtrb::{Consumer, Finished, Producer, RingBuffer};
 use std::alloc::Global;
 use std::marker::Model;
 use thiserror::Error;
+
+/// A block is the capacity divided by this: two blocks and the ring between them share it.
+const PARTS_WITH_A_BLOCK: usize = 4;
 
 /// Why there is no lane.
 #[derive(Debug, Drop, Error)]
@@ -26,9 +30,12 @@ pub enum LaneError {
 #[derive(Drop)]
 pub struct LaneIn {
     producer: Producer<Verdict>,
+    // How many candidates the worker judges before it sends their verdicts.
+    ahead: usize,
 }
 
 impl Model for LaneIn {
+    ghost use Rattle.std.specs.Prelude.{◌≤◌};
     ghost use Rattle.rtrb.specs.Ring.{sent, known_free};
     ghost use Rattle.lanes.specs.Ends.{InView};
     ghost use Rattle.lanes.specs.internal.Rings.{ring_of_producer};
@@ -40,6 +47,8 @@ impl Model for LaneIn {
       room = known_free l.producer;
       ring = ring_of_producer l.producer;
     } };
+
+    ghost invariant = { λ l. (1 ≤ l.ahead) × (l.ahead ≤ 16) };
 }
 
 /// What a closed sending end leaves. Contracts see all that was ever sent, and which ring it is.
@@ -66,24 +75,29 @@ impl Model for Closed {
 #[derive(Drop)]
 pub struct LaneOut {
     consumer: Consumer<Verdict>,
+    block: Block,
     settled: bool,
 }
 
 impl Model for LaneOut {
-    ghost use Rattle.std.specs.Prelude.{cond, [], length};
+    ghost use Rattle.std.specs.Prelude.{◌≡◌, ◌++◌, cond, [], length};
     ghost use Rattle.rtrb.specs.Ring.{received, known_items};
     ghost use Rattle.lanes.specs.Views.{OutView};
-    ghost use Rattle.lanes.specs.internal.Rings.{ring_of_consumer};
+    ghost use Rattle.lanes.specs.internal.Rings.{ring_of_consumer, without_last};
 
     ghost Value = { OutView };
 
+    // The block's verdicts are out of the ring and not yet taken.
     ghost view = { λ l. record {
-      taken = received l.consumer;
-      known = length (known_items l.consumer);
+      taken = without_last (length l.block) (received l.consumer);
+      known = length (l.block ++ known_items l.consumer);
       ring = ring_of_consumer l.consumer;
       settled = l.settled;
-      left = cond l.settled (known_items l.consumer) [];
+      left = cond l.settled (l.block ++ known_items l.consumer) [];
     } };
+
+    ghost invariant = { λ l. received l.consumer
+        ≡ without_last (length l.block) (received l.consumer) ++ l.block };
 }
 
 /// Makes a lane that holds at most `capacity` verdicts, and returns its two ends. It returns
@@ -94,15 +108,58 @@ pub fn lane(alloc: Global, capacity: u32) -> Result<(LaneIn, LaneOut), LaneError
     ensures sender { IfOk result (λ r. (r.0.sent ≡ []) × (r.0.room ≡ capacity)) }
     ensures taker { IfOk result (λ r. (r.1.taken ≡ []) × (r.1.settled ≡ false)) }
 {
+    ends_with_blocks(alloc, capacity, 0)
+}
+
+/// Makes a lane as `lane` does, whose ends handle blocks of verdicts: its worker judges a block of
+/// candidates before it sends their verdicts, and its writer takes a block out of the ring at once.
+///
+/// A block is a quarter of the capacity, at most 16 verdicts, and none below a capacity of 4. The
+/// ring is smaller by the two blocks, so that a worker with blocks is never more than `capacity`
+/// candidates ahead of the writer.
+pub fn lane_in_blocks(alloc: Global, capacity: u32) -> Result<(LaneIn, LaneOut), LaneError>
+    ensures capacity { IsErrOf result Capacity ↔ ((capacity ≡ 0) ⊎ (4096 < capacity)) }
+    ensures ring { IfOk result (λ r. r.0.ring ≡ r.1.ring) }
+    ensures sender { IfOk result (λ r. (r.0.sent ≡ [])
+        × (r.0.room + 2 * min 16 (capacity / 4) ≡ capacity)) }
+    ensures taker { IfOk result (λ r. (r.1.taken ≡ []) × (r.1.settled ≡ false)) }
+{
+    let block = capacity as usize / PARTS_WITH_A_BLOCK;
+    ends_with_blocks(alloc, capacity, block.min(MAX_BLOCK))
+}
+
+/// The two ends of a lane, each with blocks of so many verdicts, and the ring with the rest of the
+/// capacity.
+fn ends_with_blocks(
+    alloc: Global,
+    capacity: u32,
+    block: usize,
+) -> Result<(LaneIn, LaneOut), LaneError>
+    requires { (block ≤ 16) × (2 * block ≤ capacity) }
+    ensures capacity { IsErrOf result Capacity ↔ ((capacity ≡ 0) ⊎ (4096 < capacity)) }
+    ensures ring { IfOk result (λ r. r.0.ring ≡ r.1.ring) }
+    ensures sender { IfOk result (λ r. (r.0.sent ≡ [])
+        × (r.0.room + 2 * block ≡ capacity)) }
+    ensures taker { IfOk result (λ r. (r.1.taken ≡ []) × (r.1.settled ≡ false)) }
+{
     if capacity == 0 || capacity > MAX_CAPACITY {
         return Err(LaneError::Capacity);
     }
+    let slots = capacity as usize - 2 * block;
     // Making a ring is no event of the run's core.
-    let Ok((producer, consumer)) = RingBuffer::new(alloc, capacity as usize) else {
+    let Ok((producer, consumer)) = RingBuffer::new(alloc, slots) else {
         return Err(LaneError::Memory);
     };
-    let settled = false;
-    Ok((LaneIn { producer }, LaneOut { consumer, settled }))
+    let sender = LaneIn {
+        producer,
+        ahead: block.max(1),
+    };
+    let taker = LaneOut {
+        consumer,
+        block: Block::new(block),
+        settled: false,
+    };
+    Ok((sender, taker))
 }
 
 impl LaneIn {
@@ -155,9 +212,16 @@ impl LaneIn {
         self.producer.push_reserved(verdict);
     }
 
-    /// How many verdicts the lane may hold.
+    /// How many verdicts the ring holds at most.
     pub(crate) fn capacity(&self) -> usize {
         self.producer.capacity()
+    }
+
+    /// How many candidates the worker is to judge before it sends their verdicts.
+    pub(crate) fn ahead(&self) -> usize
+        ensures { (1 ≤ result) × (result ≤ 16) }
+    {
+        self.ahead
     }
 
     /// Closes the lane, and returns what tells all that was sent. It returns `None` if the other
@@ -165,7 +229,7 @@ impl LaneIn {
     pub fn close(self) -> Option<Closed>
         ensures { IfSome result (λ c. (c.sent ≡ self.sent) × (c.ring ≡ self.ring)) }
     {
-        let LaneIn { producer } = self;
+        let LaneIn { producer, .. } = self;
         // Giving up the producing end is the core's Close.
         let finished = producer.finish()?;
         Some(Closed { finished })
@@ -206,11 +270,14 @@ impl LaneOut {
         ensures all_left { self.old.settled ≡ true → (IsTrue result ↔ (0 < length self.old.left)) }
     {
         // To look for a verdict is no event of the core.
-        if self.settled {
-            self.consumer.cached_slots() > 0
-        } else {
-            !self.consumer.is_empty()
+        if !self.block.is_empty() {
+            return true;
         }
+        if self.settled {
+            return self.consumer.cached_slots() > 0;
+        }
+        self.block.fill(&mut self.consumer);
+        !self.block.is_empty() || !self.consumer.is_empty()
     }
 
     /// How many verdicts wait, as the lane stands now. Never blocks.
@@ -224,9 +291,9 @@ impl LaneOut {
     {
         // To look for a verdict is no event of the core.
         if self.settled {
-            return self.consumer.cached_slots();
+            return self.block.len() + self.consumer.cached_slots();
         }
-        self.consumer.slots()
+        self.block.len() + self.consumer.slots()
     }
 
     /// Takes the next verdict, which is known to wait. Never blocks.
@@ -237,8 +304,11 @@ impl LaneOut {
         ensures known { self.old.known ≡ self.new.known + 1 }
         ensures left { TakesOfLeft self.old result self.new }
     {
-        // A pop is the core's Take while the run goes on, and no event afterwards.
-        self.consumer.pop_known()
+        // This is the core's Take while the run goes on, and no event afterwards.
+        if self.block.is_empty() {
+            return self.consumer.pop_known();
+        }
+        self.block.take_first()
     }
 
     /// Settles the lane by what its closed end left, and returns how many verdicts are left to
@@ -255,7 +325,7 @@ impl LaneOut {
     {
         self.settled = true;
         // Settling is no event of the core.
-        self.consumer.slots_after(&mut closed.finished) as u64
+        (self.block.len() + self.consumer.slots_after(&mut closed.finished)) as u64
     }
 
     /// Whether the lane is settled. Then the verdicts known to wait are those that are left.
@@ -266,7 +336,7 @@ impl LaneOut {
         self.settled
     }
 
-    /// How many verdicts the lane may hold.
+    /// How many verdicts the ring holds at most.
     pub(crate) fn capacity(&self) -> usize {
         self.consumer.capacity()
     }

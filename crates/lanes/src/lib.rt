@@ -2,6 +2,7 @@
 //! the writer.
 #![tactic(auto)]
 
+mod block;
 mod ends;
 mod gate;
 pub mod laws;
@@ -13,7 +14,7 @@ mod verdict;
 mod wait;
 mod worker;
 
-pub use ends::{Closed, LaneError, LaneIn, LaneOut, lane};
+pub use ends::{Closed, LaneError, LaneIn, LaneOut, lane, lane_in_blocks};
 pub use gate::{Gate, OpenGate};
 pub use limits::{MAX_CAPACITY, MAX_WORKERS};
 pub use model::{Core, Event};

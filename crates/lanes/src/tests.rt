@@ -5,6 +5,7 @@ use cards::{Deal, Places};
 use cond_lang::Cond;
 use lcg48::Lcg48;
 use std::alloc::Global;
+use std::ops::Range;
 use std::process::Abort;
 use std::sync::Arc;
 use std::sync::atomic::{AtomicBool, Ordering};
@@ -62,6 +63,33 @@ fn capacities(rt: HostRuntime) {
 }
 
 #[test]
+fn capacities_with_blocks(rt: HostRuntime) -> Result<(), Fail> {
+    for capacity in [0, 4097] {
+        assert!(rt;
+            matches!(
+                lane_in_blocks(rt.alloc(), capacity),
+                Err(LaneError::Capacity)
+            )
+        );
+    }
+    // A capacity, and the room between the two blocks.
+    let rooms = [
+        (1, 1),
+        (3, 3),
+        (4, 2),
+        (9, 5),
+        (64, 32),
+        (65, 33),
+        (4096, 4064),
+    ];
+    for (capacity, room) in rooms {
+        let (mut sender, _taker) = lane_in_blocks(rt.alloc(), capacity)?;
+        assert_eq!(rt; sender.count_room(), room);
+    }
+    Ok(())
+}
+
+#[test]
 fn a_lane_of_one_verdict(rt: HostRuntime) -> Result<(), Fail> {
     let (mut sender, mut taker) = lane(rt.alloc(), 1)?;
     assert!(rt; sender.try_send(verdict(3)).is_ok());
@@ -92,6 +120,43 @@ fn what_is_known_to_wait(rt: HostRuntime) -> Result<(), Fail> {
     }
     assert!(rt; !taker.has_verdict());
     assert_eq!(rt; (sender.count_room(), taker.count_verdicts()), (2, 0));
+    Ok(())
+}
+
+/// Sends the verdicts on these candidates, and says whether there was room for all.
+fn send_all(sender: &mut LaneIn, numbers: Range<u64>) -> bool {
+    for number in numbers {
+        if sender.try_send(verdict(number)).is_err() {
+            return false;
+        }
+    }
+    true
+}
+
+/// Takes the verdicts on these candidates, and says whether they came in this order.
+fn take_all(taker: &mut LaneOut, numbers: Range<u64>) -> bool {
+    for number in numbers {
+        if !matches!(taker.take(), Some(taken) if taken.number == number) {
+            return false;
+        }
+    }
+    true
+}
+
+#[test]
+fn blocks_of_a_lane(rt: HostRuntime) -> Result<(), Fail> {
+    let (mut sender, mut taker) = lane_in_blocks(rt.alloc(), 64)?;
+    assert!(rt; send_all(&mut sender, 0..32));
+    assert!(rt; sender.try_send(verdict(32)).is_err());
+    // The writer has a block out of the ring, and then there is room for as much.
+    assert!(rt; take_all(&mut taker, 0..1));
+    assert_eq!(rt; (sender.count_room(), taker.count_verdicts()), (16, 31));
+    assert!(rt; send_all(&mut sender, 32..48));
+    assert!(rt; take_all(&mut taker, 1..20));
+    let mut closed = sender.close().ok_or("a closed lane")?;
+    assert_eq!(rt; taker.settle(&mut closed), 28);
+    assert!(rt; take_all(&mut taker, 20..48));
+    assert!(rt; taker.take().is_none());
     Ok(())
 }
 
@@ -155,6 +220,24 @@ fn a_stopped_share(rt: HostRuntime) -> Result<(), Fail> {
     assert!(rt; matches!(&end, WorkEnd::Stopped(_)));
     assert!(rt; stop.load(Ordering::SeqCst));
     assert!(rt; matches!(taker.take(), Some(taken) if taken.number == 6));
+    assert!(rt; taker.take().is_none());
+    Ok(())
+}
+
+/// Stops before the 21st verdict of a share, whose block has begun and is not sent to its end.
+#[test]
+fn a_share_stopped_within_a_block(rt: HostRuntime) -> Result<(), Fail> {
+    let (sender, mut taker) = lane_in_blocks(rt.alloc(), 64)?;
+    let gate = Arc::new(rt.alloc(), StopsAt(25))?;
+    let stop = Arc::new(rt.alloc(), AtomicBool::new(false))?;
+    let job = Job {
+        seed: 0,
+        share: Share::new(5, 30, 1, 0).ok_or("a share")?,
+        cond: Cond::any(rt.alloc()),
+    };
+    let end = work(&rt, job, sender, gate, stop);
+    assert!(rt; matches!(&end, WorkEnd::Stopped(_)));
+    assert!(rt; take_all(&mut taker, 5..25));
     assert!(rt; taker.take().is_none());
     Ok(())
 }

@@ -1,10 +1,14 @@
 //! A worker: it judges its share of the candidates and sends the verdicts into its lane.
 
-ghost use Rattle.std.specs.Prelude.{◌≡◌, [], ◌∷◌, ◌++◌, MatchBool};
+ghost use Rattle.std.specs.Prelude.{◌≡◌, ◌+◌, ◌*◌, ◌^◌, ◌<◌, ◌≤◌, [], ◌∷◌, ◌++◌, MatchBool, length, take};
+ghost use Rattle.std.specs.Prelude.{true, false};
+ghost use Rattle.cards.specs.CandidateWalks.{GoesOnAt};
 ghost use Rattle.lanes.specs.Jobs.{verdicts_of};
 ghost use Rattle.lanes.specs.Prefixes.{IsProperPrefix};
+ghost use Rattle.lanes.specs.Verdicts.{turns};
 ghost use Rattle.lanes.specs.Work.{Ends};
 
+use crate::block::MAX_BLOCK;
 use crate::ends::{Closed, LaneIn};
 use crate::gate::Gate;
 use crate::share::Job;
@@ -67,20 +71,68 @@ fn send_all<R: Wait, G: Gate>(
 {
     let first = job.share.first + u64::from(job.share.worker);
     let mut candidates = Candidates::new(job.seed, first, job.share.workers);
-    for place in 0..job.share.len() {
-        let number = job.share.at(place);
-        // A load of the stop flag is no event of the core.
-        if stop.load(Ordering::SeqCst) || !gate.pass(job.share.worker, number) {
+    let mut verdicts = [Verdict::of_no_candidate(); MAX_BLOCK];
+    let count = job.share.len();
+    let mut place = 0;
+    while place < count {
+        let ahead = (count - place).min(lane.ahead() as u64);
+        let block = &mut verdicts[..ahead as usize];
+        judge(job, &mut candidates, place, block);
+        if !send_block(rt, job, lane, gate, stop, block) {
             return false;
         }
+        place += ahead;
+    }
+    true
+}
+
+/// Judges the share's candidates from this place on, as many as the block has verdicts.
+fn judge(job: &Job, candidates: &mut Candidates, place: u64, block: &mut [Verdict])
+    requires fits { place + length block.old < 2 ^ 64 }
+    requires within { place + length block.old
+        ≤ turns job.now.share.workers job.now.share.worker job.now.share.count }
+    requires at { GoesOnAt candidates.old job.now.seed
+        (job.now.share.first + job.now.share.worker + place * job.now.share.workers)
+        job.now.share.workers }
+    ensures len { length block.new ≡ length block.old }
+    ensures at { GoesOnAt candidates.new job.now.seed
+        (job.now.share.first + job.now.share.worker
+        + (place + length block.old) * job.now.share.workers)
+        job.now.share.workers }
+    ensures block { take place (verdicts_of job.now) ++ block.new
+        ≡ take (place + length block.old) (verdicts_of job.now) }
+{
+    for i in 0..block.len() {
         let deal = candidates.next();
-        let accepted = job.cond.holds(&deal);
-        let verdict = Verdict {
-            number,
-            accepted,
+        block[i] = Verdict {
+            number: job.share.at(place + i as u64),
+            accepted: job.cond.holds(&deal),
             deal,
         };
-        if !send(rt, lane, &verdict, job.share.workers, stop) {
+    }
+}
+
+/// Asks the gate before each verdict of the block, and sends it. Returns false, and sends no more,
+/// if the gate returns false or the stop flag is up.
+fn send_block<R: Wait, G: Gate>(
+    rt: &R,
+    job: &Job,
+    lane: &mut LaneIn,
+    gate: &G,
+    stop: &AtomicBool,
+    block: &[Verdict],
+) -> bool
+    ensures ring { lane.new.ring ≡ lane.old.ring }
+    ensures all { result ≡ true → lane.new.sent ≡ lane.old.sent ++ block.now }
+    ensures some { result ≡ false → IsProperPrefix lane.new.sent (lane.old.sent ++ block.now) }
+{
+    for i in 0..block.len() {
+        let verdict = &block[i];
+        // A load of the stop flag is no event of the core.
+        if stop.load(Ordering::SeqCst) || !gate.pass(job.share.worker, verdict.number) {
+            return false;
+        }
+        if !send(rt, lane, verdict, job.share.workers, stop) {
             return false;
         }
     }

@@ -1,0 +1,35 @@
+-- The verdicts of a block, and those that were taken before them.
+use Rattle.std.proofs.Common.{ℕ, ◌+◌, ◌-◌, ◌≤◌, ◌<◌, ◌≡◌, List, [], ◌∷◌, ◌++◌, length, take, drop, sym, refl, ◌∙◌, ap, arith}
+use Rattle.std.proofs.lemmas.List.{length-drop, length-take-le, take_at}
+use Rattle.std.proofs.lemmas.List.{length-append, append_assoc}
+use Rattle.lanes.specs.declared.verdict.Verdict.{Verdict}
+use Rattle.lanes.specs.internal.Rings.{without_last}
+
+pub length_part : (s e : ℕ) (xs : List Verdict) → e ≤ length xs → length (drop s (take e xs)) ≡ e - s
+length_part s e xs le = length-drop s (take e xs) ∙ ap (λ n. n - s) (length-take-le e xs le)
+
+-- what comes before a list's last items
+pub before_last : (zs xs ys : List Verdict) → zs ≡ xs ++ ys → without_last (length ys) zs ≡ xs
+before_last zs xs ys e =
+    let n : length zs - length ys ≡ length xs = omega (arith, ap length e, length-append xs ys) in
+    ap (λ k. take k zs) n ∙ ap (take (length xs)) e ∙ take_at xs ys (length xs) refl
+
+-- the first verdict of a block follows those that were taken before
+pub first_is_next : (received block rest : List Verdict) (v : Verdict)
+    → received ≡ without_last (length block) received ++ block → block ≡ v ∷ rest
+    → received ≡ (without_last (length block) received ++ v ∷ []) ++ rest
+first_is_next received block rest v is first =
+    is ∙ ap (λ b. without_last (length block) received ++ b) first ∙ sym (append_assoc (without_last (length block) received) (v ∷ []) rest)
+
+pub taken_with_first : (received block rest : List Verdict) (v : Verdict)
+    → received ≡ without_last (length block) received ++ block → block ≡ v ∷ rest
+    → without_last (length rest) received ≡ without_last (length block) received ++ v ∷ []
+taken_with_first received block rest v is first =
+    before_last received (without_last (length block) received ++ v ∷ []) rest (first_is_next received block rest v is first)
+
+pub rest_is_last : (received block rest : List Verdict) (v : Verdict)
+    → received ≡ without_last (length block) received ++ block → block ≡ v ∷ rest
+    → received ≡ without_last (length rest) received ++ rest
+rest_is_last received block rest v is first =
+    first_is_next received block rest v is first
+    ∙ ap (λ xs. xs ++ rest) (sym (taken_with_first received block rest v is first))

@@ -1,0 +1,90 @@
+//! The verdicts that the writer has out of a lane's ring and has not yet taken.
+//!
+//! Each look at the ring may wait for memory that the worker wrote last, from one core to another.
+//! So the writer takes what is there out of the ring at once, up to a block.
+
+ghost use Rattle.std.specs.Prelude.{◌≡◌, ◌<◌, ◌≤◌, ◌↔◌, [], ◌∷◌, ◌++◌, length, IsTrue};
+ghost use Rattle.rtrb.specs.Ring.{received, known_items, SameConsumer};
+ghost use Rattle.lanes.specs.Prefixes.{IsPrefix};
+
+use crate::verdict::Verdict;
+use rtrb::Consumer;
+use std::marker::Model;
+
+/// The most verdicts that an end of a lane keeps beside its ring.
+pub(crate) const MAX_BLOCK: usize = 16;
+
+/// Up to `most` verdicts, which contracts see as the list of them, oldest first.
+#[derive(Drop)]
+pub(crate) struct Block {
+    verdicts: [Verdict; 16],
+    start: usize,
+    end: usize,
+    most: usize,
+}
+
+impl Model for Block {
+    ghost use Rattle.std.specs.Prelude.{◌≡◌, ◌≤◌, List, length, take, drop};
+    ghost use Rattle.lanes.specs.declared.verdict.Verdict.{Verdict};
+
+    ghost Value = { List Verdict };
+
+    ghost view = { λ b. drop b.start (take b.end b.verdicts) };
+
+    ghost invariant = { λ b.
+        (length b.verdicts ≡ 16) × (b.start ≤ b.end) × (b.end ≤ 16) × (b.most ≤ 16) };
+}
+
+impl Block {
+    /// No verdicts yet, and at most so many, 16 at most, from now on.
+    pub(crate) fn new(most: usize) -> Block
+        requires { most ≤ 16 }
+        ensures { result ≡ [] }
+    {
+        Block {
+            verdicts: [Verdict::of_no_candidate(); 16],
+            start: 0,
+            end: 0,
+            most,
+        }
+    }
+
+    /// How many verdicts there are.
+    #[tactic(auto, using(crate::proofs::Blocks::length_part))]
+    pub(crate) fn len(&self) -> usize
+        ensures len { result ≡ length self.now }
+        ensures few { result ≤ 16 }
+    {
+        self.end - self.start
+    }
+
+    /// Whether there is no verdict.
+    #[tactic(auto, using(crate::proofs::Blocks::length_part))]
+    pub(crate) fn is_empty(&self) -> bool
+        ensures { IsTrue result ↔ (length self.now ≡ 0) }
+    {
+        self.start == self.end
+    }
+
+    /// Takes the oldest verdict.
+    pub(crate) fn take_first(&mut self) -> Verdict
+        requires { 0 < length self.old }
+        ensures { self.old ≡ result ∷ self.new }
+    {
+        let verdict = self.verdicts[self.start];
+        self.start += 1;
+        verdict
+    }
+
+    /// Takes out of the ring what is there, up to a block. Never blocks.
+    pub(crate) fn fill(&mut self, consumer: &mut Consumer<Verdict>)
+        requires { self.old ≡ [] }
+        ensures ring { SameConsumer consumer.old consumer.new }
+        ensures received { received consumer.new ≡ received consumer.old ++ self.new }
+        ensures known { IsPrefix (known_items consumer.old)
+            (self.new ++ known_items consumer.new) }
+    {
+        self.start = 0;
+        self.end = consumer.pop_partial_slice(&mut self.verdicts[..self.most]);
+    }
+}
