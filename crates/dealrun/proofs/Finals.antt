@@ -77,7 +77,7 @@ owed_at plan form lists k d owes lt = ap (λ ls. get_or ls k d) owes ∙ get_or-
 module _ (plan : Planned) (form : Form) (n : ℕ) (lists : List (List Verdict)) (lanes : List OutView) (s u : Option ℕ) (all : n ≡ plan.workers) (owes : Owes plan form lists)
     (joined : JoinedAs n lists lanes s u) where
   pub joined_parts : ByNumber plan lanes (λ w l. l.settled ≡ true → IsPrefix (contents_of l) (verdicts_for plan form w))
-  joined_parts w e lt settled = subst (IsPrefix (contents_of (get_or lanes w e))) (owed_at plan form lists w [] owes lt) (joined.parts w [] e (omega (arith, lt, all)) settled)
+  joined_parts w e lt settled = subst (IsPrefix (contents_of (get_or lanes w e))) (owed_at plan form lists w [] owes lt) (joined.parts w [] e (omega (arith, lt, all)) settled).0
 
   pub joined_settled : u ≡ None → ByNumber plan lanes (λ w l. l.settled ≡ true)
   joined_settled none w e lt =
@@ -91,7 +91,7 @@ module _ (plan : Planned) (form : Form) (n : ℕ) (lists : List (List Verdict)) 
 
   pub all_whole : s ≡ None → u ≡ None → AllWhole plan form lanes
   all_whole none_s none_u w e lt =
-      let settled = joined_settled none_u w e lt in (settled, joined_whole none_s w e lt settled)
+      let settled = joined_settled none_u w e lt in (settled, joined_whole none_s w e lt settled, (joined.parts w [] e (omega (arith, lt, all)) settled).1)
 
   pub least_stopped : (w : ℕ) → s ≡ Some w → length lanes ≡ plan.workers → IsLeastStopped plan form lanes w
   least_stopped w is long =
@@ -159,7 +159,7 @@ not_started layout plan form n lists all idle lanes s u old some long few owes s
         elim (cases_lt w n) [
           | inl started ↦
               let mine : get_or lists w [] ≡ verdicts_for plan form w = ap (λ ls. get_or ls w []) some_of ∙ get_or-take n all w [] started ∙ owed_at plan form all w [] owes lt in
-              subst (IsPrefix (contents_of (get_or lanes w e))) mine (joined.parts w [] e started settled)
+              subst (IsPrefix (contents_of (get_or lanes w e))) mine (joined.parts w [] e started settled).0
           | inr not_so ↦ absurd (both_ways _ (rest w e not_so (omega (arith, lt, long))) settled)
         ]
 

@@ -36,11 +36,8 @@ impl Progress {
         ensures start { (result.taken ≡ 0) × (result.boards ≡ 0) }
         ensures workers { result.turns.workers ≡ plan.now.workers }
     {
-        let Some(turns) = Turns::new(plan.workers()) else {
-            unreachable!()
-        };
         Progress {
-            turns,
+            turns: Turns::at_start(plan.workers()),
             taken: 0,
             boards: 0,
         }
@@ -210,9 +207,7 @@ pub(crate) fn write_remaining<N: Notation, S: Sink>(
             return Ok(());
         }
         let lane = &mut lanes[progress.turns.lane() as usize];
-        let Some(verdict) = lane.take() else {
-            unreachable!()
-        };
+        let verdict = lane.take_known();
         progress.write(plan, notation, sink, &verdict)?;
     }
     Ok(())

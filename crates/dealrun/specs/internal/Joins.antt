@@ -1,6 +1,6 @@
 -- What is known of the lanes once their workers were joined, lane by lane: item k of a list is said
 -- of with any default, as `slice_index_or lanes k e`, where k is within the list.
-use Rattle.std.specs.Prelude.{◌≡◌, ◌<◌, ℕ, true, false, List, map, slice_index_or, Option, Some, None, MatchOption}
+use Rattle.std.specs.Prelude.{◌≡◌, ◌<◌, ℕ, true, false, List, length, map, slice_index_or, Option, Some, None, MatchOption}
 use Rattle.std.specs.List.{range_with_len}
 use Rattle.lanes.specs.declared.verdict.Verdict.{Verdict}
 use Rattle.lanes.specs.Views.{OutView}
@@ -12,10 +12,14 @@ use Rattle.dealrun.specs.Outcomes.{contents_of}
 use Rattle.dealrun.specs.declared.join.Outcome.{Outcome}
 use Rattle.dealrun.specs.declared.join.Outcome.TheVariants.{Done, Stopped, Unclosed}
 
+-- the verdicts that are known to wait are those that are left
+abbrev pub KnowsRest : OutView → Type 0
+KnowsRest l = l.known ≡ length l.left
+
 -- the lane of a worker that owed the verdicts `all`, before and after the worker was joined
 abbrev pub JoinsAs : List Verdict → OutView → OutView → Outcome → Type 0
-JoinsAs all old new Done = (new.settled ≡ true) × (contents_of new ≡ all)
-JoinsAs all old new Stopped = (new.settled ≡ true) × IsProperPrefix (contents_of new) all
+JoinsAs all old new Done = (new.settled ≡ true) × (contents_of new ≡ all) × KnowsRest new
+JoinsAs all old new Stopped = (new.settled ≡ true) × IsProperPrefix (contents_of new) all × KnowsRest new
 JoinsAs all old new Unclosed = new ≡ old
 
 -- P holds of each of the first n lanes and its worker's verdicts
@@ -23,7 +27,7 @@ abbrev pub Below : (List Verdict → OutView → Type 0) → ℕ → List (List 
 Below P n lists lanes = (k : ℕ) (d : List Verdict) (e : OutView) → k < n → P (slice_index_or lists k d) (slice_index_or lanes k e)
 
 abbrev pub PartIfSettled : List Verdict → OutView → Type 0
-PartIfSettled all l = l.settled ≡ true → IsPrefix (contents_of l) all
+PartIfSettled all l = l.settled ≡ true → IsPrefix (contents_of l) all × KnowsRest l
 
 abbrev pub WholeIfSettled : List Verdict → OutView → Type 0
 WholeIfSettled all l = l.settled ≡ true → contents_of l ≡ all
@@ -61,7 +65,7 @@ unclosed_after Unclosed w u = first_of u w
 
 -- a lane that is settled, of a worker that sent all
 abbrev pub IsWhole : List Verdict → OutView → Type 0
-IsWhole all l = (l.settled ≡ true) × (contents_of l ≡ all)
+IsWhole all l = (l.settled ≡ true) × (contents_of l ≡ all) × KnowsRest l
 
 -- these lists are what the workers of the plan owe
 abbrev pub Owes : Planned → Form → List (List Verdict) → Type 0
