@@ -12,6 +12,7 @@
 #![tactic(auto)]
 
 mod cause;
+mod ending;
 mod join;
 pub mod laws;
 mod next_board;
@@ -24,6 +25,7 @@ mod sink;
 mod start;
 mod testing;
 mod values;
+mod whole_text;
 mod writer;
 
 pub use cause::Cause;

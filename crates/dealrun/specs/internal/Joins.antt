@@ -4,22 +4,22 @@ use Rattle.std.specs.Prelude.{◌≡◌, ◌<◌, ℕ, true, false, List, length
 use Rattle.std.specs.List.{range_with_len}
 use Rattle.lanes.specs.declared.verdict.Verdict.{Verdict}
 use Rattle.lanes.specs.Views.{OutView}
+use Rattle.lanes.specs.declared.worker.WorkEnd.{WorkEnd}
+use Rattle.lanes.specs.declared.worker.WorkEnd.TheVariants.{Done, Stopped, Unclosed}
 use Rattle.lanes.specs.Prefixes.{IsPrefix, IsProperPrefix}
 use Rattle.cond_lang.specs.Form.{Form}
 use Rattle.dealrun.specs.Plans.{Planned}
 use Rattle.dealrun.specs.MergedVerdicts.{verdicts_for}
 use Rattle.dealrun.specs.Outcomes.{contents_of}
-use Rattle.dealrun.specs.declared.join.Outcome.{Outcome}
-use Rattle.dealrun.specs.declared.join.Outcome.TheVariants.{Done, Stopped, Unclosed}
 
 -- the verdicts that are known to wait are those that are left
 abbrev pub KnowsRest : OutView → Type 0
 KnowsRest l = l.known ≡ length l.left
 
 -- the lane of a worker that owed the verdicts `all`, before and after the worker was joined
-abbrev pub JoinsAs : List Verdict → OutView → OutView → Outcome → Type 0
-JoinsAs all old new Done = (new.settled ≡ true) × (contents_of new ≡ all) × KnowsRest new
-JoinsAs all old new Stopped = (new.settled ≡ true) × IsProperPrefix (contents_of new) all × KnowsRest new
+abbrev pub JoinsAs : List Verdict → OutView → OutView → WorkEnd → Type 0
+JoinsAs all old new (Done closed) = (new.settled ≡ true) × (contents_of new ≡ all) × KnowsRest new
+JoinsAs all old new (Stopped closed) = (new.settled ≡ true) × IsProperPrefix (contents_of new) all × KnowsRest new
 JoinsAs all old new Unclosed = new ≡ old
 
 -- P holds of each of the first n lanes and its worker's verdicts
@@ -53,14 +53,14 @@ abbrev pub first_of : Option ℕ → ℕ → Option ℕ
 first_of None w = Some w
 first_of (Some s) w = Some s
 
-abbrev pub stopped_after : Outcome → ℕ → Option ℕ → Option ℕ
-stopped_after Done w s = s
-stopped_after Stopped w s = first_of s w
+abbrev pub stopped_after : WorkEnd → ℕ → Option ℕ → Option ℕ
+stopped_after (Done closed) w s = s
+stopped_after (Stopped closed) w s = first_of s w
 stopped_after Unclosed w s = s
 
-abbrev pub unclosed_after : Outcome → ℕ → Option ℕ → Option ℕ
-unclosed_after Done w u = u
-unclosed_after Stopped w u = u
+abbrev pub unclosed_after : WorkEnd → ℕ → Option ℕ → Option ℕ
+unclosed_after (Done closed) w u = u
+unclosed_after (Stopped closed) w u = u
 unclosed_after Unclosed w u = first_of u w
 
 -- a lane that is settled, of a worker that sent all
@@ -78,3 +78,7 @@ ByNumber plan lanes P = (w : ℕ) (e : OutView) → w < plan.workers → P w (sl
 -- every lane is whole
 abbrev pub AllWhole : Planned → Form → List OutView → Type 0
 AllWhole plan form lanes = (w : ℕ) (e : OutView) → w < plan.workers → IsWhole (verdicts_for plan form w) (slice_index_or lanes w e)
+
+-- every lane is settled, and holds the first of its worker's verdicts
+abbrev pub AllParts : Planned → Form → List OutView → Type 0
+AllParts plan form lanes = (w : ℕ) (e : OutView) → w < plan.workers → ((slice_index_or lanes w e).settled ≡ true) × IsPrefix (contents_of (slice_index_or lanes w e)) (verdicts_for plan form w)
