@@ -1,7 +1,6 @@
 -- From the joins and the writer to what a run promises.
 use Rattle.std.proofs.Common.{◌≡◌, ◌≢◌, ◌<◌, ◌≤◌, ◌-◌, ◌⊎◌, ◌++◌, ℕ, true, false, List, [], All, map, take, length, get_or, Option, None, Some, MatchOption, Result, Ok, Err, MatchResult, OnOk, OnErr, IfOk, IfErr, arith, ap, ◌∙◌, sym, subst, refl, inl, inr}
-use Rattle.std.specs.Result.{is_err}
-use Rattle.std.proofs.lemmas.Bool.{cases_lt, both_ways, false≢true, true≢false}
+use Rattle.std.proofs.lemmas.Bool.{cases_lt, both_ways}
 use Rattle.std.proofs.lemmas.List.{get_or-map, length-map, get_or-take, take_all}
 use Rattle.std.proofs.lemmas.List.FromFn.{get_or-map-range_with_len}
 use Rattle.std.proofs.lemmas.Option.{slice_get-get_or}
@@ -14,13 +13,12 @@ use Rattle.lanes.proofs.Places.{turns-none}
 use Rattle.dealrun.specs.Plans.{Planned}
 use Rattle.dealrun.specs.Appended.{append_known}
 use Rattle.dealrun.specs.MergedVerdicts.{verdicts_for, taken_in_all}
-use Rattle.dealrun.specs.internal.Ends.{Completes}
 use Rattle.dealrun.specs.internal.Joins.{ByNumber, Owes, JoinedAs, Below, WholeIfSettled, IsSettled, BeginningAt, UnsettledAt, AllWhole}
 use Rattle.dealrun.specs.internal.Writing.{board_count, printed, TakenInTurn, StaysShort, WriterSoFar, WriterBrokeOff}
 use Rattle.dealrun.specs.Outcomes.{contents_of, AreLanesConsistent, BreaksOffLastPiece, IsLeastStopped, IsLeastUnclosed, InterruptedIn, BreaksOffFooter}
 use Rattle.dealrun.specs.declared.cause.Cause.{Cause}
 use Rattle.dealrun.specs.declared.cause.Cause.TheVariants.{Memory, Spawn}
-use Rattle.dealrun.proofs.Endings.{taken_total, stand, prefix_whole, each_number, each_lane, no_lane}
+use Rattle.dealrun.proofs.Endings.{taken_total, stand, each_number, each_lane, no_lane}
 
 -- lists that f cannot tell apart have elements that it cannot tell apart
 pub same_at : {A B : Type 0} (f : A → B) (xs ys : List A) (k : ℕ) (d : A) → map f xs ≡ map f ys → k < length ys → f (get_or xs k d) ≡ f (get_or ys k d)
@@ -77,7 +75,7 @@ owed_at plan form lists k d owes lt = ap (λ ls. get_or ls k d) owes ∙ get_or-
 module _ (plan : Planned) (form : Form) (n : ℕ) (lists : List (List Verdict)) (lanes : List OutView) (s u : Option ℕ) (all : n ≡ plan.workers) (owes : Owes plan form lists)
     (joined : JoinedAs n lists lanes s u) where
   pub joined_parts : ByNumber plan lanes (λ w l. l.settled ≡ true → IsPrefix (contents_of l) (verdicts_for plan form w))
-  joined_parts w e lt settled = subst (IsPrefix (contents_of (get_or lanes w e))) (owed_at plan form lists w [] owes lt) (joined.parts w [] e (omega (arith, lt, all)) settled)
+  joined_parts w e lt settled = subst (IsPrefix (contents_of (get_or lanes w e))) (owed_at plan form lists w [] owes lt) (joined.parts w [] e (omega (arith, lt, all)) settled).0
 
   pub joined_settled : u ≡ None → ByNumber plan lanes (λ w l. l.settled ≡ true)
   joined_settled none w e lt =
@@ -91,7 +89,7 @@ module _ (plan : Planned) (form : Form) (n : ℕ) (lists : List (List Verdict)) 
 
   pub all_whole : s ≡ None → u ≡ None → AllWhole plan form lanes
   all_whole none_s none_u w e lt =
-      let settled = joined_settled none_u w e lt in (settled, joined_whole none_s w e lt settled)
+      let settled = joined_settled none_u w e lt in (settled, joined_whole none_s w e lt settled, (joined.parts w [] e (omega (arith, lt, all)) settled).1)
 
   pub least_stopped : (w : ℕ) → s ≡ Some w → length lanes ≡ plan.workers → IsLeastStopped plan form lanes w
   least_stopped w is long =
@@ -128,9 +126,6 @@ stands_broken layout plan form lanes t boards old new some le parts h =
     let total = taken_total plan lanes t some h.in_turn in
     (stand plan form lanes t some le h.in_turn h.short parts, inl (subst (λ m. BreaksOffLastPiece layout plan lanes m boards old new) (sym total) h.broken))
 
-pub whole_parts : (plan : Planned) (form : Form) (lanes : List OutView) → AllWhole plan form lanes → ByNumber plan lanes (λ w l. l.settled ≡ true → IsPrefix (contents_of l) (verdicts_for plan form w))
-whole_parts plan form lanes whole w e lt settled = prefix_whole (contents_of (get_or lanes w e)) (verdicts_for plan form w) (whole w e lt).1
-
 -- a thread could not be started, when n were
 pub not_started : (layout : Layout) (plan : Planned) (form : Form) (n : ℕ) (lists all : List (List Verdict)) (idle lanes : List OutView) (s u : Option ℕ) (old : Option (List ℕ)) → 0 < plan.workers → length lanes ≡ plan.workers → n < plan.workers
     → Owes plan form all → lists ≡ take n all → JoinedAs n lists lanes s u → ((k : ℕ) (e : OutView) → n ≤ k → k < length lanes → (get_or lanes k e).settled ≡ false)
@@ -159,7 +154,7 @@ not_started layout plan form n lists all idle lanes s u old some long few owes s
         elim (cases_lt w n) [
           | inl started ↦
               let mine : get_or lists w [] ≡ verdicts_for plan form w = ap (λ ls. get_or ls w []) some_of ∙ get_or-take n all w [] started ∙ owed_at plan form all w [] owes lt in
-              subst (IsPrefix (contents_of (get_or lanes w e))) mine (joined.parts w [] e started settled)
+              subst (IsPrefix (contents_of (get_or lanes w e))) mine (joined.parts w [] e started settled).0
           | inr not_so ↦ absurd (both_ways _ (rest w e not_so (omega (arith, lt, long))) settled)
         ]
 
@@ -172,21 +167,9 @@ on_error r x P is h = subst (λ s. OnErr s P) is h
 pub on_ok : {A E : Type 0} (r : Result A E) (x : A) (P : Type 0) → r ≡ Ok x → OnOk r P → P
 on_ok r x P is h = subst (λ s. OnOk s P) is h
 
-pub if_err : {A E : Type 0} (r : Result A E) (P Q : E → Type 0) → ((x : E) → P x → Q x) → IfErr r P → IfErr r Q
-if_err (Ok x) P Q f h = h
-if_err (Err e) P Q f h = f e h
-
 pub if_ok : {A E : Type 0} (r : Result A E) (P Q : A → Type 0) → ((x : A) → P x → Q x) → IfOk r P → IfOk r Q
 if_ok (Ok x) P Q f h = f x h
 if_ok (Err e) P Q f h = h
-
-pub given_err : {A E : Type 0} (r : Result A E) (P : Type 0) → is_err r ≡ true → OnErr r P → P
-given_err (Ok x) P is h = absurd (false≢true is)
-given_err (Err e) P is h = h
-
-pub given_ok : {A E : Type 0} (r : Result A E) (P : Type 0) → is_err r ≡ false → OnOk r P → P
-given_ok (Ok x) P is h = h
-given_ok (Err e) P is h = absurd (true≢false is)
 
 -- what holds of a result either way
 pub either : {A E : Type 0} (r : Result A E) (P P' : A → Type 0) (Q Q' : E → Type 0) → ((x : A) → P x → P' x) → ((e : E) → Q e → Q' e) → IfOk r P → IfErr r Q → MatchResult r P' Q'
@@ -201,10 +184,6 @@ all_owe plan form n lists all some whole owes = some ∙ take_all n all (omega (
 pub so_far_at : {plan : Planned} {lanes : List OutView} {t boards : ℕ} {old new : Option (List ℕ)} (layout now : Layout) → now ≡ layout
     → WriterSoFar layout plan lanes t boards old new → WriterSoFar now plan lanes t boards old new
 so_far_at {plan} {lanes} {t} {boards} {old} {new} layout now same h = subst (λ l. WriterSoFar l plan lanes t boards old new) (sym same) h
-
-pub completes_at : (layout now : Layout) (plan : Planned) (form : Form) (lanes : List OutView) (boards : ℕ) (old new : Option (List ℕ)) → now ≡ layout
-    → Completes now plan form lanes boards old new → Completes layout plan form lanes boards old new
-completes_at layout now plan form lanes boards old new same h = subst (λ l. Completes l plan form lanes boards old new) same h
 
 pub interrupted_at : (layout now : Layout) (plan : Planned) (form : Form) (cause : Cause) (lanes : List OutView) (boards : ℕ) (old new : Option (List ℕ)) → now ≡ layout
     → InterruptedIn now plan form cause lanes boards old new → InterruptedIn layout plan form cause lanes boards old new

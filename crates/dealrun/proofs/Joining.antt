@@ -5,8 +5,8 @@ use Rattle.std.proofs.lemmas.List.{get_or-set_same, get_or-set_other, get_or-dro
 use Rattle.lanes.specs.declared.verdict.Verdict.{Verdict}
 use Rattle.lanes.specs.Views.{OutView}
 use Rattle.lanes.specs.Prefixes.{IsProperPrefix, IsPrefix}
-use Rattle.dealrun.specs.declared.join.Outcome.{Outcome}
-use Rattle.dealrun.specs.declared.join.Outcome.TheVariants.{Done, Stopped, Unclosed}
+use Rattle.lanes.specs.declared.worker.WorkEnd.{WorkEnd}
+use Rattle.lanes.specs.declared.worker.WorkEnd.TheVariants.{Done, Stopped, Unclosed}
 use Rattle.dealrun.specs.Outcomes.{contents_of}
 use Rattle.dealrun.specs.internal.Joins.{JoinsAs, Below, PartIfSettled, WholeIfSettled, IsSettled, BeginningAt, UnsettledAt, JoinedAs, stopped_after, unclosed_after}
 
@@ -37,12 +37,12 @@ pub part_of_whole : (xs ys : List Verdict) → xs ≡ ys → IsPrefix xs ys
 part_of_whole xs ys is = grind (arith, common_steps)
 
 module _ (n : ℕ) (lists : List (List Verdict)) (lanes : List OutView) (all : List Verdict) (old new : OutView) (short : n < length lanes) (at : (d : List Verdict) → get_or lists n d ≡ all) (unsettled : old.settled ≡ false) where
-  parts_here : (how : Outcome) → JoinsAs all old new how → PartIfSettled all new
-  parts_here Done joins settled = part_of_whole _ _ joins.1
-  parts_here Stopped joins settled = joins.1.0
+  parts_here : (how : WorkEnd) → JoinsAs all old new how → PartIfSettled all new
+  parts_here (Done closed) joins settled = (part_of_whole _ _ joins.1, joins.2)
+  parts_here (Stopped closed) joins settled = (joins.1.0, joins.2)
   parts_here Unclosed joins settled = cc
 
-  parts_step : (how : Outcome) → JoinsAs all old new how → Below PartIfSettled n lists lanes → Below PartIfSettled (n + 1) lists (set lanes n new)
+  parts_step : (how : WorkEnd) → JoinsAs all old new how → Below PartIfSettled n lists lanes → Below PartIfSettled (n + 1) lists (set lanes n new)
   parts_step how joins h = more_below PartIfSettled n lists lanes new short h (λ d. subst (λ xs. PartIfSettled xs new) (sym (at d)) (parts_here how joins))
 
   beginning_kept : (s : ℕ) → s < n → BeginningAt s lists lanes → BeginningAt s lists (set lanes n new)
@@ -52,32 +52,32 @@ module _ (n : ℕ) (lists : List (List Verdict)) (lanes : List OutView) (all : L
   unsettled_kept : (s : ℕ) → s < n → UnsettledAt s lanes → UnsettledAt s (set lanes n new)
   unsettled_kept s lt h e = subst (λ l. l.settled ≡ false) (sym (get_or-set_other lanes n s new e (omega arith))) (h e)
 
-  stopped_step : (how : Outcome) (s : Option ℕ) → JoinsAs all old new how
+  stopped_step : (how : WorkEnd) (s : Option ℕ) → JoinsAs all old new how
       → MatchOption s (Below WholeIfSettled n lists lanes) (λ s. (s < n) × Below WholeIfSettled s lists lanes × BeginningAt s lists lanes)
       → MatchOption (stopped_after how n s) (Below WholeIfSettled (n + 1) lists (set lanes n new)) (λ s. (s < n + 1) × Below WholeIfSettled s lists (set lanes n new) × BeginningAt s lists (set lanes n new))
-  stopped_step Done None joins h = more_below WholeIfSettled n lists lanes new short h (λ d _. joins.1 ∙ sym (at d))
-  stopped_step Stopped None joins h = (
+  stopped_step (Done closed) None joins h = more_below WholeIfSettled n lists lanes new short h (λ d _. joins.1 ∙ sym (at d))
+  stopped_step (Stopped closed) None joins h = (
     omega arith,
     below_kept WholeIfSettled n lists lanes new short n (omega arith) h,
     λ d e. subst (λ l. (l.settled ≡ true) × IsProperPrefix (contents_of l) (get_or lists n d)) (sym (get_or-set_same lanes n new e short)) (joins.0, subst (IsProperPrefix (contents_of new)) (sym (at d)) joins.1),
   )
   stopped_step Unclosed None joins h = more_below WholeIfSettled n lists lanes new short h (λ d settled. cc)
-  stopped_step Done (Some s) joins h = (omega arith, below_kept WholeIfSettled n lists lanes new short s (omega arith) h.1, beginning_kept s h.0 h.2)
-  stopped_step Stopped (Some s) joins h = (omega arith, below_kept WholeIfSettled n lists lanes new short s (omega arith) h.1, beginning_kept s h.0 h.2)
+  stopped_step (Done closed) (Some s) joins h = (omega arith, below_kept WholeIfSettled n lists lanes new short s (omega arith) h.1, beginning_kept s h.0 h.2)
+  stopped_step (Stopped closed) (Some s) joins h = (omega arith, below_kept WholeIfSettled n lists lanes new short s (omega arith) h.1, beginning_kept s h.0 h.2)
   stopped_step Unclosed (Some s) joins h = (omega arith, below_kept WholeIfSettled n lists lanes new short s (omega arith) h.1, beginning_kept s h.0 h.2)
 
-  unclosed_step : (how : Outcome) (u : Option ℕ) → JoinsAs all old new how
+  unclosed_step : (how : WorkEnd) (u : Option ℕ) → JoinsAs all old new how
       → MatchOption u (Below IsSettled n lists lanes) (λ u. (u < n) × Below IsSettled u lists lanes × UnsettledAt u lanes)
       → MatchOption (unclosed_after how n u) (Below IsSettled (n + 1) lists (set lanes n new)) (λ u. (u < n + 1) × Below IsSettled u lists (set lanes n new) × UnsettledAt u (set lanes n new))
-  unclosed_step Done None joins h = more_below IsSettled n lists lanes new short h (λ d. joins.0)
-  unclosed_step Stopped None joins h = more_below IsSettled n lists lanes new short h (λ d. joins.0)
+  unclosed_step (Done closed) None joins h = more_below IsSettled n lists lanes new short h (λ d. joins.0)
+  unclosed_step (Stopped closed) None joins h = more_below IsSettled n lists lanes new short h (λ d. joins.0)
   unclosed_step Unclosed None joins h =
       (omega arith, below_kept IsSettled n lists lanes new short n (omega arith) h, λ e. subst (λ l. l.settled ≡ false) (sym (get_or-set_same lanes n new e short)) (ap (λ l. l.settled) joins ∙ unsettled))
-  unclosed_step Done (Some u) joins h = (omega arith, below_kept IsSettled n lists lanes new short u (omega arith) h.1, unsettled_kept u h.0 h.2)
-  unclosed_step Stopped (Some u) joins h = (omega arith, below_kept IsSettled n lists lanes new short u (omega arith) h.1, unsettled_kept u h.0 h.2)
+  unclosed_step (Done closed) (Some u) joins h = (omega arith, below_kept IsSettled n lists lanes new short u (omega arith) h.1, unsettled_kept u h.0 h.2)
+  unclosed_step (Stopped closed) (Some u) joins h = (omega arith, below_kept IsSettled n lists lanes new short u (omega arith) h.1, unsettled_kept u h.0 h.2)
   unclosed_step Unclosed (Some u) joins h = (omega arith, below_kept IsSettled n lists lanes new short u (omega arith) h.1, unsettled_kept u h.0 h.2)
 
-  pub join_step : (how : Outcome) (s u : Option ℕ) → JoinsAs all old new how → JoinedAs n lists lanes s u
+  pub join_step : (how : WorkEnd) (s u : Option ℕ) → JoinsAs all old new how → JoinedAs n lists lanes s u
       → JoinedAs (n + 1) lists (set lanes n new) (stopped_after how n s) (unclosed_after how n u)
   join_step how s u joins h = record {
     parts = parts_step how joins h.parts;
@@ -85,7 +85,7 @@ module _ (n : ℕ) (lists : List (List Verdict)) (lanes : List OutView) (all : L
     unclosed_is = unclosed_step how u joins h.unclosed_is;
   }
 
-  pub join_step_to : (how : Outcome) (s u s' u' : Option ℕ) → JoinsAs all old new how → JoinedAs n lists lanes s u → s' ≡ stopped_after how n s → u' ≡ unclosed_after how n u
+  pub join_step_to : (how : WorkEnd) (s u s' u' : Option ℕ) → JoinsAs all old new how → JoinedAs n lists lanes s u → s' ≡ stopped_after how n s → u' ≡ unclosed_after how n u
       → JoinedAs (n + 1) lists (set lanes n new) s' u'
   join_step_to how s u s' u' joins h same_s same_u =
       subst (λ x. JoinedAs (n + 1) lists (set lanes n new) x u') (sym same_s)

@@ -11,3 +11,4 @@ pub mod Wholes
 pub mod Accepting
 pub mod Endings
 pub mod Finals
+pub mod Causes

@@ -2,13 +2,9 @@
 use Rattle.std.proofs.Common.{◌≡◌, ◌∙◌, ◌<◌, ◌≤◌, ◌+◌, ◌*◌, ◌++◌, ℕ, Bool, true, false, List, [], ◌∷◌, length, take, Option, Some, None, refl, sym, ap, subst, arith, append_assoc, length-append}
 use Rattle.std.proofs.lemmas.List.{append-nil, take_all}
 use Rattle.std.proofs.Math.Seq.{take-append_seam}
-use Rattle.lcg48.specs.Sequence.{seeded_state, state_after}
-use Rattle.lcg48.proofs.Walks.{state_after-add}
 use Rattle.boards.specs.Layouts.{Layout}
 use Rattle.cards.specs.declared.seat.Seat.{Seat}
-use Rattle.cards.specs.Candidates.{candidate, state_before}
-use Rattle.cards.specs.Deals.{dealt}
-use Rattle.cards.specs.Shuffle.{drawn_places}
+use Rattle.cards.specs.Candidates.{candidate}
 use Rattle.cond_lang.specs.Form.{Form}
 use Rattle.cond_lang.specs.Meaning.{holds}
 use Rattle.dealrun.specs.Plans.{Planned}
@@ -36,15 +32,6 @@ running_none layout plan form base now text is e = record {
   within = nothing_within plan.limit;
   bytes = e ∙ ap (append_known base) (is ∙ sym (ap (text_of layout plan) (accepted_among-none plan.seed plan.first form) ∙ text_of-none layout plan));
 }
-
--- the deal of the next candidate
-pub next_deal : (plan : Planned) (i x : ℕ) (deal : List Seat) → x ≡ state_before plan.seed (plan.first + i) → deal ≡ dealt (drawn_places x) → deal ≡ candidate plan.seed (plan.first + i)
-next_deal plan i x deal is dealt_is = dealt_is ∙ ap (λ s. dealt (drawn_places s)) is
-
-pub next_generator : (seed k j x y : ℕ) → x ≡ state_before seed k → y ≡ state_after x 51 → j ≡ k + 1 → y ≡ state_before seed j
-next_generator seed k j x y is stepped next =
-    let n : 51 * k + 51 ≡ 51 * j = omega arith in
-    stepped ∙ ap (λ s. state_after s 51) is ∙ state_after-add (seeded_state seed) (51 * k) 51 ∙ ap (state_after (seeded_state seed)) n
 
 test_of : (form : Form) (deal other : List Seat) (b : Bool) → deal ≡ other → b ≡ holds form deal → holds form other ≡ b
 test_of form deal other b is e = ap (holds form) (sym is) ∙ sym e

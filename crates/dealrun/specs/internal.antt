@@ -3,3 +3,4 @@ pub mod Handles
 pub mod Joins
 pub mod Writing
 pub mod Ends
+pub mod Causes

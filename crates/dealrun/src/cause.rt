@@ -1,5 +1,10 @@
 //! Why a run was interrupted.
 
+ghost use Rattle.std.specs.Prelude.{◌≡◌};
+ghost use Rattle.dealrun.specs.declared.cause.Cause.TheVariants.{Output};
+
+use crate::sink::SinkFault;
+
 /// Why a run did not write all that its plan asks for. If there are several causes, the first in
 /// this order.
 #[derive(Clone, Copy, Debug, PartialEq, Eq)]
@@ -14,4 +19,12 @@ pub enum Cause {
     Stopped { worker: u32 },
     /// A lane can't say how it ended: that of the least such worker.
     Unclosed { worker: u32 },
+}
+
+impl From<SinkFault> for Cause {
+    ghost from_gives = { λ _ cause. cause ≡ Output };
+
+    fn from(_fault: SinkFault) -> Cause {
+        Cause::Output
+    }
 }

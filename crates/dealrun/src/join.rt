@@ -3,19 +3,10 @@
 ghost use Rattle.std.specs.Prelude.{◌≡◌, ◌+◌, ◌<◌, ◌≤◌, ℕ, All, map, take, vec_len, slice_index_or};
 ghost use Rattle.std.specs.Prelude.{false};
 ghost use Rattle.lanes.specs.Jobs.{verdicts_of};
-ghost use Rattle.dealrun.specs.declared.join.Outcome.TheVariants.{Done, Stopped, Unclosed};
 
 use crate::start::Started;
 use lanes::{LaneOut, WorkEnd};
 use std::thread::Threads;
-
-/// How a worker ended, as the join finds it: its lane is settled unless it is `Unclosed`.
-#[derive(Clone, Copy, Drop)]
-pub(crate) enum Outcome {
-    Done,
-    Stopped,
-    Unclosed,
-}
 
 /// The least worker that was stopped, and the least whose lane was not closed.
 #[derive(Clone, Copy, Drop)]
@@ -36,14 +27,15 @@ impl Joined {
         }
     }
 
-    fn record(&mut self, worker: u32, outcome: Outcome)
-        ensures stopped { self.new.stopped ≡ stopped_after outcome worker self.old.stopped }
-        ensures unclosed { self.new.unclosed ≡ unclosed_after outcome worker self.old.unclosed }
+    /// Notes how a worker ended. Workers are noted in the order of their numbers.
+    fn record(&mut self, worker: u32, end: WorkEnd)
+        ensures stopped { self.new.stopped ≡ stopped_after end worker self.old.stopped }
+        ensures unclosed { self.new.unclosed ≡ unclosed_after end worker self.old.unclosed }
     {
-        match outcome {
-            Outcome::Done => {}
-            Outcome::Stopped => self.stopped = self.stopped.or(Some(worker)),
-            Outcome::Unclosed => self.unclosed = self.unclosed.or(Some(worker)),
+        match end {
+            WorkEnd::Done(_) => {}
+            WorkEnd::Stopped(_) => self.stopped = self.stopped.or(Some(worker)),
+            WorkEnd::Unclosed => self.unclosed = self.unclosed.or(Some(worker)),
         }
     }
 }
@@ -52,7 +44,7 @@ ghost use Rattle.dealrun.specs.internal.Handles.{owed_by};
 ghost use Rattle.dealrun.specs.internal.Joins.{JoinsAs, JoinedAs};
 
 /// Joins a worker, and settles its lane if it was closed.
-fn join_one<R: Threads>(rt: &R, handle: Started, lane: &mut LaneOut) -> Outcome
+fn join_one<R: Threads>(rt: &R, handle: Started, lane: &mut LaneOut) -> WorkEnd
     requires { handle.promise.lane.value.ring ≡ lane.old.ring }
     ensures same { (lane.new.ring ≡ lane.old.ring) × (lane.new.taken ≡ lane.old.taken) }
     ensures joined { JoinsAs (verdicts_of handle.promise.job.value) lane.old lane.new result }
@@ -60,13 +52,13 @@ fn join_one<R: Threads>(rt: &R, handle: Started, lane: &mut LaneOut) -> Outcome
     match handle.join(rt) {
         WorkEnd::Done(mut closed) => {
             lane.settle(&mut closed);
-            Outcome::Done
+            WorkEnd::Done(closed)
         }
         WorkEnd::Stopped(mut closed) => {
             lane.settle(&mut closed);
-            Outcome::Stopped
+            WorkEnd::Stopped(closed)
         }
-        WorkEnd::Unclosed => Outcome::Unclosed,
+        WorkEnd::Unclosed => WorkEnd::Unclosed,
     }
 }
 
@@ -93,8 +85,8 @@ pub(crate) fn join_all<R: Threads>(
     let mut worker = 0u32;
     for handle in handles {
         let lane = &mut lanes[worker as usize];
-        let outcome = join_one(rt, handle, lane);
-        joined.record(worker, outcome);
+        let end = join_one(rt, handle, lane);
+        joined.record(worker, end);
         worker += 1;
     }
     joined

@@ -7,20 +7,11 @@ ghost use Rattle.dealrun.specs.Plans.{refusal_of};
 ghost use Rattle.dealrun.specs.Text.{board_of};
 
 use boards::Board;
-use cards::Deal;
+use cards::{Deal, MAX_CANDIDATES};
+use lanes::{MAX_CAPACITY, MAX_WORKERS};
 use pbn_text::Heading;
 use std::marker::Model;
 use thiserror::Error;
-
-/// How many candidates a seed has. Each takes 51 draws, so that they stay below the generator's
-/// 2^48 states.
-const MAX_CANDIDATES: u64 = 1 << 40;
-
-/// The greatest number of workers, and of lanes.
-const MAX_WORKERS: u32 = 16;
-
-/// The greatest number of verdicts that a lane holds.
-const MAX_CAPACITY: u32 = 4096;
 
 /// Why there is no such plan.
 #[derive(Clone, Copy, Debug, PartialEq, Eq, Error)]

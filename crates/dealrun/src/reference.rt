@@ -1,8 +1,7 @@
 //! The reference run: one thread and no lane, written as the definition of the text reads. It runs
 //! in tests alone, and the run over lanes is compared with it.
 
-ghost use Rattle.std.specs.Prelude.{◌≡◌, ◌+◌, ◌-◌, ◌*◌, ◌<◌, ◌≤◌, ◌^◌, length, IfOk, MatchResult};
-ghost use Rattle.cards.specs.Candidates.{state_before};
+ghost use Rattle.std.specs.Prelude.{◌≡◌, ◌-◌, ◌<◌, ◌^◌, length, IfOk, MatchResult};
 ghost use Rattle.dealrun.specs.Appended.{AppendsAll};
 ghost use Rattle.dealrun.specs.Sinks.{CountsFault};
 ghost use Rattle.dealrun.specs.Reference.{BreaksOffIn};
@@ -12,22 +11,13 @@ use crate::next_board::{is_full, put_board};
 use crate::plan::Plan;
 use crate::sink::{Sink, put_all};
 use boards::Notation;
-use cards::Deal;
+use cards::Candidates;
 use cond_lang::Cond;
-use lcg48::{Lcg48, Steps, Stride};
 
 /// The sink failed, after this many whole boards.
 #[derive(Clone, Copy, Debug, PartialEq, Eq)]
 pub struct PlainFault {
     pub boards: u64,
-}
-
-/// The generator before the first draw of the plan's first candidate.
-fn generator_of(plan: &Plan) -> Lcg48
-    ensures { result ≡ state_before plan.now.seed plan.now.first }
-{
-    let before = Stride::of(51 * plan.first(), &mut Steps::new());
-    before.apply(&Lcg48::seeded(plan.seed()))
 }
 
 /// Writes the header, and the boards of the accepted candidates in order, up to the plan's limit.
@@ -51,14 +41,15 @@ fn write_accepted<N: Notation, S: Sink>(
     if put_all(sink, notation.header()).is_err() {
         return Err(PlainFault { boards });
     }
-    let mut generator = generator_of(plan);
+    let first = plan.first();
+    let mut candidates = Candidates::new(plan.seed(), first, 1);
     for place in 0..plan.count() {
         if is_full(plan, boards) {
             break;
         }
-        let deal = Deal::draw(&mut generator);
+        let deal = candidates.next();
         if cond.holds(&deal) {
-            let candidate = plan.first() + place;
+            let candidate = first + place;
             if put_board(plan, notation, boards, candidate, &deal, sink).is_err() {
                 return Err(PlainFault { boards });
             }

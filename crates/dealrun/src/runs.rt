@@ -1,27 +1,25 @@
 //! A run: the workers beside the writer, from the first allocation to how it ended.
 //!
-//! `run_in` makes the stop flag, `start_and_write` the lanes and the workers; `write_to_end` writes
-//! the header and the boards while the workers run, joins them, drains their lanes if all sent all,
-//! and writes the footer.
+//! `run_in` makes the stop flag, `start_and_write` the lanes and the workers, and `write_to_end`
+//! reports how the writing of the text ended (`whole_text.rt`).
 
-ghost use Rattle.std.specs.Prelude.{◌≡◌, ◌-◌, ◌^◌, ◌<◌, ◌≤◌, ℕ, List, Option, [], false, All, IfOk};
+ghost use Rattle.std.specs.Prelude.{◌≡◌, ◌-◌, ◌^◌, ◌<◌, ◌≤◌, [], false, All, IfOk};
 ghost use Rattle.std.specs.Prelude.{IfErr, MatchResult, map, vec_len};
 ghost use Rattle.cond_lang.specs.Form.{Form};
 ghost use Rattle.dealrun.specs.declared.cause.Cause.TheVariants.{Memory};
 ghost use Rattle.dealrun.specs.Outcomes.{FaultsAfter, InterruptedIn, StandsCompleteIn};
 ghost use Rattle.dealrun.specs.Outcomes.{TakesWhatIsOwed, WritesTextIn};
-ghost use Rattle.dealrun.specs.Plans.{Planned};
-ghost use Rattle.dealrun.specs.internal.Ends.{Closes, Completes};
+ghost use Rattle.dealrun.specs.internal.Ends.{Closes};
 ghost use Rattle.dealrun.specs.internal.Handles.{owed_by};
-ghost use Rattle.dealrun.specs.internal.Joins.{AllWhole, Owes};
-ghost use Rattle.dealrun.specs.internal.Writing.{WriterSoFar};
+ghost use Rattle.dealrun.specs.internal.Joins.{Owes};
 
 use crate::cause::Cause;
 use crate::join::join_all;
 use crate::plan::Plan;
-use crate::sink::{Sink, put_all};
+use crate::sink::Sink;
 use crate::start::{Started, assign_all, start_all};
-use crate::writer::{Progress, write_header_and_boards, write_remaining};
+use crate::whole_text::write_all;
+use crate::writer::Progress;
 use boards::Notation;
 use cond_lang::Cond;
 use lanes::{Gate, LaneOut};
@@ -159,7 +157,7 @@ pub(crate) fn out_of_memory(alloc: Global) -> RunFault
     }
 }
 
-/// Writes while the workers run, joins them, and writes the footer if all else was written.
+/// Writes the whole text, and reports how that ended.
 fn write_to_end<R: Threads + Wait, N: Notation, S: Sink>(
     rt: &R,
     plan: &Plan,
@@ -191,170 +189,25 @@ fn write_to_end<R: Threads + Wait, N: Notation, S: Sink>(
         (λ _. S.faults sink.new ≡ S.faults sink.old)
         (λ e. FaultsAfter e.cause (S.faults sink.old) (S.faults sink.new)) }
 {
-    match write_and_join(rt, plan, handles, lanes, notation, sink, stop) {
-        Ok(report) => write_footer(report, notation, sink),
-        Err(fault) => Err(fault),
-    }
-}
-
-/// Writes the footer after all boards.
-fn write_footer<N: Notation, S: Sink>(
-    report: Report,
-    notation: &N,
-    sink: &mut S,
-) -> Result<Report, RunFault>
-    requires faults { S.faults sink.old < 2 ^ 64 - 1 }
-    ensures closes { IfOk result (λ r. (plan : Planned) (form : Form) (base : Option (List ℕ))
-        → Completes (N.layout notation.now) plan form report.lanes.items report.boards
-        base (S.bytes sink.old)
-        → Closes (N.layout notation.now) plan form r.lanes.items r.boards
-        base (S.bytes sink.new)) }
-    ensures stands { IfErr result (λ e. (plan : Planned) (form : Form) (base : Option (List ℕ))
-        → Completes (N.layout notation.now) plan form report.lanes.items report.boards
-        base (S.bytes sink.old)
-        → InterruptedIn (N.layout notation.now) plan form e.cause e.lanes.items e.boards
-        base (S.bytes sink.new)) }
-    ensures faults { MatchResult result
-        (λ _. S.faults sink.new ≡ S.faults sink.old)
-        (λ e. FaultsAfter e.cause (S.faults sink.old) (S.faults sink.new)) }
-{
-    match put_all(sink, notation.footer()) {
-        Ok(()) => Ok(report),
-        Err(_) => Err(RunFault {
-            cause: Cause::Output,
-            lanes: report.lanes,
-            boards: report.boards,
-        }),
-    }
-}
-
-/// Writes while the workers run, joins them, and says how the run ended.
-fn write_and_join<R: Threads + Wait, N: Notation, S: Sink>(
-    rt: &R,
-    plan: &Plan,
-    handles: Vec<Started>,
-    lanes: Vec<LaneOut>,
-    notation: &mut N,
-    sink: &mut S,
-    stop: &AtomicBool,
-) -> Result<Report, RunFault>
-    requires faults { S.faults sink.old < 2 ^ 64 - 1 }
-    requires counts { (vec_len handles ≡ plan.now.workers)
-        × (vec_len lanes ≡ plan.now.workers)
-        × (plan.now.workers ≤ 16) }
-    requires some { 0 < plan.now.workers }
-    requires owed { (form : Form) × Owes plan.now form (owed_by handles.items) }
-    requires rings { map (λ h. h.promise.lane.value.ring) handles.items
-        ≡ map (λ l. l.ring) lanes.items }
-    requires idle { All (λ l. (l.taken ≡ []) × (l.settled ≡ false)) lanes.items }
-    ensures layout { N.layout notation.new ≡ N.layout notation.old }
-    ensures completes { IfOk result (λ r. (form : Form)
-        → Owes plan.now form (owed_by handles.items)
-        → Completes (N.layout notation.old) plan.now form r.lanes.items r.boards
-        (S.bytes sink.old) (S.bytes sink.new)) }
-    ensures stands { IfErr result (λ e. (form : Form)
-        → Owes plan.now form (owed_by handles.items)
-        → InterruptedIn (N.layout notation.old) plan.now form e.cause e.lanes.items e.boards
-        (S.bytes sink.old) (S.bytes sink.new)) }
-    ensures faults { MatchResult result
-        (λ _. S.faults sink.new ≡ S.faults sink.old)
-        (λ e. FaultsAfter e.cause (S.faults sink.old) (S.faults sink.new)) }
-{
     let mut lanes = lanes;
     let mut progress = Progress::new(plan);
-    let written = write_header_and_boards(
+    let ended = write_all(
         rt,
         plan,
+        handles,
         &mut lanes,
         notation,
         sink,
         &mut progress,
         stop,
     );
-    let is_full = progress.is_full(plan);
-    if written.is_err() || is_full {
-        // A store to the stop flag is the core's Stop.
-        stop.store(true, Ordering::SeqCst);
-    }
-    let joined = join_all(rt, handles, &mut lanes);
     let boards = progress.boards;
-    if written.is_err() {
-        let cause = Cause::Output;
-        return Err(RunFault {
+    match ended {
+        Ok(()) => Ok(Report { lanes, boards }),
+        Err(cause) => Err(RunFault {
             cause,
             lanes,
             boards,
-        });
-    }
-    if is_full {
-        return match joined.unclosed {
-            Some(worker) => Err(RunFault {
-                cause: Cause::Unclosed { worker },
-                lanes,
-                boards,
-            }),
-            None => Ok(Report { lanes, boards }),
-        };
-    }
-    match (joined.stopped, joined.unclosed) {
-        (Some(worker), _) => Err(RunFault {
-            cause: Cause::Stopped { worker },
-            lanes,
-            boards,
-        }),
-        (None, Some(worker)) => Err(RunFault {
-            cause: Cause::Unclosed { worker },
-            lanes,
-            boards,
-        }),
-        (None, None) => drain_lanes(plan, lanes, notation, sink, &mut progress),
-    }
-}
-
-/// Takes and writes what remains in the lanes, whose workers sent all.
-fn drain_lanes<N: Notation, S: Sink>(
-    plan: &Plan,
-    lanes: Vec<LaneOut>,
-    notation: &mut N,
-    sink: &mut S,
-    progress: &mut Progress,
-) -> Result<Report, RunFault>
-    requires faults { S.faults sink.old < 2 ^ 64 - 1 }
-    requires counts { (vec_len lanes ≡ plan.now.workers)
-        × (progress.old.turns.workers ≡ plan.now.workers)
-        × (progress.old.taken ≤ plan.now.count) }
-    requires some { 0 < plan.now.workers }
-    requires whole { (form : Form) × AllWhole plan.now form lanes.items }
-    requires begun { (base : Option (List ℕ))
-        × WriterSoFar (N.layout notation.old) plan.now lanes.items
-        progress.old.taken progress.old.boards base (S.bytes sink.old) }
-    ensures layout { N.layout notation.new ≡ N.layout notation.old }
-    ensures completes { IfOk result (λ r. (form : Form) (base : Option (List ℕ))
-        → AllWhole plan.now form lanes.items
-        → WriterSoFar (N.layout notation.old) plan.now lanes.items
-        progress.old.taken progress.old.boards base (S.bytes sink.old)
-        → Completes (N.layout notation.old) plan.now form r.lanes.items r.boards
-        base (S.bytes sink.new)) }
-    ensures stands { IfErr result (λ e. (form : Form) (base : Option (List ℕ))
-        → AllWhole plan.now form lanes.items
-        → WriterSoFar (N.layout notation.old) plan.now lanes.items
-        progress.old.taken progress.old.boards base (S.bytes sink.old)
-        → InterruptedIn (N.layout notation.old) plan.now form e.cause e.lanes.items e.boards
-        base (S.bytes sink.new)) }
-    ensures faults { MatchResult result
-        (λ _. S.faults sink.new ≡ S.faults sink.old)
-        (λ e. FaultsAfter e.cause (S.faults sink.old) (S.faults sink.new)) }
-{
-    let mut lanes = lanes;
-    match write_remaining(plan, &mut lanes, notation, sink, progress) {
-        Ok(()) => Ok(Report {
-            lanes,
-            boards: progress.boards,
-        }),
-        Err(_) => Err(RunFault {
-            cause: Cause::Output,
-            lanes,
-            boards: progress.boards,
         }),
     }
 }

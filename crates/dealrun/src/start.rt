@@ -58,8 +58,11 @@ fn assign<R: Clone, G: Drop>(
     ensures ring { IfOk result (λ r. r.0.lane.ring ≡ r.1.ring) }
     ensures taker { IfOk result (λ r. (r.1.taken ≡ []) × (r.1.settled ≡ false)) }
 {
-    let Some(share) = Share::new(plan.first(), plan.count(), plan.workers(), worker) else {
-        unreachable!()
+    let share = Share {
+        first: plan.first(),
+        count: plan.count(),
+        workers: plan.workers(),
+        worker,
     };
     let Ok(cond) = cond.try_clone() else {
         return Err(AllocError);

@@ -2,11 +2,11 @@
 
 ghost use Rattle.std.specs.Prelude.{◌≡◌, ◌-◌, ◌+◌, ◌<◌, ◌≤◌, ◌^◌, ◌↔◌, ◌++◌, [], ◌∷◌, ℕ, List};
 ghost use Rattle.std.specs.Prelude.{Option, cond, map, vec_len, OnOk, OnErr, MatchResult, IfOk};
-ghost use Rattle.std.specs.Prelude.{IsTrue, slice_index_or, true, Some, ◌⊎◌};
+ghost use Rattle.std.specs.Prelude.{IsTrue, slice_index_or, true, Some, ◌⊎◌, ◌≢◌};
 ghost use Rattle.lanes.specs.declared.verdict.Verdict.{Verdict};
 ghost use Rattle.dealrun.specs.Appended.{append_known, AppendsPart};
 ghost use Rattle.dealrun.specs.Sinks.{CountsFault};
-ghost use Rattle.dealrun.specs.internal.Writing.{board_text, KeepsLanes, WriterSoFar};
+ghost use Rattle.dealrun.specs.internal.Writing.{board_text, KeepsContents, KeepsLanes, WriterSoFar};
 ghost use Rattle.dealrun.specs.internal.Writing.{WriterBrokeOff};
 ghost use Rattle.dealrun.specs.internal.Joins.{AllWhole};
 ghost use Rattle.cond_lang.specs.Form.{Form};
@@ -36,11 +36,8 @@ impl Progress {
         ensures start { (result.taken ≡ 0) × (result.boards ≡ 0) }
         ensures workers { result.turns.workers ≡ plan.now.workers }
     {
-        let Some(turns) = Turns::new(plan.workers()) else {
-            unreachable!()
-        };
         Progress {
-            turns,
+            turns: Turns::at_start(plan.workers()),
             taken: 0,
             boards: 0,
         }
@@ -168,8 +165,8 @@ pub(crate) fn write_header_and_boards<R: Wait, N: Notation, S: Sink>(
     Ok(())
 }
 
-/// Takes what is left of the lanes, whose workers sent all, and writes it, until the limit of
-/// boards is met.
+/// Takes what is left of the lanes and writes it, until the limit of boards is met. Unless that is
+/// met already, the workers sent all.
 pub(crate) fn write_remaining<N: Notation, S: Sink>(
     plan: &Plan,
     lanes: &mut Vec<LaneOut>,
@@ -181,14 +178,13 @@ pub(crate) fn write_remaining<N: Notation, S: Sink>(
     requires counts { (vec_len lanes.old ≡ plan.now.workers)
         × (progress.old.turns.workers ≡ plan.now.workers)
         × (progress.old.taken ≤ plan.now.count) }
-    requires whole { (form : Form) × AllWhole plan.now form lanes.old.items }
+    requires whole { (form : Form)
+        × (plan.now.limit ≢ Some progress.old.boards → AllWhole plan.now form lanes.old.items) }
     requires begun { (base : Option (List ℕ))
         × WriterSoFar (N.layout notation.old) plan.now lanes.old.items
         progress.old.taken progress.old.boards base (S.bytes sink.old) }
     ensures len { vec_len lanes.new ≡ vec_len lanes.old }
-    ensures whole { (form : Form)
-        → AllWhole plan.now form lanes.old.items
-        → AllWhole plan.now form lanes.new.items }
+    ensures kept { KeepsContents lanes.old.items lanes.new.items }
     ensures layout { N.layout notation.new ≡ N.layout notation.old }
     ensures counts { progress.new.taken ≤ plan.now.count }
     ensures faults { CountsFault (S.faults sink.old) (S.faults sink.new) result }
@@ -210,9 +206,7 @@ pub(crate) fn write_remaining<N: Notation, S: Sink>(
             return Ok(());
         }
         let lane = &mut lanes[progress.turns.lane() as usize];
-        let Some(verdict) = lane.take() else {
-            unreachable!()
-        };
+        let verdict = lane.take_known();
         progress.write(plan, notation, sink, &verdict)?;
     }
     Ok(())

@@ -49,6 +49,7 @@ fn turns_go_round(rt: HostRuntime) -> Result<(), Fail> {
         assert_eq!(rt; turns.lane(), wanted);
         turns.advance();
     }
+    assert_eq!(rt; Turns::at_start(16).lane(), 0);
     assert!(rt; Turns::new(0).is_none());
     assert!(rt; Turns::new(17).is_none());
     Ok(())

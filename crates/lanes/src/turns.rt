@@ -28,6 +28,18 @@ impl Model for Turns {
 }
 
 impl Turns {
+    /// The turns of this many lanes, from turn 0.
+    pub fn at_start(workers: u32) -> Turns
+        requires { (1 ≤ workers) × (workers ≤ 16) }
+        ensures { result ≡ record { turn = 0; workers = workers } }
+    {
+        Turns {
+            turn: 0,
+            workers,
+            lane: 0,
+        }
+    }
+
     /// The turns of this many lanes, from turn 0. It returns `None` if there are not 1 to 16 lanes.
     pub fn new(workers: u32) -> Option<Turns>
         ensures range { IsSome result ↔ ((1 ≤ workers) × (workers ≤ 16)) }
@@ -36,11 +48,7 @@ impl Turns {
         if workers < 1 || workers > MAX_WORKERS {
             return None;
         }
-        Some(Turns {
-            turn: 0,
-            workers,
-            lane: 0,
-        })
+        Some(Turns::at_start(workers))
     }
 
     /// The lane whose turn it is.

@@ -1,21 +1,25 @@
 -- What is known of the lanes once their workers were joined, lane by lane: item k of a list is said
 -- of with any default, as `slice_index_or lanes k e`, where k is within the list.
-use Rattle.std.specs.Prelude.{◌≡◌, ◌<◌, ℕ, true, false, List, map, slice_index_or, Option, Some, None, MatchOption}
+use Rattle.std.specs.Prelude.{◌≡◌, ◌<◌, ℕ, true, false, List, length, map, slice_index_or, Option, Some, None, MatchOption}
 use Rattle.std.specs.List.{range_with_len}
 use Rattle.lanes.specs.declared.verdict.Verdict.{Verdict}
 use Rattle.lanes.specs.Views.{OutView}
+use Rattle.lanes.specs.declared.worker.WorkEnd.{WorkEnd}
+use Rattle.lanes.specs.declared.worker.WorkEnd.TheVariants.{Done, Stopped, Unclosed}
 use Rattle.lanes.specs.Prefixes.{IsPrefix, IsProperPrefix}
 use Rattle.cond_lang.specs.Form.{Form}
 use Rattle.dealrun.specs.Plans.{Planned}
 use Rattle.dealrun.specs.MergedVerdicts.{verdicts_for}
 use Rattle.dealrun.specs.Outcomes.{contents_of}
-use Rattle.dealrun.specs.declared.join.Outcome.{Outcome}
-use Rattle.dealrun.specs.declared.join.Outcome.TheVariants.{Done, Stopped, Unclosed}
+
+-- the verdicts that are known to wait are those that are left
+abbrev pub KnowsRest : OutView → Type 0
+KnowsRest l = l.known ≡ length l.left
 
 -- the lane of a worker that owed the verdicts `all`, before and after the worker was joined
-abbrev pub JoinsAs : List Verdict → OutView → OutView → Outcome → Type 0
-JoinsAs all old new Done = (new.settled ≡ true) × (contents_of new ≡ all)
-JoinsAs all old new Stopped = (new.settled ≡ true) × IsProperPrefix (contents_of new) all
+abbrev pub JoinsAs : List Verdict → OutView → OutView → WorkEnd → Type 0
+JoinsAs all old new (Done closed) = (new.settled ≡ true) × (contents_of new ≡ all) × KnowsRest new
+JoinsAs all old new (Stopped closed) = (new.settled ≡ true) × IsProperPrefix (contents_of new) all × KnowsRest new
 JoinsAs all old new Unclosed = new ≡ old
 
 -- P holds of each of the first n lanes and its worker's verdicts
@@ -23,7 +27,7 @@ abbrev pub Below : (List Verdict → OutView → Type 0) → ℕ → List (List 
 Below P n lists lanes = (k : ℕ) (d : List Verdict) (e : OutView) → k < n → P (slice_index_or lists k d) (slice_index_or lanes k e)
 
 abbrev pub PartIfSettled : List Verdict → OutView → Type 0
-PartIfSettled all l = l.settled ≡ true → IsPrefix (contents_of l) all
+PartIfSettled all l = l.settled ≡ true → IsPrefix (contents_of l) all × KnowsRest l
 
 abbrev pub WholeIfSettled : List Verdict → OutView → Type 0
 WholeIfSettled all l = l.settled ≡ true → contents_of l ≡ all
@@ -49,19 +53,19 @@ abbrev pub first_of : Option ℕ → ℕ → Option ℕ
 first_of None w = Some w
 first_of (Some s) w = Some s
 
-abbrev pub stopped_after : Outcome → ℕ → Option ℕ → Option ℕ
-stopped_after Done w s = s
-stopped_after Stopped w s = first_of s w
+abbrev pub stopped_after : WorkEnd → ℕ → Option ℕ → Option ℕ
+stopped_after (Done closed) w s = s
+stopped_after (Stopped closed) w s = first_of s w
 stopped_after Unclosed w s = s
 
-abbrev pub unclosed_after : Outcome → ℕ → Option ℕ → Option ℕ
-unclosed_after Done w u = u
-unclosed_after Stopped w u = u
+abbrev pub unclosed_after : WorkEnd → ℕ → Option ℕ → Option ℕ
+unclosed_after (Done closed) w u = u
+unclosed_after (Stopped closed) w u = u
 unclosed_after Unclosed w u = first_of u w
 
 -- a lane that is settled, of a worker that sent all
 abbrev pub IsWhole : List Verdict → OutView → Type 0
-IsWhole all l = (l.settled ≡ true) × (contents_of l ≡ all)
+IsWhole all l = (l.settled ≡ true) × (contents_of l ≡ all) × KnowsRest l
 
 -- these lists are what the workers of the plan owe
 abbrev pub Owes : Planned → Form → List (List Verdict) → Type 0
@@ -74,3 +78,7 @@ ByNumber plan lanes P = (w : ℕ) (e : OutView) → w < plan.workers → P w (sl
 -- every lane is whole
 abbrev pub AllWhole : Planned → Form → List OutView → Type 0
 AllWhole plan form lanes = (w : ℕ) (e : OutView) → w < plan.workers → IsWhole (verdicts_for plan form w) (slice_index_or lanes w e)
+
+-- every lane is settled, and holds the first of its worker's verdicts
+abbrev pub AllParts : Planned → Form → List OutView → Type 0
+AllParts plan form lanes = (w : ℕ) (e : OutView) → w < plan.workers → ((slice_index_or lanes w e).settled ≡ true) × IsPrefix (contents_of (slice_index_or lanes w e)) (verdicts_for plan form w)

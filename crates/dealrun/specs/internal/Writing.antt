@@ -1,5 +1,5 @@
 -- How far a writer has come that takes verdicts in turn and writes the boards of the accepted ones.
-use Rattle.std.specs.Prelude.{ℕ, ◌≡◌, ◌+◌, ◌<◌, ◌≤◌, List, length, map, Option, slice_index_or}
+use Rattle.std.specs.Prelude.{ℕ, ◌≡◌, ◌≢◌, ◌+◌, ◌<◌, ◌≤◌, List, length, map, Option, Some, slice_index_or}
 use Rattle.std.specs.Option.{ForSome}
 use Rattle.boards.specs.Layouts.{Layout}
 use Rattle.lanes.specs.declared.verdict.Verdict.{Verdict}
@@ -9,7 +9,9 @@ use Rattle.dealrun.specs.Plans.{Planned}
 use Rattle.dealrun.specs.Appended.{append_known}
 use Rattle.dealrun.specs.Text.{board_of, text_of_boards}
 use Rattle.dealrun.specs.MergedVerdicts.{boards_after}
-use Rattle.dealrun.specs.Outcomes.{BreaksOffLastPiece}
+use Rattle.dealrun.specs.Outcomes.{BreaksOffLastPiece, contents_of}
+use Rattle.dealrun.specs.declared.ending.Written.{Written}
+use Rattle.dealrun.specs.declared.ending.Written.TheVariants.{Failed, Full, Open}
 
 -- what was taken from each lane
 abbrev pub taken_lists : List OutView → List (List Verdict)
@@ -31,6 +33,11 @@ board_count plan lists m = length (boards_after plan lists m)
 abbrev pub KeepsLanes : List OutView → List OutView → Type 0
 KeepsLanes old new =
     (map (λ l. l.ring) new ≡ map (λ l. l.ring) old) × (map (λ l. l.settled) new ≡ map (λ l. l.settled) old)
+
+-- which lanes are settled, and what each holds in all, did not change
+abbrev pub KeepsContents : List OutView → List OutView → Type 0
+KeepsContents old new =
+    (map (λ l. l.settled) new ≡ map (λ l. l.settled) old) × (map (λ l. contents_of l) new ≡ map (λ l. contents_of l) old)
 
 -- the lanes were taken in turn, none skipped
 pub record TakenInTurn (plan : Planned) (lanes : List OutView) (m : ℕ) : Type 0 where
@@ -58,3 +65,17 @@ pub record WriterBrokeOff (layout : Layout) (plan : Planned) (lanes : List OutVi
   pub in_turn : TakenInTurn plan lanes m
   pub broken : BreaksOffLastPiece layout plan lanes m boards old new
   pub short : StaysShort plan lanes m
+
+-- where the writer stands once it has written so much beside the workers
+abbrev pub WroteBeside : Layout → Planned → Written → List OutView → ℕ → ℕ → Option (List ℕ) → Option (List ℕ) → Type 0
+WroteBeside layout plan Failed lanes m boards old new = WriterBrokeOff layout plan lanes m boards old new
+WroteBeside layout plan Full lanes m boards old new =
+    WriterSoFar layout plan lanes m boards old new × (plan.limit ≡ Some boards)
+WroteBeside layout plan Open lanes m boards old new =
+    WriterSoFar layout plan lanes m boards old new × (plan.limit ≢ Some boards)
+
+-- the sink failed once, or not at all
+abbrev pub FaultsBeside : Written → ℕ → ℕ → Type 0
+FaultsBeside Failed old new = new ≡ old + 1
+FaultsBeside Full old new = new ≡ old
+FaultsBeside Open old new = new ≡ old

@@ -10,8 +10,8 @@ use Rattle.dealrun.specs.internal.Joins.{JoinedAs}
 use Rattle.dealrun.proofs.Joining.{drop_head, drop_rest, drop_short, join_step_to}
 use Rattle.dealrun.proofs.join.join_all.Goals as goal
 
-pub join_one-outcome-requires : goal.join_one-outcome-requires
-join_one-outcome-requires g c =
+pub join_one-end-requires : goal.join_one-end-requires
+join_one-end-requires g c =
     let i = c.loop-handle.invariant in
     let h = c.in-Some.handle in
     let w = c.loop-handle.worker in
@@ -31,8 +31,8 @@ loop-handle-preserved g c =
     let hs = c.args.handles.items in
     let rest = sym i.rest ∙ c.in-Some.ensures.steps.0 in
     let lane = c.index_mut-lane.result.now in
-    let new = c.join_one-outcome.new.lane in
-    let same = c.join_one-outcome.ensures.same in
+    let new = c.join_one-end.new.lane in
+    let same = c.join_one-end.ensures.same in
     let h = c.in-Some.handle in
     let all = verdicts_of h.promise.job.value in
     let short : w < length hs = drop_short hs _ w h rest in
@@ -45,7 +45,7 @@ loop-handle-preserved g c =
       rings = map-set_same (λ v. v.ring) c.loop-handle.lanes.items w new lane (same.0 ∙ ap (λ v. v.ring) c.index_mut-lane.ensures.value) ∙ i.rings;
       taken = map-set_same (λ v. v.taken) c.loop-handle.lanes.items w new lane (same.1 ∙ ap (λ v. v.taken) c.index_mut-lane.ensures.value) ∙ i.taken;
       unsettled = λ k e above below. ap (λ v. v.settled) (get_or-set_other c.loop-handle.lanes.items w k new e (omega arith)) ∙ i.unsettled k e (omega (arith, above)) below;
-      joined = join_step_to w (map f hs) c.loop-handle.lanes.items all lane new inside at old c.join_one-outcome.result _ _ _ _ c.join_one-outcome.ensures.joined i.joined c.record.ensures.stopped c.record.ensures.unclosed;
+      joined = join_step_to w (map f hs) c.loop-handle.lanes.items all lane new inside at old c.join_one-end.result _ _ _ _ c.join_one-end.ensures.joined i.joined c.record.ensures.stopped c.record.ensures.unclosed;
     }
 
 pub returns-clause-joined : goal.returns-clause-joined

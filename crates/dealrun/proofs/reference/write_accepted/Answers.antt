@@ -1,6 +1,6 @@
-use Rattle.std.proofs.Common.{◌≡◌, ◌+◌, ◌∙◌, true, refl, arith, ap, sym}
-use Rattle.cards.specs.Candidates.{state_before}
-use Rattle.dealrun.proofs.Running.{breaks_board, breaks_header, ended_full, next_deal, next_generator, running_next, running_none, running_skip}
+use Rattle.std.proofs.Common.{◌≡◌, ◌+◌, ◌∙◌, true, refl, arith, ap, sym, subst}
+use Rattle.cards.specs.CandidateWalks.{GoesOnAt}
+use Rattle.dealrun.proofs.Running.{breaks_board, breaks_header, ended_full, running_next, running_none, running_skip}
 use Rattle.dealrun.proofs.SinkLemmas.{at_err, at_ok}
 use Rattle.dealrun.proofs.reference.write_accepted.Goals as goal
 use Rattle.dealrun.proofs.reference.write_accepted.Goals.{then-holds+else-is_err-2, else-holds}
@@ -11,10 +11,11 @@ returns-then-is_err-clause-bytes g c =
 
 pub loop-place-init : goal.loop-place-init
 loop-place-init g c =
+    let first : c.first-first.result ≡ c.args.plan.now.first + 0 = omega (arith, c.first-first.ensures.value) in
     record {
       layout = refl;
       running = running_none (g.N.Notation.layout c.args.notation.now) c.args.plan.now c.args.cond.now _ _ _ c.header.ensures (at_ok _ _ c.put_all.result c.if-is_err.ensures.value c.put_all.ensures.bytes);
-      generator = c.generator_of-generator.ensures ∙ ap (state_before c.args.plan.now.seed) (omega arith);
+      next = subst (λ n. GoesOnAt c.new-candidates.result c.args.plan.now.seed n 1) first (subst (λ seed. GoesOnAt c.new-candidates.result seed c.first-first.result 1) c.seed.ensures c.new-candidates.ensures);
       faults = at_ok _ _ c.put_all.result c.if-is_err.ensures.value c.put_all.ensures.faults;
     }
 
@@ -28,33 +29,34 @@ returns-then-is_full-clause-boards g c =
 
 pub returns-then-is_err-2-clause-bytes : goal.returns-then-is_err-2-clause-bytes
 returns-then-is_err-2-clause-bytes g c =
-    let deal = next_deal c.args.plan.now c.loop-place.place c.loop-place.generator c.draw-deal.result c.loop-place.invariant.generator c.draw-deal.ensures.value in
-    breaks_board (g.N.Notation.layout c.args.notation.now) (g.N.Notation.layout c.loop-place.notation) c.args.plan.now c.args.cond.now c.loop-place.place _ c.loop-place.boards _ _ _ c.draw-deal.result deal (sym c.if-holds.true ∙ c.holds.ensures)
+    let deal = c.next-deal.ensures.deal c.args.plan.now.seed (c.args.plan.now.first + c.loop-place.place) 1 c.loop-place.invariant.next in
+    breaks_board (g.N.Notation.layout c.args.notation.now) (g.N.Notation.layout c.loop-place.notation) c.args.plan.now c.args.cond.now c.loop-place.place _ c.loop-place.boards _ _ _ c.next-deal.result deal (sym c.if-holds.true ∙ c.holds.ensures)
     (λ e. let full : c.is_full.result ≡ true = c.is_full.ensures.1 e in let not_full = c.if-is_full.false in absurd cc)
-    (omega (arith, c.count-place-end.ensures.value)) c.loop-place.invariant.layout (ap (λ n. n + c.loop-place.place) c.first.ensures.value) c.loop-place.invariant.running
+    (omega (arith, c.count-place-end.ensures.value)) c.loop-place.invariant.layout (ap (λ n. n + c.loop-place.place) c.first-first.ensures.value) c.loop-place.invariant.running
     (at_err _ _ c.put_board.result c.if-is_err-2.ensures.value c.put_board.ensures.bytes)
 
 pub loop-place-preserved : goal.loop-place-preserved
 loop-place-preserved g c =
-    let deal = next_deal c.args.plan.now c.loop-place.place c.loop-place.generator c.draw-deal.result c.loop-place.invariant.generator c.draw-deal.ensures.value in
-    let generator = next_generator c.args.plan.now.seed (c.args.plan.now.first + c.loop-place.place) (c.args.plan.now.first + (c.loop-place.place + 1)) c.loop-place.generator c.draw-deal.new.generator
-    c.loop-place.invariant.generator c.draw-deal.ensures.stepped (omega arith) in
+    let deal = c.next-deal.ensures.deal c.args.plan.now.seed (c.args.plan.now.first + c.loop-place.place) 1 c.loop-place.invariant.next in
+    let after : c.args.plan.now.first + c.loop-place.place + 1 ≡ c.args.plan.now.first + (c.loop-place.place + 1) = omega arith in
+    let next = subst (λ n. GoesOnAt c.next-deal.new.self c.args.plan.now.seed n 1) after
+    (c.next-deal.ensures.moved c.args.plan.now.seed (c.args.plan.now.first + c.loop-place.place) 1 c.loop-place.invariant.next) in
     elim c.if-holds.branch [
       | then-holds+else-is_err-2 w ↦ record {
         layout = ap g.N.Notation.layout w.notation-is ∙ w.put_board.ensures.layout ∙ c.loop-place.invariant.layout;
-        running = rw (w.boards-is, w.sink-is) (running_next (g.N.Notation.layout c.args.notation.now) (g.N.Notation.layout c.loop-place.notation) c.args.plan.now c.args.cond.now c.loop-place.place _ c.loop-place.boards _ (g.S.Sink.bytes c.loop-place.sink) _ c.draw-deal.result deal
+        running = rw (w.boards-is, w.sink-is) (running_next (g.N.Notation.layout c.args.notation.now) (g.N.Notation.layout c.loop-place.notation) c.args.plan.now c.args.cond.now c.loop-place.place _ c.loop-place.boards _ (g.S.Sink.bytes c.loop-place.sink) _ c.next-deal.result deal
             (sym w.if-holds.true ∙ c.holds.ensures)
             (λ e. let full : c.is_full.result ≡ true = c.is_full.ensures.1 e in let not_full = c.if-is_full.false in absurd cc)
-            c.loop-place.invariant.layout (ap (λ n. n + c.loop-place.place) w.first.ensures.value) c.loop-place.invariant.running
+            c.loop-place.invariant.layout (ap (λ n. n + c.loop-place.place) c.first-first.ensures.value) c.loop-place.invariant.running
             (at_ok _ _ w.put_board.result w.if-is_err-2.ensures.value w.put_board.ensures.bytes));
-        generator = generator;
+        next = next;
         faults = ap g.S.Sink.faults w.sink-is ∙ at_ok _ _ w.put_board.result w.if-is_err-2.ensures.value w.put_board.ensures.faults ∙ c.loop-place.invariant.faults;
       }
       | else-holds w ↦ record {
         layout = ap g.N.Notation.layout w.notation-is ∙ c.loop-place.invariant.layout;
-        running = rw (w.boards-is, w.sink-is) (running_skip (g.N.Notation.layout c.args.notation.now) c.args.plan.now c.args.cond.now c.loop-place.place c.loop-place.boards _ _ c.draw-deal.result deal
+        running = rw (w.boards-is, w.sink-is) (running_skip (g.N.Notation.layout c.args.notation.now) c.args.plan.now c.args.cond.now c.loop-place.place c.loop-place.boards _ _ c.next-deal.result deal
             (sym w.if-holds.false ∙ c.holds.ensures) c.loop-place.invariant.running);
-        generator = generator;
+        next = next;
         faults = ap g.S.Sink.faults w.sink-is ∙ c.loop-place.invariant.faults;
       }
     ]
