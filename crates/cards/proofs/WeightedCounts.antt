@@ -122,7 +122,7 @@ total_of-most measure hand =
       arith,
       whole_pack w (four_weights measure),
       sum_by-le (λ c. cond (holds_card hand c) (get_or w (c % 13) 0) 0) (λ c. get_or w (c % 13) 0)
-        (λ c. cond-le (get_or w (c % 13) 0) (holds_card hand c)) pack,
+          (λ c. cond-le (get_or w (c % 13) 0) (holds_card hand c)) pack,
       weights-most measure,
     )
 
@@ -133,7 +133,7 @@ total_in-most measure hand suit =
       arith,
       whole_suit w suit (four_weights measure),
       sum_by-le (λ c. cond (holds_in hand suit c) (get_or w (c % 13) 0) 0)
-        (λ c. cond (is_in_suit suit c) (get_or w (c % 13) 0) 0)
-        (λ c. both-le (get_or w (c % 13) 0) (is_in_suit suit c) (holds_card hand c)) pack,
+          (λ c. cond (is_in_suit suit c) (get_or w (c % 13) 0) 0)
+          (λ c. both-le (get_or w (c % 13) 0) (is_in_suit suit c) (holds_card hand c)) pack,
       weights-most measure,
     )
