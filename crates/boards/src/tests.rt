@@ -1,9 +1,8 @@
 //! Law 2's table, and a board that follows it.
 
 use super::*;
-use cards::{Deal, Places, Seat};
+use cards::{Candidates, Seat};
 use std::process::Abort;
-use std::test::Fail;
 
 /// Law 2, boards 1 to 16.
 const BOARDS: [(Seat, Vul); 16] = [
@@ -38,23 +37,13 @@ fn every_board_of_the_cycle(rt: HostRuntime) {
     assert_eq!(rt; vulnerable(32), Vul::EastWest);
 }
 
-/// The deal of a pack in order, whose first thirteen cards are North's.
-fn pack_in_order() -> Result<Deal, Fail> {
-    let mut places = [0; 51];
-    for i in 0..51u8 {
-        places[usize::from(i)] = 51 - i;
-    }
-    Ok(Deal::shuffled(&Places::new(places).ok_or("places")?))
-}
-
 #[test]
-fn a_board_by_the_law(rt: HostRuntime) -> Result<(), Fail> {
-    let deal = pack_in_order()?;
+fn a_board_by_the_law(rt: HostRuntime) {
+    let deal = Candidates::new(0, 0, 1).next();
     let board = Board::by_law(23, 4_811, deal);
     assert_eq!(rt; board.number, 23);
     assert_eq!(rt; board.candidate, 4_811);
     assert_eq!(rt; board.dealer, Seat::South);
     assert_eq!(rt; board.vulnerable, Vul::Both);
     assert!(rt; board.deal == deal);
-    Ok(())
 }

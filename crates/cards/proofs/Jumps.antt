@@ -1,5 +1,5 @@
 -- From one candidate of a walk to its next one.
-use Rattle.std.proofs.Common.{◌≡◌, ℕ, ◌+◌, ◌*◌, sym, ◌∙◌, ap, arith}
+use Rattle.std.proofs.Common.{◌≡◌, ℕ, ◌+◌, ◌*◌, ◌∙◌, ap, arith}
 use Rattle.lcg48.specs.Sequence.{seeded_state, state_after}
 use Rattle.lcg48.proofs.Walks.{state_after-add}
 use Rattle.cards.specs.CandidateWalks.{CandidatesView, GoesOnAt}

@@ -1,10 +1,9 @@
 -- Counts of bits under fixed masks are counts over the cards.
-use Rattle.std.proofs.Common.{◌≡◌, ℕ, zero, suc, ◌+◌, ◌*◌, ◌/◌, ◌%◌, ◌^◌, ◌<◌, ◌≤◌, ◌≢◌, ◌==◌, ◌&&◌, min, Bool, true, false, cond, List, [], ◌∷◌, length, get_or, set, map, below_more, refl, sym, ◌∙◌, ap, arith, inl, inr}
+use Rattle.std.proofs.Common.{◌≡◌, ℕ, zero, suc, ◌+◌, ◌/◌, ◌%◌, ◌^◌, ◌<◌, ◌≤◌, ◌≢◌, ◌==◌, ◌&&◌, min, Bool, true, false, cond, List, [], ◌∷◌, length, get_or, set, map, below_more, refl, sym, ◌∙◌, ap, arith, inl, inr}
 use Rattle.std.specs.Int.{bit_at}
 use Rattle.std.specs.Int.RustNames.{bit_and, count_ones}
 use Rattle.std.specs.List.{count_by, sum_by, range_with_len}
 use Rattle.std.proofs.lemmas.Bool.{cases_lt}
-use Rattle.std.proofs.lemmas.Bool.Decides.{nat_tests}
 use Rattle.std.proofs.lemmas.List.{get_or_past, get_or-set_same, get_or-set_other}
 use Rattle.std.proofs.lemmas.List.Sums.{sum_by-cons}
 use Rattle.std.proofs.lemmas.List.FromFn.{get_or-map-range_with_len, length-map-range_with_len}
@@ -14,7 +13,7 @@ use Rattle.std.proofs.lemmas.Simd.{ones-mask_l}
 use lib.Lanes.{mask_l}
 use Rattle.cards.specs.declared.suit.Suit.{Suit}
 use Rattle.cards.specs.declared.suit.Suit.TheVariants.{Spades, Hearts, Diamonds, Clubs}
-use Rattle.cards.specs.Pack.{is_in_suit, rank_of}
+use Rattle.cards.specs.Pack.{is_in_suit}
 use Rattle.cards.specs.Shuffle.{pack}
 use Rattle.cards.specs.declared.measure.Measure.{Measure}
 use Rattle.cards.specs.Hands.{holds_card, weight_of, total_of, total_in, length_of}

@@ -11,7 +11,7 @@ use Rattle.cards.specs.declared.suit.Suit.{Suit}
 use Rattle.cards.specs.declared.suit.Suit.TheVariants.{Spades, Hearts, Diamonds, Clubs}
 use Rattle.cards.specs.Pack.{is_in_suit, rank_of}
 use Rattle.cards.specs.Shuffle.{pack}
-use Rattle.cards.specs.Hands.{holds_card, weights, total_of, total_in}
+use Rattle.cards.specs.Hands.{holds_card, holds_in, weights, total_of, total_in}
 use Rattle.cards.specs.internal.Masks.{cards_of_mask}
 use Rattle.cards.proofs.MaskCounts.{sum_by-le, cond-le, both-le, ones_of}
 
@@ -107,12 +107,33 @@ whole_suit w Hearts four = sum_by_ranks w (is_in_suit Hearts) pack four ∙ omeg
 whole_suit w Diamonds four = sum_by_ranks w (is_in_suit Diamonds) pack four ∙ omega (arith, sum_of_four w four)
 whole_suit w Clubs four = sum_by_ranks w (is_in_suit Clubs) pack four ∙ omega (arith, sum_of_four w four)
 
--- a hand has at most what the pack has, and its suit what the suit has
-pub total_of-le : (measure : Measure) (w : List ℕ) (hand : List Bool) → w ≡ weights measure → length w ≡ 4 → total_of measure hand ≤ 4 * sum w
-total_of-le measure w hand is four =
-    rw (← is) (omega (arith, whole_pack w four, sum_by-le (λ c. cond (holds_card hand c) (get_or w (c % 13) 0) 0) (λ c. get_or w (c % 13) 0) (λ c. cond-le (get_or w (c % 13) 0) (holds_card hand c)) pack))
+-- each measure has four weights, and together they are at most 10
+four_weights : (measure : Measure) → length (weights measure) ≡ 4
+four_weights measure = grind arith
 
-pub total_in-le : (measure : Measure) (w : List ℕ) (hand : List Bool) (suit : Suit) → w ≡ weights measure → length w ≡ 4 → total_in measure hand suit ≤ sum w
-total_in-le measure w hand suit is four =
-    rw (← is)
-    (omega (arith, whole_suit w suit four, sum_by-le (λ c. cond (is_in_suit suit c && holds_card hand c) (get_or w (c % 13) 0) 0) (λ c. cond (is_in_suit suit c) (get_or w (c % 13) 0) 0) (λ c. both-le (get_or w (c % 13) 0) (is_in_suit suit c) (holds_card hand c)) pack))
+weights-most : (measure : Measure) → sum (weights measure) ≤ 10
+weights-most measure = grind arith
+
+-- a hand has at most what the pack has, and its suit what the suit has
+pub total_of-most : (measure : Measure) (hand : List Bool) → total_of measure hand ≤ 40
+total_of-most measure hand =
+    let w : List ℕ = weights measure in
+    omega (
+      arith,
+      whole_pack w (four_weights measure),
+      sum_by-le (λ c. cond (holds_card hand c) (get_or w (c % 13) 0) 0) (λ c. get_or w (c % 13) 0)
+          (λ c. cond-le (get_or w (c % 13) 0) (holds_card hand c)) pack,
+      weights-most measure,
+    )
+
+pub total_in-most : (measure : Measure) (hand : List Bool) (suit : Suit) → total_in measure hand suit ≤ 10
+total_in-most measure hand suit =
+    let w : List ℕ = weights measure in
+    omega (
+      arith,
+      whole_suit w suit (four_weights measure),
+      sum_by-le (λ c. cond (holds_in hand suit c) (get_or w (c % 13) 0) 0)
+          (λ c. cond (is_in_suit suit c) (get_or w (c % 13) 0) 0)
+          (λ c. both-le (get_or w (c % 13) 0) (is_in_suit suit c) (holds_card hand c)) pack,
+      weights-most measure,
+    )

@@ -1,12 +1,12 @@
 -- A hand is the list of 52 truth values "this card is the seat's".
-use Rattle.std.specs.Prelude.{ℕ, zero, suc, ◌+◌, ◌*◌, ◌==◌, ◌&&◌, ◌||◌, Bool, true, false, cond, List, [], ◌∷◌, map, count_by, slice_index_or}
-use Rattle.std.specs.List.{flat_map, list_any, range_with_len, sum_by}
+use Rattle.std.specs.Prelude.{ℕ, ◌==◌, ◌&&◌, ◌||◌, Bool, true, false, cond, List, [], ◌∷◌, map, count_by, slice_index_or}
+use Rattle.std.specs.List.{flat_map, list_any, sum_by}
 use Rattle.cards.specs.declared.seat.Seat.{Seat}
 use Rattle.cards.specs.declared.suit.Suit.{Suit}
 use Rattle.cards.specs.declared.suit.Suit.TheVariants.{Spades, Hearts, Diamonds, Clubs}
 use Rattle.cards.specs.declared.measure.Measure.{Measure}
 use Rattle.cards.specs.declared.measure.Measure.TheVariants.{Hcp, Controls}
-use Rattle.cards.specs.Pack.{seat_number, suit_number, is_in_suit, rank_of}
+use Rattle.cards.specs.Pack.{seat_number, is_in_suit, rank_of}
 use Rattle.cards.specs.Shuffle.{pack}
 
 -- the cards of a seat
@@ -15,6 +15,10 @@ hand_of deal seat = map (λ holder. seat_number holder == seat_number seat) deal
 
 abbrev pub holds_card : List Bool → ℕ → Bool
 holds_card hand c = slice_index_or hand c false
+
+-- whether the hand has the card, and the card is one of the suit
+abbrev pub holds_in : List Bool → Suit → ℕ → Bool
+holds_in hand suit c = is_in_suit suit c && holds_card hand c
 
 -- what an ace, a king, a queen and a jack count by a measure; the other ranks count nothing
 abbrev pub weights : Measure → List ℕ
@@ -31,7 +35,7 @@ total_of measure hand =
 
 abbrev pub total_in : Measure → List Bool → Suit → ℕ
 total_in measure hand suit =
-    sum_by (λ c. cond (is_in_suit suit c && holds_card hand c) (weight_of measure (rank_of c)) 0) pack
+    sum_by (λ c. cond (holds_in hand suit c) (weight_of measure (rank_of c)) 0) pack
 
 -- the high card points of the hand, and those of one suit
 abbrev pub points_of : List Bool → ℕ
@@ -42,7 +46,7 @@ points_in = total_in Hcp
 
 -- how many cards of the suit the hand has
 abbrev pub length_of : List Bool → Suit → ℕ
-length_of hand suit = count_by (λ c. is_in_suit suit c && holds_card hand c) pack
+length_of hand suit = count_by (holds_in hand suit) pack
 
 -- the four lengths in the order of the suits
 abbrev pub shape_of : List Bool → List ℕ
@@ -83,4 +87,6 @@ one_five = 5 ∷ 3 ∷ 3 ∷ 2 ∷ []
 -- one of them in some order
 abbrev pub is_balanced : List ℕ → Bool
 is_balanced shape =
-    is_rearrangement shape flat || is_rearrangement shape two_fours || is_rearrangement shape one_five
+    is_rearrangement shape flat
+    || is_rearrangement shape two_fours
+    || is_rearrangement shape one_five

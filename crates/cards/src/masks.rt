@@ -1,9 +1,8 @@
 //! Sets of cards as masks of 52 bits: bit c is set if card c is in the set.
 
-ghost use Rattle.std.specs.Prelude.{◌≡◌, ◌<◌, ◌≤◌, ◌^◌, ◌==◌, List, Bool};
-ghost use Rattle.cards.specs.declared.suit.Suit.{Suit as ASuit};
+ghost use Rattle.std.specs.Prelude.{◌≡◌, ◌<◌, ◌≤◌, ◌^◌, ◌==◌};
 ghost use Rattle.cards.specs.Pack.{seat_number};
-ghost use Rattle.cards.specs.Hands.{total_of, total_in};
+ghost use Rattle.cards.specs.Hands.{total_of};
 ghost use Rattle.cards.specs.internal.Masks.{cards_of_mask, mask_of_suit, seat_mask};
 
 use crate::{Measure, Seat, Suit};
@@ -48,13 +47,12 @@ pub(crate) fn suit_mask(suit: Suit) -> u64
     }
 }
 
-/// What the cards count by the measure, and that no suit of a hand counts more than 10.
+/// What the cards count by the measure.
 #[inline(always)]
 pub(crate) fn total_of_mask(measure: Measure, cards: u64) -> u8
     requires { cards < 2 ^ 52 }
     ensures value { result ≡ total_of measure (cards_of_mask cards) }
     ensures most { result ≤ 40 }
-    ensures in_suit { (hand : List Bool) (suit : ASuit) → total_in measure hand suit ≤ 10 }
 {
     let weights = measure.weights();
     let aces = (cards & ACES).count_ones();

@@ -72,12 +72,20 @@ pub record IsRun (f : ℕ → Bool) (p rest : List ℕ) : Type 0 where
 abbrev pub decimal : List ℕ → ℕ
 decimal digits = fold (λ n c. 10 * n + (c - 48)) 0 digits
 
+-- no known word has these letters
+abbrev pub IsUnknown : List ℕ → Type 0
+IsUnknown p = (t : Token) → Contains words (p, t) → ⊥
+
 -- the text begins with this symbol
 pub record BeginsWithSymbol (q text : List ℕ) : Type 0 where
   pub token : Token
   pub more : List ℕ
   pub known : Contains symbols (q, token)
   pub begins : text ≡ q ++ more
+
+-- no symbol begins the text
+abbrev pub BeginsWithNone : List ℕ → Type 0
+BeginsWithNone text = (q : List ℕ) → BeginsWithSymbol q text → ⊥
 
 -- p is a piece of this kind if rest follows it
 pub data IsPiece : List ℕ → List ℕ → Piece → Type 0 where
@@ -86,7 +94,7 @@ pub data IsPiece : List ℕ → List ℕ → Piece → Type 0 where
       {p rest : List ℕ} {t : Token} → IsRun is_ascii_lowercase p rest → Contains words (p, t)
       → IsPiece p rest (TokenPiece t)
   no_word :
-      {p rest : List ℕ} → IsRun is_ascii_lowercase p rest → ((t : Token) → Contains words (p, t) → ⊥)
+      {p rest : List ℕ} → IsRun is_ascii_lowercase p rest → IsUnknown p
       → IsPiece p rest UnknownWord
   number :
       {p rest : List ℕ} → IsRun is_ascii_digit p rest → length p ≤ 4
@@ -97,8 +105,9 @@ pub data IsPiece : List ℕ → List ℕ → Piece → Type 0 where
       → ((q : List ℕ) → BeginsWithSymbol q (p ++ rest) → length q ≤ length p)
       → IsPiece p rest (TokenPiece t)
   stray :
-      {c : ℕ} {rest : List ℕ} → is_separator c ≡ false → is_ascii_lowercase c ≡ false → is_ascii_digit c ≡ false
-      → ((q : List ℕ) → BeginsWithSymbol q (c ∷ rest) → ⊥)
+      {c : ℕ} {rest : List ℕ}
+      → is_separator c ≡ false → is_ascii_lowercase c ≡ false → is_ascii_digit c ≡ false
+      → BeginsWithNone (c ∷ rest)
       → IsPiece (c ∷ []) rest StrayByte
 
 -- pieces of a text, and what each of them is

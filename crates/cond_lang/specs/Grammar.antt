@@ -41,7 +41,10 @@ pub data ValueOf (A : Amounts) : List Token → Amount → Type 0 where
 
 -- ( seat , a - b - c - d )
 abbrev pub four : ASeat → ℕ → ℕ → ℕ → ℕ → List Token
-four q a b c d = Open ∷ Seat q ∷ Comma ∷ Number a ∷ Dash ∷ Number b ∷ Dash ∷ Number c ∷ Dash ∷ Number d ∷ Close ∷ []
+four q a b c d =
+    Open ∷ Seat q ∷ Comma
+    ∷ Number a ∷ Dash ∷ Number b ∷ Dash ∷ Number c ∷ Dash ∷ Number d
+    ∷ Close ∷ []
 
 -- tests, of values that V spells
 mutual
@@ -64,7 +67,9 @@ mutual
         {L R : List Token} {a b : Amount} {o : Op} → V L a → V R b
         → UnitOf V (L ++ Relation o ∷ R) (compare a o b)
     is_balanced : {q : ASeat} → UnitOf V (Balanced ∷ Open ∷ Seat q ∷ Close ∷ []) (balanced q)
-    has_shape : {q : ASeat} {a b c d : ℕ} → UnitOf V (Shape ∷ four q a b c d) (shape q (a ∷ b ∷ c ∷ d ∷ []))
+    has_shape :
+        {q : ASeat} {a b c d : ℕ}
+        → UnitOf V (Shape ∷ four q a b c d) (shape q (a ∷ b ∷ c ∷ d ∷ []))
     has_pattern :
         {q : ASeat} {a b c d : ℕ}
         → UnitOf V (Pattern ∷ four q a b c d) (pattern q (a ∷ b ∷ c ∷ d ∷ []))

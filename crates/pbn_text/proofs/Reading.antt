@@ -224,7 +224,7 @@ seat_same x y h = sym (seat_back x) ∙ ap seat_of (sym (number_same (seat_numbe
 held : (deal : List Seat) (seat : Seat) (c : ℕ) → c < length deal → holds_card (hand_of deal seat) c ≡ (seat_number (get_or deal c North) == seat_number seat)
 held deal seat c h = get_or-map (λ holder. seat_number holder == seat_number seat) deal c North false h
 
-seats_from_deal : (d e : List Seat) → length d ≡ 52 → length e ≡ 52 → deal_text d ≡ deal_text e → d ≡ e
+pub seats_from_deal : (d e : List Seat) → length d ≡ 52 → length e ≡ 52 → deal_text d ≡ deal_text e → d ≡ e
 seats_from_deal d e p q same =
     ext_get_or North d e (p ∙ sym q)
     (λ c h.

@@ -23,7 +23,7 @@ pub use boards::{Vul, dealer, vulnerable};
 pub use heading::{Date, Heading, Label};
 pub use lines::HEADER;
 pub use printer::Printer;
-pub use reference::{Reference, game};
+pub use reference::{Reference, deal_text, game};
 
 #[cfg(test)]
 mod tests;

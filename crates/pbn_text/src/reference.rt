@@ -11,6 +11,7 @@ ghost use Rattle.cards.specs.Hands.{hand_of, length_of};
 ghost use Rattle.cards.specs.declared.suit.Suit.TheVariants.{Spades, Hearts, Diamonds, Clubs};
 ghost use Rattle.pbn_text.specs.Games.{game as game_of, game_text, no_heading, board_text, pbn};
 ghost use Rattle.pbn_text.specs.Games.{dealer_text, vulnerable_text, hand_text, suit_text};
+ghost use Rattle.pbn_text.specs.Games.{deal_text as text_of_deal};
 ghost use Rattle.pbn_text.specs.internal.Games.{game_has_byte};
 ghost use Rattle.pbn_text.specs.internal.Lines.{deal_line};
 
@@ -42,6 +43,23 @@ pub fn game(board: u64, heading: &Heading, deal: &Deal) -> ArrayVec<u8, 400>
         → other ≡ deal.now }
 {
     print_game(heading, &Board::by_law(board, 0, *deal))
+}
+
+/// Returns the deal as the value of its line: `N:` and the four hands from North on, with a dot
+/// between two suits and a space between two hands.
+///
+/// It has 69 bytes, and no other deal has this text.
+pub fn deal_text(deal: &Deal) -> ArrayVec<u8, 400>
+    ensures value { result.items ≡ text_of_deal deal.now }
+    ensures len { array_vec_len result ≡ 69 }
+    ensures one_deal { (other : List Seat)
+        → length other ≡ 52
+        → text_of_deal other ≡ result.items
+        → other ≡ deal.now }
+{
+    let mut text = ArrayVec::new();
+    put_deal_text(&mut text, deal);
+    text
 }
 
 /// Prints games under one heading, one at a time, each line by line: what a reference run writes
@@ -154,7 +172,19 @@ fn put_deal(text: &mut Text, deal: &Deal)
     ensures items { text.new.items ≡ text.old.items ++ deal_line deal.now }
     ensures len { array_vec_len text.new ≡ array_vec_len text.old + 80 }
 {
-    put(text, b"[Deal \"N:");
+    put(text, b"[Deal \"");
+    put_deal_text(text, deal);
+    put(text, b"\"]\n\n");
+}
+
+/// Appends the value of the deal's line.
+fn put_deal_text(text: &mut Text, deal: &Deal)
+    requires { array_vec_len text.old + 69 ≤ 400 }
+    ensures partition { IsPartition deal.now }
+    ensures items { text.new.items ≡ text.old.items ++ text_of_deal deal.now }
+    ensures len { array_vec_len text.new ≡ array_vec_len text.old + 69 }
+{
+    put(text, b"N:");
     put_hand(text, deal, Seat::North);
     put(text, b" ");
     put_hand(text, deal, Seat::East);
@@ -162,7 +192,6 @@ fn put_deal(text: &mut Text, deal: &Deal)
     put_hand(text, deal, Seat::South);
     put(text, b" ");
     put_hand(text, deal, Seat::West);
-    put(text, b"\"]\n\n");
 }
 
 /// Appends the seat's thirteen cards and the three dots between its suits.

@@ -9,12 +9,12 @@ use std::process::Abort;
 use std::test::Fail;
 
 /// The game of the pack in order at board 1.
-const FIRST: &[u8] =
-    b"[Board \"1\"]\n[Dealer \"N\"]\n[Vulnerable \"None\"]\n[Deal \"N:AKQJT98765432... .AKQJT98765432.. ..AKQJT98765432. ...AKQJT98765432\"]\n\n";
+const FIRST: &[u8] = b"[Board \"1\"]\n[Dealer \"N\"]\n[Vulnerable \"None\"]\n\
+    [Deal \"N:AKQJT98765432... .AKQJT98765432.. ..AKQJT98765432. ...AKQJT98765432\"]\n\n";
 
 /// The game of the worked deal at board 2.
-const SECOND: &[u8] =
-    b"[Board \"2\"]\n[Dealer \"E\"]\n[Vulnerable \"NS\"]\n[Deal \"N:.63.AKQ987.A9732 A8654.KQ5.T.QJT6 J973.J98742.3.K4 KQT2.AT.J6542.85\"]\n\n";
+const SECOND: &[u8] = b"[Board \"2\"]\n[Dealer \"E\"]\n[Vulnerable \"NS\"]\n\
+    [Deal \"N:.63.AKQ987.A9732 A8654.KQ5.T.QJT6 J973.J98742.3.K4 KQT2.AT.J6542.85\"]\n\n";
 
 /// The deal of a pack in order, whose first thirteen cards are North's.
 fn pack_in_order() -> Result<Deal, Fail> {
@@ -56,6 +56,18 @@ fn game_of_the_worked_deal(rt: HostRuntime) -> Result<(), Fail> {
     Ok(())
 }
 
+/// The two deals as the games above have them.
+#[test]
+fn texts_of_deals(rt: HostRuntime) -> Result<(), Fail> {
+    let text = deal_text(&pack_in_order()?);
+    let first = b"N:AKQJT98765432... .AKQJT98765432.. ..AKQJT98765432. ...AKQJT98765432";
+    assert_eq!(rt; text.as_slice(), first.as_slice());
+    let text = deal_text(&worked_deal()?);
+    let second = b"N:.63.AKQ987.A9732 A8654.KQ5.T.QJT6 J973.J98742.3.K4 KQT2.AT.J6542.85";
+    assert_eq!(rt; text.as_slice(), second.as_slice());
+    Ok(())
+}
+
 #[test]
 fn printer_of_the_worked_games(rt: HostRuntime) -> Result<(), Fail> {
     let mut printer = Printer::new(rt.alloc(), &Heading::none())?;
@@ -85,8 +97,11 @@ fn write_text<N: Notation>(
 }
 
 /// The text of `boards_by_hand`.
-const BY_HAND: &[u8] =
-    b"% PBN 2.1\n[Board \"0\"]\n[Dealer \"W\"]\n[Vulnerable \"All\"]\n[Deal \"N:AKQJT98765432... .AKQJT98765432.. ..AKQJT98765432. ...AKQJT98765432\"]\n\n[Board \"10\"]\n[Dealer \"S\"]\n[Vulnerable \"EW\"]\n[Deal \"N:.63.AKQ987.A9732 A8654.KQ5.T.QJT6 J973.J98742.3.K4 KQT2.AT.J6542.85\"]\n\n";
+const BY_HAND: &[u8] = b"% PBN 2.1\n\
+    [Board \"0\"]\n[Dealer \"W\"]\n[Vulnerable \"All\"]\n\
+    [Deal \"N:AKQJT98765432... .AKQJT98765432.. ..AKQJT98765432. ...AKQJT98765432\"]\n\n\
+    [Board \"10\"]\n[Dealer \"S\"]\n[Vulnerable \"EW\"]\n\
+    [Deal \"N:.63.AKQ987.A9732 A8654.KQ5.T.QJT6 J973.J98742.3.K4 KQT2.AT.J6542.85\"]\n\n";
 
 /// A board 0, and a board 10 with another dealer and vulnerability than Law 2's.
 fn boards_by_hand() -> Result<[Board; 2], Fail> {
@@ -220,8 +235,8 @@ fn labels_before_the_board(rt: HostRuntime) -> Result<(), Fail> {
     let mut heading = Heading::none();
     heading.event = Label::new(b"Club night");
     heading.date = Date::new(b"2024.05.01");
-    let front =
-        b"[Event \"Club night\"]\n[Date \"2024.05.01\"]\n[Board \"16\"]\n[Dealer \"W\"]\n[Vulnerable \"EW\"]\n[Deal \"N:";
+    let front = b"[Event \"Club night\"]\n[Date \"2024.05.01\"]\n[Board \"16\"]\n\
+        [Dealer \"W\"]\n[Vulnerable \"EW\"]\n[Deal \"N:";
     check_front(&rt, &heading, front)?;
     heading.site = Label::new(b"");
     let front = b"[Event \"Club night\"]\n[Site \"\"]\n[Date \"2024.05.01\"]\n[Board \"16\"]\n";

@@ -18,4 +18,6 @@ pub record IsDealing (x state : ℕ) (cards : List ℕ) (n : ℕ) : Type 0 where
 
 -- whether the card's position is from low to high
 abbrev pub stands_within : List ℕ → ℕ → ℕ → ℕ → Bool
-stands_within places low high card = nat_le low (position_of places card) && nat_le (position_of places card) high
+stands_within places low high card =
+    nat_le low (position_of places card)
+    && nat_le (position_of places card) high

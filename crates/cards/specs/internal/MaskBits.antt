@@ -16,16 +16,23 @@ test_bit b h = grind (arith, nat_tests)
 -- a bit of a list over the pack
 pub bit_at_pack : (p : ℕ → Bool) (i : ℕ) → i < 52 → bit_at (mask_l (map p pack)) i ≡ cond (p i) 1 0
 unfolding pack
-bit_at_pack p i h = bit_mask_l (map p (range_with_len 0 52)) i ∙ ap (λ b. cond b 1 0) (get_or-map-range_with_len p 0 52 i i false h (omega arith))
+bit_at_pack p i h =
+    bit_mask_l (map p (range_with_len 0 52)) i
+    ∙ ap (λ b. cond b 1 0) (get_or-map-range_with_len p 0 52 i i false h (omega arith))
 
 pub mask-pack-lt : (p : ℕ → Bool) → mask_l (map p pack) < 2 ^ 52
 unfolding pack
 mask-pack-lt p = mask_l-lt (map p (range_with_len 0 52))
 
 -- two masks of 52 bits with the same bits
-pub same_masks : (a b : ℕ) → a < 2 ^ 52 → b < 2 ^ 52 → ((i : ℕ) → i < 52 → bit_at a i ≡ bit_at b i) → a ≡ b
+pub same_masks : (a b : ℕ) → a < 2 ^ 52 → b < 2 ^ 52
+    → ((i : ℕ) → i < 52 → bit_at a i ≡ bit_at b i)
+    → a ≡ b
 same_masks a b p q at = same_from_bits_below 52 a b p q at
 
 pub mask_of_cards : (mask : ℕ) → mask < 2 ^ 52 → mask_l (cards_of_mask mask) ≡ mask
 unfolding cards_of_mask
-mask_of_cards mask h = same_masks _ mask (mask-pack-lt (λ c. bit_at mask c == 1)) h (λ i below. bit_at_pack (λ c. bit_at mask c == 1) i below ∙ test_bit (bit_at mask i) (bit_at-lt mask i))
+mask_of_cards mask h =
+    let is_set : ℕ → Bool = λ c. bit_at mask c == 1 in
+    same_masks _ mask (mask-pack-lt is_set) h
+    (λ i below. bit_at_pack is_set i below ∙ test_bit (bit_at mask i) (bit_at-lt mask i))

@@ -30,7 +30,10 @@ seat_mask deal seat = mask_l (hand_of deal seat)
 -- the seat whose bit is set at the card
 abbrev pub seat_in : ℕ → ℕ → ℕ → ℕ → Seat
 seat_in n e s c =
-    if bit_at n c == 1 then North else if bit_at e c == 1 then East else if bit_at s c == 1 then South else West
+    if bit_at n c == 1 then North
+    else if bit_at e c == 1 then East
+    else if bit_at s c == 1 then South
+    else West
 
 -- the deal that the masks of North, East and South show
 unfoldable pub seats_of_masks : ℕ → ℕ → ℕ → List Seat
@@ -39,9 +42,13 @@ seats_of_masks n e s = map (seat_in n e s) pack
 -- no bit is set twice, together they are all 52, and each has thirteen
 pub record IsFull (n e s w : ℕ) : Type 0 where
   pub apart :
-      (bit_and n e ≡ 0) × (bit_and n s ≡ 0) × (bit_and n w ≡ 0) × (bit_and e s ≡ 0) × (bit_and e w ≡ 0) × (bit_and s w ≡ 0)
+      (bit_and n e ≡ 0) × (bit_and n s ≡ 0) × (bit_and n w ≡ 0)
+      × (bit_and e s ≡ 0) × (bit_and e w ≡ 0)
+      × (bit_and s w ≡ 0)
   pub together : bit_or (bit_or n e) (bit_or s w) ≡ 2 ^ 52 - 1
-  pub thirteen : (count_ones n ≡ 13) × (count_ones e ≡ 13) × (count_ones s ≡ 13) × (count_ones w ≡ 13)
+  pub thirteen :
+      (count_ones n ≡ 13) × (count_ones e ≡ 13)
+      × (count_ones s ≡ 13) × (count_ones w ≡ 13)
 
 -- the four masks are those of a deal's four hands of thirteen
 pub record IsMasks (n e s w : ℕ) : Type 0 where

@@ -84,11 +84,20 @@ numbers_back : (ns : List ℕ) → numbers_of (numbers_stored ns) ≡ ns
 numbers_back [] = refl
 numbers_back (n ∷ ns) = ap (λ ms. n ∷ ms) (numbers_back ns)
 
+abbrev seat_stored : Seat → Gv
+seat_stored q = gnum (seat_number q)
+
 abbrev seat_from : Gv → Seat
 seat_from v = seat_of_number (number_of v)
 
+abbrev suit_stored : Suit → Gv
+suit_stored s = gnum (suit_number s)
+
 abbrev suit_from : Gv → Suit
 suit_from v = suit_of_number (number_of v)
+
+abbrev measure_stored : Measure → Gv
+measure_stored m = gnum (measure_number m)
 
 abbrev measure_from : Gv → Measure
 measure_from v = measure_of_number (number_of v)
@@ -98,26 +107,31 @@ measure_from v = measure_of_number (number_of v)
 abbrev amount_stored : Amount → Gv
 amount_stored (sum a b) = gcons (gnum 0) (gcons (amount_stored a) (amount_stored b))
 amount_stored (number n) = gcons (gnum 1) (gnum n)
-amount_stored (points q) = gcons (gnum 2) (gnum (seat_number q))
-amount_stored (suit_points q s) = gcons (gnum 3) (gcons (gnum (seat_number q)) (gnum (suit_number s)))
-amount_stored (suit_length q s) = gcons (gnum 4) (gcons (gnum (seat_number q)) (gnum (suit_number s)))
-amount_stored (total m q) = gcons (gnum 5) (gcons (gnum (measure_number m)) (gnum (seat_number q)))
+amount_stored (points q) = gcons (gnum 2) (seat_stored q)
+amount_stored (suit_points q s) = gcons (gnum 3) (gcons (seat_stored q) (suit_stored s))
+amount_stored (suit_length q s) = gcons (gnum 4) (gcons (seat_stored q) (suit_stored s))
+amount_stored (total m q) = gcons (gnum 5) (gcons (measure_stored m) (seat_stored q))
 amount_stored (suit_total m q s) =
-    gcons (gnum 6) (gcons (gnum (measure_number m)) (gcons (gnum (seat_number q)) (gnum (suit_number s))))
+    gcons (gnum 6) (gcons (measure_stored m) (gcons (seat_stored q) (suit_stored s)))
 
 abbrev amount_from : Gv → Amount
 amount_from (gcons (gnum zero) (gcons a b)) = sum (amount_from a) (amount_from b)
 amount_from (gcons (gnum (suc zero)) n) = number (number_of n)
 amount_from (gcons (gnum (suc (suc zero))) q) = points (seat_from q)
-amount_from (gcons (gnum (suc (suc (suc zero)))) (gcons q s)) = suit_points (seat_from q) (suit_from s)
-amount_from (gcons (gnum (suc (suc (suc (suc zero))))) (gcons q s)) = suit_length (seat_from q) (suit_from s)
-amount_from (gcons (gnum (suc (suc (suc (suc (suc zero)))))) (gcons m q)) = total (measure_from m) (seat_from q)
+amount_from (gcons (gnum (suc (suc (suc zero)))) (gcons q s)) =
+    suit_points (seat_from q) (suit_from s)
+amount_from (gcons (gnum (suc (suc (suc (suc zero))))) (gcons q s)) =
+    suit_length (seat_from q) (suit_from s)
+amount_from (gcons (gnum (suc (suc (suc (suc (suc zero)))))) (gcons m q)) =
+    total (measure_from m) (seat_from q)
 amount_from (gcons (gnum (suc (suc (suc (suc (suc (suc k))))))) (gcons m (gcons q s))) =
     suit_total (measure_from m) (seat_from q) (suit_from s)
 amount_from _ = number 0
 
 amount_back : (a : Amount) → amount_from (amount_stored a) ≡ a
-amount_back (sum a b) = ap (λ x. sum x (amount_from (amount_stored b))) (amount_back a) ∙ ap (λ x. sum a x) (amount_back b)
+amount_back (sum a b) =
+    ap (λ x. sum x (amount_from (amount_stored b))) (amount_back a)
+    ∙ ap (λ x. sum a x) (amount_back b)
 amount_back (number n) = refl
 amount_back (points q) = ap points (seat_back q)
 amount_back (suit_points q s) = rw (seat_back q, suit_back s) refl
@@ -130,10 +144,11 @@ abbrev form_stored : Form → Gv
 form_stored (any_of a b) = gcons (gnum 0) (gcons (form_stored a) (form_stored b))
 form_stored (all_of a b) = gcons (gnum 1) (gcons (form_stored a) (form_stored b))
 form_stored (negation a) = gcons (gnum 2) (form_stored a)
-form_stored (compare a o b) = gcons (gnum 3) (gcons (gnum (op_number o)) (gcons (amount_stored a) (amount_stored b)))
-form_stored (balanced q) = gcons (gnum 4) (gnum (seat_number q))
-form_stored (shape q ns) = gcons (gnum 5) (gcons (gnum (seat_number q)) (numbers_stored ns))
-form_stored (pattern q ns) = gcons (gnum 6) (gcons (gnum (seat_number q)) (numbers_stored ns))
+form_stored (compare a o b) =
+    gcons (gnum 3) (gcons (gnum (op_number o)) (gcons (amount_stored a) (amount_stored b)))
+form_stored (balanced q) = gcons (gnum 4) (seat_stored q)
+form_stored (shape q ns) = gcons (gnum 5) (gcons (seat_stored q) (numbers_stored ns))
+form_stored (pattern q ns) = gcons (gnum 6) (gcons (seat_stored q) (numbers_stored ns))
 
 abbrev form_from : Gv → Form
 form_from (gcons (gnum zero) (gcons a b)) = any_of (form_from a) (form_from b)
@@ -142,13 +157,17 @@ form_from (gcons (gnum (suc (suc zero))) a) = negation (form_from a)
 form_from (gcons (gnum (suc (suc (suc zero)))) (gcons o (gcons a b))) =
     compare (amount_from a) (op_of_number (number_of o)) (amount_from b)
 form_from (gcons (gnum (suc (suc (suc (suc zero))))) q) = balanced (seat_from q)
-form_from (gcons (gnum (suc (suc (suc (suc (suc zero)))))) (gcons q ns)) = shape (seat_from q) (numbers_of ns)
-form_from (gcons (gnum (suc (suc (suc (suc (suc (suc k))))))) (gcons q ns)) = pattern (seat_from q) (numbers_of ns)
+form_from (gcons (gnum (suc (suc (suc (suc (suc zero)))))) (gcons q ns)) =
+    shape (seat_from q) (numbers_of ns)
+form_from (gcons (gnum (suc (suc (suc (suc (suc (suc k))))))) (gcons q ns)) =
+    pattern (seat_from q) (numbers_of ns)
 form_from _ = balanced North
 
 form_back : (t : Form) → form_from (form_stored t) ≡ t
-form_back (any_of a b) = ap (λ x. any_of x (form_from (form_stored b))) (form_back a) ∙ ap (any_of a) (form_back b)
-form_back (all_of a b) = ap (λ x. all_of x (form_from (form_stored b))) (form_back a) ∙ ap (all_of a) (form_back b)
+form_back (any_of a b) =
+    ap (λ x. any_of x (form_from (form_stored b))) (form_back a) ∙ ap (any_of a) (form_back b)
+form_back (all_of a b) =
+    ap (λ x. all_of x (form_from (form_stored b))) (form_back a) ∙ ap (all_of a) (form_back b)
 form_back (negation a) = ap negation (form_back a)
 form_back (compare a o b) =
     ap (λ x. compare x (op_of_number (op_number o)) (amount_from (amount_stored b))) (amount_back a)

@@ -75,16 +75,22 @@ open_seat S = after (opened S) (λ _ R. seat R)
 unfoldable pub atom_of : Reader Amount
 atom_of (Number n ∷ S) = got (number n) S
 atom_of (Measure m ∷ S) = after (open_seat S) (rest_of_measure m)
-atom_of (Len ∷ S) = after (open_seat S) (λ q R. after (comma_suit_close R) (λ s. got (suit_length q s)))
+atom_of (Len ∷ S) =
+    after (open_seat S) (λ q R. after (comma_suit_close R) (λ s. got (suit_length q s)))
 atom_of S = stuck S
 
 unfoldable pub lengths : Reader (List ℕ)
-lengths S = after (digits S) (λ a S. after (dash S) (λ _ S. after (digits S) (λ b S. after (dash S) (λ _ S.
-    after (digits S) (λ c S. after (dash S) (λ _ S. after (digits S) (λ d S. got (a ∷ b ∷ c ∷ d ∷ []) S)))))))
+lengths S =
+    after (digits S) (λ a S. after (dash S) (λ _ S.
+    after (digits S) (λ b S. after (dash S) (λ _ S.
+    after (digits S) (λ c S. after (dash S) (λ _ S.
+    after (digits S) (λ d S. got (a ∷ b ∷ c ∷ d ∷ []) S)))))))
 
 -- ( seat , a - b - c - d )
 unfoldable pub seat_and_lengths : Reader (ASeat × List ℕ)
-seat_and_lengths S = after (open_seat S) (λ q S. after (comma S) (λ _ S. after (lengths S) (λ n S. closing (q, n) S)))
+seat_and_lengths S =
+    after (open_seat S) (λ q S. after (comma S) (λ _ S.
+    after (lengths S) (λ n S. closing (q, n) S)))
 
 -- what is to be read: a rule of the grammar, or the rest of a chain behind its first part
 pub data Goal : Type 0 where
@@ -110,7 +116,9 @@ abbrev pub Readers : Type 0
 Readers = (g : Goal) → Reader (Of g)
 
 abbrev pub comparing_by : Readers → Reader Form
-comparing_by r S = after (r a_value S) (λ a S. after (relation S) (λ o S. after (r a_value S) (λ b S. got (compare a o b) S)))
+comparing_by r S =
+    after (r a_value S) (λ a S. after (relation S) (λ o S.
+    after (r a_value S) (λ b S. got (compare a o b) S)))
 
 abbrev pub sums_by : Readers → Amount → Reader Amount
 sums_by r a (Plus ∷ S) = after (atom_of S) (λ b R. r (sums (sum a b)) R)

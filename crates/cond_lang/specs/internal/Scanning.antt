@@ -23,6 +23,11 @@ abbrev pub begins_with : ℕ → List ℕ → Bool
 begins_with c [] = false
 begins_with c (d ∷ s) = d == c
 
+-- of two symbols the one with an equals sign as its second byte, if the text goes on with one
+abbrev pub by_equals : List ℕ → Token → Option (Token × ℕ) → Option (Token × ℕ)
+by_equals s token shorter = if begins_with 61 s then Some (token, 2) else shorter
+
+-- the longest symbol of a byte and the text after it, and its length
 abbrev pub symbol_after : ℕ → List ℕ → Option (Token × ℕ)
 symbol_after c s =
     if c == 40 then Some (Open, 1)
@@ -30,10 +35,10 @@ symbol_after c s =
     else (if c == 44 then Some (Comma, 1)
     else (if c == 45 then Some (Dash, 1)
     else (if c == 43 then Some (Plus, 1)
-    else (if c == 61 then (if begins_with 61 s then Some (Relation Equal, 2) else None)
-    else (if c == 33 then (if begins_with 61 s then Some (Relation NotEqual, 2) else None)
-    else (if c == 60 then (if begins_with 61 s then Some (Relation AtMost, 2) else Some (Relation Less, 1))
-    else (if c == 62 then (if begins_with 61 s then Some (Relation AtLeast, 2) else Some (Relation More, 1))
+    else (if c == 61 then by_equals s (Relation Equal) None
+    else (if c == 33 then by_equals s (Relation NotEqual) None
+    else (if c == 60 then by_equals s (Relation AtMost) (Some (Relation Less, 1))
+    else (if c == 62 then by_equals s (Relation AtLeast) (Some (Relation More, 1))
     else None))))))))
 
 -- the longest symbol that the text begins with, and its length
@@ -57,11 +62,15 @@ abbrev pub symbol_piece : Option (Token × ℕ) → Piece × ℕ
 symbol_piece None = (StrayByte, 1)
 symbol_piece (Some s) = (TokenPiece s.0, s.1)
 
+-- what the first such bytes of a text are, and how many these are
+abbrev pub run_piece : (ℕ → Bool) → (List ℕ → Piece) → List ℕ → Piece × ℕ
+run_piece f piece s = (piece (take (run f s) s), run f s)
+
 -- the first piece of a text that isn't empty, and its length
 abbrev pub piece_at : List ℕ → Piece × ℕ
 piece_at [] = (StrayByte, 0)
 piece_at (c ∷ s) =
     if is_separator c then (Separator, 1)
-    else (if is_ascii_lowercase c then (word_piece (take (run is_ascii_lowercase (c ∷ s)) (c ∷ s)), run is_ascii_lowercase (c ∷ s))
-    else (if is_ascii_digit c then (number_piece (take (run is_ascii_digit (c ∷ s)) (c ∷ s)), run is_ascii_digit (c ∷ s))
+    else (if is_ascii_lowercase c then run_piece is_ascii_lowercase word_piece (c ∷ s)
+    else (if is_ascii_digit c then run_piece is_ascii_digit number_piece (c ∷ s)
     else symbol_piece (symbol_after c s)))

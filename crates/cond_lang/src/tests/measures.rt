@@ -10,7 +10,8 @@ fn trees_of_controls(rt: HostRuntime) -> Result<(), Fail> {
     expect_tree(
         &rt,
         "controls(north)+hcp(north)>=4",
-        "Compare { left: Sum(Total(Controls, North), Points(North)), op: AtLeast, right: Number(4) }",
+        "Compare { left: Sum(Total(Controls, North), Points(North)), op: AtLeast, \
+        right: Number(4) }",
     )?;
     expect_tree(
         &rt,

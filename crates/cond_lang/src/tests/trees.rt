@@ -95,7 +95,8 @@ fn every_word_and_symbol(rt: HostRuntime) -> Result<(), Fail> {
     expect_tree(
         &rt,
         "hcp(north,spades)!=hcp(east,hearts)",
-        "Compare { left: SuitPoints(North, Spades), op: NotEqual, right: SuitPoints(East, Hearts) }",
+        "Compare { left: SuitPoints(North, Spades), op: NotEqual, \
+        right: SuitPoints(East, Hearts) }",
     )?;
     expect_tree(
         &rt,
@@ -105,12 +106,14 @@ fn every_word_and_symbol(rt: HostRuntime) -> Result<(), Fail> {
     expect_tree(
         &rt,
         "len(west,clubs)>3and 4>=1",
-        "AllOf(Compare { left: Length(West, Clubs), op: More, right: Number(3) }, Compare { left: Number(4), op: AtLeast, right: Number(1) })",
+        "AllOf(Compare { left: Length(West, Clubs), op: More, right: Number(3) }, \
+        Compare { left: Number(4), op: AtLeast, right: Number(1) })",
     )?;
     expect_tree(
         &rt,
         "shape(west,1-2-3-7)\tor\n0==9999",
-        "AnyOf(Shape(West, [1, 2, 3, 7]), Compare { left: Number(0), op: Equal, right: Number(9999) })",
+        "AnyOf(Shape(West, [1, 2, 3, 7]), \
+        Compare { left: Number(0), op: Equal, right: Number(9999) })",
     )
 }
 

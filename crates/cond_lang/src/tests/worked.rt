@@ -39,7 +39,8 @@ const CONDITIONS: [(&str, [bool; 6]); 21] = [
     ("hcp(south)>=22", [false, false, false, true, false, false]),
     // A preempt with East.
     (
-        "(len(east,spades)>=7 or len(east,hearts)>=7 or len(east,diamonds)>=7 or len(east,clubs)>=7) and hcp(east)<10",
+        "(len(east,spades)>=7 or len(east,hearts)>=7 or len(east,diamonds)>=7 \
+        or len(east,clubs)>=7) and hcp(east)<10",
         [false, false, true, false, false, false],
     ),
     // An opening in a five-card major with North.
@@ -54,7 +55,8 @@ const CONDITIONS: [(&str, [bool; 6]); 21] = [
     ),
     // A 4-4 fit in a major.
     (
-        "len(north,spades)==4 and len(south,spades)==4 or len(north,hearts)==4 and len(south,hearts)==4",
+        "len(north,spades)==4 and len(south,spades)==4 \
+        or len(north,hearts)==4 and len(south,hearts)==4",
         [false, false, false, false, true, false],
     ),
     // Game values between North and South.
@@ -89,12 +91,14 @@ const CONDITIONS: [(&str, [bool; 6]); 21] = [
     ),
     // South has a void.
     (
-        "len(south,spades)==0 or len(south,hearts)==0 or len(south,diamonds)==0 or len(south,clubs)==0",
+        "len(south,spades)==0 or len(south,hearts)==0 or len(south,diamonds)==0 \
+        or len(south,clubs)==0",
         [false, true, false, false, false, false],
     ),
     // Stayman.
     (
-        "balanced(north) and hcp(north)>=15 and hcp(north)<=17 and hcp(south)>=8 and (len(south,spades)==4 or len(south,hearts)==4)",
+        "balanced(north) and hcp(north)>=15 and hcp(north)<=17 and hcp(south)>=8 \
+        and (len(south,spades)==4 or len(south,hearts)==4)",
         [false, true, false, false, false, false],
     ),
     // A transfer to hearts.
@@ -109,7 +113,8 @@ const CONDITIONS: [(&str, [bool; 6]); 21] = [
     ),
     // A fight for the part score.
     (
-        "hcp(north)+hcp(south)>=18 and hcp(north)+hcp(south)<=22 and not balanced(north) and not balanced(east)",
+        "hcp(north)+hcp(south)>=18 and hcp(north)+hcp(south)<=22 \
+        and not balanced(north) and not balanced(east)",
         [true, false, false, false, false, false],
     ),
     // A slam with its controls.

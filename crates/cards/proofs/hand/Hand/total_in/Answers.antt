@@ -1,10 +1,10 @@
 use Rattle.std.proofs.Common.{◌∙◌, arith}
-use Rattle.cards.specs.internal.Masks.{cards_of_mask}
 use Rattle.cards.proofs.MaskCounts.{total_in_mask, suit_masks}
+use Rattle.cards.proofs.WeightedCounts.{total_in-most}
 use Rattle.cards.proofs.hand.Hand.total_in.Goals as goal
 
 pub returns-clause-value : goal.returns-clause-value
 returns-clause-value c = rw (← c.self.view_is) (c.total_of_mask.ensures.value ∙ total_in_mask c.args.measure c.args.suit c.self.inside.cards c.suit_mask.result c.self.invariant (c.suit_mask.ensures.value ∙ suit_masks c.args.suit))
 
 pub returns-clause-most : goal.returns-clause-most
-returns-clause-most c = omega (arith, returns-clause-value c, c.total_of_mask.ensures.in_suit c.args.self.now c.args.suit)
+returns-clause-most c = omega (arith, returns-clause-value c, total_in-most c.args.measure c.args.self.now c.args.suit)
