@@ -17,7 +17,8 @@ use Rattle.deals_cli.specs.Requests.{Making, Wish, stream, make}
 
 -- ---- what is asked for
 
--- the plan of `make`
+-- the plan of `make`: from here on the candidates are its count, the lane its capacity, the boards its
+-- limit
 abbrev pub plan_of : Making → Planned
 plan_of m = record {
   seed = m.seed;
@@ -65,7 +66,7 @@ Means (Some t) form = (length t ≤ 1024) × SpellsTree t form
 abbrev pub Appends : Wish → Option (List ℕ) → Option (List ℕ) → Type 0
 Appends (stream seed count) old new = AppendsAll old new (lines seed count)
 Appends (make m) old new =
-    (form : Form) × Means m.condition form × AppendsAll old new (text (plan_of m) form)
+    (form : Form) × Means m.where_text form × AppendsAll old new (text (plan_of m) form)
 
 -- the words of a wish have to be accepted, so far as they aren't a condition
 abbrev pub HasPlan : Wish → Type 0
@@ -75,7 +76,7 @@ HasPlan (make m) = IsPlanned m
 -- the condition of a wish has to be accepted
 abbrev pub HasMeaning : Wish → Type 0
 HasMeaning (stream seed count) = Unit {0}
-HasMeaning (make m) = (form : Form) × Means m.condition form
+HasMeaning (make m) = (form : Form) × Means m.where_text form
 
 -- a wish that is served by threads
 abbrev pub HasRun : Wish → Type 0

@@ -3,3 +3,4 @@ pub mod Readings
 pub mod Options
 pub mod Failures
 pub mod Commands
+pub mod Lines

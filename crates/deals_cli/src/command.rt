@@ -141,8 +141,8 @@ fn with_boards<'a>(alloc: Global, command: Command<'a>) -> Result<Command<'a>, A
     ensures local { IfOk result (λ c. (fields_of c).has_globals
         ≡ (fields_of command.entry).has_globals) }
 {
-    let condition = option(alloc, "where", ValueParser::String, "TEXT", WHERE);
-    let command = with_option(command, condition)?;
+    let where_text = option(alloc, "where", ValueParser::String, "TEXT", WHERE);
+    let command = with_option(command, where_text)?;
     let boards = option(alloc, "boards", value_parser!(u32), "M", BOARDS);
     let command = with_option(command, boards)?;
     let first_board = option(alloc, "first-board", value_parser!(u64), "B", FIRST_BOARD);

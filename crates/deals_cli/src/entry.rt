@@ -120,6 +120,8 @@ pub fn program<R: Threads + Wait + Clone + Send + 'static, O: Sink, E: Sink>(
         → O.bytes out.new ≡ O.bytes out.old }
     // The status is 4 if and only if the output failed, once.
     ensures output { O.faults out.new ≡ O.faults out.old + (if result == 4 then 1 else 0) }
+    // Status 0 says nothing on the error output.
+    ensures quiet { result ≡ 0 → E.bytes err.new ≡ E.bytes err.old }
     // A fault of the error output is at most one, and ends nothing.
     ensures said { (E.faults err.old ≤ E.faults err.new)
         × (E.faults err.new ≤ E.faults err.old + 1) }

@@ -1,8 +1,10 @@
 //! Why the program did nothing, or not all: its statuses and texts.
 
-ghost use Rattle.std.specs.Prelude.{◌≡◌, ◌-◌, ◌^◌, ◌<◌};
+ghost use Rattle.std.specs.Prelude.{◌≡◌, ◌++◌, ◌-◌, ◌^◌, ◌<◌, OnOk, decimal};
+ghost use Rattle.dealrun.specs.Appended.{AppendsAll};
 ghost use Rattle.dealrun.specs.Sinks.{CountsFault};
 ghost use Rattle.deals_cli.specs.internal.Failures.{failure_by, failure_of, status_of};
+ghost use Rattle.deals_cli.specs.internal.Lines.{condition_line, label_line, line_of, plan_line, text_of};
 ghost use Rattle.deals_cli.specs.declared.failure.Failure.TheVariants.{Memory, Output};
 
 use cond_lang::CondError;
@@ -74,7 +76,9 @@ struct Message<'a> {
 }
 
 impl<'a> Message<'a> {
-    fn plain(text: &'a str) -> Message<'a> {
+    fn plain(text: &'a str) -> Message<'a>
+        ensures { text_of result ≡ text.entry.now }
+    {
         Message {
             before: text,
             number: None,
@@ -82,16 +86,34 @@ impl<'a> Message<'a> {
         }
     }
 
-    fn with(before: &'a str, number: u64, after: &'a str) -> Message<'a> {
+    fn with(before: &'a str, number: u64, after: &'a str) -> Message<'a>
+        ensures { text_of result ≡ before.entry.now ++ decimal number ++ after.entry.now }
+    {
         Message {
             before,
             number: Some(number),
             after,
         }
     }
+
+    /// Writes it.
+    fn print<E: Sink>(&self, err: &mut E) -> Result<(), SinkFault>
+        requires { E.faults err.old < 2 ^ 64 - 1 }
+        ensures text { OnOk result
+            (AppendsAll (E.bytes err.old) (E.bytes err.new) (text_of self.now)) }
+        ensures faults { CountsFault (E.faults err.old) (E.faults err.new) result }
+    {
+        put_all(err, self.before.as_bytes())?;
+        if let Some(number) = self.number {
+            put_all(err, Buffer::new().format(number).as_bytes())?;
+        }
+        put_all(err, self.after.as_bytes())
+    }
 }
 
-fn of_plan(error: PlanError) -> &'static str {
+fn of_plan(error: PlanError) -> &'static str
+    ensures { result.now ≡ plan_line error }
+{
     match error {
         PlanError::Range => "plan refused: range\n",
         PlanError::Workers => "plan refused: workers\n",
@@ -101,7 +123,9 @@ fn of_plan(error: PlanError) -> &'static str {
     }
 }
 
-fn of_label(label: LabelName) -> &'static str {
+fn of_label(label: LabelName) -> &'static str
+    ensures { result.now ≡ label_line label }
+{
     match label {
         LabelName::Event => "label refused: event\n",
         LabelName::Site => "label refused: site\n",
@@ -109,7 +133,9 @@ fn of_label(label: LabelName) -> &'static str {
     }
 }
 
-fn of_condition(error: CondError) -> Message<'static> {
+fn of_condition(error: CondError) -> Message<'static>
+    ensures { text_of result ≡ condition_line error }
+{
     const AT: &str = "condition refused at byte ";
     match error {
         CondError::TooLong => Message::plain("condition refused: longer than 1024 bytes\n"),
@@ -151,7 +177,9 @@ impl Failure {
         }
     }
 
-    fn message(&self) -> Message<'_> {
+    fn message(&self) -> Message<'_>
+        ensures { text_of result ≡ line_of self.now }
+    {
         match self {
             Failure::CommandLine(text) => Message::plain(text.as_str()),
             Failure::Plan(error) => Message::plain(of_plan(*error)),
@@ -172,13 +200,10 @@ impl Failure {
     /// Says it to the user, in one line but for clap's texts.
     pub fn say<E: Sink>(&self, err: &mut E) -> Result<(), SinkFault>
         requires { E.faults err.old < 2 ^ 64 - 1 }
-        ensures { CountsFault (E.faults err.old) (E.faults err.new) result }
+        ensures text { OnOk result
+            (AppendsAll (E.bytes err.old) (E.bytes err.new) (line_of self.now)) }
+        ensures faults { CountsFault (E.faults err.old) (E.faults err.new) result }
     {
-        let message = self.message();
-        put_all(err, message.before.as_bytes())?;
-        if let Some(number) = message.number {
-            put_all(err, Buffer::new().format(number).as_bytes())?;
-        }
-        put_all(err, message.after.as_bytes())
+        self.message().print(err)
     }
 }

@@ -25,7 +25,7 @@ pub fn example_of_make()
           first = 0;
           workers = 1;
           lane = 64;
-          condition = Some (codes "hcp(north)>=15");
+          where_text = Some (codes "hcp(north)>=15");
           boards = Some 5;
           first_board = None;
           event = None;

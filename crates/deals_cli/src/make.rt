@@ -71,6 +71,8 @@ fn numbers_of(request: &MakeRequest<'_>) -> Result<Plan, PlanError>
     ensures sound { IfOk result (λ _. HasNumbers (making_of request.now)) }
     ensures refused { IfErr result (λ _. HasNumbers (making_of request.now) → ⊥) }
 {
+    // The options have their names up to here. The plan calls the candidates its count, the lane
+    // its capacity and the boards its limit.
     let plan = Plan::new(
         request.seed,
         request.first,
@@ -79,7 +81,7 @@ fn numbers_of(request: &MakeRequest<'_>) -> Result<Plan, PlanError>
         request.lane,
     )?;
     let plan = match request.boards {
-        Some(most) => plan.limited(most)?,
+        Some(boards) => plan.limited(boards)?,
         None => plan,
     };
     plan.numbered(request.first_board.unwrap_or(1))
@@ -101,13 +103,13 @@ fn planned(request: &MakeRequest<'_>) -> Result<Plan, Failure>
 
 /// What the condition's text means; without a text every deal is accepted.
 fn condition_of(alloc: Global, request: &MakeRequest<'_>) -> Result<Cond, Failure>
-    ensures meant { IfOk result (λ c. Means (making_of request.now).condition c) }
+    ensures meant { IfOk result (λ c. Means (making_of request.now).where_text c) }
     ensures refused { IfErr result (λ e. (status_of e ≡ 5) ⊎ (status_of e ≡ 3)) }
     ensures memory { IfErr result (λ e. (f : Form)
-        → Means (making_of request.now).condition f → status_of e ≡ 5) }
+        → Means (making_of request.now).where_text f → status_of e ≡ 5) }
     ensures untouched { IfErr result (λ e. is_untouched e ≡ true) }
 {
-    let Some(text) = request.condition else {
+    let Some(text) = request.where_text else {
         return Ok(Cond::any(alloc));
     };
     Ok(parse(alloc, text.as_bytes())?)

@@ -37,7 +37,8 @@ pub struct MakeRequest<'a> {
     pub workers: u32,
     /// How many verdicts a worker's lane holds.
     pub lane: u32,
-    pub condition: Option<&'a str>,
+    /// The text of the condition.
+    pub where_text: Option<&'a str>,
     /// How many boards are written at most.
     pub boards: Option<u32>,
     pub first_board: Option<u64>,
@@ -93,7 +94,7 @@ fn make_request<'a>(matches: &ArgMatches<'a>) -> MakeRequest<'a>
         first: u64_in(matches, "first").unwrap_or(0),
         workers: u32_in(matches, "workers").unwrap_or(1),
         lane: u32_in(matches, "lane").unwrap_or(64),
-        condition: text_in(matches, "where"),
+        where_text: text_in(matches, "where"),
         boards: u32_in(matches, "boards"),
         first_board: u64_in(matches, "first-board"),
         event: text_in(matches, "event"),

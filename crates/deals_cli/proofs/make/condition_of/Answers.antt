@@ -12,5 +12,5 @@ returns-in_err-parse-clause-memory c =
     let p = err_from_is_err_and c.from_residual.result c.from_residual.ensures.1 in
     let e = c.in_err-parse.field-0.0 in
     rw (p.1, p.2) (
-    meant_status c.args.request.now.condition c.in-Some.text c.as_bytes.result.now e c.in-Some.is c.as_bytes.ensures.value c.in_err-parse.ensures.spelled
+    meant_status c.args.request.now.where_text c.in-Some.text c.as_bytes.result.now e c.in-Some.is c.as_bytes.ensures.value c.in_err-parse.ensures.spelled
     )

@@ -1,0 +1,55 @@
+-- The line that is said of a failure. No public clause cites it.
+use Rattle.std.specs.Prelude.{ℕ, List, [], ◌++◌, Option, None, Some, codes, decimal, string_bytes}
+use Rattle.cond_lang.specs.declared.error.CondError.{CondError}
+use Rattle.cond_lang.specs.declared.error.CondError.TheVariants as cond
+use Rattle.dealrun.specs.declared.plan.PlanError.{PlanError}
+use Rattle.dealrun.specs.declared.plan.PlanError.TheVariants as plan
+use Rattle.deals_cli.specs.declared.failure.Failure.{Failure}
+use Rattle.deals_cli.specs.declared.failure.Failure.TheVariants as failure
+use Rattle.deals_cli.specs.declared.failure.LabelName.{LabelName}
+use Rattle.deals_cli.specs.declared.failure.LabelName.TheVariants as label
+use Rattle.deals_cli.specs.declared.failure.Message.{Message}
+
+abbrev pub number_text : Option ℕ → List ℕ
+number_text None = []
+number_text (Some n) = decimal n
+
+-- a message's two texts, with its number between them
+abbrev pub text_of : Message → List ℕ
+text_of m = m.before.now ++ number_text m.number ++ m.after.now
+
+abbrev pub plan_line : PlanError → List ℕ
+plan_line plan.Range = codes "plan refused: range\n"
+plan_line plan.Workers = codes "plan refused: workers\n"
+plan_line plan.Capacity = codes "plan refused: lane capacity\n"
+plan_line plan.Boards = codes "plan refused: boards\n"
+plan_line plan.FirstBoard = codes "plan refused: first board\n"
+
+abbrev pub label_line : LabelName → List ℕ
+label_line label.Event = codes "label refused: event\n"
+label_line label.Site = codes "label refused: site\n"
+label_line label.Date = codes "label refused: date\n"
+
+-- a condition is refused at a byte, counted from 0
+abbrev pub refused_at : ℕ → List ℕ → List ℕ
+refused_at at why = codes "condition refused at byte " ++ decimal at ++ why
+
+abbrev pub condition_line : CondError → List ℕ
+condition_line cond.TooLong = codes "condition refused: longer than 1024 bytes\n"
+condition_line (cond.Byte at) = refused_at at (codes ": unexpected byte\n")
+condition_line (cond.Word at) = refused_at at (codes ": unknown word\n")
+condition_line (cond.Number at) = refused_at at (codes ": number too long\n")
+condition_line (cond.Syntax at) = refused_at at (codes ": syntax\n")
+condition_line cond.Memory = codes "out of memory\n"
+
+-- one line but for clap's texts
+abbrev pub line_of : Failure → List ℕ
+line_of (failure.CommandLine text) = string_bytes text
+line_of (failure.Plan error) = plan_line error
+line_of (failure.Label name) = label_line name
+line_of (failure.Condition error) = condition_line error
+line_of failure.Output = codes "output failed\n"
+line_of failure.Memory = codes "out of memory\n"
+line_of failure.Spawn = codes "thread not started\n"
+line_of (failure.Stopped worker) = codes "worker " ++ decimal worker ++ codes " stopped\n"
+line_of (failure.Unclosed worker) = codes "worker " ++ decimal worker ++ codes " not closed\n"
