@@ -28,7 +28,7 @@ use Rattle.dealrun.specs.MergedVerdicts.{verdicts_for, at_turn, in_turn, boards_
 use Rattle.dealrun.specs.internal.Joins.{ByNumber}
 use Rattle.dealrun.specs.internal.Ends.{Closes, Completes}
 use Rattle.dealrun.specs.internal.Writing.{board_count, printed, taken_lists, TakenInTurn, StaysShort, WroteTaken, WriterSoFar}
-use Rattle.dealrun.specs.Outcomes.{EachLane, AllSettled, for_each_worker, contents_of, AreLanesConsistent, TakesWhatIsOwed, WritesTextIn, BreaksOffFooter, StandsCompleteIn}
+use Rattle.dealrun.specs.Outcomes.{EachLane, AllSettled, for_each_worker, contents_of, AreLanesConsistent, TakesWhatIsOwed, BreaksOffFooter, StandsCompleteIn}
 use Rattle.dealrun.proofs.BoardLists.{length-boards_of}
 use Rattle.dealrun.proofs.SinkLemmas.{append_known-append, append_known-nil}
 use Rattle.dealrun.proofs.Printing.{in_turn-none, in_turn-more}

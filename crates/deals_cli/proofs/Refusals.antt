@@ -8,7 +8,8 @@ use Rattle.cond_lang.specs.declared.error.CondError.TheVariants.{TooLong, Byte, 
 use Rattle.deals_cli.specs.Program.{IsStatus, Means}
 use Rattle.deals_cli.specs.internal.Failures.{failure_of, status_of}
 use Rattle.deals_cli.specs.declared.failure.Failure.{Failure}
-use Rattle.deals_cli.specs.declared.failure.Failure.TheVariants.{CommandLine, Plan, Label, Condition, Output, Memory as no_memory, Spawn, Stopped, Unclosed}
+use Rattle.dealrun.specs.declared.cause.Cause.TheVariants as cause
+use Rattle.deals_cli.specs.declared.failure.Failure.TheVariants.{CommandLine, Plan, Label, Condition, Interrupted}
 
 pub refused_status : (e : CondError) → (status_of (failure_of e) ≡ 5) ⊎ (status_of (failure_of e) ≡ 3)
 refused_status TooLong = inr refl
@@ -32,8 +33,8 @@ status_of-status (CommandLine text) = (1, omega arith, refl)
 status_of-status (Plan error) = (1, omega arith, refl)
 status_of-status (Label label) = (1, omega arith, refl)
 status_of-status (Condition error) = (2, omega arith, refl)
-status_of-status Output = (3, omega arith, refl)
-status_of-status no_memory = (4, omega arith, refl)
-status_of-status Spawn = (5, omega arith, refl)
-status_of-status (Stopped worker) = (5, omega arith, refl)
-status_of-status (Unclosed worker) = (5, omega arith, refl)
+status_of-status (Interrupted cause.Output) = (3, omega arith, refl)
+status_of-status (Interrupted cause.Memory) = (4, omega arith, refl)
+status_of-status (Interrupted cause.Spawn) = (5, omega arith, refl)
+status_of-status (Interrupted (cause.Stopped worker)) = (5, omega arith, refl)
+status_of-status (Interrupted (cause.Unclosed worker)) = (5, omega arith, refl)

@@ -10,7 +10,8 @@ use Rattle.dealrun.specs.declared.cause.Cause.{Cause}
 use Rattle.dealrun.specs.declared.cause.Cause.TheVariants as cause
 use Rattle.deals_cli.specs.CommandLine.{kinds_for}
 use Rattle.deals_cli.specs.Program.{HasMeaning, HasPlan, HasRun, IsStatusOf, IsStatusOfNone, is_shown}
-use Rattle.deals_cli.specs.internal.Failures.{IsStatusOfKind, failure_by, status_of}
+use Rattle.deals_cli.specs.declared.failure.Failure.TheVariants.{Interrupted}
+use Rattle.deals_cli.specs.internal.Failures.{IsStatusOfKind, status_of}
 use Rattle.deals_cli.specs.Requests.{Wish}
 
 -- ---- of a wish
@@ -63,7 +64,7 @@ failed_run w s is plan meaning run = record {
 }
 
 -- a run was interrupted
-pub interrupted : (w : Wish) (c : Cause) → HasPlan w → HasMeaning w → HasRun w → IsStatusOf w (status_of (failure_by c))
+pub interrupted : (w : Wish) (c : Cause) → HasPlan w → HasMeaning w → HasRun w → IsStatusOf w (status_of (Interrupted c))
 interrupted w cause.Memory plan meaning run = no_memory w 5 refl
 interrupted w cause.Spawn plan meaning run = failed_run w 6 refl plan meaning run
 interrupted w cause.Output plan meaning run = served w 4 (inr refl) plan meaning

@@ -13,7 +13,7 @@ use crate::make::make;
 use crate::request::{Request, read_words};
 use clap::Error;
 use clap::error::ErrorKind;
-use dealrun::{Sink, put_all, stream};
+use dealrun::{Cause, Sink, put_all, stream};
 use std::alloc::Global;
 use std::sync::Wait;
 use std::thread::Threads;
@@ -22,14 +22,15 @@ use std::thread::Threads;
 #[tactic(auto, using(crate::proofs::Statuses::kind_no_memory, crate::proofs::Statuses::kind_refused, crate::proofs::Statuses::kind_shown, crate::proofs::Statuses::mistake, crate::proofs::Statuses::no_mistake))]
 fn show<O: Sink>(alloc: Global, error: &Error, out: &mut O) -> Result<(), Failure>
     requires { O.faults out.old < 2 ^ 64 - 1 }
-    ensures memory { kind_of error.now ≡ ErrorKind.OutOfMemory → IsErrOf result Failure.Memory }
+    ensures memory { kind_of error.now ≡ ErrorKind.OutOfMemory → IsErrOf result
+        (Failure.Interrupted Cause.Memory) }
     ensures status { IsStatusOfKind (kind_of error.now) (status_in result) }
     ensures untouched { IfErr result (λ e. is_untouched e ≡ true
         → O.bytes out.new ≡ O.bytes out.old) }
     ensures faults { O.faults out.new ≡ O.faults out.old + faults_in result }
 {
     if error.kind() == ErrorKind::OutOfMemory {
-        return Err(Failure::Memory);
+        return Err(Failure::Interrupted(Cause::Memory));
     }
     let text = error.to_string(alloc)?;
     if error.use_stderr() {

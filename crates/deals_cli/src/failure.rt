@@ -3,9 +3,11 @@
 ghost use Rattle.std.specs.Prelude.{◌≡◌, ◌++◌, ◌-◌, ◌^◌, ◌<◌, OnOk, decimal};
 ghost use Rattle.dealrun.specs.Appended.{AppendsAll};
 ghost use Rattle.dealrun.specs.Sinks.{CountsFault};
-ghost use Rattle.deals_cli.specs.internal.Failures.{failure_by, failure_of, status_of};
-ghost use Rattle.deals_cli.specs.internal.Lines.{condition_line, label_line, line_of, plan_line, text_of};
-ghost use Rattle.deals_cli.specs.declared.failure.Failure.TheVariants.{Memory, Output};
+ghost use Rattle.dealrun.specs.declared.cause.Cause.TheVariants.{Memory, Output};
+ghost use Rattle.deals_cli.specs.internal.Failures.{failure_of, status_of};
+ghost use Rattle.deals_cli.specs.internal.Lines.{cause_line, condition_line, label_line};
+ghost use Rattle.deals_cli.specs.internal.Lines.{line_of, plan_line, text_of};
+ghost use Rattle.deals_cli.specs.declared.failure.Failure.TheVariants.{Interrupted};
 
 use cond_lang::CondError;
 use dealrun::{Cause, PlanError, Sink, SinkFault, put_all};
@@ -30,29 +32,23 @@ pub enum Failure {
     Label(LabelName),
     /// The condition is refused, and not for want of memory.
     Condition(CondError),
-    /// The output failed.
-    Output,
-    /// Memory ran out.
-    Memory,
-    /// A thread couldn't be started.
-    Spawn,
-    Stopped(u32),
-    Unclosed(u32),
+    /// The output failed, memory ran out, a thread wasn't started, or a worker ended too soon.
+    Interrupted(Cause),
 }
 
 impl From<SinkFault> for Failure {
-    ghost from_gives = { λ _ e. e ≡ Output };
+    ghost from_gives = { λ _ e. e ≡ Interrupted Output };
 
     fn from(_fault: SinkFault) -> Failure {
-        Failure::Output
+        Failure::Interrupted(Cause::Output)
     }
 }
 
 impl From<AllocError> for Failure {
-    ghost from_gives = { λ _ e. e ≡ Memory };
+    ghost from_gives = { λ _ e. e ≡ Interrupted Memory };
 
     fn from(_error: AllocError) -> Failure {
-        Failure::Memory
+        Failure::Interrupted(Cause::Memory)
     }
 }
 
@@ -61,7 +57,7 @@ impl From<CondError> for Failure {
 
     fn from(error: CondError) -> Failure {
         match error {
-            CondError::Memory => Failure::Memory,
+            CondError::Memory => Failure::Interrupted(Cause::Memory),
             refused => Failure::Condition(refused),
         }
     }
@@ -147,23 +143,23 @@ fn of_condition(error: CondError) -> Message<'static>
     }
 }
 
+fn of_cause(cause: Cause) -> Message<'static>
+    ensures { text_of result ≡ cause_line cause }
+{
+    const WORKER: &str = "worker ";
+    match cause {
+        Cause::Memory => Message::plain(OUT_OF_MEMORY),
+        Cause::Spawn => Message::plain("thread not started\n"),
+        Cause::Output => Message::plain("output failed\n"),
+        Cause::Stopped { worker } => Message::with(WORKER, u64::from(worker), " stopped\n"),
+        Cause::Unclosed { worker } => Message::with(WORKER, u64::from(worker), " not closed\n"),
+    }
+}
+
 /// The line for want of memory.
 pub const OUT_OF_MEMORY: &str = "out of memory\n";
 
 impl Failure {
-    /// How a run that was interrupted ends the program.
-    pub fn from_cause(cause: Cause) -> Failure
-        ensures { result ≡ failure_by cause }
-    {
-        match cause {
-            Cause::Memory => Failure::Memory,
-            Cause::Spawn => Failure::Spawn,
-            Cause::Output => Failure::Output,
-            Cause::Stopped { worker } => Failure::Stopped(worker),
-            Cause::Unclosed { worker } => Failure::Unclosed(worker),
-        }
-    }
-
     /// The exit status.
     pub fn status(&self) -> u8
         ensures { result ≡ status_of self.now }
@@ -171,9 +167,11 @@ impl Failure {
         match self {
             Failure::CommandLine(_) | Failure::Plan(_) | Failure::Label(_) => 2,
             Failure::Condition(_) => 3,
-            Failure::Output => 4,
-            Failure::Memory => 5,
-            Failure::Spawn | Failure::Stopped(_) | Failure::Unclosed(_) => 6,
+            Failure::Interrupted(cause) => match cause {
+                Cause::Output => 4,
+                Cause::Memory => 5,
+                Cause::Spawn | Cause::Stopped { .. } | Cause::Unclosed { .. } => 6,
+            },
         }
     }
 
@@ -185,15 +183,7 @@ impl Failure {
             Failure::Plan(error) => Message::plain(of_plan(*error)),
             Failure::Label(label) => Message::plain(of_label(*label)),
             Failure::Condition(error) => of_condition(*error),
-            Failure::Output => Message::plain("output failed\n"),
-            Failure::Memory => Message::plain(OUT_OF_MEMORY),
-            Failure::Spawn => Message::plain("thread not started\n"),
-            Failure::Stopped(worker) => Message::with("worker ", u64::from(*worker), " stopped\n"),
-            Failure::Unclosed(worker) => Message::with(
-                "worker ",
-                u64::from(*worker),
-                " not closed\n",
-            ),
+            Failure::Interrupted(cause) => of_cause(*cause),
         }
     }
 

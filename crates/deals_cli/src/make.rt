@@ -11,7 +11,7 @@ ghost use Rattle.deals_cli.specs.internal.Options.{making_of};
 use crate::failure::{Failure, LabelName};
 use crate::request::MakeRequest;
 use cond_lang::{Cond, parse};
-use dealrun::{Plan, PlanError, Sink, run};
+use dealrun::{Cause, Plan, PlanError, Sink, run};
 use lanes::OpenGate;
 use pbn_text::{Date, Heading, Label};
 use std::alloc::Global;
@@ -134,10 +134,10 @@ pub fn make<R: Threads + Wait + Clone + Send + 'static, O: Sink>(
     let plan = planned(request)?;
     let condition = condition_of(alloc, request)?;
     let Ok(gate) = Arc::new(alloc, OpenGate) else {
-        return Err(Failure::Memory);
+        return Err(Failure::Interrupted(Cause::Memory));
     };
     match run(rt, alloc, &plan, condition, out, gate) {
         Ok(_) => Ok(()),
-        Err(fault) => Err(Failure::from_cause(fault.cause)),
+        Err(fault) => Err(Failure::Interrupted(fault.cause)),
     }
 }

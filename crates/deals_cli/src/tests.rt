@@ -6,7 +6,7 @@ use std::process::Abort;
 /// A run that ended so is told by this line, and ends the program with status 6.
 fn expect_line(rt: &impl Abort, alloc: Global, cause: Cause, line: &str) {
     let mut err = MemSink::new(alloc);
-    let failure = Failure::from_cause(cause);
+    let failure = Failure::Interrupted(cause);
     assert!(rt; failure.say(&mut err).is_ok());
     assert_eq!(rt; err.bytes(), line.as_bytes());
     assert_eq!(rt; failure.status(), 6);

@@ -4,11 +4,10 @@ use Rattle.std.specs.Prelude.{◌≡◌, ◌⊎◌, ℕ, Bool, true, false, Resu
 use Rattle.clap.specs.declared.error.kind.ErrorKind.{ErrorKind}
 use Rattle.cond_lang.specs.declared.error.CondError.{CondError}
 use Rattle.cond_lang.specs.declared.error.CondError.TheVariants.{Memory as no_memory}
-use Rattle.dealrun.specs.declared.cause.Cause.{Cause}
 use Rattle.dealrun.specs.declared.cause.Cause.TheVariants as cause
 use Rattle.deals_cli.specs.Program.{is_shown}
 use Rattle.deals_cli.specs.declared.failure.Failure.{Failure}
-use Rattle.deals_cli.specs.declared.failure.Failure.TheVariants.{CommandLine, Plan, Label, Condition, Output, Memory, Spawn, Stopped, Unclosed}
+use Rattle.deals_cli.specs.declared.failure.Failure.TheVariants.{CommandLine, Plan, Label, Condition, Interrupted}
 
 -- the exit status of a failure
 abbrev pub status_of : Failure → ℕ
@@ -16,24 +15,16 @@ status_of (CommandLine text) = 2
 status_of (Plan error) = 2
 status_of (Label label) = 2
 status_of (Condition error) = 3
-status_of Output = 4
-status_of Memory = 5
-status_of Spawn = 6
-status_of (Stopped worker) = 6
-status_of (Unclosed worker) = 6
+status_of (Interrupted cause.Output) = 4
+status_of (Interrupted cause.Memory) = 5
+status_of (Interrupted cause.Spawn) = 6
+status_of (Interrupted (cause.Stopped worker)) = 6
+status_of (Interrupted (cause.Unclosed worker)) = 6
 
 -- want of memory in a parse is want of memory
 abbrev pub failure_of : CondError → Failure
-failure_of no_memory = Memory
+failure_of no_memory = Interrupted cause.Memory
 failure_of error = Condition error
-
--- an interrupted run, by its cause
-abbrev pub failure_by : Cause → Failure
-failure_by cause.Memory = Memory
-failure_by cause.Spawn = Spawn
-failure_by cause.Output = Output
-failure_by (cause.Stopped worker) = Stopped worker
-failure_by (cause.Unclosed worker) = Unclosed worker
 
 -- the status of a result
 abbrev pub status_in : {T : Type 0} → Result T Failure → ℕ
@@ -48,13 +39,13 @@ pub record IsStatusOfKind (k : ErrorKind) (status : ℕ) : Type 0 where
 
 -- how many faults of the output a result tells of
 abbrev pub faults_in : {T : Type 0} → Result T Failure → ℕ
-faults_in (Err Output) = 1
+faults_in (Err (Interrupted cause.Output)) = 1
 faults_in _ = 0
 
 -- nothing was written before this failure
 abbrev pub is_untouched : Failure → Bool
-is_untouched Output = false
-is_untouched Spawn = false
-is_untouched (Stopped worker) = false
-is_untouched (Unclosed worker) = false
+is_untouched (Interrupted cause.Output) = false
+is_untouched (Interrupted cause.Spawn) = false
+is_untouched (Interrupted (cause.Stopped worker)) = false
+is_untouched (Interrupted (cause.Unclosed worker)) = false
 is_untouched _ = true

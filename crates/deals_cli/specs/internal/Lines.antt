@@ -2,6 +2,8 @@
 use Rattle.std.specs.Prelude.{ℕ, List, [], ◌++◌, Option, None, Some, codes, decimal, string_bytes}
 use Rattle.cond_lang.specs.declared.error.CondError.{CondError}
 use Rattle.cond_lang.specs.declared.error.CondError.TheVariants as cond
+use Rattle.dealrun.specs.declared.cause.Cause.{Cause}
+use Rattle.dealrun.specs.declared.cause.Cause.TheVariants as cause
 use Rattle.dealrun.specs.declared.plan.PlanError.{PlanError}
 use Rattle.dealrun.specs.declared.plan.PlanError.TheVariants as plan
 use Rattle.deals_cli.specs.declared.failure.Failure.{Failure}
@@ -42,14 +44,17 @@ condition_line (cond.Number at) = refused_at at (codes ": number too long\n")
 condition_line (cond.Syntax at) = refused_at at (codes ": syntax\n")
 condition_line cond.Memory = codes "out of memory\n"
 
+abbrev pub cause_line : Cause → List ℕ
+cause_line cause.Memory = codes "out of memory\n"
+cause_line cause.Spawn = codes "thread not started\n"
+cause_line cause.Output = codes "output failed\n"
+cause_line (cause.Stopped worker) = codes "worker " ++ decimal worker ++ codes " stopped\n"
+cause_line (cause.Unclosed worker) = codes "worker " ++ decimal worker ++ codes " not closed\n"
+
 -- one line but for clap's texts
 abbrev pub line_of : Failure → List ℕ
 line_of (failure.CommandLine text) = string_bytes text
 line_of (failure.Plan error) = plan_line error
 line_of (failure.Label name) = label_line name
 line_of (failure.Condition error) = condition_line error
-line_of failure.Output = codes "output failed\n"
-line_of failure.Memory = codes "out of memory\n"
-line_of failure.Spawn = codes "thread not started\n"
-line_of (failure.Stopped worker) = codes "worker " ++ decimal worker ++ codes " stopped\n"
-line_of (failure.Unclosed worker) = codes "worker " ++ decimal worker ++ codes " not closed\n"
+line_of (failure.Interrupted cause) = cause_line cause
