@@ -17,8 +17,8 @@ use Rattle.deals_cli.specs.Requests.{Making, Wish, stream, make}
 
 -- ---- what is asked for
 
--- the plan of `make`: from here on the candidates are its count, the lane its capacity, the boards its
--- limit
+-- the plan of `make`: from here on the candidates are its count, the lane its capacity, the
+-- boards its limit
 abbrev pub plan_of : Making → Planned
 plan_of m = record {
   seed = m.seed;

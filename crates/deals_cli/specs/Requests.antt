@@ -1,8 +1,8 @@
 -- What the words of a command line can ask for.
 use Rattle.std.specs.Prelude.{ℕ, List, Option}
 
--- `make`, with what its options were given or their defaults. A field is named as its option is, and
--- `where` as where_text, since the bare word is the language's.
+-- `make`, with what its options were given or their defaults. A field is named as its option is,
+-- and `where` as where_text, since the bare word is the language's.
 pub record Making : Type 0 where
   pub seed : ℕ
   pub candidates : ℕ
