@@ -153,10 +153,23 @@ fn blocks_of_a_lane(rt: HostRuntime) -> Result<(), Fail> {
     assert!(rt; take_all(&mut taker, 0..1));
     assert_eq!(rt; (sender.count_room(), taker.count_verdicts()), (16, 31));
     assert!(rt; send_all(&mut sender, 32..48));
-    assert!(rt; take_all(&mut taker, 1..20));
+    assert!(rt; take_all(&mut taker, 1..48));
+    assert!(rt; taker.take().is_none());
+    Ok(())
+}
+
+/// A lane is settled while the writer has a verdict in its block.
+#[test]
+fn a_settled_lane_with_a_block(rt: HostRuntime) -> Result<(), Fail> {
+    let (mut sender, mut taker) = lane_in_blocks(rt.alloc(), 8)?;
+    assert!(rt; sender.try_send(verdict(3)).is_ok());
+    assert!(rt; sender.try_send(verdict(4)).is_ok());
+    assert!(rt; sender.try_send(verdict(5)).is_ok());
+    assert!(rt; matches!(taker.take(), Some(taken) if taken.number == 3));
     let mut closed = sender.close().ok_or("a closed lane")?;
-    assert_eq!(rt; taker.settle(&mut closed), 28);
-    assert!(rt; take_all(&mut taker, 20..48));
+    assert_eq!(rt; taker.settle(&mut closed), 2);
+    assert!(rt; matches!(taker.take(), Some(taken) if taken.number == 4));
+    assert!(rt; matches!(taker.take(), Some(taken) if taken.number == 5));
     assert!(rt; taker.take().is_none());
     Ok(())
 }
