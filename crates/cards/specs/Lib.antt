@@ -6,4 +6,5 @@ pub mod Balanced
 pub mod Ranks
 pub mod Candidates
 pub mod CandidateWalks
+pub mod Packed
 pub mod internal

@@ -1,5 +1,6 @@
 -- What only bodies and lemmas use: no public clause names any of it.
 pub mod Masks
 pub mod MaskBits
+pub mod PackedMasks
 pub mod BalancedInOrder
 pub mod Exchanges

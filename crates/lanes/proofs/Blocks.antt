@@ -1,12 +1,20 @@
 -- The verdicts of a block, and those that were taken before them.
-use Rattle.std.proofs.Common.{ℕ, ◌+◌, ◌-◌, ◌≤◌, ◌<◌, ◌≡◌, List, [], ◌∷◌, ◌++◌, length, take, drop, sym, refl, ◌∙◌, ap, arith}
-use Rattle.std.proofs.lemmas.List.{length-drop, length-take-le, take_at}
+use Rattle.std.proofs.Common.{ℕ, ◌+◌, ◌-◌, ◌≤◌, ◌<◌, ◌≡◌, List, [], ◌∷◌, ◌++◌, length, take, drop, sym, refl, ◌∙◌, ap, arith, get_or}
+use Rattle.std.proofs.lemmas.List.{at_drop_more, get_or-take, length-drop, length-take-le, take_at}
 use Rattle.std.proofs.lemmas.List.{length-append, append_assoc}
 use Rattle.lanes.specs.declared.verdict.Verdict.{Verdict}
 use Rattle.lanes.specs.internal.Rings.{without_last}
 
 pub length_part : (s e : ℕ) (xs : List Verdict) → e ≤ length xs → length (drop s (take e xs)) ≡ e - s
 length_part s e xs le = length-drop s (take e xs) ∙ ap (λ n. n - s) (length-take-le e xs le)
+
+-- the first verdict of a part, and those behind it
+pub part_from : (s e : ℕ) (xs : List Verdict) (v w : Verdict) → s < e → e ≤ length xs → v ≡ get_or xs s w
+    → drop s (take e xs) ≡ v ∷ drop (s + 1) (take e xs)
+part_from s e xs v w lt le is =
+    let inside : s < length (take e xs) = rw (length-take-le e xs le) lt in
+    at_drop_more (λ rest. rest) (take e xs) s w inside
+    ∙ ap (λ first. first ∷ drop (s + 1) (take e xs)) (get_or-take e xs s w lt ∙ sym is)
 
 -- what comes before a list's last items
 pub before_last : (zs xs ys : List Verdict) → zs ≡ xs ++ ys → without_last (length ys) zs ≡ xs

@@ -7,6 +7,7 @@ ghost use Rattle.std.specs.Prelude.{◌≡◌, ◌<◌, ◌≤◌, ◌↔◌, []
 ghost use Rattle.rtrb.specs.Ring.{received, known_items, SameConsumer};
 ghost use Rattle.lanes.specs.Prefixes.{IsPrefix};
 
+use crate::slot::Slot;
 use crate::verdict::Verdict;
 use rtrb::Consumer;
 use std::marker::Model;
@@ -17,7 +18,7 @@ pub(crate) const MAX_BLOCK: usize = 16;
 /// Up to `most` verdicts, which contracts see as the list of them, oldest first.
 #[derive(Drop)]
 pub(crate) struct Block {
-    verdicts: [Verdict; 16],
+    slots: [Slot; 16],
     start: usize,
     end: usize,
     most: usize,
@@ -29,10 +30,10 @@ impl Model for Block {
 
     ghost Value = { List Verdict };
 
-    ghost view = { λ b. drop b.start (take b.end b.verdicts) };
+    ghost view = { λ b. drop b.start (take b.end b.slots) };
 
     ghost invariant = { λ b.
-        (length b.verdicts ≡ 16) × (b.start ≤ b.end) × (b.end ≤ 16) × (b.most ≤ 16) };
+        (length b.slots ≡ 16) × (b.start ≤ b.end) × (b.end ≤ 16) × (b.most ≤ 16) };
 }
 
 impl Block {
@@ -42,7 +43,7 @@ impl Block {
         ensures { result ≡ [] }
     {
         Block {
-            verdicts: [Verdict::of_no_candidate(); 16],
+            slots: [Slot::of(&Verdict::of_no_candidate()); 16],
             start: 0,
             end: 0,
             most,
@@ -71,13 +72,13 @@ impl Block {
         requires { 0 < length self.old }
         ensures { self.old ≡ result ∷ self.new }
     {
-        let verdict = self.verdicts[self.start];
+        let verdict = self.slots[self.start].verdict();
         self.start += 1;
         verdict
     }
 
     /// Takes out of the ring what is there, up to a block. Never blocks.
-    pub(crate) fn fill(&mut self, consumer: &mut Consumer<Verdict>)
+    pub(crate) fn fill(&mut self, consumer: &mut Consumer<Slot>)
         requires { self.old ≡ [] }
         ensures ring { SameConsumer consumer.old consumer.new }
         ensures received { received consumer.new ≡ received consumer.old ++ self.new }
@@ -85,6 +86,6 @@ impl Block {
             (self.new ++ known_items consumer.new) }
     {
         self.start = 0;
-        self.end = consumer.pop_partial_slice(&mut self.verdicts[..self.most]);
+        self.end = consumer.pop_partial_slice(&mut self.slots[..self.most]);
     }
 }

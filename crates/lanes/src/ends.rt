@@ -5,6 +5,7 @@ ghost use Rattle.lanes.specs.declared.ends.LaneError.TheVariants.{Capacity, Memo
 
 use crate::block::{Block, MAX_BLOCK};
 use crate::limits::MAX_CAPACITY;
+use crate::slot::Slot;
 use crate::verdict::Verdict;
 use rtrb::{Consumer, Finished, Producer, RingBuffer};
 use std::alloc::Global;
@@ -29,7 +30,7 @@ pub enum LaneError {
 /// known to be free, and which ring it is.
 #[derive(Drop)]
 pub struct LaneIn {
-    producer: Producer<Verdict>,
+    producer: Producer<Slot>,
     // How many candidates the worker judges before it sends their verdicts.
     ahead: usize,
 }
@@ -54,7 +55,7 @@ impl Model for LaneIn {
 /// What a closed sending end leaves. Contracts see all that was ever sent, and which ring it is.
 #[derive(Drop)]
 pub struct Closed {
-    finished: Finished<Verdict>,
+    finished: Finished<Slot>,
 }
 
 impl Model for Closed {
@@ -74,7 +75,7 @@ impl Model for Closed {
 /// are known to wait, which ring it is, whether it is settled, and from then on what is left.
 #[derive(Drop)]
 pub struct LaneOut {
-    consumer: Consumer<Verdict>,
+    consumer: Consumer<Slot>,
     block: Block,
     settled: bool,
 }
@@ -209,7 +210,7 @@ impl LaneIn {
         ensures room { self.old.room ≡ self.new.room + 1 }
     {
         // A push is the core's Send.
-        self.producer.push_reserved(verdict);
+        self.producer.push_reserved(Slot::of(&verdict));
     }
 
     /// How many verdicts the ring holds at most.
@@ -306,7 +307,7 @@ impl LaneOut {
     {
         // This is the core's Take while the run goes on, and no event afterwards.
         if self.block.is_empty() {
-            return self.consumer.pop_known();
+            return self.consumer.pop_known().verdict();
         }
         self.block.take_first()
     }

@@ -9,6 +9,7 @@ pub mod laws;
 mod limits;
 mod model;
 mod share;
+mod slot;
 mod turns;
 mod verdict;
 mod wait;

@@ -4,6 +4,6 @@
 /// that the writer serves all their lanes in turn without losing time.
 pub const MAX_WORKERS: u32 = 16;
 
-/// The most verdicts that a lane holds: a verdict takes 48 bytes, so the lanes of sixteen workers
-/// take 3 MiB at most. Longer lanes gained nothing when they were measured.
+/// The most verdicts that a lane holds: a verdict takes 32 bytes, so the lanes of sixteen workers
+/// take 2 MiB at most. Longer lanes gained nothing when they were measured.
 pub const MAX_CAPACITY: u32 = 4096;
