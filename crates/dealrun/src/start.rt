@@ -67,7 +67,7 @@ fn assign<R: Clone, G: Drop>(
     let Ok(cond) = cond.try_clone() else {
         return Err(AllocError);
     };
-    let Ok((sender, taker)) = lane_in_blocks(alloc, plan.capacity()) else {
+    let Ok((sender, taker)) = lane_in_blocks(alloc, plan.capacity(), plan.workers()) else {
         return Err(AllocError);
     };
     let seed = plan.seed();

@@ -7,6 +7,7 @@ use crate::block::{Block, MAX_BLOCK};
 use crate::limits::MAX_CAPACITY;
 use crate::slot::Slot;
 use crate::verdict::Verdict;
+use crate::wait::Pace;
 use rtrb::{Consumer, Finished, Producer, RingBuffer};
 use std::alloc::Global;
 use std::marker::Model;
@@ -33,6 +34,7 @@ pub struct LaneIn {
     producer: Producer<Slot>,
     // How many candidates the worker judges before it sends their verdicts.
     ahead: usize,
+    pace: Pace,
 }
 
 impl Model for LaneIn {
@@ -78,6 +80,7 @@ pub struct LaneOut {
     consumer: Consumer<Slot>,
     block: Block,
     settled: bool,
+    pace: Pace,
 }
 
 impl Model for LaneOut {
@@ -109,16 +112,21 @@ pub fn lane(alloc: Global, capacity: u32) -> Result<(LaneIn, LaneOut), LaneError
     ensures sender { IfOk result (λ r. (r.0.sent ≡ []) × (r.0.room ≡ capacity)) }
     ensures taker { IfOk result (λ r. (r.1.taken ≡ []) × (r.1.settled ≡ false)) }
 {
-    ends_with_blocks(alloc, capacity, 0)
+    ends_with_blocks(alloc, capacity, 0, Pace::Spins)
 }
 
-/// Makes a lane as `lane` does, whose ends handle blocks of verdicts: its worker judges a block of
-/// candidates before it sends their verdicts, and its writer takes a block out of the ring at once.
+/// Makes a lane as `lane` does for one of so many workers. Its ends handle blocks of verdicts: the
+/// worker judges a block of candidates before it sends their verdicts, and the writer takes a block
+/// out of the ring at once. They wait as suits a run with so many workers.
 ///
 /// A block is a quarter of the capacity, at most 16 verdicts, and none below a capacity of 4. The
 /// ring is smaller by the two blocks, so that a worker with blocks is never more than `capacity`
 /// candidates ahead of the writer.
-pub fn lane_in_blocks(alloc: Global, capacity: u32) -> Result<(LaneIn, LaneOut), LaneError>
+pub fn lane_in_blocks(
+    alloc: Global,
+    capacity: u32,
+    workers: u32,
+) -> Result<(LaneIn, LaneOut), LaneError>
     ensures capacity { IsErrOf result Capacity ↔ ((capacity ≡ 0) ⊎ (4096 < capacity)) }
     ensures ring { IfOk result (λ r. r.0.ring ≡ r.1.ring) }
     ensures sender { IfOk result (λ r. (r.0.sent ≡ [])
@@ -126,7 +134,7 @@ pub fn lane_in_blocks(alloc: Global, capacity: u32) -> Result<(LaneIn, LaneOut),
     ensures taker { IfOk result (λ r. (r.1.taken ≡ []) × (r.1.settled ≡ false)) }
 {
     let block = capacity as usize / PARTS_WITH_A_BLOCK;
-    ends_with_blocks(alloc, capacity, block.min(MAX_BLOCK))
+    ends_with_blocks(alloc, capacity, block.min(MAX_BLOCK), Pace::of(workers))
 }
 
 /// The two ends of a lane, each with blocks of so many verdicts, and the ring with the rest of the
@@ -135,6 +143,7 @@ fn ends_with_blocks(
     alloc: Global,
     capacity: u32,
     block: usize,
+    pace: Pace,
 ) -> Result<(LaneIn, LaneOut), LaneError>
     requires { (block ≤ 16) × (2 * block ≤ capacity) }
     ensures capacity { IsErrOf result Capacity ↔ ((capacity ≡ 0) ⊎ (4096 < capacity)) }
@@ -154,11 +163,13 @@ fn ends_with_blocks(
     let sender = LaneIn {
         producer,
         ahead: block.max(1),
+        pace,
     };
     let taker = LaneOut {
         consumer,
         block: Block::new(block),
         settled: false,
+        pace,
     };
     Ok((sender, taker))
 }
@@ -216,6 +227,11 @@ impl LaneIn {
     /// How many verdicts the ring holds at most.
     pub(crate) fn capacity(&self) -> usize {
         self.producer.capacity()
+    }
+
+    /// What it does while it waits.
+    pub(crate) fn pace(&self) -> Pace {
+        self.pace
     }
 
     /// How many candidates the worker is to judge before it sends their verdicts.
@@ -335,6 +351,11 @@ impl LaneOut {
         ensures known { result ≡ true → self.now.known ≡ length self.now.left }
     {
         self.settled
+    }
+
+    /// What it does while it waits.
+    pub(crate) fn pace(&self) -> Pace {
+        self.pace
     }
 
     /// How many verdicts the ring holds at most.

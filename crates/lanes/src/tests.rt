@@ -68,7 +68,7 @@ fn capacities_with_blocks(rt: HostRuntime) -> Result<(), Fail> {
     for capacity in [0, 4097] {
         assert!(rt;
             matches!(
-                lane_in_blocks(rt.alloc(), capacity),
+                lane_in_blocks(rt.alloc(), capacity, 1),
                 Err(LaneError::Capacity)
             )
         );
@@ -84,7 +84,7 @@ fn capacities_with_blocks(rt: HostRuntime) -> Result<(), Fail> {
         (4096, 4064),
     ];
     for (capacity, room) in rooms {
-        let (mut sender, _taker) = lane_in_blocks(rt.alloc(), capacity)?;
+        let (mut sender, _taker) = lane_in_blocks(rt.alloc(), capacity, 1)?;
         assert_eq!(rt; sender.count_room(), room);
     }
     Ok(())
@@ -146,7 +146,7 @@ fn take_all(taker: &mut LaneOut, numbers: Range<u64>) -> bool {
 
 #[test]
 fn blocks_of_a_lane(rt: HostRuntime) -> Result<(), Fail> {
-    let (mut sender, mut taker) = lane_in_blocks(rt.alloc(), 64)?;
+    let (mut sender, mut taker) = lane_in_blocks(rt.alloc(), 64, 1)?;
     assert!(rt; send_all(&mut sender, 0..32));
     assert!(rt; sender.try_send(verdict(32)).is_err());
     // The writer has a block out of the ring, and then there is room for as much.
@@ -161,7 +161,7 @@ fn blocks_of_a_lane(rt: HostRuntime) -> Result<(), Fail> {
 /// A lane is settled while the writer has a verdict in its block.
 #[test]
 fn a_settled_lane_with_a_block(rt: HostRuntime) -> Result<(), Fail> {
-    let (mut sender, mut taker) = lane_in_blocks(rt.alloc(), 8)?;
+    let (mut sender, mut taker) = lane_in_blocks(rt.alloc(), 8, 1)?;
     assert!(rt; sender.try_send(verdict(3)).is_ok());
     assert!(rt; sender.try_send(verdict(4)).is_ok());
     assert!(rt; sender.try_send(verdict(5)).is_ok());
@@ -241,7 +241,7 @@ fn a_stopped_share(rt: HostRuntime) -> Result<(), Fail> {
 /// Stops before the 21st verdict of a share, whose block has begun and is not sent to its end.
 #[test]
 fn a_share_stopped_within_a_block(rt: HostRuntime) -> Result<(), Fail> {
-    let (sender, mut taker) = lane_in_blocks(rt.alloc(), 64)?;
+    let (sender, mut taker) = lane_in_blocks(rt.alloc(), 64, 1)?;
     let gate = Arc::new(rt.alloc(), StopsAt(25))?;
     let stop = Arc::new(rt.alloc(), AtomicBool::new(false))?;
     let job = Job {

@@ -25,30 +25,46 @@ use std::{hint, thread};
 /// The most spins between two looks: some microseconds, so that a flag that goes up is soon seen.
 const MAX_SPINS: usize = 4096;
 
-/// More workers than this and their writer are taken to be more threads than there are cores:
-/// a worker that waits then lets the others run instead of spinning.
-const FEW_WORKERS: u32 = 3;
+/// More workers than this and their writer are taken to be more threads than there are cores to
+/// spare.
+const FEW_WORKERS: u32 = 2;
 
 /// How many spins a verdict of the other end takes, about, so that a pause lasts about a lane's
 /// content.
 const SPINS_A_VERDICT: usize = 4;
 
-/// A pause ends with a lane's capacity divided by this: with half of it, one end works while the
-/// other does.
+/// A spinning end goes on with a lane's capacity divided by this: with half of it, one end works
+/// while the other does.
 const PARTS_OF_A_LANE: usize = 2;
 
-/// The lanes that a worker serves: its own. The writer serves those of all workers.
-const LANES_OF_A_WORKER: u32 = 1;
+/// What an end of a lane does between two looks at the other one.
+#[derive(Clone, Copy, Drop)]
+pub(crate) enum Pace {
+    /// It spins: the other end has a core of its own.
+    Spins,
+    /// It lets other threads run, and goes on with what there is.
+    Yields,
+}
+
+impl Pace {
+    /// The pace of a run with so many workers.
+    pub(crate) fn of(workers: u32) -> Pace {
+        if workers > FEW_WORKERS {
+            Pace::Yields
+        } else {
+            Pace::Spins
+        }
+    }
+}
 
 impl LaneIn {
-    /// Waits until a slot is free, of a lane that the writer serves in turn with those of `workers`
-    /// workers in all. Returns true once one is, and false if the stop flag is up.
-    pub(crate) fn wait_for_room<R: Wait>(&mut self, rt: &R, workers: u32, stop: &AtomicBool) -> bool
+    /// Waits until a slot is free. Returns true once one is, and false if the stop flag is up.
+    pub(crate) fn wait_for_room<R: Wait>(&mut self, rt: &R, stop: &AtomicBool) -> bool
         ensures ring { self.new.ring ≡ self.old.ring }
         ensures sent { self.new.sent ≡ self.old.sent }
         ensures room { result ≡ true → 0 < self.new.room }
     {
-        let mut pause = Pause::new(self.capacity(), workers);
+        let mut pause = Pause::new(self.capacity(), self.pace());
         for _ in rt.forever() {
             // A load of the stop flag is no event of the core.
             if stop.load(Ordering::SeqCst) {
@@ -86,7 +102,7 @@ impl LaneOut {
         ensures some { result ≡ true → 0 < self.new.known }
         ensures none { result ≡ false → self.new.known ≡ 0 }
     {
-        let mut pause = Pause::new(self.capacity(), LANES_OF_A_WORKER);
+        let mut pause = Pause::new(self.capacity(), self.pace());
         for _ in rt.forever() {
             // A load of the stop flag is no event of the core.
             if stop.load(Ordering::SeqCst) {
@@ -102,33 +118,34 @@ impl LaneOut {
     }
 }
 
-/// The pauses of an end that waits. It spins for about a lane's content, and again as long as the
-/// other end makes progress. Once that stands still, the end leaves the rest of its time slice.
+/// The pauses of an end that waits. One that spins does so again as long as the other end makes
+/// progress, and yields once that stands still.
 #[derive(Drop)]
 struct Pause {
     spins: usize,
     enough: usize,
     seen: usize,
-    rests: bool,
+    yields: bool,
 }
 
 impl Pause {
-    /// The pauses at a lane of this capacity, when the other end serves so many lanes in turn.
-    fn new(capacity: usize, lanes: u32) -> Pause {
+    /// The pauses at a lane of this capacity.
+    fn new(capacity: usize, pace: Pace) -> Pause {
+        let (enough, yields) = match pace {
+            Pace::Spins => (capacity / PARTS_OF_A_LANE, false),
+            Pace::Yields => (1, true),
+        };
         Pause {
-            spins: capacity
-                .saturating_mul(SPINS_A_VERDICT)
-                .saturating_mul(lanes as usize)
-                .min(MAX_SPINS),
-            enough: capacity / PARTS_OF_A_LANE,
+            spins: capacity.saturating_mul(SPINS_A_VERDICT).min(MAX_SPINS),
+            enough,
             seen: 0,
-            rests: lanes > FEW_WORKERS,
+            yields,
         }
     }
 
     /// Waits a little.
     fn wait(&self) {
-        if self.rests {
+        if self.yields {
             thread::yield_now();
             return;
         }
@@ -137,14 +154,13 @@ impl Pause {
         }
     }
 
-    /// Whether to go on with so many verdicts or slots: with half a lane's content, or with fewer
-    /// if no more come.
+    /// Whether to go on with so many verdicts or slots: with enough, or with fewer if no more come.
     fn is_enough(&mut self, count: usize) -> bool
         ensures { result ≡ true → 0 < count }
     {
         let stands_still = count == self.seen;
         self.seen = count;
-        self.rests = self.rests || stands_still;
+        self.yields = self.yields || stands_still;
         count > 0 && (stands_still || count >= self.enough)
     }
 }

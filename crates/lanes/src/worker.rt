@@ -132,7 +132,7 @@ fn send_block<R: Wait, G: Gate>(
         if stop.load(Ordering::SeqCst) || !gate.pass(job.share.worker, verdict.number) {
             return false;
         }
-        if !send(rt, lane, verdict, job.share.workers, stop) {
+        if !send(rt, lane, verdict, stop) {
             return false;
         }
     }
@@ -141,19 +141,13 @@ fn send_block<R: Wait, G: Gate>(
 
 /// Sends a verdict as soon as there is room. Returns false, and sends nothing, if the stop flag is
 /// up.
-fn send<R: Wait>(
-    rt: &R,
-    lane: &mut LaneIn,
-    verdict: &Verdict,
-    workers: u32,
-    stop: &AtomicBool,
-) -> bool
+fn send<R: Wait>(rt: &R, lane: &mut LaneIn, verdict: &Verdict, stop: &AtomicBool) -> bool
     ensures ring { lane.new.ring ≡ lane.old.ring }
     ensures sent { MatchBool result
         (lane.new.sent ≡ lane.old.sent ++ verdict.now ∷ [])
         (lane.new.sent ≡ lane.old.sent) }
 {
-    if !lane.has_room() && !lane.wait_for_room(rt, workers, stop) {
+    if !lane.has_room() && !lane.wait_for_room(rt, stop) {
         return false;
     }
     lane.send_reserved(*verdict);
