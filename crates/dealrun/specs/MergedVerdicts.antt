@@ -6,7 +6,7 @@ use Rattle.cond_lang.specs.Form.{Form}
 use Rattle.lanes.specs.declared.verdict.Verdict.{Verdict}
 use Rattle.lanes.specs.Verdicts.{verdicts}
 use Rattle.lanes.specs.Views.{OutView}
-use Rattle.dealrun.specs.Plans.{Planned}
+use Rattle.plans.specs.Plans.{Planned}
 use Rattle.dealrun.specs.Text.{board_of}
 
 -- all verdicts of worker w

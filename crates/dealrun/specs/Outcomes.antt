@@ -12,8 +12,8 @@ use Rattle.lanes.specs.Views.{OutView}
 use Rattle.lanes.specs.Prefixes.{IsPrefix, IsProperPrefix}
 use Rattle.dealrun.specs.declared.cause.Cause.{Cause}
 use Rattle.dealrun.specs.declared.cause.Cause.TheVariants.{Memory, Spawn, Output, Stopped, Unclosed}
-use Rattle.dealrun.specs.Plans.{Planned}
-use Rattle.dealrun.specs.Appended.{AppendsAll, AppendsPart}
+use Rattle.plans.specs.Plans.{Planned}
+use Rattle.sinks.specs.Appended.{AppendsAll, AppendsPart}
 use Rattle.dealrun.specs.Text.{accepted_among, accepted, boards_of, text_of_boards, text_of, text_in, end_of}
 use Rattle.dealrun.specs.MergedVerdicts.{verdicts_for, taken_in_all, boards_taken}
 

@@ -5,7 +5,7 @@ use Rattle.cond_lang.specs.Form.{Form}
 use Rattle.lanes.specs.Views.{OutView}
 use Rattle.pbn_text.specs.Games.{pbn}
 use Rattle.dealrun.specs.declared.cause.Cause.{Cause}
-use Rattle.dealrun.specs.Plans.{Planned}
+use Rattle.plans.specs.Plans.{Planned}
 use Rattle.dealrun.specs.Text.{text_in}
 use Rattle.dealrun.specs.Outcomes.{InterruptedIn, StandsCompleteIn, WritesTextIn}
 

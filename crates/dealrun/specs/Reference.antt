@@ -2,8 +2,8 @@
 use Rattle.std.specs.Prelude.{◌<◌, ◌≤◌, ℕ, ◌+◌, List, ◌++◌, length, take, Option}
 use Rattle.boards.specs.Layouts.{Layout}
 use Rattle.pbn_text.specs.Games.{pbn}
-use Rattle.dealrun.specs.Appended.{AppendsPart}
-use Rattle.dealrun.specs.Plans.{Planned}
+use Rattle.sinks.specs.Appended.{AppendsPart}
+use Rattle.plans.specs.Plans.{Planned}
 use Rattle.dealrun.specs.Text.{text_of}
 
 -- a text was broken off: a proper prefix of it was appended, with this many whole boards

@@ -9,7 +9,7 @@ use Rattle.cards.specs.declared.seat.Seat.{Seat}
 use Rattle.cards.specs.Candidates.{candidate}
 use Rattle.cond_lang.specs.Form.{Form}
 use Rattle.cond_lang.specs.Meaning.{holds}
-use Rattle.dealrun.specs.Plans.{Planned}
+use Rattle.plans.specs.Plans.{Planned}
 
 -- the numbers of the accepted ones among n candidates from `first` on, in order
 unfoldable pub accepted_among : ℕ → ℕ → Form → ℕ → List ℕ

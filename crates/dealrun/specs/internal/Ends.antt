@@ -3,8 +3,8 @@ use Rattle.std.specs.Prelude.{ℕ, ◌≡◌, List, [], length, Option}
 use Rattle.boards.specs.Layouts.{Layout}
 use Rattle.cond_lang.specs.Form.{Form}
 use Rattle.lanes.specs.Views.{OutView}
-use Rattle.dealrun.specs.Plans.{Planned}
-use Rattle.dealrun.specs.Appended.{AppendsAll}
+use Rattle.plans.specs.Plans.{Planned}
+use Rattle.sinks.specs.Appended.{AppendsAll}
 use Rattle.dealrun.specs.Text.{accepted, text_of}
 use Rattle.dealrun.specs.Outcomes.{TakesWhatIsOwed, WritesTextIn, StandsCompleteIn}
 

@@ -5,8 +5,8 @@ use Rattle.boards.specs.Layouts.{Layout}
 use Rattle.lanes.specs.declared.verdict.Verdict.{Verdict}
 use Rattle.lanes.specs.Verdicts.{turns}
 use Rattle.lanes.specs.Views.{OutView}
-use Rattle.dealrun.specs.Plans.{Planned}
-use Rattle.dealrun.specs.Appended.{append_known}
+use Rattle.plans.specs.Plans.{Planned}
+use Rattle.sinks.specs.Appended.{append_known}
 use Rattle.dealrun.specs.Text.{board_of, text_of_boards}
 use Rattle.dealrun.specs.MergedVerdicts.{boards_after}
 use Rattle.dealrun.specs.Outcomes.{BreaksOffLastPiece, contents_of}

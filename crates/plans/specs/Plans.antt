@@ -1,8 +1,8 @@
 -- What a plan says, and when there is none.
 use Rattle.std.specs.Prelude.{ℕ, ◌+◌, ◌^◌, ◌||◌, ◌==◌, Option, nat_lt, if◌then◌else◌}
 use Rattle.pbn_text.specs.Games.{HeadingView}
-use Rattle.dealrun.specs.declared.plan.PlanError.{PlanError}
-use Rattle.dealrun.specs.declared.plan.PlanError.TheVariants.{Range, Workers, Capacity}
+use Rattle.plans.specs.declared.plan.PlanError.{PlanError}
+use Rattle.plans.specs.declared.plan.PlanError.TheVariants.{Range, Workers, Capacity}
 
 -- the candidates `first` to `first + count - 1` of a seed are tried by `workers` workers, each at
 -- most `capacity` verdicts ahead; at most `limit` boards are written, from `first_board` on, under

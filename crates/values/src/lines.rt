@@ -1,13 +1,13 @@
 //! The stream of `nrand48` values.
 
 ghost use Rattle.std.specs.Prelude.{◌≡◌, ◌-◌, ◌^◌, ◌<◌, ◌≤◌};
-ghost use Rattle.dealrun.specs.Sinks.{CountsFault, AppendsOrBreaksOff};
-ghost use Rattle.dealrun.specs.Values.{line, lines};
+ghost use Rattle.sinks.specs.Sinks.{CountsFault, AppendsOrBreaksOff};
+ghost use Rattle.values.specs.Values.{line, lines};
 
-use crate::sink::{Sink, SinkFault, put_all};
 use arrayvec::ArrayVec;
 use itoa::Buffer;
 use lcg48::Lcg48;
+use sinks::{Sink, SinkFault, put_all};
 
 /// A value and a line feed.
 fn line_of(value: u32) -> ArrayVec<u8, 11>

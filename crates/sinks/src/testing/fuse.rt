@@ -2,8 +2,8 @@
 
 ghost use Rattle.std.specs.Prelude.{◌≡◌, ◌-◌, ◌≤◌, ◌<◌, ◌^◌, ◌↔◌, ◌==◌, true, IfOk, IsErr, IsOk};
 ghost use Rattle.std.specs.Prelude.{IsTrue};
-ghost use Rattle.dealrun.specs.Fuses.{counted};
-ghost use Rattle.dealrun.specs.Sinks.{CountsFault, IsTakenLength, AppendsTaken};
+ghost use Rattle.sinks.specs.Fuses.{counted};
+ghost use Rattle.sinks.specs.Sinks.{CountsFault, IsTakenLength, AppendsTaken};
 
 use crate::sink::{Sink, SinkFault};
 use crate::testing::memory_sink::MemSink;
@@ -21,7 +21,7 @@ pub struct Fuse {
 
 impl Model for Fuse {
     ghost use Rattle.std.specs.Prelude.{◌<◌};
-    ghost use Rattle.dealrun.specs.Fuses.{FuseView};
+    ghost use Rattle.sinks.specs.Fuses.{FuseView};
 
     ghost Value = { FuseView };
 

@@ -1,6 +1,6 @@
 -- What a call adds to a sink.
 use Rattle.std.specs.Prelude.{◌≡◌, ◌<◌, ◌≤◌, ◌+◌, ℕ, List, length, take, Option, Result, MatchResult}
-use Rattle.dealrun.specs.Appended.{append_known, AppendsAll, AppendsPart}
+use Rattle.sinks.specs.Appended.{append_known, AppendsAll, AppendsPart}
 
 -- the whole text at Ok, and a proper prefix of it at Err
 abbrev pub AppendsOrBreaksOff : {T E : Type 0} → Option (List ℕ) → Option (List ℕ) → Result T E → List ℕ → Type 0

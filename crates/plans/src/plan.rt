@@ -3,11 +3,9 @@
 ghost use Rattle.std.specs.Prelude.{◌≡◌, ◌+◌, ◌≤◌, ◌<◌, ◌^◌, ◌↔◌, None, Some, IfErr, IfOk, IfSome};
 ghost use Rattle.std.specs.Prelude.{IsErr, IsOk};
 ghost use Rattle.pbn_text.specs.Games.{no_heading};
-ghost use Rattle.dealrun.specs.Plans.{refusal_of};
-ghost use Rattle.dealrun.specs.Text.{board_of};
+ghost use Rattle.plans.specs.Plans.{refusal_of};
 
-use boards::Board;
-use cards::{Deal, MAX_CANDIDATES};
+use cards::MAX_CANDIDATES;
 use lanes::{MAX_CAPACITY, MAX_WORKERS};
 use pbn_text::Heading;
 use std::marker::Model;
@@ -46,7 +44,7 @@ pub struct Plan {
 impl Model for Plan {
     ghost use Rattle.std.specs.Prelude.{◌+◌, ◌≤◌, ◌<◌, ◌^◌};
     ghost use Rattle.std.specs.Option.{ForSome};
-    ghost use Rattle.dealrun.specs.Plans.{Planned};
+    ghost use Rattle.plans.specs.Plans.{Planned};
 
     ghost Value = { Planned };
 
@@ -168,14 +166,6 @@ impl Plan {
         ensures { result ≡ record self { heading = heading } }
     {
         Plan { heading, ..self }
-    }
-
-    /// The board of a candidate's deal, after `boards` of them.
-    pub(crate) fn board(&self, boards: u64, candidate: u64, deal: &Deal) -> Board
-        requires { boards ≤ 2 ^ 40 }
-        ensures { result ≡ board_of self.now boards candidate deal.now }
-    {
-        Board::by_law(self.first_board + boards, candidate, *deal)
     }
 
     pub fn seed(&self) -> u32

@@ -16,7 +16,7 @@ pub struct MemSink {
 }
 
 impl Model for MemSink {
-    ghost use Rattle.dealrun.specs.Fuses.{MemoryView};
+    ghost use Rattle.sinks.specs.Fuses.{MemoryView};
 
     ghost Value = { MemoryView };
 

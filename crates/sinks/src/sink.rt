@@ -1,7 +1,7 @@
 //! Where bytes go.
 
 ghost use Rattle.std.specs.Prelude.{◌≡◌, ℕ, ◌-◌, ◌^◌, ◌<◌, List, Option, IfOk};
-ghost use Rattle.dealrun.specs.Sinks.{CountsFault, IsTakenLength, AppendsOrBreaksOff, AppendsTaken};
+ghost use Rattle.sinks.specs.Sinks.{CountsFault, IsTakenLength, AppendsOrBreaksOff, AppendsTaken};
 
 /// A sink couldn't take a piece, or couldn't flush.
 #[derive(Debug, Drop, Clone, Copy, PartialEq, Eq)]
