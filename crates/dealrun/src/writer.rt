@@ -6,8 +6,8 @@ ghost use Rattle.std.specs.Prelude.{IsTrue, slice_index_or, true, Some, ◌⊎�
 ghost use Rattle.lanes.specs.declared.verdict.Verdict.{Verdict};
 ghost use Rattle.sinks.specs.Appended.{append_known, AppendsPart};
 ghost use Rattle.sinks.specs.Sinks.{CountsFault};
-ghost use Rattle.dealrun.specs.internal.Writing.{board_text, KeepsContents, KeepsLanes, WriterSoFar};
-ghost use Rattle.dealrun.specs.internal.Writing.{WriterBrokeOff};
+ghost use Rattle.dealrun.specs.internal.Writing.{board_text, KeepsContents, KeepsLanes};
+ghost use Rattle.dealrun.specs.internal.Writing.{WriterBrokeOff, WriterSoFar};
 ghost use Rattle.dealrun.specs.internal.Joins.{AllWhole};
 ghost use Rattle.cond_lang.specs.Form.{Form};
 

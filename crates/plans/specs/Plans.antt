@@ -1,8 +1,6 @@
--- What a plan says, and when there is none.
-use Rattle.std.specs.Prelude.{ℕ, ◌+◌, ◌^◌, ◌||◌, ◌==◌, Option, nat_lt, if◌then◌else◌}
+-- What a plan says.
+use Rattle.std.specs.Prelude.{ℕ, Option}
 use Rattle.pbn_text.specs.Games.{HeadingView}
-use Rattle.plans.specs.declared.plan.PlanError.{PlanError}
-use Rattle.plans.specs.declared.plan.PlanError.TheVariants.{Range, Workers, Capacity}
 
 -- the candidates `first` to `first + count - 1` of a seed are tried by `workers` workers, each at
 -- most `capacity` verdicts ahead; at most `limit` boards are written, from `first_board` on, under
@@ -16,9 +14,3 @@ pub record Planned : Type 0 where
   pub limit : Option ℕ
   pub first_board : ℕ
   pub heading : HeadingView
-
--- why there is no plan with these numbers, of which one is out of range
-abbrev pub refusal_of : ℕ → ℕ → ℕ → PlanError
-refusal_of first count workers =
-    if nat_lt (2 ^ 40) (first + count) then Range
-    else (if workers == 0 || nat_lt 16 workers then Workers else Capacity)

@@ -3,7 +3,7 @@
 ghost use Rattle.std.specs.Prelude.{◌≡◌, ◌+◌, ◌≤◌, ◌<◌, ◌^◌, ◌↔◌, None, Some, IfErr, IfOk, IfSome};
 ghost use Rattle.std.specs.Prelude.{IsErr, IsOk};
 ghost use Rattle.pbn_text.specs.Games.{no_heading};
-ghost use Rattle.plans.specs.Plans.{refusal_of};
+ghost use Rattle.plans.specs.Refusals.{refusal_of};
 
 use cards::MAX_CANDIDATES;
 use lanes::{MAX_CAPACITY, MAX_WORKERS};
