@@ -13,7 +13,7 @@ use Rattle.cond_lang.specs.Form.{Form}
 use Rattle.cond_lang.specs.Meaning.{holds}
 use Rattle.lanes.specs.declared.verdict.Verdict.{Verdict}
 use Rattle.lanes.specs.Verdicts.{verdict_of}
-use Rattle.dealrun.specs.Plans.{Planned}
+use Rattle.plans.specs.Plans.{Planned}
 use Rattle.dealrun.specs.Text.{accepted_among, board_of, boards_of, limited, end_of}
 use Rattle.dealrun.specs.MergedVerdicts.{boards_in}
 use Rattle.dealrun.proofs.BoardLists.{accepted_among-none, accepted_among-more, accepted_among-parts, boards_in-none, boards_in-push, boards_of-none, boards_of-more, length-boards_of}

@@ -10,12 +10,12 @@ use Rattle.lanes.specs.Verdicts.{turns}
 use Rattle.lanes.specs.Views.{OutView}
 use Rattle.lanes.proofs.Places.{turns-none}
 use Rattle.lanes.proofs.Sums.{turns-here, turns-elsewhere}
-use Rattle.dealrun.specs.Plans.{Planned}
-use Rattle.dealrun.specs.Appended.{append_known, AppendsPart}
+use Rattle.plans.specs.Plans.{Planned}
+use Rattle.sinks.specs.Appended.{append_known, AppendsPart}
 use Rattle.dealrun.specs.Text.{board_of, text_of_boards}
 use Rattle.dealrun.specs.MergedVerdicts.{in_turn, boards_in, boards_after}
 use Rattle.dealrun.specs.internal.Writing.{board_text, printed, board_count, taken_lists, TakenInTurn, StaysShort, WriterSoFar, WriterBrokeOff}
-use Rattle.dealrun.proofs.SinkLemmas.{append_known-append}
+use Rattle.sinks.proofs.SinkLemmas.{append_known-append}
 use Rattle.dealrun.proofs.BoardLists.{boards_in-none, boards_in-push, text_of_boards-none, text_of_boards-more}
 use Rattle.dealrun.proofs.Printing.{in_turn-none, in_turn-kept, in_turn-grown, grown}
 

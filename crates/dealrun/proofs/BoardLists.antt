@@ -13,10 +13,10 @@ use Rattle.cards.specs.Candidates.{candidate}
 use Rattle.cond_lang.specs.Form.{Form}
 use Rattle.cond_lang.specs.Meaning.{holds}
 use Rattle.lanes.specs.declared.verdict.Verdict.{Verdict}
-use Rattle.dealrun.specs.Plans.{Planned}
+use Rattle.plans.specs.Plans.{Planned}
 use Rattle.dealrun.specs.Text.{accepted_among, board_of, boards_of, limited, text_of, text_of_boards}
 use Rattle.dealrun.specs.MergedVerdicts.{boards_in}
-use Rattle.dealrun.proofs.Ranges.{range_with_len-add, range_with_len-more}
+use Rattle.values.proofs.Ranges.{range_with_len-add, range_with_len-more}
 
 -- ---- boards
 

@@ -21,8 +21,8 @@ use Rattle.lanes.specs.Prefixes.{IsPrefix}
 use Rattle.lanes.proofs.Places.{count_even, turns_less}
 use Rattle.lanes.proofs.Sums.{turn_counts, sum-turn_counts}
 use Rattle.lanes.proofs.VerdictLists.{length-verdicts, verdicts-are}
-use Rattle.dealrun.specs.Plans.{Planned}
-use Rattle.dealrun.specs.Appended.{append_known, AppendsAll, AppendsPart}
+use Rattle.plans.specs.Plans.{Planned}
+use Rattle.sinks.specs.Appended.{append_known, AppendsAll, AppendsPart}
 use Rattle.dealrun.specs.Text.{accepted_among, accepted, boards_of, text_of, text_of_boards, end_of}
 use Rattle.dealrun.specs.MergedVerdicts.{verdicts_for, at_turn, in_turn, boards_in, boards_taken, taken_in_all}
 use Rattle.dealrun.specs.internal.Joins.{ByNumber}
@@ -30,7 +30,7 @@ use Rattle.dealrun.specs.internal.Ends.{Closes, Completes}
 use Rattle.dealrun.specs.internal.Writing.{board_count, printed, taken_lists, TakenInTurn, StaysShort, WroteTaken, WriterSoFar}
 use Rattle.dealrun.specs.Outcomes.{EachLane, AllSettled, for_each_worker, contents_of, AreLanesConsistent, TakesWhatIsOwed, BreaksOffFooter, StandsCompleteIn}
 use Rattle.dealrun.proofs.BoardLists.{length-boards_of}
-use Rattle.dealrun.proofs.SinkLemmas.{append_known-append, append_known-nil}
+use Rattle.sinks.proofs.SinkLemmas.{append_known-append, append_known-nil}
 use Rattle.dealrun.proofs.Printing.{in_turn-none, in_turn-more}
 use Rattle.dealrun.proofs.Accepting.{boards_are, end_here, needed_here, accepted_here}
 

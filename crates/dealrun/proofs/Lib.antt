@@ -1,9 +1,7 @@
-pub mod SinkLemmas
-pub mod Ranges
-pub mod ValueLemmas
 pub mod BoardLists
 pub mod Running
 pub mod Maps
+pub mod Results
 pub mod Joining
 pub mod Printing
 pub mod Advance

@@ -7,11 +7,11 @@ use Rattle.cards.specs.declared.seat.Seat.{Seat}
 use Rattle.cards.specs.Candidates.{candidate}
 use Rattle.cond_lang.specs.Form.{Form}
 use Rattle.cond_lang.specs.Meaning.{holds}
-use Rattle.dealrun.specs.Plans.{Planned}
-use Rattle.dealrun.specs.Appended.{append_known, AppendsAll, AppendsPart}
+use Rattle.plans.specs.Plans.{Planned}
+use Rattle.sinks.specs.Appended.{append_known, AppendsAll, AppendsPart}
 use Rattle.dealrun.specs.Reference.{BreaksOffIn}
 use Rattle.dealrun.specs.Text.{accepted, accepted_among, board_of, limited, text_of}
-use Rattle.dealrun.proofs.SinkLemmas.{append_known-append}
+use Rattle.sinks.proofs.SinkLemmas.{append_known-append}
 use Rattle.dealrun.proofs.BoardLists.{IsWithin, accepted_among-more, accepted_among-none, accepted_among-parts, limited-all, limited-full, limited-next, text_of-append, text_of-more, text_of-none, within_more}
 
 -- after i candidates: the accepted ones among them were written, within the limit

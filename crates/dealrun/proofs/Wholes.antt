@@ -8,7 +8,7 @@ use Rattle.lanes.specs.declared.verdict.Verdict.{Verdict}
 use Rattle.lanes.specs.Views.{OutView}
 use Rattle.lanes.proofs.Places.{turns_less}
 use Rattle.lanes.proofs.VerdictLists.{length-verdicts}
-use Rattle.dealrun.specs.Plans.{Planned}
+use Rattle.plans.specs.Plans.{Planned}
 use Rattle.dealrun.specs.MergedVerdicts.{verdicts_for}
 use Rattle.dealrun.specs.Outcomes.{contents_of}
 use Rattle.dealrun.specs.internal.Joins.{IsWhole, KnowsRest}

@@ -1,8 +1,9 @@
-pub mod Appended
-pub mod Sinks
-pub mod Fuses
-pub mod Values
-pub mod Plans
+-- The first five stand in the crates below, and have their names here too.
+pub use Rattle.sinks.specs.Appended
+pub use Rattle.sinks.specs.Sinks
+pub use Rattle.sinks.specs.Fuses
+pub use Rattle.values.specs.Values
+pub use Rattle.plans.specs.Plans
 pub mod Text
 pub mod MergedVerdicts
 pub mod Outcomes

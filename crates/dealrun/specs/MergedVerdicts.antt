@@ -1,12 +1,13 @@
 -- The boards of lists of verdicts that are gone through in turn, one list for each worker.
-use Rattle.std.specs.Prelude.{ℕ, ◌%◌, ◌/◌, List, [], length, map, filter, Option, slice_index_or, sum}
+use Rattle.std.specs.Prelude.{ℕ, ◌%◌, ◌/◌, List, [], length, map, filter, Option, sum}
+use Rattle.std.specs.Prelude.{slice_index_or}
 use Rattle.std.specs.List.{range_with_len, filter_map, slice_get, enumerate_from}
 use Rattle.boards.specs.declared.board.Board.{Board}
 use Rattle.cond_lang.specs.Form.{Form}
 use Rattle.lanes.specs.declared.verdict.Verdict.{Verdict}
 use Rattle.lanes.specs.Verdicts.{verdicts}
 use Rattle.lanes.specs.Views.{OutView}
-use Rattle.dealrun.specs.Plans.{Planned}
+use Rattle.plans.specs.Plans.{Planned}
 use Rattle.dealrun.specs.Text.{board_of}
 
 -- all verdicts of worker w
@@ -23,8 +24,8 @@ in_turn W lists m = filter_map (at_turn W lists) (range_with_len 0 m)
 
 -- the boards of the accepted ones
 unfoldable pub boards_in : Planned → List Verdict → List Board
-boards_in plan verdicts =
-    map (λ p. board_of plan p.0 p.1.number p.1.deal) (enumerate_from 0 (filter (λ v. v.accepted) verdicts))
+boards_in plan verdicts = map (λ p. board_of plan p.0 p.1.number p.1.deal)
+    (enumerate_from 0 (filter (λ v. v.accepted) verdicts))
 
 -- the boards of the first m verdicts in turn
 abbrev pub boards_after : Planned → List (List Verdict) → ℕ → List Board

@@ -1,6 +1,7 @@
 -- What holds when a run returns. The headline is two records: what was taken from the lanes of a
 -- run that ended Ok, and what was written. The rest says what holds however a run ends.
-use Rattle.std.specs.Prelude.{ℕ, ◌+◌, ◌-◌, ◌≡◌, ◌≢◌, ◌<◌, ◌≤◌, ◌⊎◌, List, [], ◌++◌, All, length, map, take, Option, Some, true, false, slice_get}
+use Rattle.std.specs.Prelude.{ℕ, ◌+◌, ◌-◌, ◌≡◌, ◌≢◌, ◌<◌, ◌≤◌, ◌⊎◌, List, [], ◌++◌, All, length}
+use Rattle.std.specs.Prelude.{map, take, Option, Some, true, false, slice_get}
 use Rattle.std.specs.List.{enumerate_from, range_with_len}
 use Rattle.boards.specs.Layouts.{Layout}
 use Rattle.cards.specs.Candidates.{candidate}
@@ -12,12 +13,11 @@ use Rattle.lanes.specs.Views.{OutView}
 use Rattle.lanes.specs.Prefixes.{IsPrefix, IsProperPrefix}
 use Rattle.dealrun.specs.declared.cause.Cause.{Cause}
 use Rattle.dealrun.specs.declared.cause.Cause.TheVariants.{Memory, Spawn, Output, Stopped, Unclosed}
-use Rattle.dealrun.specs.Plans.{Planned}
-use Rattle.dealrun.specs.Appended.{AppendsAll, AppendsPart}
-use Rattle.dealrun.specs.Text.{accepted_among, accepted, boards_of, text_of_boards, text_of, text_in, end_of}
+use Rattle.plans.specs.Plans.{Planned}
+use Rattle.sinks.specs.Appended.{AppendsAll, AppendsPart}
+use Rattle.dealrun.specs.Text.{accepted_among, accepted, boards_of, end_of}
+use Rattle.dealrun.specs.Text.{text_of_boards, text_of, text_in}
 use Rattle.dealrun.specs.MergedVerdicts.{verdicts_for, taken_in_all, boards_taken}
-
--- ---- lanes
 
 -- one item for each worker of the plan, by its number
 abbrev pub for_each_worker : {A : Type 0} → Planned → (ℕ → A) → List A
@@ -38,23 +38,25 @@ contents_of l = l.taken ++ l.left
 
 -- the lanes: what was taken from each is its worker's verdicts, each once, in the order sent,
 -- nothing after its close
-pub record TakesWhatIsOwed (plan : Planned) (form : Form) (lanes : List OutView) (boards : ℕ) : Type 0 where
+pub record TakesWhatIsOwed (plan : Planned) (form : Form) (lanes : List OutView) (boards : ℕ)
+    : Type 0 where
   -- there is a lane for each worker, and its first verdicts were taken, as many as are needed
   pub taken :
-      map (λ l. l.taken) lanes
-      ≡ for_each_worker plan (λ w. take (turns plan.workers w (end_of plan form)) (verdicts_for plan form w))
+      map (λ l. l.taken) lanes ≡ for_each_worker plan
+      (λ w. take (turns plan.workers w (end_of plan form)) (verdicts_for plan form w))
   -- each lane was closed
   pub settled : AllSettled lanes
   -- what is left follows what was taken in its worker's verdicts
   pub sent : EachLane lanes (λ w l. IsPrefix (contents_of l) (verdicts_for plan form w))
   -- unless the limit of boards was met, all verdicts were taken and none is left
-  pub whole :
-      plan.limit ≢ Some boards
-      → (map (λ l. l.taken) lanes ≡ for_each_worker plan (verdicts_for plan form)) × All (λ l. l.left ≡ []) lanes
+  pub whole : plan.limit ≢ Some boards
+      → (map (λ l. l.taken) lanes ≡ for_each_worker plan (verdicts_for plan form))
+      × All (λ l. l.left ≡ []) lanes
 
 -- the text: the boards of the accepted ones of the one candidate sequence, each deal a partition of
 -- the pack
-pub record WritesTextIn (layout : Layout) (plan : Planned) (form : Form) (boards : ℕ) (old new : Option (List ℕ)) : Type 0 where
+pub record WritesTextIn (layout : Layout) (plan : Planned) (form : Form) (boards : ℕ)
+    (old new : Option (List ℕ)) : Type 0 where
   pub bytes : AppendsAll old new (text_in layout plan form)
   pub boards_are : boards ≡ length (accepted plan form)
   pub partitions : All IsPartition (map (candidate plan.seed) (accepted plan form))
@@ -64,28 +66,29 @@ pub record WritesTextIn (layout : Layout) (plan : Planned) (form : Form) (boards
 -- the lanes, with m verdicts taken in all
 pub record AreLanesConsistent (plan : Planned) (form : Form) (lanes : List OutView) : Type 0 where
   -- there is a lane for each worker, and they were taken in turn, none skipped
-  pub in_turn :
-      map (λ l. length l.taken) lanes ≡ for_each_worker plan (λ w. turns plan.workers w (taken_in_all lanes))
+  pub in_turn : map (λ l. length l.taken) lanes
+      ≡ for_each_worker plan (λ w. turns plan.workers w (taken_in_all lanes))
   -- a settled lane's contents are the first of its worker's verdicts
-  pub parts : EachLane lanes (λ w l. l.settled ≡ true → IsPrefix (contents_of l) (verdicts_for plan form w))
+  pub parts : EachLane lanes
+      (λ w l. l.settled ≡ true → IsPrefix (contents_of l) (verdicts_for plan form w))
   -- if all lanes are settled, no more was taken than is needed
   pub needed : AllSettled lanes → taken_in_all lanes ≤ end_of plan form
   -- and the boards of the first m that were taken are those of the first m candidates
-  pub candidates :
-      AllSettled lanes
-      → (m : ℕ)
-      → m ≤ taken_in_all lanes
+  pub candidates : AllSettled lanes → (m : ℕ) → m ≤ taken_in_all lanes
       → boards_taken plan lanes m ≡ boards_of plan (accepted_among plan.seed plan.first form m)
 
 -- of the last piece the end is missing: of the header if nothing was taken, else of the board of
 -- the m-th verdict
-pub record BreaksOffLastPiece (layout : Layout) (plan : Planned) (lanes : List OutView) (m boards : ℕ) (old new : Option (List ℕ)) : Type 0 where
+pub record BreaksOffLastPiece (layout : Layout) (plan : Planned) (lanes : List OutView)
+    (m boards : ℕ) (old new : Option (List ℕ)) : Type 0 where
   pub part : AppendsPart old new (text_of_boards layout (boards_taken plan lanes m))
-  pub before : 0 < m → (more : List ℕ) × (text_of_boards layout (boards_taken plan lanes (m - 1)) ++ more ≡ part.front)
+  pub before : 0 < m → (more : List ℕ)
+      × (text_of_boards layout (boards_taken plan lanes (m - 1)) ++ more ≡ part.front)
   pub boards_are : boards ≡ length (boards_taken plan lanes (m - 1))
 
 -- the end of the footer is missing: all that is owed was taken, and all boards were written
-pub record BreaksOffFooter (layout : Layout) (plan : Planned) (form : Form) (lanes : List OutView) (boards : ℕ) (old new : Option (List ℕ)) : Type 0 where
+pub record BreaksOffFooter (layout : Layout) (plan : Planned) (form : Form)
+    (lanes : List OutView) (boards : ℕ) (old new : Option (List ℕ)) : Type 0 where
   pub lanes_are : TakesWhatIsOwed plan form lanes boards
   pub part : AppendsPart old new (text_in layout plan form)
   pub before : (more : List ℕ) × (text_of layout plan (accepted plan form) ++ more ≡ part.front)
@@ -93,22 +96,24 @@ pub record BreaksOffFooter (layout : Layout) (plan : Planned) (form : Form) (lan
 
 -- worker w ended before it had sent all, and is the least such worker: the settled lanes below are
 -- whole
-pub record IsLeastStopped (plan : Planned) (form : Form) (lanes : List OutView) (w : ℕ) : Type 0 where
+pub record IsLeastStopped (plan : Planned) (form : Form) (lanes : List OutView) (w : ℕ)
+    : Type 0 where
   pub lane : OutView
   pub at : slice_get lanes w ≡ Some lane
   pub settled : lane.settled ≡ true
   pub part : IsProperPrefix (contents_of lane) (verdicts_for plan form w)
-  pub below : EachLane lanes (λ v l. v < w → l.settled ≡ true → contents_of l ≡ verdicts_for plan form v)
+  pub below : EachLane lanes
+      (λ v l. v < w → l.settled ≡ true → contents_of l ≡ verdicts_for plan form v)
 
 -- the lane of worker w can't say how it ended, and is the least such lane. Unless the limit of
 -- boards was met, each settled lane is whole
-pub record IsLeastUnclosed (plan : Planned) (form : Form) (lanes : List OutView) (w boards : ℕ) : Type 0 where
+pub record IsLeastUnclosed (plan : Planned) (form : Form) (lanes : List OutView) (w boards : ℕ)
+    : Type 0 where
   pub lane : OutView
   pub at : slice_get lanes w ≡ Some lane
   pub unsettled : lane.settled ≡ false
   pub below : EachLane lanes (λ v l. v < w → l.settled ≡ true)
-  pub whole :
-      plan.limit ≢ Some boards
+  pub whole : plan.limit ≢ Some boards
       → EachLane lanes (λ v l. l.settled ≡ true → contents_of l ≡ verdicts_for plan form v)
 
 -- worker n was not started, nor any after it: their lanes are not settled
@@ -118,35 +123,33 @@ pub record IsFirstNotStarted (plan : Planned) (lanes : List OutView) (n : ℕ) :
 
 -- a run whose sink took all that it was given: the lanes, and the bytes and the boards of what was
 -- taken
-pub record StandsCompleteIn (layout : Layout) (closing : List ℕ) (plan : Planned) (form : Form) (lanes : List OutView) (boards : ℕ) (old new : Option (List ℕ)) : Type 0 where
+pub record StandsCompleteIn (layout : Layout) (closing : List ℕ) (plan : Planned) (form : Form)
+    (lanes : List OutView) (boards : ℕ) (old new : Option (List ℕ)) : Type 0 where
   pub lanes_are : AreLanesConsistent plan form lanes
-  pub bytes_are : AppendsAll old new (text_of_boards layout (boards_taken plan lanes (taken_in_all lanes)) ++ closing)
+  pub bytes_are : AppendsAll old new
+      (text_of_boards layout (boards_taken plan lanes (taken_in_all lanes)) ++ closing)
   pub boards_are : boards ≡ length (boards_taken plan lanes (taken_in_all lanes))
 
 -- a run that was interrupted, by its cause: it wrote no footer
-abbrev pub InterruptedIn : Layout → Planned → Form → Cause → List OutView → ℕ → Option (List ℕ) → Option (List ℕ) → Type 0
-InterruptedIn layout plan form Memory lanes boards old new = (lanes ≡ []) × (boards ≡ 0) × (new ≡ old)
+abbrev pub InterruptedIn : Layout → Planned → Form → Cause → List OutView → ℕ
+    → Option (List ℕ) → Option (List ℕ) → Type 0
+InterruptedIn layout plan form Memory lanes boards old new =
+    (lanes ≡ []) × (boards ≡ 0) × (new ≡ old)
 InterruptedIn layout plan form Spawn lanes boards old new =
-    AreLanesConsistent plan form lanes
-    × (taken_in_all lanes ≡ 0)
-    × (boards ≡ 0)
-    × (new ≡ old)
+    AreLanesConsistent plan form lanes × (taken_in_all lanes ≡ 0) × (boards ≡ 0) × (new ≡ old)
     × ((n : ℕ) × IsFirstNotStarted plan lanes n)
 InterruptedIn layout plan form Output lanes boards old new =
     AreLanesConsistent plan form lanes
     × (BreaksOffLastPiece layout plan lanes (taken_in_all lanes) boards old new
     ⊎ BreaksOffFooter layout plan form lanes boards old new)
 InterruptedIn layout plan form (Stopped w) lanes boards old new =
-    StandsCompleteIn layout [] plan form lanes boards old new
-    × (plan.limit ≢ Some boards)
+    StandsCompleteIn layout [] plan form lanes boards old new × (plan.limit ≢ Some boards)
     × IsLeastStopped plan form lanes w
 InterruptedIn layout plan form (Unclosed w) lanes boards old new =
-    StandsCompleteIn layout [] plan form lanes boards old new × IsLeastUnclosed plan form lanes w boards
+    StandsCompleteIn layout [] plan form lanes boards old new
+    × IsLeastUnclosed plan form lanes w boards
 
 -- the sink failed once in a run that ended so, or not at all
 abbrev pub FaultsAfter : Cause → ℕ → ℕ → Type 0
-FaultsAfter Memory old new = new ≡ old
-FaultsAfter Spawn old new = new ≡ old
 FaultsAfter Output old new = new ≡ old + 1
-FaultsAfter (Stopped w) old new = new ≡ old
-FaultsAfter (Unclosed w) old new = new ≡ old
+FaultsAfter _ old new = new ≡ old

@@ -5,7 +5,7 @@ use Rattle.cond_lang.specs.Form.{Form}
 use Rattle.lanes.specs.Views.{OutView}
 use Rattle.pbn_text.specs.Games.{pbn}
 use Rattle.dealrun.specs.declared.cause.Cause.{Cause}
-use Rattle.dealrun.specs.Plans.{Planned}
+use Rattle.plans.specs.Plans.{Planned}
 use Rattle.dealrun.specs.Text.{text_in}
 use Rattle.dealrun.specs.Outcomes.{InterruptedIn, StandsCompleteIn, WritesTextIn}
 
@@ -13,11 +13,12 @@ abbrev pub text : Planned → Form → List ℕ
 text plan form = text_in (pbn plan.heading) plan form
 
 abbrev pub WritesText : Planned → Form → ℕ → Option (List ℕ) → Option (List ℕ) → Type 0
-WritesText plan form boards old new = WritesTextIn (pbn plan.heading) plan form boards old new
+WritesText plan = WritesTextIn (pbn plan.heading) plan
 
-abbrev pub StandsComplete : Planned → Form → List OutView → ℕ → Option (List ℕ) → Option (List ℕ) → Type 0
-StandsComplete plan form lanes boards old new = StandsCompleteIn (pbn plan.heading) [] plan form lanes boards old new
+abbrev pub StandsComplete : Planned → Form → List OutView → ℕ
+    → Option (List ℕ) → Option (List ℕ) → Type 0
+StandsComplete plan = StandsCompleteIn (pbn plan.heading) [] plan
 
-abbrev pub InterruptedOutcome : Planned → Form → Cause → List OutView → ℕ → Option (List ℕ) → Option (List ℕ) → Type 0
-InterruptedOutcome plan form cause lanes boards old new =
-    InterruptedIn (pbn plan.heading) plan form cause lanes boards old new
+abbrev pub InterruptedOutcome : Planned → Form → Cause → List OutView → ℕ
+    → Option (List ℕ) → Option (List ℕ) → Type 0
+InterruptedOutcome plan = InterruptedIn (pbn plan.heading) plan

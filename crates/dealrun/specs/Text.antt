@@ -1,6 +1,7 @@
 -- The text of a plan under a condition, in any layout: the boards of the accepted ones of the one
 -- candidate sequence. Neither the workers nor the capacity of the lanes are named.
-use Rattle.std.specs.Prelude.{ℕ, ◌+◌, ◌==◌, List, ◌++◌, length, map, filter, take, Option, None, Some}
+use Rattle.std.specs.Prelude.{ℕ, ◌+◌, ◌==◌, List, ◌++◌, length, map, filter, take}
+use Rattle.std.specs.Prelude.{Option, None, Some}
 use Rattle.std.specs.List.{enumerate_from, flat_map, position_or_len, range_with_len}
 use Rattle.boards.specs.declared.board.Board.{Board}
 use Rattle.boards.specs.Law2.{board_by_law}
@@ -9,11 +10,12 @@ use Rattle.cards.specs.declared.seat.Seat.{Seat}
 use Rattle.cards.specs.Candidates.{candidate}
 use Rattle.cond_lang.specs.Form.{Form}
 use Rattle.cond_lang.specs.Meaning.{holds}
-use Rattle.dealrun.specs.Plans.{Planned}
+use Rattle.plans.specs.Plans.{Planned}
 
 -- the numbers of the accepted ones among n candidates from `first` on, in order
 unfoldable pub accepted_among : ℕ → ℕ → Form → ℕ → List ℕ
-accepted_among seed first form n = filter (λ k. holds form (candidate seed k)) (range_with_len first n)
+accepted_among seed first form n =
+    filter (λ k. holds form (candidate seed k)) (range_with_len first n)
 
 -- the first so many, or all if there is no limit
 abbrev pub limited : Option ℕ → List ℕ → List ℕ
@@ -50,4 +52,6 @@ end_of plan form = ends_at plan.limit
   where
     ends_at : Option ℕ → ℕ
     ends_at None = plan.count
-    ends_at (Some most) = position_or_len (λ m. length (accepted_among plan.seed plan.first form m) == most) (range_with_len 0 plan.count)
+    ends_at (Some most) = position_or_len
+        (λ m. length (accepted_among plan.seed plan.first form m) == most)
+        (range_with_len 0 plan.count)

@@ -3,7 +3,7 @@
 ghost use Rattle.std.specs.Prelude.{◌≡◌};
 ghost use Rattle.dealrun.specs.declared.cause.Cause.TheVariants.{Output};
 
-use crate::sink::SinkFault;
+use sinks::SinkFault;
 
 /// Why a run did not write all that its plan asks for. If there are several causes, the first in
 /// this order.

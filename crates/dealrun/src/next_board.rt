@@ -1,13 +1,13 @@
 //! Boards as they are written: the limit of them, and the text of the next one.
 
 ghost use Rattle.std.specs.Prelude.{◌≡◌, ◌-◌, ◌≤◌, ◌<◌, ◌^◌, ◌↔◌, IsTrue, Some};
-ghost use Rattle.dealrun.specs.Sinks.{AppendsOrBreaksOff, CountsFault};
+ghost use Rattle.sinks.specs.Sinks.{AppendsOrBreaksOff, CountsFault};
 ghost use Rattle.dealrun.specs.Text.{board_of};
 
-use crate::plan::Plan;
-use crate::sink::{Sink, SinkFault, put_all};
-use boards::Notation;
+use boards::{Board, Notation};
 use cards::Deal;
+use plans::Plan;
+use sinks::{Sink, SinkFault, put_all};
 
 /// Whether the plan has its limit of boards.
 pub(crate) fn is_full(plan: &Plan, boards: u64) -> bool
@@ -17,6 +17,14 @@ pub(crate) fn is_full(plan: &Plan, boards: u64) -> bool
         Some(most) => boards == u64::from(most),
         None => false,
     }
+}
+
+/// The board of a candidate's deal, after `boards` of them.
+fn next_board(plan: &Plan, boards: u64, candidate: u64, deal: &Deal) -> Board
+    requires { boards ≤ 2 ^ 40 }
+    ensures { result ≡ board_of plan.now boards candidate deal.now }
+{
+    Board::by_law(plan.first_board() + boards, candidate, *deal)
 }
 
 /// Writes the board of a candidate's deal, after `boards` of them.
@@ -35,6 +43,6 @@ pub(crate) fn put_board<N: Notation, S: Sink>(
         ((N.layout notation.old).board (board_of plan.now boards candidate deal.now)) }
     ensures faults { CountsFault (S.faults sink.old) (S.faults sink.new) result }
 {
-    notation.print(&plan.board(boards, candidate, deal));
+    notation.print(&next_board(plan, boards, candidate, deal));
     put_all(sink, notation.text())
 }

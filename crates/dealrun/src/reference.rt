@@ -2,17 +2,17 @@
 //! in tests alone, and the run over lanes is compared with it.
 
 ghost use Rattle.std.specs.Prelude.{◌≡◌, ◌-◌, ◌<◌, ◌^◌, length, IfOk, MatchResult};
-ghost use Rattle.dealrun.specs.Appended.{AppendsAll};
-ghost use Rattle.dealrun.specs.Sinks.{CountsFault};
+ghost use Rattle.sinks.specs.Appended.{AppendsAll};
+ghost use Rattle.sinks.specs.Sinks.{CountsFault};
 ghost use Rattle.dealrun.specs.Reference.{BreaksOffIn};
 ghost use Rattle.dealrun.specs.Text.{accepted, text_in, text_of};
 
 use crate::next_board::{is_full, put_board};
-use crate::plan::Plan;
-use crate::sink::{Sink, put_all};
 use boards::Notation;
 use cards::Candidates;
 use cond_lang::Cond;
+use plans::Plan;
+use sinks::{Sink, put_all};
 
 /// The sink failed, after this many whole boards.
 #[derive(Clone, Copy, Debug, PartialEq, Eq)]

@@ -15,14 +15,14 @@ ghost use Rattle.dealrun.specs.internal.Joins.{Owes};
 
 use crate::cause::Cause;
 use crate::join::join_all;
-use crate::plan::Plan;
-use crate::sink::Sink;
 use crate::start::{Started, assign_all, start_all};
 use crate::whole_text::write_all;
 use crate::writer::Progress;
 use boards::Notation;
 use cond_lang::Cond;
 use lanes::{Gate, LaneOut};
+use plans::Plan;
+use sinks::Sink;
 use std::alloc::Global;
 use std::sync::atomic::{AtomicBool, Ordering};
 use std::sync::{Arc, Wait};

@@ -7,9 +7,9 @@ ghost use Rattle.lanes.specs.Jobs.{verdicts_of};
 ghost use Rattle.lanes.specs.Work.{Ends};
 ghost use Rattle.dealrun.specs.MergedVerdicts.{verdicts_for};
 
-use crate::plan::Plan;
 use cond_lang::Cond;
 use lanes::{Gate, Job, LaneIn, LaneOut, Share, WorkEnd, lane_in_blocks, work};
+use plans::Plan;
 use std::alloc::{AllocError, Global};
 use std::snapshot::Snapshot;
 use std::sync::atomic::AtomicBool;

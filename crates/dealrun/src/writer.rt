@@ -4,18 +4,18 @@ ghost use Rattle.std.specs.Prelude.{◌≡◌, ◌-◌, ◌+◌, ◌<◌, ◌≤
 ghost use Rattle.std.specs.Prelude.{Option, cond, map, vec_len, OnOk, OnErr, MatchResult, IfOk};
 ghost use Rattle.std.specs.Prelude.{IsTrue, slice_index_or, true, Some, ◌⊎◌, ◌≢◌};
 ghost use Rattle.lanes.specs.declared.verdict.Verdict.{Verdict};
-ghost use Rattle.dealrun.specs.Appended.{append_known, AppendsPart};
-ghost use Rattle.dealrun.specs.Sinks.{CountsFault};
-ghost use Rattle.dealrun.specs.internal.Writing.{board_text, KeepsContents, KeepsLanes, WriterSoFar};
-ghost use Rattle.dealrun.specs.internal.Writing.{WriterBrokeOff};
+ghost use Rattle.sinks.specs.Appended.{append_known, AppendsPart};
+ghost use Rattle.sinks.specs.Sinks.{CountsFault};
+ghost use Rattle.dealrun.specs.internal.Writing.{board_text, KeepsContents, KeepsLanes};
+ghost use Rattle.dealrun.specs.internal.Writing.{WriterBrokeOff, WriterSoFar};
 ghost use Rattle.dealrun.specs.internal.Joins.{AllWhole};
 ghost use Rattle.cond_lang.specs.Form.{Form};
 
 use crate::next_board::{is_full, put_board};
-use crate::plan::Plan;
-use crate::sink::{Sink, SinkFault, put_all};
 use boards::Notation;
 use lanes::{LaneOut, Turns, Verdict};
+use plans::Plan;
+use sinks::{Sink, SinkFault, put_all};
 use std::sync::Wait;
 use std::sync::atomic::AtomicBool;
 

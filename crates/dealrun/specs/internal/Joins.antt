@@ -1,6 +1,7 @@
 -- What is known of the lanes once their workers were joined, lane by lane: item k of a list is said
 -- of with any default, as `slice_index_or lanes k e`, where k is within the list.
-use Rattle.std.specs.Prelude.{◌≡◌, ◌<◌, ℕ, true, false, List, length, map, slice_index_or, Option, Some, None, MatchOption}
+use Rattle.std.specs.Prelude.{◌≡◌, ◌<◌, ℕ, true, false, List, length, map, slice_index_or}
+use Rattle.std.specs.Prelude.{Option, Some, None, MatchOption}
 use Rattle.std.specs.List.{range_with_len}
 use Rattle.lanes.specs.declared.verdict.Verdict.{Verdict}
 use Rattle.lanes.specs.Views.{OutView}
@@ -8,7 +9,7 @@ use Rattle.lanes.specs.declared.worker.WorkEnd.{WorkEnd}
 use Rattle.lanes.specs.declared.worker.WorkEnd.TheVariants.{Done, Stopped, Unclosed}
 use Rattle.lanes.specs.Prefixes.{IsPrefix, IsProperPrefix}
 use Rattle.cond_lang.specs.Form.{Form}
-use Rattle.dealrun.specs.Plans.{Planned}
+use Rattle.plans.specs.Plans.{Planned}
 use Rattle.dealrun.specs.MergedVerdicts.{verdicts_for}
 use Rattle.dealrun.specs.Outcomes.{contents_of}
 
@@ -19,12 +20,15 @@ KnowsRest l = l.known ≡ length l.left
 -- the lane of a worker that owed the verdicts `all`, before and after the worker was joined
 abbrev pub JoinsAs : List Verdict → OutView → OutView → WorkEnd → Type 0
 JoinsAs all old new (Done closed) = (new.settled ≡ true) × (contents_of new ≡ all) × KnowsRest new
-JoinsAs all old new (Stopped closed) = (new.settled ≡ true) × IsProperPrefix (contents_of new) all × KnowsRest new
+JoinsAs all old new (Stopped closed) =
+    (new.settled ≡ true) × IsProperPrefix (contents_of new) all × KnowsRest new
 JoinsAs all old new Unclosed = new ≡ old
 
 -- P holds of each of the first n lanes and its worker's verdicts
-abbrev pub Below : (List Verdict → OutView → Type 0) → ℕ → List (List Verdict) → List OutView → Type 0
-Below P n lists lanes = (k : ℕ) (d : List Verdict) (e : OutView) → k < n → P (slice_index_or lists k d) (slice_index_or lanes k e)
+abbrev pub Below : (List Verdict → OutView → Type 0)
+    → ℕ → List (List Verdict) → List OutView → Type 0
+Below P n lists lanes = (k : ℕ) (d : List Verdict) (e : OutView) → k < n
+    → P (slice_index_or lists k d) (slice_index_or lanes k e)
 
 abbrev pub PartIfSettled : List Verdict → OutView → Type 0
 PartIfSettled all l = l.settled ≡ true → IsPrefix (contents_of l) all × KnowsRest l
@@ -37,17 +41,22 @@ IsSettled all l = l.settled ≡ true
 
 -- lane k is settled, and holds less than its worker owed
 abbrev pub BeginningAt : ℕ → List (List Verdict) → List OutView → Type 0
-BeginningAt k lists lanes = (d : List Verdict) (e : OutView) → ((slice_index_or lanes k e).settled ≡ true) × IsProperPrefix (contents_of (slice_index_or lanes k e)) (slice_index_or lists k d)
+BeginningAt k lists lanes = (d : List Verdict) (e : OutView)
+    → ((slice_index_or lanes k e).settled ≡ true)
+    × IsProperPrefix (contents_of (slice_index_or lanes k e)) (slice_index_or lists k d)
 
 abbrev pub UnsettledAt : ℕ → List OutView → Type 0
 UnsettledAt k lanes = (e : OutView) → (slice_index_or lanes k e).settled ≡ false
 
 -- the first n workers were joined, and these are the least that was stopped and the least that was
 -- not closed
-pub record JoinedAs (n : ℕ) (lists : List (List Verdict)) (lanes : List OutView) (stopped unclosed : Option ℕ) : Type 0 where
+pub record JoinedAs (n : ℕ) (lists : List (List Verdict)) (lanes : List OutView)
+    (stopped unclosed : Option ℕ) : Type 0 where
   pub parts : Below PartIfSettled n lists lanes
-  pub stopped_is : MatchOption stopped (Below WholeIfSettled n lists lanes) (λ s. (s < n) × Below WholeIfSettled s lists lanes × BeginningAt s lists lanes)
-  pub unclosed_is : MatchOption unclosed (Below IsSettled n lists lanes) (λ u. (u < n) × Below IsSettled u lists lanes × UnsettledAt u lanes)
+  pub stopped_is : MatchOption stopped (Below WholeIfSettled n lists lanes)
+      (λ s. (s < n) × Below WholeIfSettled s lists lanes × BeginningAt s lists lanes)
+  pub unclosed_is : MatchOption unclosed (Below IsSettled n lists lanes)
+      (λ u. (u < n) × Below IsSettled u lists lanes × UnsettledAt u lanes)
 
 abbrev pub first_of : Option ℕ → ℕ → Option ℕ
 first_of None w = Some w
@@ -77,8 +86,11 @@ ByNumber plan lanes P = (w : ℕ) (e : OutView) → w < plan.workers → P w (sl
 
 -- every lane is whole
 abbrev pub AllWhole : Planned → Form → List OutView → Type 0
-AllWhole plan form lanes = (w : ℕ) (e : OutView) → w < plan.workers → IsWhole (verdicts_for plan form w) (slice_index_or lanes w e)
+AllWhole plan form lanes = (w : ℕ) (e : OutView) → w < plan.workers
+    → IsWhole (verdicts_for plan form w) (slice_index_or lanes w e)
 
 -- every lane is settled, and holds the first of its worker's verdicts
 abbrev pub AllParts : Planned → Form → List OutView → Type 0
-AllParts plan form lanes = (w : ℕ) (e : OutView) → w < plan.workers → ((slice_index_or lanes w e).settled ≡ true) × IsPrefix (contents_of (slice_index_or lanes w e)) (verdicts_for plan form w)
+AllParts plan form lanes = (w : ℕ) (e : OutView) → w < plan.workers
+    → ((slice_index_or lanes w e).settled ≡ true)
+    × IsPrefix (contents_of (slice_index_or lanes w e)) (verdicts_for plan form w)

@@ -1,12 +1,13 @@
 -- How far a writer has come that takes verdicts in turn and writes the boards of the accepted ones.
-use Rattle.std.specs.Prelude.{ℕ, ◌≡◌, ◌≢◌, ◌+◌, ◌<◌, ◌≤◌, List, length, map, Option, Some, slice_index_or}
+use Rattle.std.specs.Prelude.{ℕ, ◌≡◌, ◌≢◌, ◌+◌, ◌<◌, ◌≤◌, List, length, map, Option, Some}
+use Rattle.std.specs.Prelude.{slice_index_or}
 use Rattle.std.specs.Option.{ForSome}
 use Rattle.boards.specs.Layouts.{Layout}
 use Rattle.lanes.specs.declared.verdict.Verdict.{Verdict}
 use Rattle.lanes.specs.Verdicts.{turns}
 use Rattle.lanes.specs.Views.{OutView}
-use Rattle.dealrun.specs.Plans.{Planned}
-use Rattle.dealrun.specs.Appended.{append_known}
+use Rattle.plans.specs.Plans.{Planned}
+use Rattle.sinks.specs.Appended.{append_known}
 use Rattle.dealrun.specs.Text.{board_of, text_of_boards}
 use Rattle.dealrun.specs.MergedVerdicts.{boards_after}
 use Rattle.dealrun.specs.Outcomes.{BreaksOffLastPiece, contents_of}
@@ -19,7 +20,8 @@ taken_lists lanes = map (λ l. l.taken) lanes
 
 -- the text of a verdict's board, after this many boards
 abbrev pub board_text : Layout → Planned → ℕ → Verdict → List ℕ
-board_text layout plan boards verdict = layout.board (board_of plan boards verdict.number verdict.deal)
+board_text layout plan boards verdict =
+    layout.board (board_of plan boards verdict.number verdict.deal)
 
 -- what the first m verdicts print, without a footer
 abbrev pub printed : Layout → Planned → List (List Verdict) → ℕ → List ℕ
@@ -32,43 +34,52 @@ board_count plan lists m = length (boards_after plan lists m)
 -- the rings, and which lanes are settled, did not change
 abbrev pub KeepsLanes : List OutView → List OutView → Type 0
 KeepsLanes old new =
-    (map (λ l. l.ring) new ≡ map (λ l. l.ring) old) × (map (λ l. l.settled) new ≡ map (λ l. l.settled) old)
+    (map (λ l. l.ring) new ≡ map (λ l. l.ring) old)
+    × (map (λ l. l.settled) new ≡ map (λ l. l.settled) old)
 
 -- which lanes are settled, and what each holds in all, did not change
 abbrev pub KeepsContents : List OutView → List OutView → Type 0
 KeepsContents old new =
-    (map (λ l. l.settled) new ≡ map (λ l. l.settled) old) × (map (λ l. contents_of l) new ≡ map (λ l. contents_of l) old)
+    (map (λ l. l.settled) new ≡ map (λ l. l.settled) old)
+    × (map (λ l. contents_of l) new ≡ map (λ l. contents_of l) old)
 
 -- the lanes were taken in turn, none skipped
 pub record TakenInTurn (plan : Planned) (lanes : List OutView) (m : ℕ) : Type 0 where
   pub long : length lanes ≡ plan.workers
-  pub turns_are : (w : ℕ) (e : OutView) → w < plan.workers → length (slice_index_or lanes w e).taken ≡ turns plan.workers w m
+  pub turns_are : (w : ℕ) (e : OutView) → w < plan.workers
+      → length (slice_index_or lanes w e).taken ≡ turns plan.workers w m
 
 -- no candidate was taken after the limit of boards was met
 abbrev pub StaysShort : Planned → List OutView → ℕ → Type 0
-StaysShort plan lanes m = (i : ℕ) → i < m → ForSome plan.limit (λ most. board_count plan (taken_lists lanes) i < most)
+StaysShort plan lanes m = (i : ℕ) → i < m
+    → ForSome plan.limit (λ most. board_count plan (taken_lists lanes) i < most)
 
 -- the bytes and the boards are those of the m verdicts that were taken
-pub record WroteTaken (layout : Layout) (plan : Planned) (lanes : List OutView) (m boards : ℕ) (old new : Option (List ℕ)) : Type 0 where
+pub record WroteTaken (layout : Layout) (plan : Planned) (lanes : List OutView)
+    (m boards : ℕ) (old new : Option (List ℕ)) : Type 0 where
   pub bytes_are : new ≡ append_known old (printed layout plan (taken_lists lanes) m)
   pub boards_are : boards ≡ board_count plan (taken_lists lanes) m
 
 -- the writer goes on
-pub record WriterSoFar (layout : Layout) (plan : Planned) (lanes : List OutView) (m boards : ℕ) (old new : Option (List ℕ)) : Type 0 where
+pub record WriterSoFar (layout : Layout) (plan : Planned) (lanes : List OutView)
+    (m boards : ℕ) (old new : Option (List ℕ)) : Type 0 where
   pub in_turn : TakenInTurn plan lanes m
   pub written : WroteTaken layout plan lanes m boards old new
   pub within : ForSome plan.limit (λ most. boards ≤ most)
   pub short : StaysShort plan lanes m
 
 -- the writer broke off
-pub record WriterBrokeOff (layout : Layout) (plan : Planned) (lanes : List OutView) (m boards : ℕ) (old new : Option (List ℕ)) : Type 0 where
+pub record WriterBrokeOff (layout : Layout) (plan : Planned) (lanes : List OutView)
+    (m boards : ℕ) (old new : Option (List ℕ)) : Type 0 where
   pub in_turn : TakenInTurn plan lanes m
   pub broken : BreaksOffLastPiece layout plan lanes m boards old new
   pub short : StaysShort plan lanes m
 
 -- where the writer stands once it has written so much beside the workers
-abbrev pub WroteBeside : Layout → Planned → Written → List OutView → ℕ → ℕ → Option (List ℕ) → Option (List ℕ) → Type 0
-WroteBeside layout plan Failed lanes m boards old new = WriterBrokeOff layout plan lanes m boards old new
+abbrev pub WroteBeside : Layout → Planned → Written → List OutView → ℕ → ℕ
+    → Option (List ℕ) → Option (List ℕ) → Type 0
+WroteBeside layout plan Failed lanes m boards old new =
+    WriterBrokeOff layout plan lanes m boards old new
 WroteBeside layout plan Full lanes m boards old new =
     WriterSoFar layout plan lanes m boards old new × (plan.limit ≡ Some boards)
 WroteBeside layout plan Open lanes m boards old new =

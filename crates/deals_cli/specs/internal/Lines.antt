@@ -4,8 +4,8 @@ use Rattle.cond_lang.specs.declared.error.CondError.{CondError}
 use Rattle.cond_lang.specs.declared.error.CondError.TheVariants as cond
 use Rattle.dealrun.specs.declared.cause.Cause.{Cause}
 use Rattle.dealrun.specs.declared.cause.Cause.TheVariants as cause
-use Rattle.dealrun.specs.declared.plan.PlanError.{PlanError}
-use Rattle.dealrun.specs.declared.plan.PlanError.TheVariants as plan
+use Rattle.plans.specs.declared.plan.PlanError.{PlanError}
+use Rattle.plans.specs.declared.plan.PlanError.TheVariants as plan
 use Rattle.deals_cli.specs.declared.failure.Failure.{Failure}
 use Rattle.deals_cli.specs.declared.failure.Failure.TheVariants as failure
 use Rattle.deals_cli.specs.declared.failure.LabelName.{LabelName}

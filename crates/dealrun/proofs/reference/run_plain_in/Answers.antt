@@ -1,5 +1,5 @@
 use Rattle.std.proofs.Common.{subst}
-use Rattle.dealrun.specs.Appended.{AppendsPart}
+use Rattle.sinks.specs.Appended.{AppendsPart}
 use Rattle.dealrun.proofs.Running.{breaks_footer}
 use Rattle.dealrun.proofs.reference.run_plain_in.Goals as goal
 

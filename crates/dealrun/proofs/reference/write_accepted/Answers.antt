@@ -1,7 +1,7 @@
 use Rattle.std.proofs.Common.{◌≡◌, ◌+◌, ◌∙◌, true, refl, arith, ap, sym, subst}
 use Rattle.cards.specs.CandidateWalks.{GoesOnAt}
 use Rattle.dealrun.proofs.Running.{breaks_board, breaks_header, ended_full, running_next, running_none, running_skip}
-use Rattle.dealrun.proofs.SinkLemmas.{at_err, at_ok}
+use Rattle.dealrun.proofs.Results.{at_err, at_ok}
 use Rattle.dealrun.proofs.reference.write_accepted.Goals as goal
 use Rattle.dealrun.proofs.reference.write_accepted.Goals.{then-holds+else-is_err-2, else-holds}
 

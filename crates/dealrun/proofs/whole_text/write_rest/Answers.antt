@@ -1,5 +1,5 @@
 use Rattle.std.proofs.Common.{◌≡◌, ◌∙◌, ap, arith, inr, length, subst}
-use Rattle.dealrun.specs.Appended.{append_known, AppendsPart}
+use Rattle.sinks.specs.Appended.{append_known, AppendsPart}
 use Rattle.dealrun.proofs.Causes.{if_broken, if_written, parts_kept}
 use Rattle.dealrun.proofs.Endings.{closed, complete, footer_broken}
 use Rattle.dealrun.proofs.Finals.{stands_broken}

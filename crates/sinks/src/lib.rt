@@ -1,0 +1,13 @@
+//! Where bytes go: what a sink is, a sink over a writer, and sinks for tests.
+//!
+//! A sink counts its faults, and may tell the bytes that it took. So a contract says what a call
+//! appended, also if the sink failed within it.
+#![tactic(auto)]
+
+mod piped;
+mod sink;
+mod testing;
+
+pub use piped::Piped;
+pub use sink::{Sink, SinkFault, put_all};
+pub use testing::{Fuse, MemSink};
