@@ -1,8 +1,8 @@
 //! The program `deals`: its words and standard streams, and its status.
 #![tactic(auto)]
 
-use dealrun::{Piped, put_all};
 use deals_cli::program;
+use sinks::{Piped, put_all};
 use std::io::{BufWriter, ErrorKind, Result};
 use std::process::ExitCode;
 use std::{env, io};

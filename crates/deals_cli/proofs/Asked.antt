@@ -17,7 +17,7 @@ use Rattle.clap.specs.declared.parser.matches.ArgMatches.TheViews.{out-ArgMatche
 use Rattle.clap.specs.declared.parser.matches.SubCommand.{SubCommand}
 use Rattle.deals_cli.specs.CommandLine.{asked, deals, kinds_for, making_in, stream_wish, unless_fault, wish_by}
 use Rattle.deals_cli.specs.internal.Readings.{MakeValues, StreamValues}
-use Rattle.deals_cli.specs.Requests.{make}
+use Rattle.requests.specs.Requests.{make}
 use Rattle.deals_cli.proofs.Commands.{make_built, make_values, stream_built, stream_values}
 use Rattle.deals_cli.proofs.Entered.{enters}
 

@@ -1,4 +1,3 @@
-pub mod Refusals
 pub mod Builders
 pub mod Walks
 pub mod Help

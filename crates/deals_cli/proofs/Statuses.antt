@@ -1,4 +1,4 @@
--- What the statuses say.
+-- What the statuses say of words.
 use Rattle.std.proofs.Common.{◌≡◌, ◌⊎◌, ℕ, true, false, List, refl, inl, inr, arith}
 use Rattle.clap.specs.Kinds.{HasKind}
 use Rattle.clap.specs.Values.{kind_of}
@@ -6,70 +6,14 @@ use Rattle.clap.specs.Walk.{Text}
 use Rattle.clap.specs.declared.error.Error.{Error}
 use Rattle.clap.specs.declared.error.kind.ErrorKind.{ErrorKind}
 use Rattle.clap.specs.declared.error.kind.ErrorKind.TheVariants.{InvalidValue, UnknownArgument, InvalidSubcommand, NoEquals, ValueValidation, TooManyValues, TooFewValues, WrongNumberOfValues, ArgumentConflict, MissingRequiredArgument, MissingSubcommand, DisplayHelp, DisplayHelpOnMissingArgumentOrSubcommand, DisplayVersion, Io, Format, OutOfMemory}
-use Rattle.dealrun.specs.declared.cause.Cause.{Cause}
-use Rattle.dealrun.specs.declared.cause.Cause.TheVariants as cause
+use Rattle.requests.specs.Requests.{Wish}
+use Rattle.requests.specs.Wishes.{IsStatusOf}
+use Rattle.requests.proofs.Statuses.{served}
 use Rattle.deals_cli.specs.CommandLine.{kinds_for}
-use Rattle.deals_cli.specs.Program.{HasMeaning, HasPlan, HasRun, IsStatusOf, IsStatusOfNone, is_shown}
-use Rattle.deals_cli.specs.declared.failure.Failure.TheVariants.{Interrupted}
-use Rattle.deals_cli.specs.internal.Failures.{IsStatusOfKind, status_of}
-use Rattle.deals_cli.specs.Requests.{Wish}
+use Rattle.deals_cli.specs.Program.{IsStatusOfNone, is_shown}
+use Rattle.deals_cli.specs.internal.Kinds.{IsStatusOfKind}
 
--- ---- of a wish
-
-pub no_memory : (w : Wish) (s : ℕ) → s ≡ 5 → IsStatusOf w s
-no_memory w s is = record {
-  accepted = λ h. absurd (elim h [ inl a ↦ omega arith | inr (inl a) ↦ omega arith | inr (inr a) ↦ omega arith ]);
-  unplanned = λ h. absurd (omega arith);
-  meaningless = λ h. absurd (omega arith);
-  threads = λ h. absurd (omega arith);
-}
-
-pub refused_plan : (w : Wish) (s : ℕ) → s ≡ 2 → (HasPlan w → ⊥) → IsStatusOf w s
-refused_plan w s is not_so = record {
-  accepted = λ h. absurd (elim h [ inl a ↦ omega arith | inr (inl a) ↦ omega arith | inr (inr a) ↦ omega arith ]);
-  unplanned = λ h. not_so;
-  meaningless = λ h. absurd (omega arith);
-  threads = λ h. absurd (omega arith);
-}
-
-pub refused_meaning : (w : Wish) (s : ℕ) → s ≡ 3 → HasPlan w → (HasMeaning w → ⊥) → IsStatusOf w s
-refused_meaning w s is plan not_so = record {
-  accepted = λ h. absurd (elim h [ inl a ↦ omega arith | inr (inl a) ↦ omega arith | inr (inr a) ↦ omega arith ]);
-  unplanned = λ h. absurd (omega arith);
-  meaningless = λ h. (plan, not_so);
-  threads = λ h. absurd (omega arith);
-}
-
--- done, or the output failed
-pub served : (w : Wish) (s : ℕ) → (s ≡ 0) ⊎ (s ≡ 4) → HasPlan w → HasMeaning w → IsStatusOf w s
-served w s (inl is) plan meaning = record {
-  accepted = λ h. (plan, meaning);
-  unplanned = λ h. absurd (omega arith);
-  meaningless = λ h. absurd (omega arith);
-  threads = λ h. absurd (omega arith);
-}
-served w s (inr is) plan meaning = record {
-  accepted = λ h. (plan, meaning);
-  unplanned = λ h. absurd (omega arith);
-  meaningless = λ h. absurd (omega arith);
-  threads = λ h. absurd (omega arith);
-}
-
-failed_run : (w : Wish) (s : ℕ) → s ≡ 6 → HasPlan w → HasMeaning w → HasRun w → IsStatusOf w s
-failed_run w s is plan meaning run = record {
-  accepted = λ h. (plan, meaning);
-  unplanned = λ h. absurd (omega arith);
-  meaningless = λ h. absurd (omega arith);
-  threads = λ h. run;
-}
-
--- a run was interrupted
-pub interrupted : (w : Wish) (c : Cause) → HasPlan w → HasMeaning w → HasRun w → IsStatusOf w (status_of (Interrupted c))
-interrupted w cause.Memory plan meaning run = no_memory w 5 refl
-interrupted w cause.Spawn plan meaning run = failed_run w 6 refl plan meaning run
-interrupted w cause.Output plan meaning run = served w 4 (inr refl) plan meaning
-interrupted w (cause.Stopped worker) plan meaning run = failed_run w 6 refl plan meaning run
-interrupted w (cause.Unclosed worker) plan meaning run = failed_run w 6 refl plan meaning run
+-- ---- of words that ask for something
 
 -- the output fails after all was done
 pub flush_failed : (w : Wish) → IsStatusOf w 0 → IsStatusOf w 4
@@ -141,6 +85,9 @@ kind_shown k s (inr is) shown = record {
   neither = λ h. elim h [ inl a ↦ omega arith | inr a ↦ omega arith ];
 }
 
+-- each way that an error of clap ends the program
+pub ruleset kinds = (kind_no_memory, kind_refused, kind_shown, mistake, no_mistake)
+
 -- ---- of words that ask for nothing
 
 none_no_memory : (words : List Text) (s : ℕ) → s ≡ 5 → IsStatusOfNone words s
@@ -164,3 +111,6 @@ none_flush_failed words h = let may = h.shown (inl refl) in record {
   refused = λ is. absurd (omega arith);
   neither = λ is. elim is [ inl a ↦ omega arith | inr a ↦ omega arith ];
 }
+
+-- a flush that fails, after words of either kind
+pub ruleset flushes = (flush_failed, none_flush_failed)

@@ -5,8 +5,8 @@ use Rattle.std.specs.Str.Parse.{digits_value, without_leading_plus}
 use Rattle.clap.specs.Words.{App, Kinds, Row, Rule, Text, fault_of, first_of, new_app, new_rule, one_of, subcommand_of, with_rule, with_subcommand}
 use Rattle.clap.specs.Simple.{on_top}
 use Rattle.clap.specs.declared.builder.value_parser.ValueParser.{ValueParser}
-use Rattle.clap.specs.declared.builder.value_parser.ValueParser.TheVariants.{Signed, String, Unsigned}
-use Rattle.deals_cli.specs.Requests.{Making, Wish, stream, make}
+use Rattle.clap.specs.declared.builder.value_parser.ValueParser.TheVariants as parsed
+use Rattle.requests.specs.Requests.{Making, Wish, stream, make}
 
 -- ---- the commands
 
@@ -19,14 +19,14 @@ abbrev pub required : Rule → Rule
 required rule = record rule { required = true }
 
 abbrev pub u32_parser : ValueParser
-u32_parser = Signed (pos 0) (pos 4294967295)
+u32_parser = parsed.Signed (pos 0) (pos 4294967295)
 
 abbrev pub u64_parser : ValueParser
-u64_parser = Unsigned 0 18446744073709551615
+u64_parser = parsed.Unsigned 0 18446744073709551615
 
 -- at most 2^40
 abbrev pub count_parser : ValueParser
-count_parser = Unsigned 0 1099511627776
+count_parser = parsed.Unsigned 0 1099511627776
 
 -- a command with these options
 abbrev pub command_with : Text → List Rule → App
@@ -47,18 +47,18 @@ make_app = command_with (codes "make") (
     ∷ option_rule (codes "first") u64_parser
     ∷ option_rule (codes "workers") u32_parser
     ∷ option_rule (codes "lane") u32_parser
-    ∷ option_rule (codes "where") String
+    ∷ option_rule (codes "where") parsed.String
     ∷ option_rule (codes "boards") u32_parser
     ∷ option_rule (codes "first-board") u64_parser
-    ∷ option_rule (codes "event") String
-    ∷ option_rule (codes "site") String
-    ∷ option_rule (codes "date") String
+    ∷ option_rule (codes "event") parsed.String
+    ∷ option_rule (codes "site") parsed.String
+    ∷ option_rule (codes "date") parsed.String
     ∷ [])
 
 -- `deals`, with clap's own `help` and `--version`, and a subcommand that has to be named
 abbrev pub deals_top : App
-deals_top =
-    on_top (λ s. record s { has_version = true; subcommand_required = true }) (new_app (codes "deals"))
+deals_top = on_top (λ s. record s { has_version = true; subcommand_required = true })
+    (new_app (codes "deals"))
 
 abbrev pub deals : App
 deals = with_subcommand (with_subcommand deals_top stream_app.top) make_app.top

@@ -1,4 +1,6 @@
-pub mod Requests
+pub use Rattle.requests.specs.Requests
+pub use Rattle.requests.specs.Makings
+pub use Rattle.requests.specs.Wishes
 pub mod CommandLine
 pub mod Program
 pub mod internal

@@ -1,6 +1,4 @@
 -- What only bodies and lemmas use: no public clause names any of it.
 pub mod Readings
-pub mod Options
-pub mod Failures
+pub mod Kinds
 pub mod Commands
-pub mod Lines

@@ -4,7 +4,8 @@ ghost use Rattle.std.specs.Prelude.{◌≡◌, false, IfOk};
 ghost use Rattle.clap.specs.Words.{app_of, rule_of, with_rule};
 ghost use Rattle.clap.specs.declared.Command.TheViews.{out-Command as fields_of};
 ghost use Rattle.deals_cli.specs.CommandLine.{deals, make_app, option_rule, required, stream_app};
-ghost use Rattle.deals_cli.specs.internal.Commands.{with_boards, with_candidates, with_labels, with_search};
+ghost use Rattle.deals_cli.specs.internal.Commands.{with_boards, with_candidates, with_labels};
+ghost use Rattle.deals_cli.specs.internal.Commands.{with_search};
 
 use clap::builder::ValueParser;
 use clap::{Arg, Command, value_parser};
@@ -13,6 +14,9 @@ use std::alloc::{AllocError, Global};
 /// The most values that `stream` prints: the same as the most candidates of a seed.
 const MAX_VALUES: i64 = 1099511627776;
 
+const ABOUT: &str = "Bridge deals that can be dealt again, by the sequence of POSIX drand48 and \
+    Knuth's Algorithm P";
+
 const STREAM_EXAMPLES: &str = "Example:
   deals stream --seed 0 --count 3";
 
@@ -20,9 +24,11 @@ const MAKE_EXAMPLES: &str = "Examples:
   Thirty-six boards:
     deals make --seed 2024 --candidates 36
   Strong balanced hands for North, from a million candidates, on four workers:
-    deals make --seed 2024 --candidates 1000000 --workers 4 --where 'hcp(north)>=15 and balanced(north)'
+    deals make --seed 2024 --candidates 1000000 --workers 4 \
+    --where 'hcp(north)>=15 and balanced(north)'
   The first twelve slam hands of a long search, on four workers:
-    deals make --seed 2024 --candidates 100000000 --boards 12 --workers 4 --where 'hcp(north)+hcp(south)>=33'
+    deals make --seed 2024 --candidates 100000000 --boards 12 --workers 4 \
+    --where 'hcp(north)+hcp(south)>=33'
 
 The same options give the same bytes, on every machine and with any number of workers.";
 
@@ -40,8 +46,8 @@ const LANE: &str = "How many verdicts a worker may be ahead of the writer, 1 to 
 
 const WHERE: &str = "The condition that a deal has to meet [default: every deal]";
 
-const BOARDS: &str =
-    "Stops after M boards, 1 to 4294967295; fewer mean that the candidates held no more [default: no limit]";
+const BOARDS: &str = "Stops after M boards, 1 to 4294967295; fewer mean that the candidates held \
+    no more [default: no limit]";
 
 const FIRST_BOARD: &str = "The number of the first board, 1 to 1099511627776 [default: 1]";
 
@@ -182,9 +188,7 @@ pub fn command<'a>(alloc: Global) -> Result<Command<'a>, AllocError>
 {
     Command::new(alloc, "deals")
         .version("0.1.0")
-        .about(
-            "Bridge deals that can be dealt again, by the sequence of POSIX drand48 and Knuth's Algorithm P",
-        )
+        .about(ABOUT)
         .subcommand_required(true)
         .subcommand(stream_command(alloc)?)?
         .subcommand(make_command(alloc)?)

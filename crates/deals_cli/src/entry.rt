@@ -1,25 +1,27 @@
 //! The program over its words and two sinks.
 
-ghost use Rattle.std.specs.Prelude.{◌≡◌, ◌⊎◌, ◌+◌, ◌-◌, ◌^◌, ◌<◌, ◌≤◌, ◌==◌, None, Some, true, if◌then◌else◌, IfErr, IsErrOf, OnOk, map, string_bytes};
+ghost use Rattle.std.specs.Prelude.{◌≡◌, ◌⊎◌, ◌+◌, ◌-◌, ◌^◌, ◌<◌, ◌≤◌, ◌==◌, if◌then◌else◌};
+ghost use Rattle.std.specs.Prelude.{None, Some, true, IfErr, IsErrOf, OnOk, map, string_bytes};
 ghost use Rattle.clap.specs.Words.{kind_of};
+ghost use Rattle.requests.specs.Failures.{faults_in, is_untouched, status_in};
+ghost use Rattle.requests.specs.Requests.{Wish};
+ghost use Rattle.requests.specs.Wishes.{Appends, IsStatus, IsStatusOf};
 ghost use Rattle.deals_cli.specs.CommandLine.{asked};
-ghost use Rattle.deals_cli.specs.Program.{Appends, IsStatus, IsStatusOf, IsStatusOfNone};
-ghost use Rattle.deals_cli.specs.internal.Failures.{IsStatusOfKind};
-ghost use Rattle.deals_cli.specs.internal.Failures.{faults_in, is_untouched, status_in};
-ghost use Rattle.deals_cli.specs.Requests.{Wish};
+ghost use Rattle.deals_cli.specs.Program.{IsStatusOfNone};
+ghost use Rattle.deals_cli.specs.internal.Kinds.{IsStatusOfKind};
 
-use crate::failure::Failure;
-use crate::make::make;
-use crate::request::{Request, read_words};
+use crate::words::read_words;
 use clap::Error;
 use clap::error::ErrorKind;
-use dealrun::{Cause, Sink, put_all, stream};
+use dealrun::Cause;
+use requests::{Failure, serve};
+use sinks::{Sink, put_all};
 use std::alloc::Global;
 use std::sync::Wait;
 use std::thread::Threads;
 
 /// Writes a text that was asked for, as help, and refuses any mistake.
-#[tactic(auto, using(crate::proofs::Statuses::kind_no_memory, crate::proofs::Statuses::kind_refused, crate::proofs::Statuses::kind_shown, crate::proofs::Statuses::mistake, crate::proofs::Statuses::no_mistake))]
+#[tactic(auto, using(crate::proofs::Statuses::kinds))]
 fn show<O: Sink>(alloc: Global, error: &Error, out: &mut O) -> Result<(), Failure>
     requires { O.faults out.old < 2 ^ 64 - 1 }
     ensures memory { kind_of error.now ≡ ErrorKind.OutOfMemory → IsErrOf result
@@ -41,7 +43,7 @@ fn show<O: Sink>(alloc: Global, error: &Error, out: &mut O) -> Result<(), Failur
 }
 
 /// Does what the words ask for.
-fn serve<R: Threads + Wait + Clone + Send + 'static, O: Sink>(
+fn serve_words<R: Threads + Wait + Clone + Send + 'static, O: Sink>(
     rt: &R,
     alloc: Global,
     words: &[String],
@@ -59,14 +61,13 @@ fn serve<R: Threads + Wait + Clone + Send + 'static, O: Sink>(
     ensures faults { O.faults out.new ≡ O.faults out.old + faults_in result }
 {
     match read_words(alloc, words) {
-        Ok(Request::Stream(request)) => Ok(stream(request.seed, request.count, out)?),
-        Ok(Request::Make(request)) => make(rt, alloc, &request, out),
+        Ok(request) => serve(rt, alloc, &request, out),
         Err(error) => show(alloc, &error, out),
     }
 }
 
 /// Does what the words ask for, and flushes the output.
-#[tactic(auto, using(crate::proofs::Statuses::flush_failed, crate::proofs::Statuses::none_flush_failed))]
+#[tactic(auto, using(crate::proofs::Statuses::flushes))]
 fn serve_and_flush<R: Threads + Wait + Clone + Send + 'static, O: Sink>(
     rt: &R,
     alloc: Global,
@@ -84,7 +85,7 @@ fn serve_and_flush<R: Threads + Wait + Clone + Send + 'static, O: Sink>(
         → O.bytes out.new ≡ O.bytes out.old) }
     ensures faults { O.faults out.new ≡ O.faults out.old + faults_in result }
 {
-    serve(rt, alloc, words, out)?;
+    serve_words(rt, alloc, words, out)?;
     out.flush()?;
     Ok(())
 }

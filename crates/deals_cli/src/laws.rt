@@ -2,7 +2,7 @@
 
 ghost use Rattle.std.specs.Prelude.{◌≡◌, ◌∷◌, [], None, Some, codes};
 ghost use Rattle.deals_cli.specs.CommandLine.{asked};
-ghost use Rattle.deals_cli.specs.Requests.{make, stream};
+ghost use Rattle.requests.specs.Requests.{make, stream};
 
 /// `deals stream --seed 0 --count 3` asks for the first three values of seed 0.
 pub fn example_of_stream()
@@ -17,8 +17,9 @@ pub fn example_of_stream()
 /// not say has its default.
 pub fn example_of_make()
     ensures { asked
-        (codes "deals" ∷ codes "make" ∷ codes "--seed" ∷ codes "0" ∷ codes "--candidates" ∷ codes "200"
-        ∷ codes "--where" ∷ codes "hcp(north)>=15" ∷ codes "--boards" ∷ codes "5" ∷ [])
+        (codes "deals" ∷ codes "make" ∷ codes "--seed" ∷ codes "0"
+        ∷ codes "--candidates" ∷ codes "200" ∷ codes "--where" ∷ codes "hcp(north)>=15"
+        ∷ codes "--boards" ∷ codes "5" ∷ [])
         ≡ Some (make record {
           seed = 0;
           candidates = 200;

@@ -1,14 +1,9 @@
-//! The command line of `deals`: what its words ask for, the program, its statuses and texts.
+//! The command line of `deals`: what its words ask for, and the program.
 #![tactic(auto)]
 
 mod command;
 mod entry;
-mod failure;
 pub mod laws;
-mod make;
-mod request;
+mod words;
 
 pub use entry::program;
-
-#[cfg(test)]
-mod tests;

@@ -1,6 +1,6 @@
 use Rattle.std.proofs.Common.{sym, subst}
-use Rattle.deals_cli.specs.Program.{IsStatus}
-use Rattle.deals_cli.proofs.Refusals.{status_of-status}
+use Rattle.requests.specs.Wishes.{IsStatus}
+use Rattle.requests.proofs.Refusals.{status_of-status}
 use Rattle.deals_cli.proofs.entry.program.Goals as goal
 
 pub returns-in-Err-clause-status : goal.returns-in-Err-clause-status

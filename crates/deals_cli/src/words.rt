@@ -1,0 +1,90 @@
+//! From the words of a command line to a request.
+
+ghost use Rattle.std.specs.Prelude.{◌≡◌, ◌≤◌, ◌^◌, Some, codes, IfErr, IfOk, IsSome, map};
+ghost use Rattle.std.specs.Prelude.{option_map, string_bytes};
+ghost use Rattle.clap.specs.Words.{HasKind, first_of, found_of, kind_of, rows_of};
+ghost use Rattle.deals_cli.specs.CommandLine.{asked, kinds_for, making_in, number_in, number_or};
+ghost use Rattle.requests.specs.Options.{IsInRange, making_of, wish_of};
+ghost use Rattle.deals_cli.specs.internal.Readings.{MakeValues, MayGive32, MayGive64, StreamValues};
+
+use crate::command::command;
+use clap::error::ErrorKind;
+use clap::{ArgMatches, Error};
+use requests::{MakeRequest, Request, StreamRequest};
+use std::alloc::Global;
+
+/// What an option of 32 bits was given.
+fn u32_in(matches: &ArgMatches, id: &str) -> Option<u32>
+    requires { MayGive32 id.now (rows_of (found_of matches.now)) }
+    ensures { result ≡ number_in id.now (rows_of (found_of matches.now)) }
+{
+    matches.get_one::<u32>(id)
+}
+
+/// What an option of 64 bits was given.
+fn u64_in(matches: &ArgMatches, id: &str) -> Option<u64>
+    requires { MayGive64 id.now (rows_of (found_of matches.now)) }
+    ensures { result ≡ number_in id.now (rows_of (found_of matches.now)) }
+{
+    matches.get_one::<u64>(id)
+}
+
+/// What the options of `stream` were given.
+fn stream_request(matches: &ArgMatches) -> StreamRequest
+    requires { StreamValues (rows_of (found_of matches.now)) }
+    ensures seed { result.seed ≡ number_or 0 (codes "seed") (rows_of (found_of matches.now)) }
+    ensures count { result.count ≡ number_or 0 (codes "count") (rows_of (found_of matches.now)) }
+    ensures range { result.count ≤ 2 ^ 40 }
+{
+    StreamRequest {
+        seed: u32_in(matches, "seed").unwrap(),
+        count: u64_in(matches, "count").unwrap(),
+    }
+}
+
+/// The text that an option was given.
+fn text_in<'a>(matches: &ArgMatches<'a>, id: &str) -> Option<&'a str>
+    ensures { option_map (λ s. s.now) result ≡ first_of id.now (rows_of (found_of matches.now)) }
+{
+    matches.get_str(id)
+}
+
+/// What the options of `make` were given, or their defaults.
+fn make_request<'a>(matches: &ArgMatches<'a>) -> MakeRequest<'a>
+    requires { MakeValues (rows_of (found_of matches.now)) }
+    ensures { making_of result ≡ making_in (rows_of (found_of matches.now)) }
+{
+    MakeRequest {
+        seed: u32_in(matches, "seed").unwrap(),
+        candidates: u64_in(matches, "candidates").unwrap(),
+        first: u64_in(matches, "first").unwrap_or(0),
+        workers: u32_in(matches, "workers").unwrap_or(1),
+        lane: u32_in(matches, "lane").unwrap_or(64),
+        where_text: text_in(matches, "where"),
+        boards: u32_in(matches, "boards"),
+        first_board: u64_in(matches, "first-board"),
+        event: text_in(matches, "event"),
+        site: text_in(matches, "site"),
+        date: text_in(matches, "date"),
+    }
+}
+
+/// What the words ask for, the program's name first.
+///
+/// Words that ask for something fail for want of memory alone; for others the error is clap's, with
+/// its text.
+pub fn read_words<'a>(alloc: Global, words: &'a [String]) -> Result<Request<'a>, Error>
+    ensures ok { IfOk result (λ r. asked (map string_bytes words.entry.now) ≡ Some (wish_of r)) }
+    ensures range { IfOk result IsInRange }
+    ensures err { IfErr result (λ e.
+        IsSome (asked (map string_bytes words.entry.now)) → kind_of e ≡ ErrorKind.OutOfMemory) }
+    ensures kinds { IfErr result (λ e. HasKind (kinds_for (map string_bytes words.entry.now)) e) }
+{
+    let matches = command(alloc)?.try_get_matches_from(words)?;
+    let (name, inner) = matches.subcommand().unwrap();
+    if name == "stream" {
+        Ok(Request::Stream(stream_request(inner)))
+    } else {
+        Ok(Request::Make(make_request(inner)))
+    }
+}

@@ -1,0 +1,41 @@
+-- How the refusal of a condition ends the program.
+use Rattle.std.proofs.Common.{◌≡◌, ◌≤◌, ◌⊎◌, ℕ, List, length, Option, Some, refl, ap, sym, subst, inl, inr, option_map, arith}
+use Rattle.std.specs.Borrow.{Bor}
+use Rattle.cond_lang.specs.Form.{Form}
+use Rattle.cond_lang.specs.Text.{SpellsTree}
+use Rattle.cond_lang.specs.declared.error.CondError.{CondError}
+use Rattle.cond_lang.specs.declared.error.CondError.TheVariants.{TooLong, Byte, Word, Number, Syntax, Memory}
+use Rattle.requests.specs.Failures.{failure_of, status_of}
+use Rattle.requests.specs.Makings.{Means}
+use Rattle.requests.specs.Wishes.{IsStatus}
+use Rattle.requests.specs.declared.failure.Failure.{Failure}
+use Rattle.dealrun.specs.declared.cause.Cause.TheVariants as cause
+use Rattle.requests.specs.declared.failure.Failure.TheVariants.{CommandLine, Plan, Label, Condition, Interrupted}
+
+pub refused_status : (e : CondError) → (status_of (failure_of e) ≡ 5) ⊎ (status_of (failure_of e) ≡ 3)
+refused_status TooLong = inr refl
+refused_status (Byte at) = inr refl
+refused_status (Word at) = inr refl
+refused_status (Number at) = inr refl
+refused_status (Syntax at) = inr refl
+refused_status Memory = inl refl
+
+-- a text that means something is refused for want of memory alone
+pub meant_status : (o : Option (Bor (List ℕ))) (text : Bor (List ℕ)) (bytes : List ℕ) (e : CondError) → o ≡ Some text → bytes ≡ text.now
+    → ((t : Form) → length bytes ≤ 1024 → SpellsTree bytes t → e ≡ Memory) → (f : Form) → Means (option_map (λ s. s.now) o) f → status_of (failure_of e) ≡ 5
+meant_status o text bytes e given same memory f means =
+    let here : Means (Some text.now) f = subst (λ (x : Option (Bor (List ℕ))). Means (option_map (λ s. s.now) x) f) given means in
+    let at : Means (Some bytes) f = subst (λ (b : List ℕ). Means (Some b) f) (sym same) here in
+    ap (λ x. status_of (failure_of x)) (memory f at.0 at.1)
+
+-- a failure's status is one of the program's
+pub status_of-status : (f : Failure) → IsStatus (status_of f)
+status_of-status (CommandLine text) = (1, omega arith, refl)
+status_of-status (Plan error) = (1, omega arith, refl)
+status_of-status (Label label) = (1, omega arith, refl)
+status_of-status (Condition error) = (2, omega arith, refl)
+status_of-status (Interrupted cause.Output) = (3, omega arith, refl)
+status_of-status (Interrupted cause.Memory) = (4, omega arith, refl)
+status_of-status (Interrupted cause.Spawn) = (5, omega arith, refl)
+status_of-status (Interrupted (cause.Stopped worker)) = (5, omega arith, refl)
+status_of-status (Interrupted (cause.Unclosed worker)) = (5, omega arith, refl)

@@ -1,0 +1,43 @@
+-- The status of a failure, and what a failure leaves.
+use Rattle.std.specs.Prelude.{ℕ, Bool, true, false, Result, Ok, Err}
+use Rattle.cond_lang.specs.declared.error.CondError.{CondError}
+use Rattle.cond_lang.specs.declared.error.CondError.TheVariants.{Memory as no_memory}
+use Rattle.dealrun.specs.declared.cause.Cause.TheVariants as cause
+use Rattle.requests.specs.declared.failure.Failure.{Failure}
+use Rattle.requests.specs.declared.failure.Failure.TheVariants.{CommandLine, Plan, Label}
+use Rattle.requests.specs.declared.failure.Failure.TheVariants.{Condition, Interrupted}
+
+-- the exit status of a failure
+abbrev pub status_of : Failure → ℕ
+status_of (CommandLine text) = 2
+status_of (Plan error) = 2
+status_of (Label label) = 2
+status_of (Condition error) = 3
+status_of (Interrupted cause.Output) = 4
+status_of (Interrupted cause.Memory) = 5
+status_of (Interrupted cause.Spawn) = 6
+status_of (Interrupted (cause.Stopped worker)) = 6
+status_of (Interrupted (cause.Unclosed worker)) = 6
+
+-- want of memory in a parse is want of memory
+abbrev pub failure_of : CondError → Failure
+failure_of no_memory = Interrupted cause.Memory
+failure_of error = Condition error
+
+-- the status of a result
+abbrev pub status_in : {T : Type 0} → Result T Failure → ℕ
+status_in (Ok value) = 0
+status_in (Err failure) = status_of failure
+
+-- how many faults of the output a result tells of
+abbrev pub faults_in : {T : Type 0} → Result T Failure → ℕ
+faults_in (Err (Interrupted cause.Output)) = 1
+faults_in _ = 0
+
+-- nothing was written before this failure
+abbrev pub is_untouched : Failure → Bool
+is_untouched (Interrupted cause.Output) = false
+is_untouched (Interrupted cause.Spawn) = false
+is_untouched (Interrupted (cause.Stopped worker)) = false
+is_untouched (Interrupted (cause.Unclosed worker)) = false
+is_untouched _ = true

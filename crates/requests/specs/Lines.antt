@@ -1,0 +1,51 @@
+-- The line that is said of a failure.
+use Rattle.std.specs.Prelude.{ℕ, List, ◌++◌, codes, decimal, string_bytes}
+use Rattle.cond_lang.specs.declared.error.CondError.{CondError}
+use Rattle.cond_lang.specs.declared.error.CondError.TheVariants as cond
+use Rattle.dealrun.specs.declared.cause.Cause.{Cause}
+use Rattle.dealrun.specs.declared.cause.Cause.TheVariants as cause
+use Rattle.plans.specs.declared.plan.PlanError.{PlanError}
+use Rattle.plans.specs.declared.plan.PlanError.TheVariants as plan
+use Rattle.requests.specs.declared.failure.Failure.{Failure}
+use Rattle.requests.specs.declared.failure.Failure.TheVariants as failure
+use Rattle.requests.specs.declared.failure.LabelName.{LabelName}
+use Rattle.requests.specs.declared.failure.LabelName.TheVariants as label
+
+abbrev pub plan_line : PlanError → List ℕ
+plan_line plan.Range = codes "plan refused: range\n"
+plan_line plan.Workers = codes "plan refused: workers\n"
+plan_line plan.Capacity = codes "plan refused: lane capacity\n"
+plan_line plan.Boards = codes "plan refused: boards\n"
+plan_line plan.FirstBoard = codes "plan refused: first board\n"
+
+abbrev pub label_line : LabelName → List ℕ
+label_line label.Event = codes "label refused: event\n"
+label_line label.Site = codes "label refused: site\n"
+label_line label.Date = codes "label refused: date\n"
+
+-- a condition is refused at a byte, counted from 0
+abbrev pub refused_at : ℕ → List ℕ → List ℕ
+refused_at at why = codes "condition refused at byte " ++ decimal at ++ why
+
+abbrev pub condition_line : CondError → List ℕ
+condition_line cond.TooLong = codes "condition refused: longer than 1024 bytes\n"
+condition_line (cond.Byte at) = refused_at at (codes ": unexpected byte\n")
+condition_line (cond.Word at) = refused_at at (codes ": unknown word\n")
+condition_line (cond.Number at) = refused_at at (codes ": number too long\n")
+condition_line (cond.Syntax at) = refused_at at (codes ": syntax\n")
+condition_line cond.Memory = codes "out of memory\n"
+
+abbrev pub cause_line : Cause → List ℕ
+cause_line cause.Memory = codes "out of memory\n"
+cause_line cause.Spawn = codes "thread not started\n"
+cause_line cause.Output = codes "output failed\n"
+cause_line (cause.Stopped worker) = codes "worker " ++ decimal worker ++ codes " stopped\n"
+cause_line (cause.Unclosed worker) = codes "worker " ++ decimal worker ++ codes " not closed\n"
+
+-- one line but for clap's texts
+abbrev pub line_of : Failure → List ℕ
+line_of (failure.CommandLine text) = string_bytes text
+line_of (failure.Plan error) = plan_line error
+line_of (failure.Label name) = label_line name
+line_of (failure.Condition error) = condition_line error
+line_of (failure.Interrupted cause) = cause_line cause

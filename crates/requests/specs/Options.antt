@@ -1,0 +1,30 @@
+-- What a request asks for.
+use Rattle.std.specs.Prelude.{◌≤◌, ◌^◌, option_map}
+use Rattle.requests.specs.Requests.{Making, Wish, stream, make}
+use Rattle.requests.specs.declared.make.MakeRequest.{MakeRequest}
+use Rattle.requests.specs.declared.request.Request.{Request}
+use Rattle.requests.specs.declared.request.Request.TheVariants.{Stream, Make}
+
+abbrev pub making_of : MakeRequest → Making
+making_of r = record {
+  seed = r.seed;
+  candidates = r.candidates;
+  first = r.first;
+  workers = r.workers;
+  lane = r.lane;
+  where_text = option_map (λ s. s.now) r.where_text;
+  boards = r.boards;
+  first_board = r.first_board;
+  event = option_map (λ s. s.now) r.event;
+  site = option_map (λ s. s.now) r.site;
+  date = option_map (λ s. s.now) r.date;
+}
+
+abbrev pub wish_of : Request → Wish
+wish_of (Stream r) = stream r.seed r.count
+wish_of (Make r) = make (making_of r)
+
+-- the numbers are within the limits of their options
+abbrev pub IsInRange : Request → Type 0
+IsInRange (Stream r) = r.count ≤ 2 ^ 40
+IsInRange (Make r) = Unit {0}

@@ -1,0 +1,22 @@
+-- What can be asked for.
+use Rattle.std.specs.Prelude.{ℕ, List, Option}
+
+-- `make`, with what its options were given or their defaults. A field is named as its option is,
+-- and `where` as where_text, since the bare word is the language's.
+pub record Making : Type 0 where
+  pub seed : ℕ
+  pub candidates : ℕ
+  pub first : ℕ
+  pub workers : ℕ
+  pub lane : ℕ
+  pub where_text : Option (List ℕ)
+  pub boards : Option ℕ
+  pub first_board : Option ℕ
+  pub event : Option (List ℕ)
+  pub site : Option (List ℕ)
+  pub date : Option (List ℕ)
+
+pub data Wish : Type 0 where
+  -- the first values of a seed: the seed, and how many
+  stream : ℕ → ℕ → Wish
+  make : Making → Wish

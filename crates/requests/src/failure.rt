@@ -1,0 +1,157 @@
+//! Why a request is not served, or not all of it: the failures with their statuses.
+
+ghost use Rattle.std.specs.Prelude.{◌≡◌, ◌-◌, ◌^◌, ◌<◌, OnOk};
+ghost use Rattle.sinks.specs.Appended.{AppendsAll};
+ghost use Rattle.sinks.specs.Sinks.{CountsFault};
+ghost use Rattle.dealrun.specs.declared.cause.Cause.TheVariants.{Memory, Output};
+ghost use Rattle.requests.specs.Failures.{failure_of, status_of};
+ghost use Rattle.requests.specs.Lines.{cause_line, condition_line, label_line, line_of, plan_line};
+ghost use Rattle.requests.specs.declared.failure.Failure.TheVariants.{Interrupted};
+ghost use Rattle.requests.specs.internal.Messages.{text_of};
+
+use crate::message::Message;
+use cond_lang::CondError;
+use dealrun::Cause;
+use plans::PlanError;
+use sinks::{Sink, SinkFault};
+use std::alloc::AllocError;
+
+/// A label of the games.
+#[derive(Clone, Copy, Debug, PartialEq, Eq)]
+pub enum LabelName {
+    Event,
+    Site,
+    Date,
+}
+
+/// Why a request is not served, or not all of it.
+#[derive(Debug, Drop)]
+pub enum Failure {
+    /// The words ask for nothing; with the text that says so.
+    CommandLine(String),
+    Plan(PlanError),
+    /// The label can't be written between the quotes of a tag.
+    Label(LabelName),
+    /// The condition is refused, and not for want of memory.
+    Condition(CondError),
+    /// The output failed, memory ran out, a thread wasn't started, or a worker ended too soon.
+    Interrupted(Cause),
+}
+
+impl From<SinkFault> for Failure {
+    ghost from_gives = { λ _ e. e ≡ Interrupted Output };
+
+    fn from(_fault: SinkFault) -> Failure {
+        Failure::Interrupted(Cause::Output)
+    }
+}
+
+impl From<AllocError> for Failure {
+    ghost from_gives = { λ _ e. e ≡ Interrupted Memory };
+
+    fn from(_error: AllocError) -> Failure {
+        Failure::Interrupted(Cause::Memory)
+    }
+}
+
+impl From<CondError> for Failure {
+    ghost from_gives = { λ error e. e ≡ failure_of error };
+
+    fn from(error: CondError) -> Failure {
+        match error {
+            CondError::Memory => Failure::Interrupted(Cause::Memory),
+            refused => Failure::Condition(refused),
+        }
+    }
+}
+
+/// The line for want of memory.
+const OUT_OF_MEMORY: &str = "out of memory\n";
+
+fn of_plan(error: PlanError) -> &'static str
+    ensures { result.now ≡ plan_line error }
+{
+    match error {
+        PlanError::Range => "plan refused: range\n",
+        PlanError::Workers => "plan refused: workers\n",
+        PlanError::Capacity => "plan refused: lane capacity\n",
+        PlanError::Boards => "plan refused: boards\n",
+        PlanError::FirstBoard => "plan refused: first board\n",
+    }
+}
+
+fn of_label(label: LabelName) -> &'static str
+    ensures { result.now ≡ label_line label }
+{
+    match label {
+        LabelName::Event => "label refused: event\n",
+        LabelName::Site => "label refused: site\n",
+        LabelName::Date => "label refused: date\n",
+    }
+}
+
+fn of_condition(error: CondError) -> Message<'static>
+    ensures { text_of result ≡ condition_line error }
+{
+    const AT: &str = "condition refused at byte ";
+    match error {
+        CondError::TooLong => Message::plain("condition refused: longer than 1024 bytes\n"),
+        CondError::Byte { at } => Message::with(AT, at as u64, ": unexpected byte\n"),
+        CondError::Word { at } => Message::with(AT, at as u64, ": unknown word\n"),
+        CondError::Number { at } => Message::with(AT, at as u64, ": number too long\n"),
+        CondError::Syntax { at } => Message::with(AT, at as u64, ": syntax\n"),
+        CondError::Memory => Message::plain(OUT_OF_MEMORY),
+    }
+}
+
+fn of_cause(cause: Cause) -> Message<'static>
+    ensures { text_of result ≡ cause_line cause }
+{
+    const WORKER: &str = "worker ";
+    match cause {
+        Cause::Memory => Message::plain(OUT_OF_MEMORY),
+        Cause::Spawn => Message::plain("thread not started\n"),
+        Cause::Output => Message::plain("output failed\n"),
+        Cause::Stopped { worker } => Message::with(WORKER, u64::from(worker), " stopped\n"),
+        Cause::Unclosed { worker } => Message::with(WORKER, u64::from(worker), " not closed\n"),
+    }
+}
+
+impl Failure {
+    /// The exit status.
+    pub fn status(&self) -> u8
+        ensures { result ≡ status_of self.now }
+    {
+        match self {
+            Failure::CommandLine(_) | Failure::Plan(_) | Failure::Label(_) => 2,
+            Failure::Condition(_) => 3,
+            Failure::Interrupted(cause) => match cause {
+                Cause::Output => 4,
+                Cause::Memory => 5,
+                Cause::Spawn | Cause::Stopped { .. } | Cause::Unclosed { .. } => 6,
+            },
+        }
+    }
+
+    fn message(&self) -> Message<'_>
+        ensures { text_of result ≡ line_of self.now }
+    {
+        match self {
+            Failure::CommandLine(text) => Message::plain(text.as_str()),
+            Failure::Plan(error) => Message::plain(of_plan(*error)),
+            Failure::Label(label) => Message::plain(of_label(*label)),
+            Failure::Condition(error) => of_condition(*error),
+            Failure::Interrupted(cause) => of_cause(*cause),
+        }
+    }
+
+    /// Says it to the user: one line, or the text of a refused command line.
+    pub fn say<E: Sink>(&self, err: &mut E) -> Result<(), SinkFault>
+        requires { E.faults err.old < 2 ^ 64 - 1 }
+        ensures text { OnOk result
+            (AppendsAll (E.bytes err.old) (E.bytes err.new) (line_of self.now)) }
+        ensures faults { CountsFault (E.faults err.old) (E.faults err.new) result }
+    {
+        self.message().print(err)
+    }
+}

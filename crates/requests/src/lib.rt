@@ -1,0 +1,20 @@
+//! The requests of the program: what each means, what is done for it, and how it ends.
+//!
+//! A subcommand is a file: its request, with the values of its options, and the function that
+//! serves it (`make.rt`, `stream.rt`). `request.rt` has one variant for each. How the words of a
+//! command line become a request is no business of this crate.
+#![tactic(auto)]
+
+mod failure;
+mod make;
+mod message;
+mod request;
+mod stream;
+
+pub use failure::{Failure, LabelName};
+pub use make::MakeRequest;
+pub use request::{Request, serve};
+pub use stream::StreamRequest;
+
+#[cfg(test)]
+mod tests;

@@ -1,0 +1,168 @@
+//! The subcommand `make`: its plan, its condition and its run.
+
+ghost use Rattle.std.specs.Prelude.{◌≡◌, ◌⊎◌, ◌-◌, ◌+◌, ◌^◌, ◌<◌, true};
+ghost use Rattle.std.specs.Prelude.{IfErr, IfOk, OnOk, option_map};
+ghost use Rattle.cond_lang.specs.Form.{Form};
+ghost use Rattle.pbn_text.specs.Games.{no_heading};
+ghost use Rattle.requests.specs.Failures.{faults_in, is_untouched, status_in, status_of};
+ghost use Rattle.requests.specs.Makings.{CanDate, CanLabel, HasLabels, HasNumbers, IsPlanned};
+ghost use Rattle.requests.specs.Makings.{Means, plan_of};
+ghost use Rattle.requests.specs.Options.{making_of};
+ghost use Rattle.requests.specs.Requests.{make as wish};
+ghost use Rattle.requests.specs.Wishes.{Appends, IsStatusOf};
+
+use crate::failure::{Failure, LabelName};
+use cond_lang::{Cond, parse};
+use dealrun::{Cause, run};
+use lanes::OpenGate;
+use pbn_text::{Date, Heading, Label};
+use plans::{Plan, PlanError};
+use sinks::Sink;
+use std::alloc::Global;
+use std::sync::{Arc, Wait};
+use std::thread::Threads;
+
+/// The games of the accepted ones among the candidates of a seed. What an option was not given has
+/// its default.
+#[derive(Clone, Copy, Debug)]
+pub struct MakeRequest<'a> {
+    pub seed: u32,
+    pub candidates: u64,
+    /// The number of the first candidate.
+    pub first: u64,
+    pub workers: u32,
+    /// How many verdicts a worker's lane holds.
+    pub lane: u32,
+    /// The text of the condition.
+    pub where_text: Option<&'a str>,
+    /// How many boards are written at most.
+    pub boards: Option<u32>,
+    pub first_board: Option<u64>,
+    pub event: Option<&'a str>,
+    pub site: Option<&'a str>,
+    pub date: Option<&'a str>,
+}
+
+/// The label of a text that was given. It is refused if and only if no label has the text.
+fn label_of(text: Option<&str>, name: LabelName) -> Result<Option<Label>, Failure>
+    ensures made { IfOk result (λ l. l ≡ option_map (λ s. s.now) text.entry) }
+    ensures sound { IfOk result (λ _. CanLabel (option_map (λ s. s.now) text.entry)) }
+    ensures refused { IfErr result (λ e. (e ≡ Failure.Label name)
+        × (CanLabel (option_map (λ s. s.now) text.entry) → ⊥)) }
+{
+    match text {
+        None => Ok(None),
+        Some(text) => match Label::new(text.as_bytes()) {
+            Some(label) => Ok(Some(label)),
+            None => Err(Failure::Label(name)),
+        },
+    }
+}
+
+/// The date of a text that was given. It is refused if and only if it is no date.
+fn date_of(text: Option<&str>) -> Result<Option<Date>, Failure>
+    ensures made { IfOk result (λ d. d ≡ option_map (λ s. s.now) text.entry) }
+    ensures sound { IfOk result (λ _. CanDate (option_map (λ s. s.now) text.entry)) }
+    ensures refused { IfErr result (λ e. (e ≡ Failure.Label LabelName.Date)
+        × (CanDate (option_map (λ s. s.now) text.entry) → ⊥)) }
+{
+    match text {
+        None => Ok(None),
+        Some(text) => match Date::new(text.as_bytes()) {
+            Some(date) => Ok(Some(date)),
+            None => Err(Failure::Label(LabelName::Date)),
+        },
+    }
+}
+
+/// The labels of the games. The first one that can't be written is refused.
+fn heading_of(request: &MakeRequest<'_>) -> Result<Heading, Failure>
+    ensures made { IfOk result (λ h. h ≡ (plan_of (making_of request.now)).heading) }
+    ensures sound { IfOk result (λ _. HasLabels (making_of request.now)) }
+    ensures refused { IfErr result (λ e.
+        (status_of e ≡ 2) × (HasLabels (making_of request.now) → ⊥)) }
+{
+    Ok(Heading {
+        event: label_of(request.event, LabelName::Event)?,
+        site: label_of(request.site, LabelName::Site)?,
+        date: date_of(request.date)?,
+    })
+}
+
+/// The plan with the numbers of the options: the candidates, the workers, the lanes and the boards.
+fn numbers_of(request: &MakeRequest<'_>) -> Result<Plan, PlanError>
+    ensures made { IfOk result (λ p.
+        p ≡ record (plan_of (making_of request.now)) { heading = no_heading }) }
+    ensures sound { IfOk result (λ _. HasNumbers (making_of request.now)) }
+    ensures refused { IfErr result (λ _. HasNumbers (making_of request.now) → ⊥) }
+{
+    // The options have their names up to here. The plan calls the candidates its count, the lane
+    // its capacity and the boards its limit.
+    let plan = Plan::new(
+        request.seed,
+        request.first,
+        request.candidates,
+        request.workers,
+        request.lane,
+    )?;
+    let plan = match request.boards {
+        Some(boards) => plan.limited(boards)?,
+        None => plan,
+    };
+    plan.numbered(request.first_board.unwrap_or(1))
+}
+
+/// The plan of the options, with its labels.
+fn planned(request: &MakeRequest<'_>) -> Result<Plan, Failure>
+    ensures made { IfOk result (λ p. p ≡ plan_of (making_of request.now)) }
+    ensures sound { IfOk result (λ _. IsPlanned (making_of request.now)) }
+    ensures refused { IfErr result (λ e.
+        (status_of e ≡ 2) × (IsPlanned (making_of request.now) → ⊥)) }
+{
+    let plan = match numbers_of(request) {
+        Ok(plan) => plan,
+        Err(error) => return Err(Failure::Plan(error)),
+    };
+    Ok(plan.headed(heading_of(request)?))
+}
+
+/// What the condition's text means; without a text every deal is accepted.
+fn condition_of(alloc: Global, request: &MakeRequest<'_>) -> Result<Cond, Failure>
+    ensures meant { IfOk result (λ c. Means (making_of request.now).where_text c) }
+    ensures refused { IfErr result (λ e. (status_of e ≡ 5) ⊎ (status_of e ≡ 3)) }
+    ensures memory { IfErr result (λ e. (f : Form)
+        → Means (making_of request.now).where_text f → status_of e ≡ 5) }
+    ensures untouched { IfErr result (λ e. is_untouched e ≡ true) }
+{
+    let Some(text) = request.where_text else {
+        return Ok(Cond::any(alloc));
+    };
+    Ok(parse(alloc, text.as_bytes())?)
+}
+
+/// Writes the games that the options ask for, judged by their workers.
+#[tactic(auto, using(crate::proofs::Statuses::endings))]
+pub fn make<R: Threads + Wait + Clone + Send + 'static, O: Sink>(
+    rt: &R,
+    alloc: Global,
+    request: &MakeRequest<'_>,
+    out: &mut O,
+) -> Result<(), Failure>
+    requires { O.faults out.old < 2 ^ 64 - 1 }
+    ensures text { OnOk result
+        (Appends (wish (making_of request.now)) (O.bytes out.old) (O.bytes out.new)) }
+    ensures status { IsStatusOf (wish (making_of request.now)) (status_in result) }
+    ensures untouched { IfErr result (λ e. is_untouched e ≡ true
+        → O.bytes out.new ≡ O.bytes out.old) }
+    ensures faults { O.faults out.new ≡ O.faults out.old + faults_in result }
+{
+    let plan = planned(request)?;
+    let condition = condition_of(alloc, request)?;
+    let Ok(gate) = Arc::new(alloc, OpenGate) else {
+        return Err(Failure::Interrupted(Cause::Memory));
+    };
+    match run(rt, alloc, &plan, condition, out, gate) {
+        Ok(_) => Ok(()),
+        Err(fault) => Err(Failure::Interrupted(fault.cause)),
+    }
+}

@@ -1,0 +1,47 @@
+//! The requests: one variant for each subcommand.
+
+ghost use Rattle.std.specs.Prelude.{◌≡◌, ◌-◌, ◌+◌, ◌^◌, ◌<◌, true, IfErr, OnOk};
+ghost use Rattle.requests.specs.Failures.{faults_in, is_untouched, status_in};
+ghost use Rattle.requests.specs.Options.{IsInRange, wish_of};
+ghost use Rattle.requests.specs.Wishes.{Appends, IsStatusOf};
+
+use crate::failure::Failure;
+use crate::make::{MakeRequest, make};
+use crate::stream::{StreamRequest, stream};
+use sinks::Sink;
+use std::alloc::Global;
+use std::sync::Wait;
+use std::thread::Threads;
+
+/// What is asked for.
+#[derive(Debug, Drop)]
+pub enum Request<'a> {
+    Stream(StreamRequest),
+    Make(MakeRequest<'a>),
+}
+
+/// Does what is asked for. It may wait for its workers.
+pub fn serve<R: Threads + Wait + Clone + Send + 'static, O: Sink>(
+    rt: &R,
+    alloc: Global,
+    request: &Request<'_>,
+    out: &mut O,
+) -> Result<(), Failure>
+    requires range { IsInRange request.now }
+    requires faults { O.faults out.old < 2 ^ 64 - 1 }
+    // All that is asked for was written, on Ok.
+    ensures text { OnOk result
+        (Appends (wish_of request.now) (O.bytes out.old) (O.bytes out.new)) }
+    // The status says what of it was accepted, and what refused.
+    ensures status { IsStatusOf (wish_of request.now) (status_in result) }
+    // Nothing was written if something is refused or memory ran out.
+    ensures untouched { IfErr result (λ e. is_untouched e ≡ true
+        → O.bytes out.new ≡ O.bytes out.old) }
+    // The output failed once if the failure says so, and else not.
+    ensures faults { O.faults out.new ≡ O.faults out.old + faults_in result }
+{
+    match request {
+        Request::Stream(request) => stream(request, out),
+        Request::Make(request) => make(rt, alloc, request, out),
+    }
+}

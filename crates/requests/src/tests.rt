@@ -1,0 +1,95 @@
+use crate::{Failure, MakeRequest, Request, StreamRequest, serve};
+use dealrun::Cause;
+use sinks::MemSink;
+use std::alloc::Global;
+use std::process::Abort;
+use std::sync::Wait;
+use std::thread::Threads;
+
+/// A failure is told by this line, and ends the program with this status.
+fn expect_line(rt: &impl Abort, alloc: Global, failure: &Failure, status: u8, line: &str) {
+    let mut err = MemSink::new(alloc);
+    assert!(rt; failure.say(&mut err).is_ok());
+    assert_eq!(rt; err.bytes(), line.as_bytes());
+    assert_eq!(rt; failure.status(), status);
+}
+
+#[test]
+fn a_thread_that_was_not_started(rt: HostRuntime) {
+    let failure = Failure::Interrupted(Cause::Spawn);
+    expect_line(&rt, rt.alloc(), &failure, 6, "thread not started\n");
+}
+
+#[test]
+fn a_worker_that_stopped(rt: HostRuntime) {
+    let failure = Failure::Interrupted(Cause::Stopped { worker: 3 });
+    expect_line(&rt, rt.alloc(), &failure, 6, "worker 3 stopped\n");
+}
+
+#[test]
+fn a_worker_whose_lane_was_not_closed(rt: HostRuntime) {
+    let failure = Failure::Interrupted(Cause::Unclosed { worker: 15 });
+    expect_line(&rt, rt.alloc(), &failure, 6, "worker 15 not closed\n");
+}
+
+#[test]
+fn the_values_of_a_seed(rt: HostRuntime) {
+    let request = Request::Stream(StreamRequest { seed: 0, count: 3 });
+    let mut out = MemSink::new(rt.alloc());
+    assert!(rt; serve(&rt, rt.alloc(), &request, &mut out).is_ok());
+    let values = b"366850414\n1610402240\n206956554\n";
+    assert_eq!(rt; out.bytes(), values.as_slice());
+}
+
+/// A `make` of no candidates, with this many workers and this condition.
+fn request_of(workers: u32, condition: &str) -> MakeRequest<'_> {
+    MakeRequest {
+        seed: 0,
+        candidates: 0,
+        first: 0,
+        workers,
+        lane: 64,
+        where_text: Some(condition),
+        boards: None,
+        first_board: None,
+        event: None,
+        site: None,
+        date: None,
+    }
+}
+
+#[test]
+fn a_make_of_no_candidates(rt: HostRuntime) {
+    let request = Request::Make(request_of(2, "hcp(north)>=15"));
+    let mut out = MemSink::new(rt.alloc());
+    assert!(rt; serve(&rt, rt.alloc(), &request, &mut out).is_ok());
+    assert_eq!(rt; out.bytes(), b"% PBN 2.1\n".as_slice());
+}
+
+/// A request that is refused writes nothing.
+fn expect_refusal<R: Abort + Threads + Wait + Clone + Send + 'static>(
+    rt: &R,
+    alloc: Global,
+    request: MakeRequest<'_>,
+    status: u8,
+    line: &str,
+) {
+    let mut out = MemSink::new(alloc);
+    match serve(rt, alloc, &Request::Make(request), &mut out) {
+        Ok(()) => assert!(rt; false),
+        Err(failure) => expect_line(rt, alloc, &failure, status, line),
+    }
+    assert!(rt; out.bytes().is_empty());
+}
+
+#[test]
+fn a_plan_is_refused_before_its_condition(rt: HostRuntime) {
+    let request = request_of(17, "hcp(");
+    expect_refusal(&rt, rt.alloc(), request, 2, "plan refused: workers\n");
+}
+
+#[test]
+fn a_condition_that_means_nothing(rt: HostRuntime) {
+    let line = "condition refused at byte 4: syntax\n";
+    expect_refusal(&rt, rt.alloc(), request_of(1, "hcp("), 3, line);
+}
