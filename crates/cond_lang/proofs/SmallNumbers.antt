@@ -15,7 +15,7 @@ use Rattle.cond_lang.specs.declared.token.Token.TheVariants.{Or, And, Number, Cl
 use Rattle.cond_lang.specs.declared.token.Placed.{Placed}
 use Rattle.cond_lang.specs.declared.token.Piece.{Piece}
 use Rattle.cond_lang.specs.declared.token.Piece.TheVariants.{Separator, Token as TokenPiece, StrayByte, UnknownWord, LongNumber}
-use Rattle.cond_lang.specs.Cut.{words, symbols, decimal, IsPiece, blank, word, no_word, number as number_piece, long, symbol, stray, Pieces, IsCut, end, piece, placed_from, token_at, HasTokens}
+use Rattle.cond_lang.specs.Cut.{words, symbols, decimal, IsPiece, blank, comment, word, no_word, number as number_piece, long, symbol, stray, Pieces, IsCut, end, piece, placed_from, token_at, HasTokens}
 use Rattle.cond_lang.specs.Form.{Amount, Form, measured, suit_measured}
 use Rattle.cond_lang.specs.Grammar.{SpellsAtom, SpellsValue, atom, plus, a_number, measure, measure_in, len, SpellsCond, both, or, SpellsBoth, unit, and, SpellsUnit, not, brackets, comparison, is_balanced, has_shape, has_pattern, Spells}
 use Rattle.cond_lang.specs.Limits.{AddsNumbersUpTo, HasNumbersUpTo}
@@ -72,12 +72,13 @@ IsSmallPiece k = Unit {0}
 
 small_piece : {p rest : List ℕ} {k : Piece} → IsPiece p rest k → IsSmallPiece k
 small_piece (blank h) = tt
+small_piece (comment h r) = tt
 small_piece (word {p} {t = t} r m) = small_word p t m
 small_piece (no_word r n) = tt
 small_piece (number_piece {p} r few) = small_decimal p r.all few
 small_piece (long r many) = tt
 small_piece (symbol {p} {t = t} m l) = small_symbol p t m
-small_piece (stray a b d n) = tt
+small_piece (stray a g b d n) = tt
 
 small_pieces : {s : List ℕ} {ps : Pieces} → IsCut s ps → AllByRecursion (λ p. IsSmallPiece p.1) ps
 small_pieces end = tt

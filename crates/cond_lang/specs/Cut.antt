@@ -1,6 +1,6 @@
 -- A text is cut into pieces, each the longest that fits at its place: words, numbers, symbols,
--- separators, and bytes that begin none of these.
-use Rattle.std.specs.Prelude.{◌≡◌, ℕ, ◌+◌, ◌*◌, ◌-◌, ◌<◌, ◌≤◌, Bool, true, false, ◌||◌, ◌==◌, List, [], ◌∷◌, ◌++◌, length, codes, fold, Option, Some, None, All, Contains}
+-- separators, comments, and bytes that begin none of these.
+use Rattle.std.specs.Prelude.{◌≡◌, ℕ, ◌+◌, ◌*◌, ◌-◌, ◌<◌, ◌≤◌, Bool, true, false, not, ◌||◌, ◌==◌, List, [], ◌∷◌, ◌++◌, length, codes, fold, Option, Some, None, All, Contains}
 use Rattle.std.specs.List.{AllByRecursion, filter_map}
 use Rattle.std.specs.Char.{is_ascii_lowercase, is_ascii_digit}
 use Rattle.cards.specs.declared.measure.Measure.TheVariants.{Hcp, Controls}
@@ -53,9 +53,16 @@ symbols =
     ∷ (codes ">=", Relation AtLeast)
     ∷ []
 
--- a space, a tab or a line feed
+-- a space, a tab, a line feed or a carriage return
 abbrev pub is_separator : ℕ → Bool
-is_separator c = c == 32 || (c == 9 || c == 10)
+is_separator c = c == 32 || (c == 9 || (c == 10 || c == 13))
+
+-- a comment goes from its sign `#` to the next line feed, which is no part of it, or to the end
+abbrev pub is_comment_sign : ℕ → Bool
+is_comment_sign c = c == 35
+
+abbrev pub is_in_comment : ℕ → Bool
+is_in_comment c = not (c == 10)
 
 -- the text doesn't go on with such a byte
 abbrev pub EndsRun : (ℕ → Bool) → List ℕ → Type 0
@@ -90,6 +97,9 @@ BeginsWithNone text = (q : List ℕ) → BeginsWithSymbol q text → ⊥
 -- p is a piece of this kind if rest follows it
 pub data IsPiece : List ℕ → List ℕ → Piece → Type 0 where
   blank : {c : ℕ} {rest : List ℕ} → is_separator c ≡ true → IsPiece (c ∷ []) rest Separator
+  comment :
+      {c : ℕ} {p rest : List ℕ} → is_comment_sign c ≡ true → IsRun is_in_comment (c ∷ p) rest
+      → IsPiece (c ∷ p) rest Separator
   word :
       {p rest : List ℕ} {t : Token} → IsRun is_ascii_lowercase p rest → Contains words (p, t)
       → IsPiece p rest (TokenPiece t)
@@ -106,8 +116,8 @@ pub data IsPiece : List ℕ → List ℕ → Piece → Type 0 where
       → IsPiece p rest (TokenPiece t)
   stray :
       {c : ℕ} {rest : List ℕ}
-      → is_separator c ≡ false → is_ascii_lowercase c ≡ false → is_ascii_digit c ≡ false
-      → BeginsWithNone (c ∷ rest)
+      → is_separator c ≡ false → is_comment_sign c ≡ false
+      → is_ascii_lowercase c ≡ false → is_ascii_digit c ≡ false → BeginsWithNone (c ∷ rest)
       → IsPiece (c ∷ []) rest StrayByte
 
 -- pieces of a text, and what each of them is
@@ -138,7 +148,7 @@ fault_at at UnknownWord = Some (Word at)
 fault_at at LongNumber = Some (NumberFault at)
 fault_at at k = None
 
--- the piece has no fault: it is a token or a separator
+-- the piece has no fault: it is a token, a separator or a comment
 abbrev pub IsSound : List ℕ × Piece → Type 0
 IsSound p = (at : ℕ) → fault_at at p.1 ≡ None
 

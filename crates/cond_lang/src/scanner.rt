@@ -4,7 +4,7 @@
 ghost use Rattle.std.specs.Prelude.{◌≡◌, ◌<◌, ◌≤◌, length, map, true, IfOk, IfErr};
 ghost use Rattle.std.specs.List.{AllByRecursion};
 ghost use Rattle.std.specs.Char.{is_ascii_lowercase, is_ascii_digit};
-ghost use Rattle.cond_lang.specs.Cut.{HasTokens, words, decimal, is_separator};
+ghost use Rattle.cond_lang.specs.Cut.{HasTokens, words, decimal, is_separator, is_in_comment};
 ghost use Rattle.cond_lang.specs.Faults.{HasFault};
 ghost use Rattle.cond_lang.specs.internal.Scanning.{token_of, run, begins_with, symbol_at, word_piece, number_piece, piece_at};
 
@@ -73,6 +73,8 @@ fn first_piece(text: &[u8]) -> (Piece, usize)
     let first = text[0];
     if is_separator(first) {
         (Piece::Separator, 1)
+    } else if first == b'#' {
+        (Piece::Separator, comment_len(text))
     } else if first.is_ascii_lowercase() {
         let count = letter_run_len(text);
         (word_piece(&text[..count]), count)
@@ -90,7 +92,20 @@ fn first_piece(text: &[u8]) -> (Piece, usize)
 fn is_separator(byte: u8) -> bool
     ensures { result ≡ is_separator byte }
 {
-    byte == b' ' || byte == b'\t' || byte == b'\n'
+    byte == b' ' || byte == b'\t' || byte == b'\n' || byte == b'\r'
+}
+
+/// How many bytes stand before the next line feed, or before the end.
+fn comment_len(text: &[u8]) -> usize
+    ensures value { result ≡ run is_in_comment text.now }
+    ensures within { result ≤ length text.now }
+{
+    for (i, byte) in text.iter().enumerate() {
+        if *byte == b'\n' {
+            return i;
+        }
+    }
+    text.len()
 }
 
 /// How many small letters a text begins with.

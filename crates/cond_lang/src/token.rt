@@ -33,9 +33,10 @@ pub struct Placed {
     pub at: usize,
 }
 
-/// What a piece of the text is: a separator, a token, or a fault.
+/// What a piece of the text is: a separator or a comment, a token, or a fault.
 #[derive(Clone, Copy, Debug, PartialEq, Eq)]
 pub enum Piece {
+    /// A space, a tab, an end of a line, or a comment.
     Separator,
     Token(Token),
     /// A byte that begins nothing.

@@ -7,7 +7,7 @@ use Rattle.cond_lang.specs.declared.token.Token.{Token}
 use Rattle.cond_lang.specs.declared.token.Token.TheVariants.{Number, Open, Close, Comma, Dash, Plus, Relation}
 use Rattle.cond_lang.specs.declared.token.Piece.{Piece}
 use Rattle.cond_lang.specs.declared.token.Piece.TheVariants.{Separator, Token as TokenPiece, StrayByte, UnknownWord, LongNumber}
-use Rattle.cond_lang.specs.Cut.{words, is_separator, decimal}
+use Rattle.cond_lang.specs.Cut.{words, is_separator, is_comment_sign, is_in_comment, decimal}
 
 -- the token of the table's entry with this text
 abbrev pub token_of : List (List ℕ × Token) → List ℕ → Option Token
@@ -71,6 +71,7 @@ abbrev pub piece_at : List ℕ → Piece × ℕ
 piece_at [] = (StrayByte, 0)
 piece_at (c ∷ s) =
     if is_separator c then (Separator, 1)
+    else (if is_comment_sign c then run_piece is_in_comment (λ p. Separator) (c ∷ s)
     else (if is_ascii_lowercase c then run_piece is_ascii_lowercase word_piece (c ∷ s)
     else (if is_ascii_digit c then run_piece is_ascii_digit number_piece (c ∷ s)
-    else symbol_piece (symbol_after c s)))
+    else symbol_piece (symbol_after c s))))
