@@ -6,13 +6,13 @@ use Rattle.std.proofs.lemmas.Bool.{le-leb, lt-leb, cases_Bool, cases_lt, cond-tr
 use Rattle.std.specs.Char.{is_ascii_lowercase, is_ascii_digit}
 use Rattle.cond_lang.specs.declared.tree.Op.TheVariants.{Less, AtMost, More, AtLeast}
 use Rattle.cond_lang.specs.declared.token.Token.{Token}
-use Rattle.cond_lang.specs.declared.token.Token.TheVariants.{Number, Relation}
+use Rattle.cond_lang.specs.declared.token.Token.TheVariants.{Ranks, Number, Relation}
 use Rattle.cond_lang.specs.declared.token.Piece.{Piece}
 use Rattle.cond_lang.specs.declared.token.Piece.TheVariants.{Separator, Token as TokenPiece, StrayByte, UnknownWord, LongNumber}
-use Rattle.cond_lang.specs.Cut.{words, symbols, is_separator, IsRun, decimal, BeginsWithSymbol, IsPiece, blank, word, no_word, number, long, symbol, stray}
-use Rattle.cond_lang.specs.internal.Scanning.{token_of, run, begins_with, symbol_after, token_or, word_piece, number_piece, symbol_piece, piece_at}
-use Rattle.cond_lang.proofs.Tables.{pick, words_apart, token_of-entry, entry_of, at_entry}
-use Rattle.cond_lang.proofs.Runs.{run-append, run_split, lowercase_no_separator, digit_no_separator, digit_no_lowercase}
+use Rattle.cond_lang.specs.Cut.{words, symbols, is_separator, is_comment_sign, is_in_comment, IsRun, decimal, BeginsWithSymbol, IsPiece, are_ranks, named_by, blank, comment, word, ranks, no_word, number, long, symbol, stray}
+use Rattle.cond_lang.specs.internal.Scanning.{token_of, run, begins_with, symbol_after, token_or, word_piece, ranks_piece, number_piece, symbol_piece, piece_at}
+use Rattle.cond_lang.proofs.Tables.{pick, words_apart, no_ranks_word, token_of-entry, entry_of, at_entry}
+use Rattle.cond_lang.proofs.Runs.{run-append, run_all, run_ends, run_split, lowercase_no_separator, digit_no_separator, digit_no_lowercase, sign_no_separator, lowercase_no_sign, digit_no_sign, sign_in_comment}
 use Rattle.cond_lang.proofs.Symbols.{IsAtLeast, goes_on, IsSymbolOf, symbol_is, fits}
 
 -- The piece that is found is the only one.
@@ -24,9 +24,17 @@ only_word (c ∷ p) rest r =
     let separator : is_separator c ≡ false = lowercase_no_separator c lower in
     let count : run is_ascii_lowercase (c ∷ p ++ rest) ≡ length (c ∷ p) = run-append is_ascii_lowercase (c ∷ p) rest r.all r.ends in
     cond-false (is_separator c) _ _ separator
+    ∙ cond-false (is_comment_sign c) _ _ (lowercase_no_sign c lower)
     ∙ cond-true (is_ascii_lowercase c) _ _ lower
     ∙ ap (λ n. let x : Piece × ℕ = (word_piece (take n (c ∷ p ++ rest)), n) in x) count
     ∙ ap (λ q. let x : Piece × ℕ = (word_piece q, length (c ∷ p)) in x) (take-append_seam (c ∷ p) rest)
+
+only_comment : (c : ℕ) (p rest : List ℕ) → is_comment_sign c ≡ true → IsRun is_in_comment (c ∷ p) rest → piece_at (c ∷ p ++ rest) ≡ (Separator, length (c ∷ p))
+only_comment c p rest sign r =
+    let count : run is_in_comment (c ∷ p ++ rest) ≡ length (c ∷ p) = run-append is_in_comment (c ∷ p) rest r.all r.ends in
+    cond-false (is_separator c) _ _ (sign_no_separator c sign)
+    ∙ cond-true (is_comment_sign c) _ _ sign
+    ∙ ap (λ n. let x : Piece × ℕ = (Separator, n) in x) count
 
 only_number : (p rest : List ℕ) → IsRun is_ascii_digit p rest → piece_at (p ++ rest) ≡ (number_piece p, length p)
 only_number [] rest r = absurd (omega (arith, r.some))
@@ -36,6 +44,7 @@ only_number (c ∷ p) rest r =
     let lower : is_ascii_lowercase c ≡ false = digit_no_lowercase c digit in
     let count : run is_ascii_digit (c ∷ p ++ rest) ≡ length (c ∷ p) = run-append is_ascii_digit (c ∷ p) rest r.all r.ends in
     cond-false (is_separator c) _ _ separator
+    ∙ cond-false (is_comment_sign c) _ _ (digit_no_sign c digit)
     ∙ cond-false (is_ascii_lowercase c) _ _ lower
     ∙ cond-true (is_ascii_digit c) _ _ digit
     ∙ ap (λ n. let x : Piece × ℕ = (number_piece (take n (c ∷ p ++ rest)), n) in x) count
@@ -70,11 +79,12 @@ no_symbol c s None h n = refl
 no_symbol c s (Some x) h n = absurd (n (take x.1 (c ∷ s)) (longer _ x.0 _ h.0 (drop x.1 (c ∷ s)) (sym (take-append-drop x.1 (c ∷ s)))))
 
 only_stray :
-    (c : ℕ) (s : List ℕ) → is_separator c ≡ false → is_ascii_lowercase c ≡ false → is_ascii_digit c ≡ false
+    (c : ℕ) (s : List ℕ) → is_separator c ≡ false → is_comment_sign c ≡ false → is_ascii_lowercase c ≡ false → is_ascii_digit c ≡ false
     → ((q : List ℕ) → BeginsWithSymbol q (c ∷ s) → ⊥) → piece_at (c ∷ s) ≡ (StrayByte, 1)
-only_stray c s separator lower digit n =
+only_stray c s separator sign lower digit n =
     let none : symbol_after c s ≡ None = no_symbol c s (symbol_after c s) (symbol_is c s) n in
     cond-false (is_separator c) _ _ separator
+    ∙ cond-false (is_comment_sign c) _ _ sign
     ∙ cond-false (is_ascii_lowercase c) _ _ lower
     ∙ cond-false (is_ascii_digit c) _ _ digit
     ∙ ap symbol_piece none
@@ -93,13 +103,16 @@ as_piece : (k j : Piece) (n : ℕ) → k ≡ j → (let x : Piece × ℕ = (k, n
 as_piece k j n e = ap (λ k. let x : Piece × ℕ = (k, n) in x) e
 
 pub only_piece : {p rest : List ℕ} {k : Piece} → IsPiece p rest k → piece_at (p ++ rest) ≡ (k, length p)
+unfolding ranks_piece
 only_piece (blank {c} {rest} h) = rw h refl
-only_piece (word {p} {rest} {t} r m) = only_word p rest r ∙ as_piece _ _ (length p) (ap (token_or UnknownWord) (token_of-entry words p t words_apart m))
-only_piece (no_word {p} {rest} r n) = only_word p rest r ∙ as_piece _ _ (length p) (ap (token_or UnknownWord) (no_entry p (token_of words p) refl n))
+only_piece (comment {c} {p} {rest} h r) = only_comment c p rest h r
+only_piece (word {p} {rest} {t} r m) = only_word p rest r ∙ as_piece _ _ (length p) (ap (token_or (ranks_piece p)) (token_of-entry words p t words_apart m))
+only_piece (ranks {p} {rest} r h) = only_word p rest r ∙ as_piece _ _ (length p) (ap (token_or (ranks_piece p)) (no_entry p (token_of words p) refl (no_ranks_word p h)) ∙ cond-true (are_ranks p) _ _ h)
+only_piece (no_word {p} {rest} r n h) = only_word p rest r ∙ as_piece _ _ (length p) (ap (token_or (ranks_piece p)) (no_entry p (token_of words p) refl n) ∙ cond-false (are_ranks p) _ _ h)
 only_piece (number {p} {rest} r few) = only_number p rest r ∙ as_piece _ _ (length p) (short_number p few)
 only_piece (long {p} {rest} r many) = only_number p rest r ∙ as_piece _ _ (length p) (long_number p many)
 only_piece (symbol {p} {rest} {t} m l) = only_symbol p t m rest l
-only_piece (stray {c} {rest} a b d n) = only_stray c rest a b d n
+only_piece (stray {c} {rest} a g b d n) = only_stray c rest a g b d n
 
 -- A text that isn't empty begins with a piece.
 
@@ -112,7 +125,11 @@ pub record FirstPiece (s : List ℕ) : Type 0 where
   pub is : IsPiece p rest kind
 
 known_word : (p rest : List ℕ) (o : Option Token) → IsRun is_ascii_lowercase p rest → token_of words p ≡ o → (k : Piece) × IsPiece p rest k
-known_word p rest None r e = (UnknownWord, no_word r (λ t m. let h = token_of-entry words p t words_apart m in cc))
+known_word p rest None r e =
+    elim (cases_Bool (are_ranks p)) [
+      | inl h ↦ (TokenPiece (Ranks (named_by p)), ranks r h)
+      | inr h ↦ (UnknownWord, no_word r (λ t m. let h = token_of-entry words p t words_apart m in cc) h)
+    ]
 known_word p rest (Some t) r e = (TokenPiece t, word r (entry_of words p t e))
 
 known_number : (p rest : List ℕ) → IsRun is_ascii_digit p rest → (k : Piece) × IsPiece p rest k
@@ -125,23 +142,39 @@ first_run f c s h known =
     let k = known (take n (c ∷ s)) (drop n (c ∷ s)) r in
     record { p = take n (c ∷ s); rest = drop n (c ∷ s); kind = k.0; split = sym (take-append-drop n (c ∷ s)); some = r.some; is = k.1 }
 
+-- a comment's bytes behind its sign
+comment_split : (c : ℕ) (s : List ℕ) → is_in_comment c ≡ true → IsRun is_in_comment (c ∷ take (run is_in_comment s) s) (drop (run is_in_comment s) s)
+comment_split c s h = record { some = omega arith; all = (h, run_all is_in_comment s); ends = run_ends is_in_comment s }
+
+first_comment : (c : ℕ) (s : List ℕ) → is_comment_sign c ≡ true → FirstPiece (c ∷ s)
+first_comment c s h =
+    let n : ℕ = run is_in_comment s in
+    record {
+      p = c ∷ take n s;
+      rest = drop n s;
+      kind = Separator;
+      split = ap (λ L. c ∷ L) (sym (take-append-drop n s));
+      some = omega arith;
+      is = comment h (comment_split c s (sign_in_comment c h));
+    }
+
 taken_some : (n c : ℕ) (s : List ℕ) → 0 < n → 0 < length (take n (c ∷ s))
 taken_some zero c s h = absurd (omega arith)
 taken_some (suc n) c s h = omega arith
 
 first_symbol :
     (c : ℕ) (s : List ℕ) (o : Option (Token × ℕ)) → symbol_after c s ≡ o → IsSymbolOf o (c ∷ s)
-    → is_separator c ≡ false → is_ascii_lowercase c ≡ false → is_ascii_digit c ≡ false → FirstPiece (c ∷ s)
-first_symbol c s None e h a b d =
+    → is_separator c ≡ false → is_comment_sign c ≡ false → is_ascii_lowercase c ≡ false → is_ascii_digit c ≡ false → FirstPiece (c ∷ s)
+first_symbol c s None e h a g b d =
     record {
       p = c ∷ [];
       rest = s;
       kind = StrayByte;
       split = refl;
       some = omega arith;
-      is = stray a b d (λ q f. subst (λ o. IsAtLeast (length q) o (c ∷ s)) e (fits q (c ∷ s) f));
+      is = stray a g b d (λ q f. subst (λ o. IsAtLeast (length q) o (c ∷ s)) e (fits q (c ∷ s) f));
     }
-first_symbol c s (Some x) e h a b d =
+first_symbol c s (Some x) e h a g b d =
     let p : List ℕ = take x.1 (c ∷ s) in
     let back : p ++ drop x.1 (c ∷ s) ≡ c ∷ s = take-append-drop x.1 (c ∷ s) in
     record {
@@ -159,11 +192,14 @@ pub first_piece : (c : ℕ) (s : List ℕ) → FirstPiece (c ∷ s)
 first_piece c s =
     elim (cases_Bool (is_separator c)) [
       | inl blank_c ↦ record { p = c ∷ []; rest = s; kind = Separator; split = refl; some = omega arith; is = blank blank_c }
-      | inr a ↦ elim (cases_Bool (is_ascii_lowercase c)) [
-        | inl h ↦ first_run is_ascii_lowercase c s h (λ p rest r. known_word p rest (token_of words p) r refl)
-        | inr b ↦ elim (cases_Bool (is_ascii_digit c)) [
-          | inl h ↦ first_run is_ascii_digit c s h known_number
-          | inr d ↦ first_symbol c s (symbol_after c s) refl (symbol_is c s) a b d
+      | inr a ↦ elim (cases_Bool (is_comment_sign c)) [
+        | inl h ↦ first_comment c s h
+        | inr g ↦ elim (cases_Bool (is_ascii_lowercase c)) [
+          | inl h ↦ first_run is_ascii_lowercase c s h (λ p rest r. known_word p rest (token_of words p) r refl)
+          | inr b ↦ elim (cases_Bool (is_ascii_digit c)) [
+            | inl h ↦ first_run is_ascii_digit c s h known_number
+            | inr d ↦ first_symbol c s (symbol_after c s) refl (symbol_is c s) a g b d
+          ]
         ]
       ]
     ]

@@ -3,7 +3,7 @@ use Rattle.std.proofs.Common.{◌≡◌, ℕ, suc, ◌<◌, ◌≤◌, Bool, tru
 use Rattle.std.proofs.lemmas.Bool.Decides.{nat_tests}
 use Rattle.std.specs.List.{AllByRecursion}
 use Rattle.std.specs.Char.{is_ascii_lowercase, is_ascii_digit}
-use Rattle.cond_lang.specs.Cut.{is_separator, EndsRun, IsRun}
+use Rattle.cond_lang.specs.Cut.{is_separator, is_comment_sign, is_in_comment, EndsRun, IsRun}
 use Rattle.cond_lang.specs.internal.Scanning.{run}
 use Rattle.cond_lang.proofs.Tables.{pick}
 
@@ -38,6 +38,18 @@ lowercase_no_separator c h = grind (arith, nat_tests)
 
 pub digit_no_separator : (c : ℕ) → is_ascii_digit c ≡ true → is_separator c ≡ false
 digit_no_separator c h = grind (arith, nat_tests)
+
+pub sign_no_separator : (c : ℕ) → is_comment_sign c ≡ true → is_separator c ≡ false
+sign_no_separator c h = grind (arith, nat_tests)
+
+pub lowercase_no_sign : (c : ℕ) → is_ascii_lowercase c ≡ true → is_comment_sign c ≡ false
+lowercase_no_sign c h = grind (arith, nat_tests)
+
+pub digit_no_sign : (c : ℕ) → is_ascii_digit c ≡ true → is_comment_sign c ≡ false
+digit_no_sign c h = grind (arith, nat_tests)
+
+pub sign_in_comment : (c : ℕ) → is_comment_sign c ≡ true → is_in_comment c ≡ true
+sign_in_comment c h = grind (arith, nat_tests)
 
 pub digit_no_lowercase : (c : ℕ) → is_ascii_digit c ≡ true → is_ascii_lowercase c ≡ false
 digit_no_lowercase c h = grind (arith, nat_tests)

@@ -1,14 +1,15 @@
--- A text is cut into pieces, each the longest that fits at its place: words, numbers, symbols,
--- separators, and bytes that begin none of these.
-use Rattle.std.specs.Prelude.{◌≡◌, ℕ, ◌+◌, ◌*◌, ◌-◌, ◌<◌, ◌≤◌, Bool, true, false, ◌||◌, ◌==◌, List, [], ◌∷◌, ◌++◌, length, codes, fold, Option, Some, None, All, Contains}
-use Rattle.std.specs.List.{AllByRecursion, filter_map}
+-- A text is cut into pieces, each the longest that fits at its place: words and ranks, numbers,
+-- symbols, separators, comments, and bytes that begin none of these.
+use Rattle.std.specs.Prelude.{◌≡◌, ℕ, ◌+◌, ◌*◌, ◌-◌, ◌<◌, ◌≤◌, Bool, true, false, not, ◌||◌, ◌&&◌, ◌==◌, List, [], ◌∷◌, ◌++◌, length, codes, fold, count_by, Option, Some, None, All, Contains}
+use Rattle.std.specs.List.{AllByRecursion, filter_map, list_all, list_any}
 use Rattle.std.specs.Char.{is_ascii_lowercase, is_ascii_digit}
-use Rattle.cards.specs.declared.measure.Measure.TheVariants.{Hcp, Controls}
+use Rattle.cards.specs.declared.measure.Measure.TheVariants.{Hcp, Controls, Losers}
+use Rattle.cards.specs.declared.honours.Honours.{Honours}
 use Rattle.cards.specs.declared.seat.Seat.TheVariants.{North, East, South, West}
 use Rattle.cards.specs.declared.suit.Suit.TheVariants.{Spades, Hearts, Diamonds, Clubs}
 use Rattle.cond_lang.specs.declared.tree.Op.TheVariants.{Equal, NotEqual, Less, AtMost, More, AtLeast}
 use Rattle.cond_lang.specs.declared.token.Token.{Token}
-use Rattle.cond_lang.specs.declared.token.Token.TheVariants.{Or, And, Not, Balanced, Shape, Pattern, Measure, Len, Seat, Suit, Number, Open, Close, Comma, Dash, Plus, Relation}
+use Rattle.cond_lang.specs.declared.token.Token.TheVariants.{Or, And, Not, Balanced, Shape, Pattern, Measure, Cards, Len, Longest, Shortest, In, X, Seat, Suit, Ranks, Number, Open, Close, Comma, Dash, Plus, Relation}
 use Rattle.cond_lang.specs.declared.token.Placed.{Placed}
 use Rattle.cond_lang.specs.declared.token.Piece.{Piece}
 use Rattle.cond_lang.specs.declared.token.Piece.TheVariants.{Separator, Token as TokenPiece, StrayByte, UnknownWord, LongNumber}
@@ -26,7 +27,13 @@ words =
     ∷ (codes "pattern", Pattern)
     ∷ (codes "hcp", Measure Hcp)
     ∷ (codes "controls", Measure Controls)
+    ∷ (codes "losers", Measure Losers)
+    ∷ (codes "cards", Cards)
     ∷ (codes "len", Len)
+    ∷ (codes "longest", Longest)
+    ∷ (codes "shortest", Shortest)
+    ∷ (codes "in", In)
+    ∷ (codes "x", X)
     ∷ (codes "north", Seat North)
     ∷ (codes "east", Seat East)
     ∷ (codes "south", Seat South)
@@ -53,9 +60,16 @@ symbols =
     ∷ (codes ">=", Relation AtLeast)
     ∷ []
 
--- a space, a tab or a line feed
+-- a space, a tab, a line feed or a carriage return
 abbrev pub is_separator : ℕ → Bool
-is_separator c = c == 32 || (c == 9 || c == 10)
+is_separator c = c == 32 || (c == 9 || (c == 10 || c == 13))
+
+-- a comment goes from its sign `#` to the next line feed, which is no part of it, or to the end
+abbrev pub is_comment_sign : ℕ → Bool
+is_comment_sign c = c == 35
+
+abbrev pub is_in_comment : ℕ → Bool
+is_in_comment c = not (c == 10)
 
 -- the text doesn't go on with such a byte
 abbrev pub EndsRun : (ℕ → Bool) → List ℕ → Type 0
@@ -67,6 +81,27 @@ pub record IsRun (f : ℕ → Bool) (p rest : List ℕ) : Type 0 where
   pub some : 0 < length p
   pub all : AllByRecursion (λ c. f c ≡ true) p
   pub ends : EndsRun f rest
+
+-- letters that are ranks: `a`, `k`, `q`, `j` and `t`, none of them twice
+abbrev pub is_rank : ℕ → Bool
+is_rank c = c == 97 || (c == 107 || (c == 113 || (c == 106 || c == 116)))
+
+abbrev pub are_ranks : List ℕ → Bool
+are_ranks p = list_all (λ c. is_rank c && (count_by (λ d. d == c) p == 1)) p
+
+-- the ranks that letters name
+abbrev pub has_letter : ℕ → List ℕ → Bool
+has_letter c p = list_any (λ d. d == c) p
+
+abbrev pub named_by : List ℕ → Honours
+named_by p =
+    record {
+      ace = has_letter 97 p;
+      king = has_letter 107 p;
+      queen = has_letter 113 p;
+      jack = has_letter 106 p;
+      ten = has_letter 116 p;
+    }
 
 -- the number that decimal digits write
 abbrev pub decimal : List ℕ → ℕ
@@ -90,11 +125,17 @@ BeginsWithNone text = (q : List ℕ) → BeginsWithSymbol q text → ⊥
 -- p is a piece of this kind if rest follows it
 pub data IsPiece : List ℕ → List ℕ → Piece → Type 0 where
   blank : {c : ℕ} {rest : List ℕ} → is_separator c ≡ true → IsPiece (c ∷ []) rest Separator
+  comment :
+      {c : ℕ} {p rest : List ℕ} → is_comment_sign c ≡ true → IsRun is_in_comment (c ∷ p) rest
+      → IsPiece (c ∷ p) rest Separator
   word :
       {p rest : List ℕ} {t : Token} → IsRun is_ascii_lowercase p rest → Contains words (p, t)
       → IsPiece p rest (TokenPiece t)
+  ranks :
+      {p rest : List ℕ} → IsRun is_ascii_lowercase p rest → are_ranks p ≡ true
+      → IsPiece p rest (TokenPiece (Ranks (named_by p)))
   no_word :
-      {p rest : List ℕ} → IsRun is_ascii_lowercase p rest → IsUnknown p
+      {p rest : List ℕ} → IsRun is_ascii_lowercase p rest → IsUnknown p → are_ranks p ≡ false
       → IsPiece p rest UnknownWord
   number :
       {p rest : List ℕ} → IsRun is_ascii_digit p rest → length p ≤ 4
@@ -106,8 +147,8 @@ pub data IsPiece : List ℕ → List ℕ → Piece → Type 0 where
       → IsPiece p rest (TokenPiece t)
   stray :
       {c : ℕ} {rest : List ℕ}
-      → is_separator c ≡ false → is_ascii_lowercase c ≡ false → is_ascii_digit c ≡ false
-      → BeginsWithNone (c ∷ rest)
+      → is_separator c ≡ false → is_comment_sign c ≡ false
+      → is_ascii_lowercase c ≡ false → is_ascii_digit c ≡ false → BeginsWithNone (c ∷ rest)
       → IsPiece (c ∷ []) rest StrayByte
 
 -- pieces of a text, and what each of them is
@@ -138,7 +179,7 @@ fault_at at UnknownWord = Some (Word at)
 fault_at at LongNumber = Some (NumberFault at)
 fault_at at k = None
 
--- the piece has no fault: it is a token or a separator
+-- the piece has no fault: it is a token, a separator or a comment
 abbrev pub IsSound : List ℕ × Piece → Type 0
 IsSound p = (at : ℕ) → fault_at at p.1 ≡ None
 

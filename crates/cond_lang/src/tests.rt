@@ -1,5 +1,6 @@
 //! Tests with outside values.
 
+mod comments;
 mod meaning;
 mod measures;
 mod random;

@@ -1,9 +1,9 @@
 //! Tokens, and the pieces that a text is cut into.
 
 use crate::tree::Op;
-use cards::{Measure, Seat, Suit};
+use cards::{Honours, Measure, Seat, Suit};
 
-/// A token of the language: a known word, a number of at most four digits, or a symbol.
+/// A token of the language: a known word, ranks, a number of at most four digits, or a symbol.
 #[derive(Clone, Copy, Debug, Default, PartialEq, Eq)]
 pub enum Token {
     #[default]
@@ -14,9 +14,15 @@ pub enum Token {
     Shape,
     Pattern,
     Measure(Measure),
+    Cards,
     Len,
+    Longest,
+    Shortest,
+    In,
+    X,
     Seat(Seat),
     Suit(Suit),
+    Ranks(Honours),
     Number(u16),
     Open,
     Close,
@@ -33,14 +39,15 @@ pub struct Placed {
     pub at: usize,
 }
 
-/// What a piece of the text is: a separator, a token, or a fault.
+/// What a piece of the text is: a separator or a comment, a token, or a fault.
 #[derive(Clone, Copy, Debug, PartialEq, Eq)]
 pub enum Piece {
+    /// A space, a tab, an end of a line, or a comment.
     Separator,
     Token(Token),
     /// A byte that begins nothing.
     StrayByte,
-    /// Letters that aren't a known word.
+    /// Letters that are no known word and no ranks.
     UnknownWord,
     /// A run of five or more digits.
     LongNumber,
