@@ -15,9 +15,9 @@ use Rattle.cards.specs.declared.suit.Suit.{Suit}
 use Rattle.cards.specs.declared.suit.Suit.TheVariants.{Spades, Hearts, Diamonds, Clubs}
 use Rattle.cards.specs.Pack.{is_in_suit}
 use Rattle.cards.specs.Shuffle.{pack}
-use Rattle.cards.specs.declared.measure.Measure.{Measure}
-use Rattle.cards.specs.Hands.{holds_card, weight_of, total_of, total_in, length_of}
-use Rattle.cards.specs.internal.Masks.{cards_of_mask, mask_of_suit}
+use Rattle.cards.specs.declared.honours.Honours.{Honours}
+use Rattle.cards.specs.Hands.{holds_card, weight_of, weight_in, has_honour, honours_of, honours_in, length_of}
+use Rattle.cards.specs.internal.Masks.{cards_of_mask, mask_of_suit, mask_of_honours}
 use Rattle.cards.specs.internal.MaskBits.{bit_at_pack, mask-pack-lt, same_masks, mask_of_cards}
 
 -- what a mask shows of a card
@@ -113,13 +113,27 @@ and_bit q mask c h =
 pub and-lt : (mask m : ℕ) → mask < 2 ^ 52 → bit_and mask m < 2 ^ 52
 and-lt mask m h = omega (arith, and_le_l mask m)
 
--- the total of the cards under a suit's mask is that of the suit's cards
-pub total_in_mask : (measure : Measure) (suit : Suit) (mask m : ℕ) → mask < 2 ^ 52 → m ≡ mask_l (map (is_in_suit suit) pack) → total_of measure (cards_of_mask (bit_and mask m)) ≡ total_in measure (cards_of_mask mask) suit
-total_in_mask measure suit mask m h e =
+-- the cards under a suit's mask are the suit's cards
+held_in : (q : ℕ → Bool) (mask c : ℕ) → mask < 2 ^ 52 → holds_card (cards_of_mask (bit_and mask (mask_l (map q pack)))) c ≡ (q c && holds_card (cards_of_mask mask) c)
+held_in q mask c h =
+    card_at_mask (bit_and mask (mask_l (map q pack))) c (and-lt mask (mask_l (map q pack)) h) ∙ and_bit q mask c h ∙ ap (λ b. q c && b) (sym (card_at_mask mask c h))
+
+pub weight_in_mask : (w : List ℕ) (suit : Suit) (mask m : ℕ) → mask < 2 ^ 52 → m ≡ mask_l (map (is_in_suit suit) pack) → weight_of w (cards_of_mask (bit_and mask m)) ≡ weight_in w (cards_of_mask mask) suit
+weight_in_mask w suit mask m h e =
     let q : ℕ → Bool = is_in_suit suit in
-    ap (λ t. total_of measure (cards_of_mask (bit_and mask t))) e
-    ∙ sum_by_same (λ c. cond (holds_card (cards_of_mask (bit_and mask (mask_l (map q pack)))) c) (weight_of measure (c % 13)) 0) (λ c. cond (q c && holds_card (cards_of_mask mask) c) (weight_of measure (c % 13)) 0)
-    (λ c. ap (λ b. cond b (weight_of measure (c % 13)) 0) (card_at_mask (bit_and mask (mask_l (map q pack))) c (and-lt mask (mask_l (map q pack)) h) ∙ and_bit q mask c h ∙ ap (λ b. q c && b) (sym (card_at_mask mask c h)))) pack
+    ap (λ t. weight_of w (cards_of_mask (bit_and mask t))) e
+    ∙ sum_by_same (λ c. cond (holds_card (cards_of_mask (bit_and mask (mask_l (map q pack)))) c) (get_or w (c % 13) 0) 0) (λ c. cond (q c && holds_card (cards_of_mask mask) c) (get_or w (c % 13) 0) 0)
+    (λ c. ap (λ b. cond b (get_or w (c % 13) 0) 0) (held_in q mask c h)) pack
+
+pub honours_under_mask : (honours : Honours) (mask m : ℕ) → mask < 2 ^ 52 → m ≡ mask_of_honours honours → count_ones (bit_and mask m) ≡ honours_of honours (cards_of_mask mask)
+honours_under_mask honours mask m h e = ones_of mask m (λ c. has_honour honours (c % 13)) h e
+
+pub honours_in_mask : (honours : Honours) (suit : Suit) (mask m : ℕ) → mask < 2 ^ 52 → m ≡ mask_l (map (is_in_suit suit) pack) → honours_of honours (cards_of_mask (bit_and mask m)) ≡ honours_in honours (cards_of_mask mask) suit
+honours_in_mask honours suit mask m h e =
+    let q : ℕ → Bool = is_in_suit suit in
+    ap (λ t. honours_of honours (cards_of_mask (bit_and mask t))) e
+    ∙ sum_by_same (λ c. cond (has_honour honours (c % 13) && holds_card (cards_of_mask (bit_and mask (mask_l (map q pack)))) c) 1 0) (λ c. cond (has_honour honours (c % 13) && (q c && holds_card (cards_of_mask mask) c)) 1 0)
+    (λ c. ap (λ b. cond (has_honour honours (c % 13) && b) 1 0) (held_in q mask c h)) pack
 
 -- the masks of the suits
 pub suit_masks : (suit : Suit) → mask_of_suit suit ≡ mask_l (map (is_in_suit suit) pack)

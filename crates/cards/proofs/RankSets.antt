@@ -13,10 +13,10 @@ use Rattle.cards.specs.Ranks.{has_rank}
 use Rattle.cards.specs.internal.Masks.{cards_of_mask}
 use Rattle.cards.proofs.MaskCounts.{card_at_mask}
 
-min_one : (x : ℕ) → x < 2 → min x 1 ≡ x
+pub min_one : (x : ℕ) → x < 2 → min x 1 ≡ x
 min_one x h = omega arith
 
-shifted_bit : (mask first i : ℕ) → bit_at (mask / 2 ^ first) i ≡ bit_at mask (first + i)
+pub shifted_bit : (mask first i : ℕ) → bit_at (mask / 2 ^ first) i ≡ bit_at mask (first + i)
 shifted_bit mask first i = ap (λ n. n % 2) (shr-shr mask first i)
 
 set_bit : (x : ℕ) → x < 2 → (x ≡ 1) ↔ IsTrue (x == 1)

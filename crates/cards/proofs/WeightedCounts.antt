@@ -6,12 +6,11 @@ use Rattle.std.proofs.lemmas.Bool.Decides.{nat_tests}
 use Rattle.std.proofs.lemmas.List.{get_or_past}
 use Rattle.std.proofs.lemmas.List.Sums.{sum_by-cons}
 use lib.Lanes.{mask_l}
-use Rattle.cards.specs.declared.measure.Measure.{Measure}
 use Rattle.cards.specs.declared.suit.Suit.{Suit}
 use Rattle.cards.specs.declared.suit.Suit.TheVariants.{Spades, Hearts, Diamonds, Clubs}
 use Rattle.cards.specs.Pack.{is_in_suit, rank_of}
 use Rattle.cards.specs.Shuffle.{pack}
-use Rattle.cards.specs.Hands.{holds_card, holds_in, weights, total_of, total_in}
+use Rattle.cards.specs.Hands.{holds_card, holds_in, weight_of, weight_in}
 use Rattle.cards.specs.internal.Masks.{cards_of_mask}
 use Rattle.cards.proofs.MaskCounts.{sum_by-le, cond-le, both-le, ones_of}
 
@@ -69,23 +68,22 @@ rank_masks : (0x8004002001 ≡ mask_l (map (is_of_rank 0) pack)) × (0x100080040
 unfolding pack
 rank_masks = (refl, refl, refl, refl)
 
--- a measure's total of a mask's cards
-pub total_by_masks : (measure : Measure) (w : List ℕ) (mask : ℕ) → mask < 2 ^ 52 → w ≡ weights measure → length w ≡ 4
-    → weighted w (count_ones (bit_and mask 0x8004002001)) (count_ones (bit_and mask 0x10008004002)) (count_ones (bit_and mask 0x20010008004)) (count_ones (bit_and mask 0x40020010008)) ≡ total_of measure (cards_of_mask mask)
-total_by_masks measure w mask h is four =
+-- the weight of a mask's cards
+pub weight_by_masks : (w : List ℕ) (mask : ℕ) → mask < 2 ^ 52 → length w ≡ 4
+    → weighted w (count_ones (bit_and mask 0x8004002001)) (count_ones (bit_and mask 0x10008004002)) (count_ones (bit_and mask 0x20010008004)) (count_ones (bit_and mask 0x40020010008)) ≡ weight_of w (cards_of_mask mask)
+weight_by_masks w mask h four =
     rw (
       ones_of mask 0x8004002001 (is_of_rank 0) h rank_masks.0,
       ones_of mask 0x10008004002 (is_of_rank 1) h rank_masks.1,
       ones_of mask 0x20010008004 (is_of_rank 2) h rank_masks.2,
       ones_of mask 0x40020010008 (is_of_rank 3) h rank_masks.3,
-      ← is,
     ) (sym (sum_by_ranks w (holds_card (cards_of_mask mask)) pack four))
 
 -- the same, with the weights as they are read
-pub total_as_read : (measure : Measure) (w : List ℕ) (mask a k q j : ℕ) → mask < 2 ^ 52 → w ≡ weights measure → length w ≡ 4
+pub weight_as_read : (w : List ℕ) (mask a k q j : ℕ) → mask < 2 ^ 52 → length w ≡ 4
     → a ≡ get_or w 0 0 → k ≡ get_or w 1 0 → q ≡ get_or w 2 0 → j ≡ get_or w 3 0
-    → a * count_ones (bit_and mask 0x8004002001) + k * count_ones (bit_and mask 0x10008004002) + q * count_ones (bit_and mask 0x20010008004) + j * count_ones (bit_and mask 0x40020010008) ≡ total_of measure (cards_of_mask mask)
-total_as_read measure w mask a k q j h is four a_is k_is q_is j_is = rw (a_is, k_is, q_is, j_is) (total_by_masks measure w mask h is four)
+    → a * count_ones (bit_and mask 0x8004002001) + k * count_ones (bit_and mask 0x10008004002) + q * count_ones (bit_and mask 0x20010008004) + j * count_ones (bit_and mask 0x40020010008) ≡ weight_of w (cards_of_mask mask)
+weight_as_read w mask a k q j h four a_is k_is q_is j_is = rw (a_is, k_is, q_is, j_is) (weight_by_masks w mask h four)
 
 -- ---- bounds
 sum_of_four : (w : List ℕ) → length w ≡ 4 → sum w ≡ get_or w 0 0 + get_or w 1 0 + get_or w 2 0 + get_or w 3 0
@@ -107,33 +105,24 @@ whole_suit w Hearts four = sum_by_ranks w (is_in_suit Hearts) pack four ∙ omeg
 whole_suit w Diamonds four = sum_by_ranks w (is_in_suit Diamonds) pack four ∙ omega (arith, sum_of_four w four)
 whole_suit w Clubs four = sum_by_ranks w (is_in_suit Clubs) pack four ∙ omega (arith, sum_of_four w four)
 
--- each measure has four weights, and together they are at most 10
-four_weights : (measure : Measure) → length (weights measure) ≡ 4
-four_weights measure = grind arith
-
-weights-most : (measure : Measure) → sum (weights measure) ≤ 10
-weights-most measure = grind arith
-
 -- a hand has at most what the pack has, and its suit what the suit has
-pub total_of-most : (measure : Measure) (hand : List Bool) → total_of measure hand ≤ 40
-total_of-most measure hand =
-    let w : List ℕ = weights measure in
+pub weight_of-most : (w : List ℕ) (hand : List Bool) → length w ≡ 4 → sum w ≤ 10 → weight_of w hand ≤ 40
+weight_of-most w hand four light =
     omega (
       arith,
-      whole_pack w (four_weights measure),
+      whole_pack w four,
       sum_by-le (λ c. cond (holds_card hand c) (get_or w (c % 13) 0) 0) (λ c. get_or w (c % 13) 0)
           (λ c. cond-le (get_or w (c % 13) 0) (holds_card hand c)) pack,
-      weights-most measure,
+      light,
     )
 
-pub total_in-most : (measure : Measure) (hand : List Bool) (suit : Suit) → total_in measure hand suit ≤ 10
-total_in-most measure hand suit =
-    let w : List ℕ = weights measure in
+pub weight_in-most : (w : List ℕ) (hand : List Bool) (suit : Suit) → length w ≡ 4 → sum w ≤ 10 → weight_in w hand suit ≤ 10
+weight_in-most w hand suit four light =
     omega (
       arith,
-      whole_suit w suit (four_weights measure),
+      whole_suit w suit four,
       sum_by-le (λ c. cond (holds_in hand suit c) (get_or w (c % 13) 0) 0)
           (λ c. cond (is_in_suit suit c) (get_or w (c % 13) 0) 0)
           (λ c. both-le (get_or w (c % 13) 0) (is_in_suit suit c) (holds_card hand c)) pack,
-      weights-most measure,
+      light,
     )

@@ -1,17 +1,19 @@
 //! Hands: the cards of one seat, their points, lengths and shape.
 
-ghost use Rattle.std.specs.Prelude.{◌≡◌, ℕ, ◌<◌, ◌≤◌, ◌^◌, ◌*◌, ◌↔◌, IsTrue};
+ghost use Rattle.std.specs.Prelude.{◌≡◌, ℕ, ◌<◌, ◌≤◌, ◌^◌, ◌*◌, ◌↔◌, IsTrue, sum};
 ghost use Rattle.std.specs.Int.{bit_at};
 ghost use Rattle.cards.specs.Pack.{suit_number};
 ghost use Rattle.cards.specs.Hands.{points_of, points_in, total_of, total_in, length_of, shape_of};
+ghost use Rattle.cards.specs.Hands.{weight_in, losers_of, losers_in, honours_of, honours_in, longest_of, shortest_of};
 ghost use Rattle.cards.specs.Hands.{is_balanced};
 ghost use Rattle.cards.specs.Balanced.{IsBalanced};
 ghost use Rattle.cards.specs.Ranks.{has_rank, ranks_of};
 ghost use Rattle.cards.specs.internal.Masks.{cards_of_mask};
 ghost use Rattle.cards.specs.internal.BalancedInOrder.{IsBalancedInOrder};
 
-use crate::masks::{suit_mask, total_of_mask};
-use crate::{Measure, Suit};
+use crate::masks::{honours_of_mask, suit_mask, weight_of_mask};
+use crate::measure::{CONTROLS, POINTS};
+use crate::{Honours, Measure, Suit};
 use std::marker::Model;
 
 /// A seat's cards, which contracts see as a list of 52 truth values, one a card.
@@ -51,7 +53,7 @@ impl Hand {
         ensures value { result ≡ points_of self.now }
         ensures most { result ≤ 40 }
     {
-        total_of_mask(Measure::Hcp, self.cards)
+        weight_of_mask(POINTS, self.cards)
     }
 
     /// The high card points of the suit's cards alone. At most 10.
@@ -59,24 +61,78 @@ impl Hand {
         ensures value { result ≡ points_in self.now suit }
         ensures most { result ≤ 10 }
     {
-        self.total_in(Measure::Hcp, suit)
+        self.weight_in(POINTS, suit)
     }
 
-    /// What the hand's cards count by the measure, together. At most 40.
+    /// What the measure counts in the hand. At most 40.
     pub fn total(&self, measure: Measure) -> u8
         ensures value { result ≡ total_of measure self.now }
         ensures most { result ≤ 40 }
     {
-        total_of_mask(measure, self.cards)
+        match measure {
+            Measure::Hcp => self.points(),
+            Measure::Controls => weight_of_mask(CONTROLS, self.cards),
+            Measure::Losers => self.losers(),
+        }
     }
 
-    /// What the suit's cards alone count by the measure. At most 10.
+    /// What the measure counts in the suit's cards alone. At most 10.
     #[inline(always)]
     pub fn total_in(&self, measure: Measure, suit: Suit) -> u8
         ensures value { result ≡ total_in measure self.now suit }
         ensures most { result ≤ 10 }
     {
-        total_of_mask(measure, self.cards & suit_mask(suit))
+        match measure {
+            Measure::Hcp => self.points_in(suit),
+            Measure::Controls => self.weight_in(CONTROLS, suit),
+            Measure::Losers => self.losers_in(suit),
+        }
+    }
+
+    /// The weights of the suit's cards together, by what an ace, a king, a queen and a jack weigh.
+    #[inline(always)]
+    fn weight_in(&self, weights: [u8; 4], suit: Suit) -> u8
+        requires { sum weights ≤ 10 }
+        ensures value { result ≡ weight_in weights self.now suit }
+        ensures most { result ≤ 10 }
+    {
+        weight_of_mask(weights, self.cards & suit_mask(suit))
+    }
+
+    /// The losers of the four suits together. At most 12.
+    pub fn losers(&self) -> u8
+        ensures value { result ≡ losers_of self.now }
+        ensures most { result ≤ 12 }
+    {
+        let majors = self.losers_in(Suit::Spades) + self.losers_in(Suit::Hearts);
+        majors + self.losers_in(Suit::Diamonds) + self.losers_in(Suit::Clubs)
+    }
+
+    /// The losers in the suit: the ace if it isn't there, the king if it isn't and the suit has two
+    /// cards or more, the queen if it isn't and the suit has three or more. A void has none. At
+    /// most 3.
+    #[inline(always)]
+    pub fn losers_in(&self, suit: Suit) -> u8
+        ensures value { result ≡ losers_in self.now suit }
+        ensures most { result ≤ 3 }
+    {
+        let counted = self.length(suit).min(3);
+        let winners = (self.cards >> first_card(suit)) & ((1 << counted) - 1);
+        counted - winners.count_ones() as u8
+    }
+
+    /// How many cards of these ranks the hand has. At most 20.
+    pub fn honours(&self, honours: Honours) -> u8
+        ensures { result ≡ honours_of honours self.now }
+    {
+        honours_of_mask(honours, self.cards)
+    }
+
+    /// How many cards of these ranks the hand has in the suit. At most 5.
+    pub fn honours_in(&self, honours: Honours, suit: Suit) -> u8
+        ensures { result ≡ honours_in honours self.now suit }
+    {
+        honours_of_mask(honours, self.cards & suit_mask(suit))
     }
 
     /// How many cards of the suit the hand has, 0 to 13.
@@ -97,6 +153,22 @@ impl Hand {
             self.length(Suit::Diamonds),
             self.length(Suit::Clubs),
         ]
+    }
+
+    /// The greatest of the four lengths.
+    pub fn longest(&self) -> u8
+        ensures { result ≡ longest_of self.now }
+    {
+        let [spades, hearts, diamonds, clubs] = self.shape();
+        spades.max(hearts).max(diamonds.max(clubs))
+    }
+
+    /// The least of the four lengths.
+    pub fn shortest(&self) -> u8
+        ensures { result ≡ shortest_of self.now }
+    {
+        let [spades, hearts, diamonds, clubs] = self.shape();
+        spades.min(hearts).min(diamonds.min(clubs))
     }
 
     /// Whether the four lengths are 4-3-3-3, 4-4-3-2 or 5-3-3-2 in some order.

@@ -1,13 +1,15 @@
 -- A value has no more atoms than tokens.
-use Rattle.std.proofs.Common.{ℕ, ◌<◌, ◌≤◌, List, [], ◌∷◌, length, length-append, arith}
+use Rattle.std.proofs.Common.{ℕ, Bool, true, false, if◌then◌else◌, map, ◌<◌, ◌≤◌, List, [], ◌∷◌, length, length-append, arith}
 use Rattle.cards.specs.declared.measure.Measure.{Measure}
 use Rattle.cards.specs.declared.measure.Measure.TheVariants.{Hcp}
 use Rattle.cards.specs.declared.seat.Seat.{Seat}
 use Rattle.cards.specs.declared.suit.Suit.{Suit}
 use Rattle.cond_lang.specs.declared.token.Token.{Token}
-use Rattle.cond_lang.specs.declared.token.Token.TheVariants.{Or, And, Close, Plus, Relation}
-use Rattle.cond_lang.specs.Form.{Amount, sum, number, points, suit_points, total, suit_total, suit_length, measured, suit_measured, Form, any_of, all_of, negation, compare, balanced, shape, pattern}
-use Rattle.cond_lang.specs.Grammar.{SpellsAtom, SpellsValue, atom, plus, a_number, measure, measure_in, len, SpellsCond, both, or, SpellsBoth, unit, and, SpellsUnit, not, brackets, comparison, is_balanced, has_shape, has_pattern, Spells}
+use Rattle.cond_lang.specs.declared.token.Token.TheVariants.{Or, And, Shape, Pattern, In, Number, Dash, Close, Plus, Relation}
+use Rattle.cond_lang.specs.Form.{Amount, sum, number, points, suit_points, total, suit_total, cards_held, suit_cards_held, suit_length, longest, shortest, measured, suit_measured, Form, any_of, all_of, negation, compare, within, balanced, shape, pattern, loose_shape, loose_pattern, is_any, number_of, shaped, patterned}
+use Rattle.std.specs.List.{list_any}
+use Rattle.cond_lang.specs.declared.tree.Item.{Item}
+use Rattle.cond_lang.specs.Grammar.{SpellsAtom, SpellsValue, atom, plus, a_number, measure, measure_in, len, cards, cards_in, longest_suit, shortest_suit, four, SpellsCond, both, or, SpellsBoth, unit, and, SpellsUnit, not, brackets, test, comparison, in_range, is_balanced, has_shape, has_pattern, Spells}
 use Rattle.cond_lang.specs.Limits.{atoms_of, HasAtMostAtoms}
 
 -- however the measure is written, it is one atom
@@ -24,12 +26,20 @@ atom_count a_number = omega arith
 atom_count (measure {m} {q}) = measured_count m q
 atom_count (measure_in {m} {q} {s}) = suit_measured_count m q s
 atom_count len = omega arith
+atom_count cards = omega arith
+atom_count cards_in = omega arith
+atom_count longest_suit = omega arith
+atom_count shortest_suit = omega arith
 
 atom_some : {T : List Token} {a : Amount} → SpellsAtom T a → 1 ≤ length T
 atom_some a_number = omega arith
 atom_some measure = omega arith
 atom_some measure_in = omega arith
 atom_some len = omega arith
+atom_some cards = omega arith
+atom_some cards_in = omega arith
+atom_some longest_suit = omega arith
+atom_some shortest_suit = omega arith
 
 value_count : {T : List Token} {a : Amount} → SpellsValue T a → atoms_of a ≤ length T
 value_count (atom h) = omega (arith, atom_count h, atom_some h)
@@ -40,9 +50,23 @@ more_atoms n m (any_of a b) i h = (more_atoms n m a i h.0, more_atoms n m b i h.
 more_atoms n m (all_of a b) i h = (more_atoms n m a i h.0, more_atoms n m b i h.1)
 more_atoms n m (negation a) i h = more_atoms n m a i h
 more_atoms n m (compare a o b) i h = (omega (arith, h.0), omega (arith, h.1))
+more_atoms n m (within a k l) i h = omega (arith, h)
 more_atoms n m (balanced q) i h = tt
 more_atoms n m (shape q ns) i h = tt
 more_atoms n m (pattern q ns) i h = tt
+more_atoms n m (loose_shape q items) i h = tt
+more_atoms n m (loose_pattern q items) i h = tt
+
+-- a shape or a pattern has no value
+either : (n : ℕ) (b : Bool) (x y : Form) → HasAtMostAtoms n x → HasAtMostAtoms n y → HasAtMostAtoms n (if b then x else y)
+either n true x y h k = h
+either n false x y h k = k
+
+shaped_atoms : (n : ℕ) (q : Seat) (items : List Item) → HasAtMostAtoms n (shaped q items)
+shaped_atoms n q items = either n (list_any is_any items) (loose_shape q items) (shape q (map number_of items)) tt tt
+
+patterned_atoms : (n : ℕ) (q : Seat) (items : List Item) → HasAtMostAtoms n (patterned q items)
+patterned_atoms n q items = either n (list_any is_any items) (loose_pattern q items) (pattern q (map number_of items)) tt tt
 
 mutual
   cond_count : {T : List Token} {t : Form} → SpellsCond T t → HasAtMostAtoms (length T) t
@@ -58,11 +82,12 @@ mutual
   unit_count : {T : List Token} {t : Form} → SpellsUnit T t → HasAtMostAtoms (length T) t
   unit_count (not {T} {t} h) = more_atoms (length T) _ t (omega arith) (unit_count h)
   unit_count (brackets {T} {t} h) = more_atoms (length T) _ t (omega (arith, length-append T (Close ∷ []))) (cond_count h)
-  unit_count (comparison {L} {R} {o = o} l r) =
+  unit_count (test (in_range {L} {m = m} {n = n} l)) = omega (arith, value_count l, length-append L (In ∷ Number m ∷ Dash ∷ Number n ∷ []))
+  unit_count (test (comparison {L} {R} {o = o} l r)) =
       (omega (arith, value_count l, length-append L (Relation o ∷ R)), omega (arith, value_count r, length-append L (Relation o ∷ R)))
-  unit_count is_balanced = tt
-  unit_count has_shape = tt
-  unit_count has_pattern = tt
+  unit_count (test is_balanced) = tt
+  unit_count (test (has_shape {q} a b c d)) = shaped_atoms (length (Shape ∷ four q a b c d)) q (a ∷ b ∷ c ∷ d ∷ [])
+  unit_count (test (has_pattern {q} a b c d)) = patterned_atoms (length (Pattern ∷ four q a b c d)) q (a ∷ b ∷ c ∷ d ∷ [])
 
 -- Each value of a tree that n tokens spell has at most n atoms.
 pub few_atoms : (n : ℕ) (T : List Token) (t : Form) → length T ≤ n → Spells T t → HasAtMostAtoms n t
@@ -76,4 +101,8 @@ some_atom (points q) = omega arith
 some_atom (suit_points q s) = omega arith
 some_atom (total m q) = omega arith
 some_atom (suit_total m q s) = omega arith
+some_atom (cards_held q h) = omega arith
+some_atom (suit_cards_held q s h) = omega arith
 some_atom (suit_length q s) = omega arith
+some_atom (longest q) = omega arith
+some_atom (shortest q) = omega arith

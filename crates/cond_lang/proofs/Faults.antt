@@ -13,7 +13,7 @@ use Rattle.cond_lang.specs.declared.token.Piece.TheVariants.{Token as TokenPiece
 use Rattle.cond_lang.specs.Cut.{symbols, IsRun, IsPiece, number as number_piece, symbol, Pieces, IsCut, end, piece, HasTokens}
 use Rattle.cond_lang.specs.Faults.{HasFault}
 use Rattle.cond_lang.specs.Form.{Form, number, compare}
-use Rattle.cond_lang.specs.Grammar.{atom, a_number, both, unit, comparison, Spells}
+use Rattle.cond_lang.specs.Grammar.{atom, a_number, both, unit, test, comparison, Spells}
 use Rattle.cond_lang.specs.Faults.{IsViable, IsFirstFault}
 use Rattle.cond_lang.specs.Text.{kinds}
 use Rattle.cond_lang.specs.Faults.{offset_of}
@@ -116,5 +116,5 @@ zero_is_zero =
     record {
       tokens = record { token = Number 0; at = 0 } ∷ record { token = Relation Equal; at = 1 } ∷ record { token = Number 0; at = 3 } ∷ [];
       cut = told_tokens (codes "0==0") _ zero_is_zero_cut;
-      spells = both (unit (comparison {L = Number 0 ∷ []} {R = Number 0 ∷ []} (atom a_number) (atom a_number)));
+      spells = both (unit (test (comparison {L = Number 0 ∷ []} {R = Number 0 ∷ []} (atom a_number) (atom a_number))));
     }

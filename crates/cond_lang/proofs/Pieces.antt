@@ -6,12 +6,12 @@ use Rattle.std.proofs.lemmas.Bool.{le-leb, lt-leb, cases_Bool, cases_lt, cond-tr
 use Rattle.std.specs.Char.{is_ascii_lowercase, is_ascii_digit}
 use Rattle.cond_lang.specs.declared.tree.Op.TheVariants.{Less, AtMost, More, AtLeast}
 use Rattle.cond_lang.specs.declared.token.Token.{Token}
-use Rattle.cond_lang.specs.declared.token.Token.TheVariants.{Number, Relation}
+use Rattle.cond_lang.specs.declared.token.Token.TheVariants.{Ranks, Number, Relation}
 use Rattle.cond_lang.specs.declared.token.Piece.{Piece}
 use Rattle.cond_lang.specs.declared.token.Piece.TheVariants.{Separator, Token as TokenPiece, StrayByte, UnknownWord, LongNumber}
-use Rattle.cond_lang.specs.Cut.{words, symbols, is_separator, is_comment_sign, is_in_comment, IsRun, decimal, BeginsWithSymbol, IsPiece, blank, comment, word, no_word, number, long, symbol, stray}
-use Rattle.cond_lang.specs.internal.Scanning.{token_of, run, begins_with, symbol_after, token_or, word_piece, number_piece, symbol_piece, piece_at}
-use Rattle.cond_lang.proofs.Tables.{pick, words_apart, token_of-entry, entry_of, at_entry}
+use Rattle.cond_lang.specs.Cut.{words, symbols, is_separator, is_comment_sign, is_in_comment, IsRun, decimal, BeginsWithSymbol, IsPiece, are_ranks, named_by, blank, comment, word, ranks, no_word, number, long, symbol, stray}
+use Rattle.cond_lang.specs.internal.Scanning.{token_of, run, begins_with, symbol_after, token_or, word_piece, ranks_piece, number_piece, symbol_piece, piece_at}
+use Rattle.cond_lang.proofs.Tables.{pick, words_apart, no_ranks_word, token_of-entry, entry_of, at_entry}
 use Rattle.cond_lang.proofs.Runs.{run-append, run_all, run_ends, run_split, lowercase_no_separator, digit_no_separator, digit_no_lowercase, sign_no_separator, lowercase_no_sign, digit_no_sign, sign_in_comment}
 use Rattle.cond_lang.proofs.Symbols.{IsAtLeast, goes_on, IsSymbolOf, symbol_is, fits}
 
@@ -103,10 +103,12 @@ as_piece : (k j : Piece) (n : ℕ) → k ≡ j → (let x : Piece × ℕ = (k, n
 as_piece k j n e = ap (λ k. let x : Piece × ℕ = (k, n) in x) e
 
 pub only_piece : {p rest : List ℕ} {k : Piece} → IsPiece p rest k → piece_at (p ++ rest) ≡ (k, length p)
+unfolding ranks_piece
 only_piece (blank {c} {rest} h) = rw h refl
 only_piece (comment {c} {p} {rest} h r) = only_comment c p rest h r
-only_piece (word {p} {rest} {t} r m) = only_word p rest r ∙ as_piece _ _ (length p) (ap (token_or UnknownWord) (token_of-entry words p t words_apart m))
-only_piece (no_word {p} {rest} r n) = only_word p rest r ∙ as_piece _ _ (length p) (ap (token_or UnknownWord) (no_entry p (token_of words p) refl n))
+only_piece (word {p} {rest} {t} r m) = only_word p rest r ∙ as_piece _ _ (length p) (ap (token_or (ranks_piece p)) (token_of-entry words p t words_apart m))
+only_piece (ranks {p} {rest} r h) = only_word p rest r ∙ as_piece _ _ (length p) (ap (token_or (ranks_piece p)) (no_entry p (token_of words p) refl (no_ranks_word p h)) ∙ cond-true (are_ranks p) _ _ h)
+only_piece (no_word {p} {rest} r n h) = only_word p rest r ∙ as_piece _ _ (length p) (ap (token_or (ranks_piece p)) (no_entry p (token_of words p) refl n) ∙ cond-false (are_ranks p) _ _ h)
 only_piece (number {p} {rest} r few) = only_number p rest r ∙ as_piece _ _ (length p) (short_number p few)
 only_piece (long {p} {rest} r many) = only_number p rest r ∙ as_piece _ _ (length p) (long_number p many)
 only_piece (symbol {p} {rest} {t} m l) = only_symbol p t m rest l
@@ -123,7 +125,11 @@ pub record FirstPiece (s : List ℕ) : Type 0 where
   pub is : IsPiece p rest kind
 
 known_word : (p rest : List ℕ) (o : Option Token) → IsRun is_ascii_lowercase p rest → token_of words p ≡ o → (k : Piece) × IsPiece p rest k
-known_word p rest None r e = (UnknownWord, no_word r (λ t m. let h = token_of-entry words p t words_apart m in cc))
+known_word p rest None r e =
+    elim (cases_Bool (are_ranks p)) [
+      | inl h ↦ (TokenPiece (Ranks (named_by p)), ranks r h)
+      | inr h ↦ (UnknownWord, no_word r (λ t m. let h = token_of-entry words p t words_apart m in cc) h)
+    ]
 known_word p rest (Some t) r e = (TokenPiece t, word r (entry_of words p t e))
 
 known_number : (p rest : List ℕ) → IsRun is_ascii_digit p rest → (k : Piece) × IsPiece p rest k

@@ -1,9 +1,9 @@
 -- A number of four digits is at most 9,999, and so are the numbers of the trees that tokens spell.
-use Rattle.std.proofs.Common.{◌≡◌, ℕ, ◌+◌, ◌-◌, ◌≤◌, ◌&&◌, Bool, true, false, List, [], ◌∷◌, ◌++◌, length, refl, sym, subst, arith}
+use Rattle.std.proofs.Common.{◌≡◌, ℕ, ◌+◌, ◌-◌, ◌≤◌, ◌&&◌, Bool, true, false, if◌then◌else◌, map, List, [], ◌∷◌, ◌++◌, length, refl, sym, subst, arith}
 use Rattle.std.proofs.lemmas.Bool.{false≢true}
 use Rattle.std.proofs.lemmas.Bool.Decides.{nat_tests}
 use Rattle.std.specs.Prelude.{All, Contains}
-use Rattle.std.specs.List.{AllByRecursion, filter_map}
+use Rattle.std.specs.List.{AllByRecursion, filter_map, list_any}
 use Rattle.std.proofs.lemmas.List.Elements.{All-from_recursion}
 use Rattle.std.specs.Char.{is_ascii_digit}
 use Rattle.cards.specs.declared.measure.Measure.{Measure}
@@ -11,13 +11,15 @@ use Rattle.cards.specs.declared.measure.Measure.TheVariants.{Hcp}
 use Rattle.cards.specs.declared.seat.Seat.{Seat}
 use Rattle.cards.specs.declared.suit.Suit.{Suit}
 use Rattle.cond_lang.specs.declared.token.Token.{Token}
-use Rattle.cond_lang.specs.declared.token.Token.TheVariants.{Or, And, Number, Close, Plus, Relation}
+use Rattle.cond_lang.specs.declared.token.Token.TheVariants.{Or, And, In, Dash, Number, Close, Plus, Relation}
 use Rattle.cond_lang.specs.declared.token.Placed.{Placed}
 use Rattle.cond_lang.specs.declared.token.Piece.{Piece}
 use Rattle.cond_lang.specs.declared.token.Piece.TheVariants.{Separator, Token as TokenPiece, StrayByte, UnknownWord, LongNumber}
-use Rattle.cond_lang.specs.Cut.{words, symbols, decimal, IsPiece, blank, comment, word, no_word, number as number_piece, long, symbol, stray, Pieces, IsCut, end, piece, placed_from, token_at, HasTokens}
-use Rattle.cond_lang.specs.Form.{Amount, Form, measured, suit_measured}
-use Rattle.cond_lang.specs.Grammar.{SpellsAtom, SpellsValue, atom, plus, a_number, measure, measure_in, len, SpellsCond, both, or, SpellsBoth, unit, and, SpellsUnit, not, brackets, comparison, is_balanced, has_shape, has_pattern, Spells}
+use Rattle.cond_lang.specs.Cut.{words, symbols, decimal, IsPiece, blank, comment, word, ranks, no_word, number as number_piece, long, symbol, stray, Pieces, IsCut, end, piece, placed_from, token_at, HasTokens}
+use Rattle.cond_lang.specs.Form.{Amount, Form, measured, suit_measured, shape, pattern, loose_shape, loose_pattern, is_any, number_of, shaped, patterned}
+use Rattle.cond_lang.specs.declared.tree.Item.{Item}
+use Rattle.cond_lang.specs.declared.tree.Item.TheVariants.{Length, Any}
+use Rattle.cond_lang.specs.Grammar.{SpellsAtom, SpellsValue, atom, plus, a_number, measure, measure_in, len, cards, cards_in, longest_suit, shortest_suit, item_token, SpellsCond, both, or, SpellsBoth, unit, and, SpellsUnit, not, brackets, test, comparison, in_range, is_balanced, has_shape, has_pattern, Spells}
 use Rattle.cond_lang.specs.Limits.{AddsNumbersUpTo, HasNumbersUpTo}
 use Rattle.cond_lang.specs.Text.{kinds}
 use Rattle.cond_lang.proofs.Tables.{Table, EachEntry, at_entry}
@@ -74,7 +76,8 @@ small_piece : {p rest : List ℕ} {k : Piece} → IsPiece p rest k → IsSmallPi
 small_piece (blank h) = tt
 small_piece (comment h r) = tt
 small_piece (word {p} {t = t} r m) = small_word p t m
-small_piece (no_word r n) = tt
+small_piece (ranks r h) = tt
+small_piece (no_word r n h) = tt
 small_piece (number_piece {p} r few) = small_decimal p r.all few
 small_piece (long r many) = tt
 small_piece (symbol {p} {t = t} m l) = small_symbol p t m
@@ -124,13 +127,34 @@ small_atom a_number s = s.0
 small_atom (measure {m} {q}) s = small_measured m q
 small_atom (measure_in {m} {q} {s = u}) s = small_suit_measured m q u
 small_atom len s = tt
+small_atom cards s = tt
+small_atom cards_in s = tt
+small_atom longest_suit s = tt
+small_atom shortest_suit s = tt
 
 small_value : {T : List Token} {a : Amount} → SpellsValue T a → AreSmall T → AddsNumbersUpTo 9999 a
 small_value (atom h) s = small_atom h s
 small_value (plus {L} {R} l r) s = (small_value l (left_small L (Plus ∷ R) s), small_atom r (behind_small L Plus R s))
 
-small_four : (a b c d : ℕ) → a ≤ 9999 → b ≤ 9999 → c ≤ 9999 → d ≤ 9999 → All (λ n. n ≤ 9999) (a ∷ b ∷ c ∷ d ∷ [])
-small_four a b c d h i j k = All-from_recursion (λ n. n ≤ 9999) (a ∷ b ∷ c ∷ d ∷ []) (h, (i, (j, (k, tt))))
+small_item : (i : Item) → IsSmall (item_token i) → number_of i ≤ 9999
+small_item (Length n) h = h
+small_item Any h = omega arith
+
+small_items : (a b c d : Item) → IsSmall (item_token a) → IsSmall (item_token b) → IsSmall (item_token c) → IsSmall (item_token d) → All (λ i. number_of i ≤ 9999) (a ∷ b ∷ c ∷ d ∷ [])
+small_items a b c d h i j k = All-from_recursion (λ i. number_of i ≤ 9999) (a ∷ b ∷ c ∷ d ∷ []) (small_item a h, (small_item b i, (small_item c j, (small_item d k, tt))))
+
+small_four : (a b c d : Item) → IsSmall (item_token a) → IsSmall (item_token b) → IsSmall (item_token c) → IsSmall (item_token d) → All (λ n. n ≤ 9999) (map number_of (a ∷ b ∷ c ∷ d ∷ []))
+small_four a b c d h i j k = All-from_recursion (λ n. n ≤ 9999) (map number_of (a ∷ b ∷ c ∷ d ∷ [])) (small_item a h, (small_item b i, (small_item c j, (small_item d k, tt))))
+
+either : (m : ℕ) (b : Bool) (x y : Form) → HasNumbersUpTo m x → HasNumbersUpTo m y → HasNumbersUpTo m (if b then x else y)
+either m true x y h k = h
+either m false x y h k = k
+
+small_shape : (q : Seat) (items : List Item) → All (λ i. number_of i ≤ 9999) items → All (λ n. n ≤ 9999) (map number_of items) → HasNumbersUpTo 9999 (shaped q items)
+small_shape q items h k = either 9999 (list_any is_any items) (loose_shape q items) (shape q (map number_of items)) h k
+
+small_pattern : (q : Seat) (items : List Item) → All (λ i. number_of i ≤ 9999) items → All (λ n. n ≤ 9999) (map number_of items) → HasNumbersUpTo 9999 (patterned q items)
+small_pattern q items h k = either 9999 (list_any is_any items) (loose_pattern q items) (pattern q (map number_of items)) h k
 
 mutual
   small_cond : {T : List Token} {t : Form} → SpellsCond T t → AreSmall T → HasNumbersUpTo 9999 t
@@ -144,11 +168,20 @@ mutual
   small_unit : {T : List Token} {t : Form} → SpellsUnit T t → AreSmall T → HasNumbersUpTo 9999 t
   small_unit (not h) s = small_unit h s.1
   small_unit (brackets {T} h) s = small_cond h (left_small T (Close ∷ []) s.1)
-  small_unit (comparison {L} {R} {o = o} l r) s =
+  small_unit (test (in_range {L} {m = m} {n = n} l)) s =
+      let behind : AreSmall (Number m ∷ Dash ∷ Number n ∷ []) = behind_small L In (Number m ∷ Dash ∷ Number n ∷ []) s in
+      (small_value l (left_small L (In ∷ Number m ∷ Dash ∷ Number n ∷ []) s), behind.0, behind.1.1.0)
+  small_unit (test (comparison {L} {R} {o = o} l r)) s =
       (small_value l (left_small L (Relation o ∷ R) s), small_value r (behind_small L (Relation o) R s))
-  small_unit is_balanced s = tt
-  small_unit (has_shape {q} {a} {b} {c} {d}) s = small_four a b c d s.1.1.1.1.0 s.1.1.1.1.1.1.0 s.1.1.1.1.1.1.1.1.0 s.1.1.1.1.1.1.1.1.1.1.0
-  small_unit (has_pattern {q} {a} {b} {c} {d}) s = small_four a b c d s.1.1.1.1.0 s.1.1.1.1.1.1.0 s.1.1.1.1.1.1.1.1.0 s.1.1.1.1.1.1.1.1.1.1.0
+  small_unit (test is_balanced) s = tt
+  small_unit (test (has_shape {q} a b c d)) s =
+      small_shape q (a ∷ b ∷ c ∷ d ∷ [])
+      (small_items a b c d s.1.1.1.1.0 s.1.1.1.1.1.1.0 s.1.1.1.1.1.1.1.1.0 s.1.1.1.1.1.1.1.1.1.1.0)
+      (small_four a b c d s.1.1.1.1.0 s.1.1.1.1.1.1.0 s.1.1.1.1.1.1.1.1.0 s.1.1.1.1.1.1.1.1.1.1.0)
+  small_unit (test (has_pattern {q} a b c d)) s =
+      small_pattern q (a ∷ b ∷ c ∷ d ∷ [])
+      (small_items a b c d s.1.1.1.1.0 s.1.1.1.1.1.1.0 s.1.1.1.1.1.1.1.1.0 s.1.1.1.1.1.1.1.1.1.1.0)
+      (small_four a b c d s.1.1.1.1.0 s.1.1.1.1.1.1.0 s.1.1.1.1.1.1.1.1.0 s.1.1.1.1.1.1.1.1.1.1.0)
 
 -- The numbers of a text's tree are at most 9,999.
 pub small_numbers : (text : List ℕ) (ts us : List Placed) (t : Form) → HasTokens text ts → us ≡ ts → Spells (kinds us) t → HasNumbersUpTo 9999 t

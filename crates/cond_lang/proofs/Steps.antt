@@ -1,14 +1,15 @@
 -- The readers that lead back to a condition.
 use Rattle.std.proofs.Common.{◌≡◌, ℕ, zero, suc, List, [], ◌∷◌, ◌++◌, refl, sym, subst, append_assoc, append-nil}
 use Rattle.cards.specs.declared.seat.Seat.{Seat as ASeat}
+use Rattle.cond_lang.specs.declared.tree.Item.{Item}
 use Rattle.cond_lang.specs.declared.tree.Op.TheVariants.{Equal}
 use Rattle.cond_lang.specs.declared.token.Token.{Token}
-use Rattle.cond_lang.specs.declared.token.Token.TheVariants.{Or, And, Not, Balanced, Shape, Pattern, Seat, Number, Open, Close, Plus, Relation}
-use Rattle.cond_lang.specs.Form.{Amount, sum, number, Form, any_of, all_of, negation, compare, balanced, shape, pattern}
-use Rattle.cond_lang.specs.Grammar.{SpellsAtom, SpellsValue, atom, plus, a_number, SpellsCond, both, or, SpellsBoth, unit, and, SpellsUnit, not, brackets, comparison, is_balanced, has_shape, has_pattern}
-use Rattle.cond_lang.specs.internal.Reading.{got, after, closing, open_seat, seat_and_lengths, relation, atom_of, comparing_by, sums_by, a_value, sums, Of, Readers, Goal, a_cond, a_both, a_unit, ors, ands, unit_by, ors_by, ands_by, step, steps}
+use Rattle.cond_lang.specs.declared.token.Token.TheVariants.{Or, And, Not, Balanced, Shape, Pattern, In, Seat, Number, Dash, Open, Close, Plus, Relation}
+use Rattle.cond_lang.specs.Form.{Amount, sum, number, Form, any_of, all_of, negation, compare, within, balanced, shaped, patterned}
+use Rattle.cond_lang.specs.Grammar.{SpellsAtom, SpellsValue, atom, plus, a_number, SpellsCond, both, or, SpellsBoth, unit, and, SpellsUnit, not, brackets, test, comparison, in_range, is_balanced, has_shape, has_pattern}
+use Rattle.cond_lang.specs.internal.Reading.{got, after, closing, open_seat, seat_and_items, relation, range, atom_of, compared_by, related_by, comparing_by, sums_by, a_value, sums, Of, Readers, Goal, a_cond, a_both, a_unit, ors, ands, unit_by, ors_by, ands_by, step, steps}
 use Rattle.cond_lang.proofs.Sequences.{Reads, HasSome, reads_after, reads_token, gets_at, gets_at_end, reads_like, like_at, like_at_end}
-use Rattle.cond_lang.proofs.Terminals.{gets, reads_then, reads_closing, reads_open_seat, AreSeatAndLengths, reads_seat_and_lengths, reads_relation, reads_atom}
+use Rattle.cond_lang.proofs.Terminals.{gets, reads_then, reads_closing, reads_open_seat, AreSeatAndItems, reads_seat_and_items, reads_relation, reads_range, reads_atom}
 
 -- what a goal's tokens mean: behind the first part of a chain, what they make of it
 abbrev pub Means : (g : Goal) → List Token → Of g → Type 0
@@ -28,7 +29,7 @@ sampled = compare (number 0) Equal (number 0)
 
 sample_unit : SpellsUnit sample sampled
 unfolding sample sampled
-sample_unit = comparison {L = Number 0 ∷ []} {R = Number 0 ∷ []} (atom a_number) (atom a_number)
+sample_unit = test (comparison {L = Number 0 ∷ []} {R = Number 0 ∷ []} (atom a_number) (atom a_number))
 
 ends_cond : (a : Form) → Means (ors a) [] a
 ends_cond a = λ L h. subst (λ L. SpellsCond L a) (sym (append-nil L)) h
@@ -48,24 +49,40 @@ has_some (ands a) = ([], a, ends_both a)
 has_some a_value = (Number 0 ∷ [], number 0, atom a_number)
 has_some (sums a) = ([], a, ends_value a)
 
-joined_shape : (P Q : List Token) (p : ASeat × List ℕ) (t : Form) → AreSeatAndLengths P p → (Q ≡ []) × (t ≡ shape p.0 p.1) → SpellsUnit (Shape ∷ P ++ Q) t
-joined_shape P Q p t (a, b, c, d, e, i) m = rw (m.0, m.1, append-nil P, i, e) has_shape
+joined_shape : (P Q : List Token) (p : ASeat × List Item) (t : Form) → AreSeatAndItems P p → (Q ≡ []) × (t ≡ shaped p.0 p.1) → SpellsUnit (Shape ∷ P ++ Q) t
+joined_shape P Q p t (a, b, c, d, e, i) m = rw (m.0, m.1, append-nil P, i, e) (test (has_shape a b c d))
 
-joined_pattern : (P Q : List Token) (p : ASeat × List ℕ) (t : Form) → AreSeatAndLengths P p → (Q ≡ []) × (t ≡ pattern p.0 p.1) → SpellsUnit (Pattern ∷ P ++ Q) t
-joined_pattern P Q p t (a, b, c, d, e, i) m = rw (m.0, m.1, append-nil P, i, e) has_pattern
+joined_pattern : (P Q : List Token) (p : ASeat × List Item) (t : Form) → AreSeatAndItems P p → (Q ≡ []) × (t ≡ patterned p.0 p.1) → SpellsUnit (Pattern ∷ P ++ Q) t
+joined_pattern P Q p t (a, b, c, d, e, i) m = rw (m.0, m.1, append-nil P, i, e) (test (has_pattern a b c d))
+
+-- what a value is compared with: tokens behind those that spell it
+abbrev Relates : Amount → List Token → Form → Type 0
+Relates a P t = (L : List Token) → SpellsValue L a → SpellsUnit (L ++ P) t
 
 module _ (r : Readers) (k : (g : Goal) (S : List Token) → Reads (Means g) (r g) S (r g S)) where
+  compared : (a : Amount) (S : List Token) → Reads (Relates a) (compared_by r a) S (compared_by r a S)
+  compared a S =
+      reads_then (λ o. Relation o ∷ []) (Relates a) relation _ S (relation S)
+      (λ o. (Number 0 ∷ [], compare a o (number 0), λ L h. test (comparison h (atom a_number)))) (reads_relation S)
+      (λ o S. reads_after SpellsValue (λ b P t. (P ≡ []) × (t ≡ compare a o b)) (λ P. Relates a (Relation o ∷ P)) (r a_value) _ S (r a_value S)
+      (λ P Q b t h m. λ L l. rw (m.0, m.1, append-nil P) (test (comparison l h)))
+      (λ b. ([], compare a o b, (refl, refl))) (k a_value S)
+      (λ b S. gets _ (compare a o b) S (refl, refl)))
+
+  related : (a : Amount) (S : List Token) → Reads (Relates a) (related_by r a) S (related_by r a S)
+  related a [] = reads_like (Relates a) (compared_by r a) (related_by r a) [] _ (like_at_end (compared_by r a) (related_by r a) refl) (compared a [])
+  related a (In ∷ S) =
+      reads_token (λ P. Relates a (In ∷ P)) (Relates a) In (λ S. after (range S) (λ p S. got (within a p.0 p.1) S)) (related_by r a) S _ (λ P x m. m) (λ X. refl)
+      (reads_then (λ p. Number p.0 ∷ Dash ∷ Number p.1 ∷ []) (λ P. Relates a (In ∷ P)) range (λ p S. got (within a p.0 p.1) S) S (range S)
+      (λ p. ([], within a p.0 p.1, λ L h. test (in_range h))) (reads_range S) (λ p S. gets _ (within a p.0 p.1) S (λ L h. test (in_range h))))
+  related a (c ∷ S) = reads_like (Relates a) (compared_by r a) (related_by r a) (c ∷ S) _ (like_at (compared_by r a) (related_by r a) c S (λ X. refl)) (compared a (c ∷ S))
+
   compares : (S : List Token) → Reads SpellsUnit (comparing_by r) S (comparing_by r S)
   compares S =
-      reads_after SpellsValue (λ a P t. (L : List Token) → SpellsValue L a → SpellsUnit (L ++ P) t) SpellsUnit (r a_value) _ S (r a_value S)
+      reads_after SpellsValue Relates SpellsUnit (r a_value) (λ a S. related_by r a S) S (r a_value S)
       (λ P Q a t h m. m P h)
-      (λ a. (Relation Equal ∷ Number 0 ∷ [], compare a Equal (number 0), λ L h. comparison h (atom a_number))) (k a_value S)
-      (λ a S. reads_then (λ o. Relation o ∷ []) (λ P t. (L : List Token) → SpellsValue L a → SpellsUnit (L ++ P) t) relation _ S (relation S)
-      (λ o. (Number 0 ∷ [], compare a o (number 0), λ L h. comparison h (atom a_number))) (reads_relation S)
-      (λ o S. reads_after SpellsValue (λ b P t. (P ≡ []) × (t ≡ compare a o b)) (λ P t. (L : List Token) → SpellsValue L a → SpellsUnit (L ++ Relation o ∷ P) t) (r a_value) _ S (r a_value S)
-      (λ P Q b t h m. λ L l. rw (m.0, m.1, append-nil P) (comparison l h))
-      (λ b. ([], compare a o b, (refl, refl))) (k a_value S)
-      (λ b S. gets _ (compare a o b) S (refl, refl))))
+      (λ a. (Relation Equal ∷ Number 0 ∷ [], compare a Equal (number 0), λ L h. test (comparison h (atom a_number)))) (k a_value S)
+      related
 
   sums_reads : (a : Amount) (S : List Token) → Reads (Means (sums a)) (sums_by r a) S (sums_by r a S)
   sums_reads a [] = gets_at_end (Means (sums a)) (sums_by r a) a (ends_value a) refl
@@ -88,15 +105,15 @@ module _ (r : Readers) (k : (g : Goal) (S : List Token) → Reads (Means g) (r g
   unit_reads (Balanced ∷ S) =
       reads_token (λ P. SpellsUnit (Balanced ∷ P)) SpellsUnit Balanced (λ S. after (open_seat S) (λ q R. closing (balanced q) R)) (unit_by r) S _ (λ P x m. m) (λ X. refl)
       (reads_then (λ q. Open ∷ Seat q ∷ []) (λ P. SpellsUnit (Balanced ∷ P)) open_seat (λ q R. closing (balanced q) R) S (open_seat S)
-      (λ q. (Close ∷ [], balanced q, is_balanced)) (reads_open_seat S) (λ q R. reads_closing _ (balanced q) R is_balanced))
+      (λ q. (Close ∷ [], balanced q, test is_balanced)) (reads_open_seat S) (λ q R. reads_closing _ (balanced q) R (test is_balanced)))
   unit_reads (Shape ∷ S) =
-      reads_token (λ P. SpellsUnit (Shape ∷ P)) SpellsUnit Shape (λ S. after (seat_and_lengths S) (λ p R. got (shape p.0 p.1) R)) (unit_by r) S _ (λ P x m. m) (λ X. refl)
-      (reads_after AreSeatAndLengths (λ p Q t. (Q ≡ []) × (t ≡ shape p.0 p.1)) (λ P. SpellsUnit (Shape ∷ P)) seat_and_lengths (λ p R. got (shape p.0 p.1) R) S (seat_and_lengths S)
-      joined_shape (λ p. ([], shape p.0 p.1, (refl, refl))) (reads_seat_and_lengths S) (λ p R. gets _ (shape p.0 p.1) R (refl, refl)))
+      reads_token (λ P. SpellsUnit (Shape ∷ P)) SpellsUnit Shape (λ S. after (seat_and_items S) (λ p R. got (shaped p.0 p.1) R)) (unit_by r) S _ (λ P x m. m) (λ X. refl)
+      (reads_after AreSeatAndItems (λ p Q t. (Q ≡ []) × (t ≡ shaped p.0 p.1)) (λ P. SpellsUnit (Shape ∷ P)) seat_and_items (λ p R. got (shaped p.0 p.1) R) S (seat_and_items S)
+      joined_shape (λ p. ([], shaped p.0 p.1, (refl, refl))) (reads_seat_and_items S) (λ p R. gets _ (shaped p.0 p.1) R (refl, refl)))
   unit_reads (Pattern ∷ S) =
-      reads_token (λ P. SpellsUnit (Pattern ∷ P)) SpellsUnit Pattern (λ S. after (seat_and_lengths S) (λ p R. got (pattern p.0 p.1) R)) (unit_by r) S _ (λ P x m. m) (λ X. refl)
-      (reads_after AreSeatAndLengths (λ p Q t. (Q ≡ []) × (t ≡ pattern p.0 p.1)) (λ P. SpellsUnit (Pattern ∷ P)) seat_and_lengths (λ p R. got (pattern p.0 p.1) R) S (seat_and_lengths S)
-      joined_pattern (λ p. ([], pattern p.0 p.1, (refl, refl))) (reads_seat_and_lengths S) (λ p R. gets _ (pattern p.0 p.1) R (refl, refl)))
+      reads_token (λ P. SpellsUnit (Pattern ∷ P)) SpellsUnit Pattern (λ S. after (seat_and_items S) (λ p R. got (patterned p.0 p.1) R)) (unit_by r) S _ (λ P x m. m) (λ X. refl)
+      (reads_after AreSeatAndItems (λ p Q t. (Q ≡ []) × (t ≡ patterned p.0 p.1)) (λ P. SpellsUnit (Pattern ∷ P)) seat_and_items (λ p R. got (patterned p.0 p.1) R) S (seat_and_items S)
+      joined_pattern (λ p. ([], patterned p.0 p.1, (refl, refl))) (reads_seat_and_items S) (λ p R. gets _ (patterned p.0 p.1) R (refl, refl)))
   unit_reads [] = reads_like SpellsUnit (comparing_by r) (unit_by r) [] _ (like_at_end (comparing_by r) (unit_by r) refl) (compares [])
   unit_reads (c ∷ S) = reads_like SpellsUnit (comparing_by r) (unit_by r) (c ∷ S) _ (like_at (comparing_by r) (unit_by r) c S (λ X. refl)) (compares (c ∷ S))
 

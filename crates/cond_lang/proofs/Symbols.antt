@@ -73,3 +73,9 @@ symbol_is c s =
 -- a symbol that fits is no longer than what is found
 pub fits : (q text : List ℕ) → BeginsWithSymbol q text → IsAtLeast (length q) (symbol_at text) text
 fits q text b = subst (λ s. IsAtLeast (length q) (symbol_at s) s) (sym b.begins) (longest q b.token b.known b.more)
+
+-- a symbol has bytes, and all of them are the text's
+pub symbol_len : (s : List ℕ) (x : Token × ℕ) → symbol_at s ≡ Some x → (0 < x.1) × (x.1 ≤ length s)
+symbol_len [] x e = absurd (cc)
+symbol_len (c ∷ s) x e =
+    let h : IsSymbolOf (Some x) (c ∷ s) = subst (λ o. IsSymbolOf o (c ∷ s)) e (symbol_is c s) in (h.1, h.2)

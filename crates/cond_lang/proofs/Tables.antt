@@ -1,11 +1,11 @@
 -- Tables of words and symbols: what is looked up is an entry, and each entry is found.
-use Rattle.std.proofs.Common.{◌≡◌, ℕ, zero, suc, Bool, true, false, List, [], ◌∷◌, Option, Some, None, ◌&&◌, refl, sym, ap, ◌∙◌, subst, arith, if◌then◌else◌}
+use Rattle.std.proofs.Common.{◌≡◌, ℕ, zero, suc, Bool, true, false, not, List, [], ◌∷◌, Option, Some, None, ◌&&◌, refl, sym, ap, ◌∙◌, subst, arith, if◌then◌else◌}
 use Rattle.std.specs.Prelude.{Contains}
 use Rattle.std.proofs.lemmas.Bool.{false≢true}
 use Rattle.std.proofs.lemmas.Slice.Eq.{bytes_eq-Decides}
 use Rattle.std.specs.Str.{bytes_eq}
 use Rattle.cond_lang.specs.declared.token.Token.{Token}
-use Rattle.cond_lang.specs.Cut.{words, symbols}
+use Rattle.cond_lang.specs.Cut.{words, symbols, are_ranks}
 use Rattle.cond_lang.specs.internal.Scanning.{token_of}
 
 abbrev pub Table : Type 0
@@ -77,3 +77,22 @@ pub at_entry : (P : List ℕ → Token → Type 0) (table : Table) → EachEntry
 at_entry P [] h p t (k, lt, e) = absurd (omega arith)
 at_entry P (x ∷ table) h p t (zero, lt, e) = subst (λ x. P x.0 x.1) e h.0
 at_entry P (x ∷ table) h p t (suc k, lt, e) = at_entry P table h.1 p t (k, omega arith, e)
+
+-- No known word is ranks.
+
+abbrev has_no_ranks : Table → Bool
+has_no_ranks [] = true
+has_no_ranks (e ∷ table) = not (are_ranks e.0) && has_no_ranks table
+
+not_and : (a b : Bool) → (not a && b) ≡ true → (a ≡ false) × (b ≡ true)
+not_and false b h = (refl, h)
+not_and true b h = absurd (false≢true h)
+
+each_no_ranks : (table : Table) → has_no_ranks table ≡ true → EachEntry (λ p t. are_ranks p ≡ false) table
+each_no_ranks [] h = tt
+each_no_ranks (e ∷ table) h = let both = not_and (are_ranks e.0) (has_no_ranks table) h in (both.0, each_no_ranks table both.1)
+
+pub no_ranks_word : (p : List ℕ) → are_ranks p ≡ true → (t : Token) → Contains words (p, t) → ⊥
+no_ranks_word p h t m =
+    let none : are_ranks p ≡ false = at_entry (λ p t. are_ranks p ≡ false) words (each_no_ranks words refl) p t m in
+    false≢true (sym none ∙ h)

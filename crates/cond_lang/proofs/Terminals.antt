@@ -1,16 +1,19 @@
 -- The readers that don't lead back to a condition.
-use Rattle.std.proofs.Common.{◌≡◌, ℕ, List, [], ◌∷◌, ◌++◌, refl, sym, ap, ◌∙◌, subst}
+use Rattle.std.proofs.Common.{◌≡◌, false, List, [], ◌∷◌, ◌++◌, refl, sym, ap, ◌∙◌, subst}
+use Rattle.cards.specs.declared.honours.Honours.{Honours}
 use Rattle.cards.specs.declared.measure.Measure.{Measure as AMeasure}
 use Rattle.cards.specs.declared.seat.Seat.{Seat as ASeat}
 use Rattle.cards.specs.declared.seat.Seat.TheVariants.{North}
 use Rattle.cards.specs.declared.suit.Suit.TheVariants.{Spades}
+use Rattle.cond_lang.specs.declared.tree.Item.{Item}
+use Rattle.cond_lang.specs.declared.tree.Item.TheVariants.{Length, Any}
 use Rattle.cond_lang.specs.declared.tree.Op.TheVariants.{Equal}
 use Rattle.cond_lang.specs.declared.token.Token.{Token}
-use Rattle.cond_lang.specs.declared.token.Token.TheVariants.{Measure, Len, Seat, Suit, Number, Open, Close, Comma, Dash, Relation}
-use Rattle.cond_lang.specs.Form.{number, measured, suit_measured, suit_length}
-use Rattle.cond_lang.specs.Grammar.{SpellsAtom, a_number, measure, measure_in, len, four}
-use Rattle.cond_lang.specs.internal.Reading.{Outcome, got, Reader, after, opened, closed, comma, dash, seat, suit, digits, relation, closing, comma_suit_close, rest_of_measure, open_seat, atom_of, lengths, seat_and_lengths}
-use Rattle.cond_lang.proofs.Sequences.{Reads, HasSome, reads_after, reads_as, reads_token, gets_token, stops_at, stops_at_end}
+use Rattle.cond_lang.specs.declared.token.Token.TheVariants.{Measure, Cards, Len, Longest, Shortest, X, Seat, Suit, Ranks, Number, Open, Close, Comma, Dash, Relation}
+use Rattle.cond_lang.specs.Form.{Amount, number, measured, suit_measured, cards_held, suit_cards_held, suit_length, longest, shortest}
+use Rattle.cond_lang.specs.Grammar.{SpellsAtom, a_number, measure, measure_in, len, cards, cards_in, longest_suit, shortest_suit, item_token, four}
+use Rattle.cond_lang.specs.internal.Reading.{Outcome, got, Reader, after, opened, closed, comma, dash, seat, suit, digits, ranks, item, relation, closing, comma_suit_close, rest_of_measure, ranks_close, comma_ranks_close, rest_of_cards, open_seat, seat_in_brackets, open_seat_comma, range, atom_of, items, seat_and_items}
+use Rattle.cond_lang.proofs.Sequences.{Reads, HasSome, reads_after, reads_as, reads_token, reads_like, like_at, like_at_end, gets_token, stops_at, stops_at_end}
 
 -- nothing more
 pub gets : {A : Type 0} (N : List Token → A → Type 0) (x : A) (S : List Token) → N [] x → Reads N (got x) S (got x S)
@@ -66,6 +69,20 @@ reads_relation [] = stops_at_end _ relation (Relation Equal ∷ [], Equal, refl)
 reads_relation (Relation o ∷ S) = gets_token _ (Relation o) relation S o refl (λ X. refl)
 reads_relation (c ∷ S) = stops_at _ c relation S (Relation Equal ∷ [], Equal, refl) (λ X. refl)
 
+some_ranks : Honours
+some_ranks = record { ace = false; king = false; queen = false; jack = false; ten = false }
+
+pub reads_ranks : (S : List Token) → Reads (λ P h. P ≡ Ranks h ∷ []) ranks S (ranks S)
+reads_ranks [] = stops_at_end _ ranks (Ranks some_ranks ∷ [], some_ranks, refl) refl
+reads_ranks (Ranks h ∷ S) = gets_token _ (Ranks h) ranks S h refl (λ X. refl)
+reads_ranks (c ∷ S) = stops_at _ c ranks S (Ranks some_ranks ∷ [], some_ranks, refl) (λ X. refl)
+
+pub reads_item : (S : List Token) → Reads (λ P i. P ≡ item_token i ∷ []) item S (item S)
+reads_item [] = stops_at_end _ item (Number 0 ∷ [], Length 0, refl) refl
+reads_item (Number n ∷ S) = gets_token _ (Number n) item S (Length n) refl (λ Y. refl)
+reads_item (X ∷ S) = gets_token _ X item S Any refl (λ Y. refl)
+reads_item (c ∷ S) = stops_at _ c item S (Number 0 ∷ [], Length 0, refl) (λ Y. refl)
+
 pub reads_closing : {A : Type 0} (K : List Token → A → Type 0) (x : A) (S : List Token) → K (Close ∷ []) x → Reads K (closing x) S (closing x S)
 reads_closing K x S m =
     reads_then (λ _. Close ∷ []) K closed (λ _ R. got x R) S (closed S) (λ _. ([], x, m)) (reads_closed S) (λ _ R. gets _ x R m)
@@ -91,6 +108,57 @@ reads_comma_suit_close S =
     (λ _ R. reads_then (λ s. Suit s ∷ []) (λ P s. Comma ∷ P ≡ Comma ∷ Suit s ∷ Close ∷ []) suit closing R (suit R)
     (λ s. (Close ∷ [], s, refl)) (reads_suit R) (λ s R. reads_closing _ s R refl))
 
+pub reads_seat_in_brackets : (S : List Token) → Reads (λ P q. P ≡ Open ∷ Seat q ∷ Close ∷ []) seat_in_brackets S (seat_in_brackets S)
+reads_seat_in_brackets S =
+    reads_then (λ q. Open ∷ Seat q ∷ []) (λ P q. P ≡ Open ∷ Seat q ∷ Close ∷ []) open_seat closing S (open_seat S)
+    (λ q. (Close ∷ [], q, refl)) (reads_open_seat S) (λ q R. reads_closing _ q R refl)
+
+pub reads_open_seat_comma : (S : List Token) → Reads (λ P q. P ≡ Open ∷ Seat q ∷ Comma ∷ []) open_seat_comma S (open_seat_comma S)
+reads_open_seat_comma S =
+    reads_then (λ q. Open ∷ Seat q ∷ []) (λ P q. P ≡ Open ∷ Seat q ∷ Comma ∷ []) open_seat (λ q S. after (comma S) (λ _ R. got q R)) S (open_seat S)
+    (λ q. (Comma ∷ [], q, refl)) (reads_open_seat S)
+    (λ q R. reads_then (λ _. Comma ∷ []) (λ P p. Open ∷ Seat q ∷ P ≡ Open ∷ Seat p ∷ Comma ∷ []) comma (λ _ R. got q R) R (comma R)
+    (λ _. ([], q, refl)) (reads_comma R) (λ _ R. gets _ q R refl))
+
+pub reads_ranks_close : (S : List Token) → Reads (λ P h. P ≡ Ranks h ∷ Close ∷ []) ranks_close S (ranks_close S)
+reads_ranks_close S =
+    reads_then (λ h. Ranks h ∷ []) (λ P h. P ≡ Ranks h ∷ Close ∷ []) ranks closing S (ranks S)
+    (λ h. (Close ∷ [], h, refl)) (reads_ranks S) (λ h R. reads_closing _ h R refl)
+
+pub reads_comma_ranks_close : (S : List Token) → Reads (λ P h. P ≡ Comma ∷ Ranks h ∷ Close ∷ []) comma_ranks_close S (comma_ranks_close S)
+reads_comma_ranks_close S =
+    reads_then (λ _. Comma ∷ []) (λ P h. P ≡ Comma ∷ Ranks h ∷ Close ∷ []) comma (λ _ S. ranks_close S) S (comma S)
+    (λ _. (Ranks some_ranks ∷ Close ∷ [], some_ranks, refl)) (reads_comma S)
+    (λ _ R. reads_as (λ P h. P ≡ Ranks h ∷ Close ∷ []) _ ranks_close ranks_close R (ranks_close R) (λ P h e. ap (λ L. Comma ∷ L) e) (λ X. refl) (reads_ranks_close R))
+
+-- ranks behind `cards ( seat ,`
+ranks_of_cards : ASeat → Reader Amount
+ranks_of_cards q S = after (ranks_close S) (λ h R. got (cards_held q h) R)
+
+reads_ranks_of_cards : (q : ASeat) (S : List Token) → Reads (λ Q. SpellsAtom (Cards ∷ Open ∷ Seat q ∷ Comma ∷ Q)) (ranks_of_cards q) S (ranks_of_cards q S)
+unfolding ranks_of_cards
+reads_ranks_of_cards q S =
+    reads_then (λ h. Ranks h ∷ Close ∷ []) (λ Q. SpellsAtom (Cards ∷ Open ∷ Seat q ∷ Comma ∷ Q)) ranks_close (λ h R. got (cards_held q h) R) S (ranks_close S)
+    (λ h. ([], cards_held q h, cards)) (reads_ranks_close S) (λ h R. gets _ (cards_held q h) R cards)
+
+pub reads_rest_of_cards : (q : ASeat) (S : List Token) → Reads (λ Q. SpellsAtom (Cards ∷ Open ∷ Seat q ∷ Comma ∷ Q)) (rest_of_cards q) S (rest_of_cards q S)
+unfolding ranks_of_cards
+reads_rest_of_cards q [] = reads_like _ (ranks_of_cards q) (rest_of_cards q) [] _ (like_at_end (ranks_of_cards q) (rest_of_cards q) refl) (reads_ranks_of_cards q [])
+reads_rest_of_cards q (Suit s ∷ S) =
+    reads_token _ _ (Suit s) (λ S. after (comma_ranks_close S) (λ h R. got (suit_cards_held q s h) R)) (rest_of_cards q) S _ (λ P x m. m) (λ X. refl)
+    (reads_then (λ h. Comma ∷ Ranks h ∷ Close ∷ []) (λ Q. SpellsAtom (Cards ∷ Open ∷ Seat q ∷ Comma ∷ Suit s ∷ Q)) comma_ranks_close (λ h R. got (suit_cards_held q s h) R) S (comma_ranks_close S)
+    (λ h. ([], suit_cards_held q s h, cards_in)) (reads_comma_ranks_close S) (λ h R. gets _ (suit_cards_held q s h) R cards_in))
+reads_rest_of_cards q (c ∷ S) = reads_like _ (ranks_of_cards q) (rest_of_cards q) (c ∷ S) _ (like_at (ranks_of_cards q) (rest_of_cards q) c S (λ X. refl)) (reads_ranks_of_cards q (c ∷ S))
+
+pub reads_range : (S : List Token) → Reads (λ P p. P ≡ Number p.0 ∷ Dash ∷ Number p.1 ∷ []) range S (range S)
+reads_range S =
+    reads_then (λ m. Number m ∷ []) (λ P p. P ≡ Number p.0 ∷ Dash ∷ Number p.1 ∷ []) digits _ S (digits S)
+    (λ m. (Dash ∷ Number 0 ∷ [], (m, 0), refl)) (reads_digits S)
+    (λ m S. reads_then (λ _. Dash ∷ []) (λ P p. Number m ∷ P ≡ Number p.0 ∷ Dash ∷ Number p.1 ∷ []) dash _ S (dash S)
+    (λ _. (Number 0 ∷ [], (m, 0), refl)) (reads_dash S)
+    (λ _ S. reads_then (λ n. Number n ∷ []) (λ P p. Number m ∷ Dash ∷ P ≡ Number p.0 ∷ Dash ∷ Number p.1 ∷ []) digits _ S (digits S)
+    (λ n. ([], (m, n), refl)) (reads_digits S) (λ n S. gets _ (m, n) S refl)))
+
 some_atom : HasSome SpellsAtom
 some_atom = (Number 0 ∷ [], number 0, a_number)
 
@@ -108,47 +176,63 @@ reads_atom (Len ∷ S) =
     (λ q. (Comma ∷ Suit Spades ∷ Close ∷ [], suit_length q Spades, len)) (reads_open_seat S)
     (λ q R. reads_then (λ s. Comma ∷ Suit s ∷ Close ∷ []) (λ Q. SpellsAtom (Len ∷ Open ∷ Seat q ∷ Q)) comma_suit_close (λ s. got (suit_length q s)) R (comma_suit_close R)
     (λ s. ([], suit_length q s, len)) (reads_comma_suit_close R) (λ s R. gets _ (suit_length q s) R len)))
+reads_atom (Cards ∷ S) =
+    reads_token _ _ Cards (λ S. after (open_seat_comma S) (λ q R. rest_of_cards q R)) atom_of S _ (λ P x m. m) (λ X. refl)
+    (reads_then (λ q. Open ∷ Seat q ∷ Comma ∷ []) (λ Q. SpellsAtom (Cards ∷ Q)) open_seat_comma (λ q R. rest_of_cards q R) S (open_seat_comma S)
+    (λ q. (Ranks some_ranks ∷ Close ∷ [], cards_held q some_ranks, cards)) (reads_open_seat_comma S) (λ q R. reads_rest_of_cards q R))
+reads_atom (Longest ∷ S) =
+    reads_token _ _ Longest (λ S. after (seat_in_brackets S) (λ q R. got (longest q) R)) atom_of S _ (λ P x m. m) (λ X. refl)
+    (reads_then (λ q. Open ∷ Seat q ∷ Close ∷ []) (λ Q. SpellsAtom (Longest ∷ Q)) seat_in_brackets (λ q R. got (longest q) R) S (seat_in_brackets S)
+    (λ q. ([], longest q, longest_suit)) (reads_seat_in_brackets S) (λ q R. gets _ (longest q) R longest_suit))
+reads_atom (Shortest ∷ S) =
+    reads_token _ _ Shortest (λ S. after (seat_in_brackets S) (λ q R. got (shortest q) R)) atom_of S _ (λ P x m. m) (λ X. refl)
+    (reads_then (λ q. Open ∷ Seat q ∷ Close ∷ []) (λ Q. SpellsAtom (Shortest ∷ Q)) seat_in_brackets (λ q R. got (shortest q) R) S (seat_in_brackets S)
+    (λ q. ([], shortest q, shortest_suit)) (reads_seat_in_brackets S) (λ q R. gets _ (shortest q) R shortest_suit))
 reads_atom (c ∷ S) = stops_at _ c atom_of S some_atom (λ X. refl)
 
--- four numbers with dashes between them
-abbrev pub AreLengths : List Token → List ℕ → Type 0
-AreLengths P n = (a : ℕ) × (b : ℕ) × (c : ℕ) × (d : ℕ) × (n ≡ a ∷ b ∷ c ∷ d ∷ []) × (P ≡ Number a ∷ Dash ∷ Number b ∷ Dash ∷ Number c ∷ Dash ∷ Number d ∷ [])
+-- four items with dashes between them
+abbrev pub AreItems : List Token → List Item → Type 0
+AreItems P n = (a : Item) × (b : Item) × (c : Item) × (d : Item) × (n ≡ a ∷ b ∷ c ∷ d ∷ []) × (P ≡ item_token a ∷ Dash ∷ item_token b ∷ Dash ∷ item_token c ∷ Dash ∷ item_token d ∷ [])
 
-pub reads_lengths : (S : List Token) → Reads AreLengths lengths S (lengths S)
-unfolding lengths
-reads_lengths S =
-    reads_then (λ a. Number a ∷ []) AreLengths digits _ S (digits S)
-    (λ a. (Dash ∷ Number 0 ∷ Dash ∷ Number 0 ∷ Dash ∷ Number 0 ∷ [], a ∷ 0 ∷ 0 ∷ 0 ∷ [], (a, 0, 0, 0, refl, refl))) (reads_digits S)
-    (λ a S. reads_then (λ _. Dash ∷ []) (λ P. AreLengths (Number a ∷ P)) dash _ S (dash S)
-    (λ _. (Number 0 ∷ Dash ∷ Number 0 ∷ Dash ∷ Number 0 ∷ [], a ∷ 0 ∷ 0 ∷ 0 ∷ [], (a, 0, 0, 0, refl, refl))) (reads_dash S)
-    (λ _ S. reads_then (λ b. Number b ∷ []) (λ P. AreLengths (Number a ∷ Dash ∷ P)) digits _ S (digits S)
-    (λ b. (Dash ∷ Number 0 ∷ Dash ∷ Number 0 ∷ [], a ∷ b ∷ 0 ∷ 0 ∷ [], (a, b, 0, 0, refl, refl))) (reads_digits S)
-    (λ b S. reads_then (λ _. Dash ∷ []) (λ P. AreLengths (Number a ∷ Dash ∷ Number b ∷ P)) dash _ S (dash S)
-    (λ _. (Number 0 ∷ Dash ∷ Number 0 ∷ [], a ∷ b ∷ 0 ∷ 0 ∷ [], (a, b, 0, 0, refl, refl))) (reads_dash S)
-    (λ _ S. reads_then (λ c. Number c ∷ []) (λ P. AreLengths (Number a ∷ Dash ∷ Number b ∷ Dash ∷ P)) digits _ S (digits S)
-    (λ c. (Dash ∷ Number 0 ∷ [], a ∷ b ∷ c ∷ 0 ∷ [], (a, b, c, 0, refl, refl))) (reads_digits S)
-    (λ c S. reads_then (λ _. Dash ∷ []) (λ P. AreLengths (Number a ∷ Dash ∷ Number b ∷ Dash ∷ Number c ∷ P)) dash _ S (dash S)
-    (λ _. (Number 0 ∷ [], a ∷ b ∷ c ∷ 0 ∷ [], (a, b, c, 0, refl, refl))) (reads_dash S)
-    (λ _ S. reads_then (λ d. Number d ∷ []) (λ P. AreLengths (Number a ∷ Dash ∷ Number b ∷ Dash ∷ Number c ∷ Dash ∷ P)) digits _ S (digits S)
-    (λ d. ([], a ∷ b ∷ c ∷ d ∷ [], (a, b, c, d, refl, refl))) (reads_digits S)
+-- a number to go on with
+abbrev o : Item
+o = Length 0
+
+pub reads_items : (S : List Token) → Reads AreItems items S (items S)
+unfolding items
+reads_items S =
+    reads_then (λ a. item_token a ∷ []) AreItems item _ S (item S)
+    (λ a. (Dash ∷ Number 0 ∷ Dash ∷ Number 0 ∷ Dash ∷ Number 0 ∷ [], a ∷ o ∷ o ∷ o ∷ [], (a, o, o, o, refl, refl))) (reads_item S)
+    (λ a S. reads_then (λ _. Dash ∷ []) (λ P. AreItems (item_token a ∷ P)) dash _ S (dash S)
+    (λ _. (Number 0 ∷ Dash ∷ Number 0 ∷ Dash ∷ Number 0 ∷ [], a ∷ o ∷ o ∷ o ∷ [], (a, o, o, o, refl, refl))) (reads_dash S)
+    (λ _ S. reads_then (λ b. item_token b ∷ []) (λ P. AreItems (item_token a ∷ Dash ∷ P)) item _ S (item S)
+    (λ b. (Dash ∷ Number 0 ∷ Dash ∷ Number 0 ∷ [], a ∷ b ∷ o ∷ o ∷ [], (a, b, o, o, refl, refl))) (reads_item S)
+    (λ b S. reads_then (λ _. Dash ∷ []) (λ P. AreItems (item_token a ∷ Dash ∷ item_token b ∷ P)) dash _ S (dash S)
+    (λ _. (Number 0 ∷ Dash ∷ Number 0 ∷ [], a ∷ b ∷ o ∷ o ∷ [], (a, b, o, o, refl, refl))) (reads_dash S)
+    (λ _ S. reads_then (λ c. item_token c ∷ []) (λ P. AreItems (item_token a ∷ Dash ∷ item_token b ∷ Dash ∷ P)) item _ S (item S)
+    (λ c. (Dash ∷ Number 0 ∷ [], a ∷ b ∷ c ∷ o ∷ [], (a, b, c, o, refl, refl))) (reads_item S)
+    (λ c S. reads_then (λ _. Dash ∷ []) (λ P. AreItems (item_token a ∷ Dash ∷ item_token b ∷ Dash ∷ item_token c ∷ P)) dash _ S (dash S)
+    (λ _. (Number 0 ∷ [], a ∷ b ∷ c ∷ o ∷ [], (a, b, c, o, refl, refl))) (reads_dash S)
+    (λ _ S. reads_then (λ d. item_token d ∷ []) (λ P. AreItems (item_token a ∷ Dash ∷ item_token b ∷ Dash ∷ item_token c ∷ Dash ∷ P)) item _ S (item S)
+    (λ d. ([], a ∷ b ∷ c ∷ d ∷ [], (a, b, c, d, refl, refl))) (reads_item S)
     (λ d S. gets _ (a ∷ b ∷ c ∷ d ∷ []) S (a, b, c, d, refl, refl))))))))
 
 -- ( seat , a - b - c - d )
-abbrev pub AreSeatAndLengths : List Token → ASeat × List ℕ → Type 0
-AreSeatAndLengths P p = (a : ℕ) × (b : ℕ) × (c : ℕ) × (d : ℕ) × (p.1 ≡ a ∷ b ∷ c ∷ d ∷ []) × (P ≡ four p.0 a b c d)
+abbrev pub AreSeatAndItems : List Token → ASeat × List Item → Type 0
+AreSeatAndItems P p = (a : Item) × (b : Item) × (c : Item) × (d : Item) × (p.1 ≡ a ∷ b ∷ c ∷ d ∷ []) × (P ≡ four p.0 a b c d)
 
 joined :
-    (q : ASeat) (P Q : List Token) (n : List ℕ) (t : ASeat × List ℕ) → AreLengths P n → (t ≡ (q, n)) × (Q ≡ Close ∷ []) → AreSeatAndLengths (Open ∷ Seat q ∷ Comma ∷ P ++ Q) t
+    (q : ASeat) (P Q : List Token) (n : List Item) (t : ASeat × List Item) → AreItems P n → (t ≡ (q, n)) × (Q ≡ Close ∷ []) → AreSeatAndItems (Open ∷ Seat q ∷ Comma ∷ P ++ Q) t
 joined q P Q n t (a, b, c, d, e, i) m = (a, b, c, d, ap (λ t. t.1) m.0 ∙ e, rw (m.0, m.1, i) refl)
 
-pub reads_seat_and_lengths : (S : List Token) → Reads AreSeatAndLengths seat_and_lengths S (seat_and_lengths S)
-unfolding seat_and_lengths
-reads_seat_and_lengths S =
-    reads_then (λ q. Open ∷ Seat q ∷ []) AreSeatAndLengths open_seat _ S (open_seat S)
-    (λ q. (Comma ∷ Number 0 ∷ Dash ∷ Number 0 ∷ Dash ∷ Number 0 ∷ Dash ∷ Number 0 ∷ Close ∷ [], (q, (0 ∷ 0 ∷ 0 ∷ 0 ∷ [])), (0, 0, 0, 0, refl, refl))) (reads_open_seat S)
-    (λ q S. reads_then (λ _. Comma ∷ []) (λ P. AreSeatAndLengths (Open ∷ Seat q ∷ P)) comma _ S (comma S)
-    (λ _. (Number 0 ∷ Dash ∷ Number 0 ∷ Dash ∷ Number 0 ∷ Dash ∷ Number 0 ∷ Close ∷ [], (q, (0 ∷ 0 ∷ 0 ∷ 0 ∷ [])), (0, 0, 0, 0, refl, refl))) (reads_comma S)
-    (λ _ S. reads_after AreLengths (λ n P t. (t ≡ (q, n)) × (P ≡ Close ∷ [])) (λ P. AreSeatAndLengths (Open ∷ Seat q ∷ Comma ∷ P)) lengths (λ n S. closing (q, n) S) S (lengths S)
+pub reads_seat_and_items : (S : List Token) → Reads AreSeatAndItems seat_and_items S (seat_and_items S)
+unfolding seat_and_items
+reads_seat_and_items S =
+    reads_then (λ q. Open ∷ Seat q ∷ []) AreSeatAndItems open_seat _ S (open_seat S)
+    (λ q. (Comma ∷ Number 0 ∷ Dash ∷ Number 0 ∷ Dash ∷ Number 0 ∷ Dash ∷ Number 0 ∷ Close ∷ [], (q, (o ∷ o ∷ o ∷ o ∷ [])), (o, o, o, o, refl, refl))) (reads_open_seat S)
+    (λ q S. reads_then (λ _. Comma ∷ []) (λ P. AreSeatAndItems (Open ∷ Seat q ∷ P)) comma _ S (comma S)
+    (λ _. (Number 0 ∷ Dash ∷ Number 0 ∷ Dash ∷ Number 0 ∷ Dash ∷ Number 0 ∷ Close ∷ [], (q, (o ∷ o ∷ o ∷ o ∷ [])), (o, o, o, o, refl, refl))) (reads_comma S)
+    (λ _ S. reads_after AreItems (λ n P t. (t ≡ (q, n)) × (P ≡ Close ∷ [])) (λ P. AreSeatAndItems (Open ∷ Seat q ∷ Comma ∷ P)) items (λ n S. closing (q, n) S) S (items S)
     (λ P Q n t h m. joined q P Q n t h m)
-    (λ n. (Close ∷ [], (q, n), (refl, refl))) (reads_lengths S)
+    (λ n. (Close ∷ [], (q, n), (refl, refl))) (reads_items S)
     (λ n S. reads_closing _ (q, n) S (refl, refl))))

@@ -1,14 +1,15 @@
--- A text is cut into pieces, each the longest that fits at its place: words, numbers, symbols,
--- separators, comments, and bytes that begin none of these.
-use Rattle.std.specs.Prelude.{◌≡◌, ℕ, ◌+◌, ◌*◌, ◌-◌, ◌<◌, ◌≤◌, Bool, true, false, not, ◌||◌, ◌==◌, List, [], ◌∷◌, ◌++◌, length, codes, fold, Option, Some, None, All, Contains}
-use Rattle.std.specs.List.{AllByRecursion, filter_map}
+-- A text is cut into pieces, each the longest that fits at its place: words and ranks, numbers,
+-- symbols, separators, comments, and bytes that begin none of these.
+use Rattle.std.specs.Prelude.{◌≡◌, ℕ, ◌+◌, ◌*◌, ◌-◌, ◌<◌, ◌≤◌, Bool, true, false, not, ◌||◌, ◌&&◌, ◌==◌, List, [], ◌∷◌, ◌++◌, length, codes, fold, count_by, Option, Some, None, All, Contains}
+use Rattle.std.specs.List.{AllByRecursion, filter_map, list_all, list_any}
 use Rattle.std.specs.Char.{is_ascii_lowercase, is_ascii_digit}
-use Rattle.cards.specs.declared.measure.Measure.TheVariants.{Hcp, Controls}
+use Rattle.cards.specs.declared.measure.Measure.TheVariants.{Hcp, Controls, Losers}
+use Rattle.cards.specs.declared.honours.Honours.{Honours}
 use Rattle.cards.specs.declared.seat.Seat.TheVariants.{North, East, South, West}
 use Rattle.cards.specs.declared.suit.Suit.TheVariants.{Spades, Hearts, Diamonds, Clubs}
 use Rattle.cond_lang.specs.declared.tree.Op.TheVariants.{Equal, NotEqual, Less, AtMost, More, AtLeast}
 use Rattle.cond_lang.specs.declared.token.Token.{Token}
-use Rattle.cond_lang.specs.declared.token.Token.TheVariants.{Or, And, Not, Balanced, Shape, Pattern, Measure, Len, Seat, Suit, Number, Open, Close, Comma, Dash, Plus, Relation}
+use Rattle.cond_lang.specs.declared.token.Token.TheVariants.{Or, And, Not, Balanced, Shape, Pattern, Measure, Cards, Len, Longest, Shortest, In, X, Seat, Suit, Ranks, Number, Open, Close, Comma, Dash, Plus, Relation}
 use Rattle.cond_lang.specs.declared.token.Placed.{Placed}
 use Rattle.cond_lang.specs.declared.token.Piece.{Piece}
 use Rattle.cond_lang.specs.declared.token.Piece.TheVariants.{Separator, Token as TokenPiece, StrayByte, UnknownWord, LongNumber}
@@ -26,7 +27,13 @@ words =
     ∷ (codes "pattern", Pattern)
     ∷ (codes "hcp", Measure Hcp)
     ∷ (codes "controls", Measure Controls)
+    ∷ (codes "losers", Measure Losers)
+    ∷ (codes "cards", Cards)
     ∷ (codes "len", Len)
+    ∷ (codes "longest", Longest)
+    ∷ (codes "shortest", Shortest)
+    ∷ (codes "in", In)
+    ∷ (codes "x", X)
     ∷ (codes "north", Seat North)
     ∷ (codes "east", Seat East)
     ∷ (codes "south", Seat South)
@@ -75,6 +82,27 @@ pub record IsRun (f : ℕ → Bool) (p rest : List ℕ) : Type 0 where
   pub all : AllByRecursion (λ c. f c ≡ true) p
   pub ends : EndsRun f rest
 
+-- letters that are ranks: `a`, `k`, `q`, `j` and `t`, none of them twice
+abbrev pub is_rank : ℕ → Bool
+is_rank c = c == 97 || (c == 107 || (c == 113 || (c == 106 || c == 116)))
+
+abbrev pub are_ranks : List ℕ → Bool
+are_ranks p = list_all (λ c. is_rank c && (count_by (λ d. d == c) p == 1)) p
+
+-- the ranks that letters name
+abbrev pub has_letter : ℕ → List ℕ → Bool
+has_letter c p = list_any (λ d. d == c) p
+
+abbrev pub named_by : List ℕ → Honours
+named_by p =
+    record {
+      ace = has_letter 97 p;
+      king = has_letter 107 p;
+      queen = has_letter 113 p;
+      jack = has_letter 106 p;
+      ten = has_letter 116 p;
+    }
+
 -- the number that decimal digits write
 abbrev pub decimal : List ℕ → ℕ
 decimal digits = fold (λ n c. 10 * n + (c - 48)) 0 digits
@@ -103,8 +131,11 @@ pub data IsPiece : List ℕ → List ℕ → Piece → Type 0 where
   word :
       {p rest : List ℕ} {t : Token} → IsRun is_ascii_lowercase p rest → Contains words (p, t)
       → IsPiece p rest (TokenPiece t)
+  ranks :
+      {p rest : List ℕ} → IsRun is_ascii_lowercase p rest → are_ranks p ≡ true
+      → IsPiece p rest (TokenPiece (Ranks (named_by p)))
   no_word :
-      {p rest : List ℕ} → IsRun is_ascii_lowercase p rest → IsUnknown p
+      {p rest : List ℕ} → IsRun is_ascii_lowercase p rest → IsUnknown p → are_ranks p ≡ false
       → IsPiece p rest UnknownWord
   number :
       {p rest : List ℕ} → IsRun is_ascii_digit p rest → length p ≤ 4

@@ -17,7 +17,7 @@ mod tree;
 
 pub use condition::{Cond, parse};
 pub use error::CondError;
-pub use tree::{Op, Tree, Value};
+pub use tree::{Item, Op, Tree, Value};
 
 #[cfg(test)]
 mod tests;

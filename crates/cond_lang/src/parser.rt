@@ -8,13 +8,15 @@ ghost use Rattle.cond_lang.specs.Grammar.{Spells};
 ghost use Rattle.cond_lang.specs.Text.{kinds};
 ghost use Rattle.cond_lang.specs.Faults.{offset_of, IsPlace};
 ghost use Rattle.cond_lang.specs.internal.Reading.{Gives, front, opened, closed, comma, dash, seat, suit, digits, relation};
-ghost use Rattle.cond_lang.specs.internal.Reading.{open_seat, comma_suit_close, rest_of_measure, lengths, seat_and_lengths, atom_of};
-ghost use Rattle.cond_lang.specs.internal.Reading.{reading, a_value, comparing_by, test_by, a_unit, a_both, a_cond, whole};
+ghost use Rattle.cond_lang.specs.internal.Reading.{ranks, item, open_seat, open_seat_comma, seat_in_brackets, comma_suit_close};
+ghost use Rattle.cond_lang.specs.internal.Reading.{ranks_close, comma_ranks_close, rest_of_measure, rest_of_cards};
+ghost use Rattle.cond_lang.specs.internal.Reading.{range, items, seat_and_items, atom_of};
+ghost use Rattle.cond_lang.specs.internal.Reading.{reading, a_value, related_by, comparing_by, test_by, a_unit, a_both, a_cond, whole};
 
 use crate::error::CondError;
 use crate::token::{Placed, Token};
-use crate::tree::{Op, Tree, Value};
-use cards::{Measure, Seat, Suit};
+use crate::tree::{Item, Op, Tree, Value};
+use cards::{Honours, Measure, Seat, Suit};
 use std::alloc::Global;
 use std::marker::Model;
 use thiserror::Error;
@@ -157,6 +159,31 @@ impl<'a> Parser<'a> {
         Ok(number)
     }
 
+    fn ranks(&mut self) -> Result<Honours, Refusal>
+        ensures gives { Gives (λ h. h) result self.new (ranks self.old) }
+        ensures shorter { length self.new ≤ length self.old }
+    {
+        let Some(Token::Ranks(ranks)) = self.peek() else {
+            return Err(Refusal::Syntax);
+        };
+        self.advance();
+        Ok(ranks)
+    }
+
+    /// A number or `x`.
+    fn item(&mut self) -> Result<Item, Refusal>
+        ensures gives { Gives (λ i. i) result self.new (item self.old) }
+        ensures shorter { length self.new ≤ length self.old }
+    {
+        let item = match self.peek() {
+            Some(Token::Number(number)) => Item::Length(number),
+            Some(Token::X) => Item::Any,
+            _ => return Err(Refusal::Syntax),
+        };
+        self.advance();
+        Ok(item)
+    }
+
     fn relation(&mut self) -> Result<Op, Refusal>
         ensures gives { Gives (λ o. o) result self.new (relation self.old) }
         ensures shorter { length self.new ≤ length self.old }
@@ -177,6 +204,56 @@ impl<'a> Parser<'a> {
         self.seat()
     }
 
+    /// `( seat )`
+    fn seat_in_brackets(&mut self) -> Result<Seat, Refusal>
+        ensures gives { Gives (λ q. q) result self.new (seat_in_brackets self.old) }
+        ensures shorter { length self.new ≤ length self.old }
+    {
+        let seat = self.open_seat()?;
+        self.close()?;
+        Ok(seat)
+    }
+
+    /// `( seat ,`
+    fn open_seat_comma(&mut self) -> Result<Seat, Refusal>
+        ensures gives { Gives (λ q. q) result self.new (open_seat_comma self.old) }
+        ensures shorter { length self.new ≤ length self.old }
+    {
+        let seat = self.open_seat()?;
+        self.comma()?;
+        Ok(seat)
+    }
+
+    /// `ranks )`
+    fn ranks_close(&mut self) -> Result<Honours, Refusal>
+        ensures gives { Gives (λ h. h) result self.new (ranks_close self.old) }
+        ensures shorter { length self.new ≤ length self.old }
+    {
+        let ranks = self.ranks()?;
+        self.close()?;
+        Ok(ranks)
+    }
+
+    /// `, ranks )`
+    fn comma_ranks_close(&mut self) -> Result<Honours, Refusal>
+        ensures gives { Gives (λ h. h) result self.new (comma_ranks_close self.old) }
+        ensures shorter { length self.new ≤ length self.old }
+    {
+        self.comma()?;
+        self.ranks_close()
+    }
+
+    /// `number - number`
+    fn range(&mut self) -> Result<(u16, u16), Refusal>
+        ensures gives { Gives (λ p. (p.0, p.1)) result self.new (range self.old) }
+        ensures shorter { length self.new ≤ length self.old }
+    {
+        let least = self.number()?;
+        self.dash()?;
+        let most = self.number()?;
+        Ok((least, most))
+    }
+
     /// `, suit )`
     fn comma_suit_close(&mut self) -> Result<Suit, Refusal>
         ensures gives { Gives (λ s. s) result self.new (comma_suit_close self.old) }
@@ -188,36 +265,36 @@ impl<'a> Parser<'a> {
         Ok(suit)
     }
 
-    /// `number - number - number - number`
-    #[tactic(auto, unfolding(crate::specs::internal::Reading::lengths))]
-    fn lengths(&mut self) -> Result<[u16; 4], Refusal>
-        ensures gives { Gives (λ n. n) result self.new (lengths self.old) }
+    /// `item - item - item - item`
+    #[tactic(auto, unfolding(crate::specs::internal::Reading::items))]
+    fn items(&mut self) -> Result<[Item; 4], Refusal>
+        ensures gives { Gives (λ n. n) result self.new (items self.old) }
         ensures shorter { length self.new ≤ length self.old }
     {
-        let spades = self.number()?;
+        let spades = self.item()?;
         self.dash()?;
-        let hearts = self.number()?;
+        let hearts = self.item()?;
         self.dash()?;
-        let diamonds = self.number()?;
+        let diamonds = self.item()?;
         self.dash()?;
-        let clubs = self.number()?;
+        let clubs = self.item()?;
         Ok([spades, hearts, diamonds, clubs])
     }
 
-    /// `( seat , number - number - number - number )`
-    #[tactic(auto, unfolding(crate::specs::internal::Reading::seat_and_lengths))]
-    fn seat_and_lengths(&mut self) -> Result<(Seat, [u16; 4]), Refusal>
-        ensures gives { Gives (λ p. (p.0, p.1)) result self.new (seat_and_lengths self.old) }
+    /// `( seat , item - item - item - item )`
+    #[tactic(auto, unfolding(crate::specs::internal::Reading::seat_and_items))]
+    fn seat_and_items(&mut self) -> Result<(Seat, [Item; 4]), Refusal>
+        ensures gives { Gives (λ p. (p.0, p.1)) result self.new (seat_and_items self.old) }
         ensures shorter { length self.new ≤ length self.old }
     {
         let seat = self.open_seat()?;
         self.comma()?;
-        let lengths = self.lengths()?;
+        let items = self.items()?;
         self.close()?;
-        Ok((seat, lengths))
+        Ok((seat, items))
     }
 
-    /// A number, a measure of a hand or suit, or a length.
+    /// A number, a measure of a hand or suit, cards of some ranks, or a length.
     #[tactic(auto, unfolding(crate::specs::internal::Reading::atom_of))]
     fn atom(&mut self) -> Result<Value, Refusal>
         ensures gives { Gives amount_of result self.new (atom_of self.old) }
@@ -239,6 +316,19 @@ impl<'a> Parser<'a> {
                 let suit = self.comma_suit_close()?;
                 Ok(Value::Length(seat, suit))
             }
+            Some(Token::Cards) => {
+                self.advance();
+                let seat = self.open_seat_comma()?;
+                self.rest_of_cards(seat)
+            }
+            Some(Token::Longest) => {
+                self.advance();
+                Ok(Value::Longest(self.seat_in_brackets()?))
+            }
+            Some(Token::Shortest) => {
+                self.advance();
+                Ok(Value::Shortest(self.seat_in_brackets()?))
+            }
             _ => Err(Refusal::Syntax),
         }
     }
@@ -256,6 +346,18 @@ impl<'a> Parser<'a> {
         }
         self.close()?;
         Ok(Value::measured(measure, seat))
+    }
+
+    /// `ranks )` or `suit , ranks )` after `cards ( seat ,`
+    fn rest_of_cards(&mut self, seat: Seat) -> Result<Value, Refusal>
+        ensures gives { Gives amount_of result self.new (rest_of_cards seat self.old) }
+        ensures shorter { length self.new ≤ length self.old }
+    {
+        if let Some(Token::Suit(suit)) = self.peek() {
+            self.advance();
+            return Ok(Value::SuitCards(seat, suit, self.comma_ranks_close()?));
+        }
+        Ok(Value::Cards(seat, self.ranks_close()?))
     }
 
     /// The tree on the heap.
@@ -290,15 +392,29 @@ impl<'a> Parser<'a> {
         Ok(left)
     }
 
-    /// `value op value`
+    /// `in number - number` or `op value` after a value
+    fn related(&mut self, left: Value) -> Result<Tree, Refusal>
+        ensures gives { Gives form_of result self.new
+            (related_by reading (amount_of left) self.old) }
+        ensures shorter { length self.new ≤ length self.old }
+    {
+        if let Some(Token::In) = self.peek() {
+            self.advance();
+            let (least, most) = self.range()?;
+            return Ok(Tree::Within(left, least, most));
+        }
+        let op = self.relation()?;
+        let right = self.value()?;
+        Ok(Tree::Compare { left, op, right })
+    }
+
+    /// A value, and what it is compared with.
     fn comparison(&mut self) -> Result<Tree, Refusal>
         ensures gives { Gives form_of result self.new (comparing_by reading self.old) }
         ensures shorter { length self.new ≤ length self.old }
     {
         let left = self.value()?;
-        let op = self.relation()?;
-        let right = self.value()?;
-        Ok(Tree::Compare { left, op, right })
+        self.related(left)
     }
 
     /// One test with no `not` and no bracket before it.
@@ -315,13 +431,13 @@ impl<'a> Parser<'a> {
             }
             Some(Token::Shape) => {
                 self.advance();
-                let (seat, lengths) = self.seat_and_lengths()?;
-                Ok(Tree::Shape(seat, lengths))
+                let (seat, items) = self.seat_and_items()?;
+                Ok(Tree::shape(seat, items))
             }
             Some(Token::Pattern) => {
                 self.advance();
-                let (seat, lengths) = self.seat_and_lengths()?;
-                Ok(Tree::Pattern(seat, lengths))
+                let (seat, items) = self.seat_and_items()?;
+                Ok(Tree::pattern(seat, items))
             }
             _ => self.comparison(),
         }

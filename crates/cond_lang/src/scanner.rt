@@ -1,24 +1,25 @@
 //! The scanner: it cuts the whole text into pieces, and finds the leftmost faulty one before the
 //! parser starts.
 
-ghost use Rattle.std.specs.Prelude.{◌≡◌, ◌<◌, ◌≤◌, length, map, true, IfOk, IfErr};
+ghost use Rattle.std.specs.Prelude.{◌≡◌, ◌<◌, ◌≤◌, ◌==◌, length, map, count_by, true, IfOk, IfErr};
 ghost use Rattle.std.specs.List.{AllByRecursion};
 ghost use Rattle.std.specs.Char.{is_ascii_lowercase, is_ascii_digit};
 ghost use Rattle.cond_lang.specs.Cut.{HasTokens, words, decimal, is_separator, is_in_comment};
+ghost use Rattle.cond_lang.specs.Cut.{is_rank, are_ranks, has_letter, named_by};
 ghost use Rattle.cond_lang.specs.Faults.{HasFault};
-ghost use Rattle.cond_lang.specs.internal.Scanning.{token_of, run, begins_with, symbol_at, word_piece, number_piece, piece_at};
+ghost use Rattle.cond_lang.specs.internal.Scanning.{token_of, run, begins_with, symbol_at, word_piece, ranks_piece, number_piece, piece_at};
 
 use crate::error::CondError;
 use crate::token::{Piece, Placed, Token};
 use crate::tree::Op;
 use arrayvec::ArrayVec;
-use cards::{Measure, Seat, Suit};
+use cards::{Honours, Measure, Seat, Suit};
 
 /// The longest text that is read, in bytes.
 pub(crate) const MAX_BYTES: usize = 1024;
 
 /// The known words, each with its token: the table `words` of the definition.
-const WORDS: [(&[u8], Token); 17] = [
+const WORDS: [(&[u8], Token); 23] = [
     (b"or", Token::Or),
     (b"and", Token::And),
     (b"not", Token::Not),
@@ -27,7 +28,13 @@ const WORDS: [(&[u8], Token); 17] = [
     (b"pattern", Token::Pattern),
     (b"hcp", Token::Measure(Measure::Hcp)),
     (b"controls", Token::Measure(Measure::Controls)),
+    (b"losers", Token::Measure(Measure::Losers)),
+    (b"cards", Token::Cards),
     (b"len", Token::Len),
+    (b"longest", Token::Longest),
+    (b"shortest", Token::Shortest),
+    (b"in", Token::In),
+    (b"x", Token::X),
     (b"north", Token::Seat(Seat::North)),
     (b"east", Token::Seat(Seat::East)),
     (b"south", Token::Seat(Seat::South)),
@@ -140,8 +147,61 @@ fn word_piece(letters: &[u8]) -> Piece
 {
     match word(letters) {
         Some(token) => Piece::Token(token),
-        None => Piece::UnknownWord,
+        None => ranks_piece(letters),
     }
+}
+
+/// What letters are that are no known word.
+#[tactic(auto, unfolding(crate::specs::internal::Scanning::ranks_piece))]
+fn ranks_piece(letters: &[u8]) -> Piece
+    ensures { result ≡ ranks_piece letters.now }
+{
+    if are_ranks(letters) {
+        Piece::Token(Token::Ranks(named_by(letters)))
+    } else {
+        Piece::UnknownWord
+    }
+}
+
+/// Whether the letters are ranks, and none of them stands twice.
+fn are_ranks(letters: &[u8]) -> bool
+    ensures { result ≡ are_ranks letters.now }
+{
+    letters
+        .iter()
+        .all(|letter| is_rank(*letter) && count(letters, *letter) == 1)
+}
+
+fn is_rank(letter: u8) -> bool
+    ensures { result ≡ is_rank letter }
+{
+    letter == b'a' || letter == b'k' || letter == b'q' || letter == b'j' || letter == b't'
+}
+
+/// How often a letter stands there.
+fn count(letters: &[u8], wanted: u8) -> usize
+    ensures { result ≡ count_by (λ d. d == wanted) letters.now }
+{
+    letters.iter().filter(|letter| **letter == wanted).count()
+}
+
+/// The ranks that the letters name.
+fn named_by(letters: &[u8]) -> Honours
+    ensures { result ≡ named_by letters.now }
+{
+    Honours {
+        ace: has_letter(b'a', letters),
+        king: has_letter(b'k', letters),
+        queen: has_letter(b'q', letters),
+        jack: has_letter(b'j', letters),
+        ten: has_letter(b't', letters),
+    }
+}
+
+fn has_letter(wanted: u8, letters: &[u8]) -> bool
+    ensures { result ≡ has_letter wanted letters.now }
+{
+    letters.iter().any(|letter| *letter == wanted)
 }
 
 /// What a run of digits is.

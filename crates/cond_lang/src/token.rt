@@ -1,9 +1,9 @@
 //! Tokens, and the pieces that a text is cut into.
 
 use crate::tree::Op;
-use cards::{Measure, Seat, Suit};
+use cards::{Honours, Measure, Seat, Suit};
 
-/// A token of the language: a known word, a number of at most four digits, or a symbol.
+/// A token of the language: a known word, ranks, a number of at most four digits, or a symbol.
 #[derive(Clone, Copy, Debug, Default, PartialEq, Eq)]
 pub enum Token {
     #[default]
@@ -14,9 +14,15 @@ pub enum Token {
     Shape,
     Pattern,
     Measure(Measure),
+    Cards,
     Len,
+    Longest,
+    Shortest,
+    In,
+    X,
     Seat(Seat),
     Suit(Suit),
+    Ranks(Honours),
     Number(u16),
     Open,
     Close,
@@ -41,7 +47,7 @@ pub enum Piece {
     Token(Token),
     /// A byte that begins nothing.
     StrayByte,
-    /// Letters that aren't a known word.
+    /// Letters that are no known word and no ranks.
     UnknownWord,
     /// A run of five or more digits.
     LongNumber,

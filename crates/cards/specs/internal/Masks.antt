@@ -10,7 +10,9 @@ use Rattle.cards.specs.declared.suit.Suit.{Suit}
 use Rattle.cards.specs.declared.suit.Suit.TheVariants.{Spades, Hearts, Diamonds, Clubs}
 use Rattle.cards.specs.Shuffle.{pack}
 use Rattle.cards.specs.Deals.{IsPartition}
-use Rattle.cards.specs.Hands.{hand_of}
+use Rattle.cards.specs.declared.honours.Honours.{Honours}
+use Rattle.cards.specs.Pack.{rank_of}
+use Rattle.cards.specs.Hands.{hand_of, has_honour}
 
 -- the cards whose bits are set
 unfoldable pub cards_of_mask : ℕ → List Bool
@@ -22,6 +24,10 @@ mask_of_suit Spades = 0x1FFF
 mask_of_suit Hearts = 0x3FFE000
 mask_of_suit Diamonds = 0x7FFC000000
 mask_of_suit Clubs = 0xFFF8000000000
+
+-- the cards of the four suits whose ranks are among the honours
+abbrev pub mask_of_honours : Honours → ℕ
+mask_of_honours honours = mask_l (map (λ c. has_honour honours (rank_of c)) pack)
 
 -- the mask of a seat's cards
 abbrev pub seat_mask : List Seat → Seat → ℕ

@@ -1,15 +1,18 @@
 -- Reading from the left with one token in sight, as a function of the tokens that are left: what
 -- the parser's own functions return.
 use Rattle.std.specs.Prelude.{◌≡◌, ℕ, zero, suc, ◌+◌, ◌*◌, List, [], ◌∷◌, length, Result, Ok, Err, Option, Some, None}
+use Rattle.cards.specs.declared.honours.Honours.{Honours}
 use Rattle.cards.specs.declared.measure.Measure.{Measure as AMeasure}
 use Rattle.cards.specs.declared.seat.Seat.{Seat as ASeat}
 use Rattle.cards.specs.declared.suit.Suit.{Suit as ASuit}
+use Rattle.cond_lang.specs.declared.tree.Item.{Item}
+use Rattle.cond_lang.specs.declared.tree.Item.TheVariants.{Length, Any}
 use Rattle.cond_lang.specs.declared.tree.Op.{Op}
 use Rattle.cond_lang.specs.declared.token.Token.{Token}
-use Rattle.cond_lang.specs.declared.token.Token.TheVariants.{Or, And, Not, Balanced, Shape, Pattern, Measure, Len, Seat, Suit, Number, Open, Close, Comma, Dash, Plus, Relation}
+use Rattle.cond_lang.specs.declared.token.Token.TheVariants.{Or, And, Not, Balanced, Shape, Pattern, Measure, Cards, Len, Longest, Shortest, In, X, Seat, Suit, Ranks, Number, Open, Close, Comma, Dash, Plus, Relation}
 use Rattle.cond_lang.specs.declared.parser.Refusal.{Refusal}
 use Rattle.cond_lang.specs.declared.parser.Refusal.TheVariants.{Syntax, Memory}
-use Rattle.cond_lang.specs.Form.{Amount, sum, number, measured, suit_measured, suit_length, Form, any_of, all_of, negation, compare, balanced, shape, pattern}
+use Rattle.cond_lang.specs.Form.{Amount, sum, number, measured, suit_measured, cards_held, suit_cards_held, suit_length, longest, shortest, Form, any_of, all_of, negation, compare, within, balanced, shaped, patterned}
 
 -- what was read and what is left, or where it stopped
 pub data Outcome (A : Type 0) : Type 0 where
@@ -51,6 +54,15 @@ abbrev pub digits : Reader ℕ
 digits (Number n ∷ S) = got n S
 digits S = stuck S
 
+abbrev pub ranks : Reader Honours
+ranks (Ranks h ∷ S) = got h S
+ranks S = stuck S
+
+abbrev pub item : Reader Item
+item (Number n ∷ S) = got (Length n) S
+item (X ∷ S) = got Any S
+item S = stuck S
+
 abbrev pub relation : Reader Op
 relation (Relation o ∷ S) = got o S
 relation S = stuck S
@@ -68,29 +80,58 @@ abbrev pub rest_of_measure : AMeasure → ASeat → Reader Amount
 rest_of_measure m q (Comma ∷ S) = after (suit S) (λ s R. closing (suit_measured m q s) R)
 rest_of_measure m q S = closing (measured m q) S
 
+-- ranks )
+abbrev pub ranks_close : Reader Honours
+ranks_close S = after (ranks S) closing
+
+-- , ranks )
+abbrev pub comma_ranks_close : Reader Honours
+comma_ranks_close S = after (comma S) (λ _ S. ranks_close S)
+
+-- ranks ) or suit , ranks )
+abbrev pub rest_of_cards : ASeat → Reader Amount
+rest_of_cards q (Suit s ∷ S) = after (comma_ranks_close S) (λ h R. got (suit_cards_held q s h) R)
+rest_of_cards q S = after (ranks_close S) (λ h R. got (cards_held q h) R)
+
 -- ( seat
 abbrev pub open_seat : Reader ASeat
 open_seat S = after (opened S) (λ _ R. seat R)
+
+-- ( seat )
+abbrev pub seat_in_brackets : Reader ASeat
+seat_in_brackets S = after (open_seat S) closing
+
+-- ( seat ,
+abbrev pub open_seat_comma : Reader ASeat
+open_seat_comma S = after (open_seat S) (λ q S. after (comma S) (λ _ R. got q R))
+
+-- number - number
+abbrev pub range : Reader (ℕ × ℕ)
+range S =
+    after (digits S) (λ m S. after (dash S) (λ _ S. after (digits S) (λ n S. got (m, n) S)))
 
 unfoldable pub atom_of : Reader Amount
 atom_of (Number n ∷ S) = got (number n) S
 atom_of (Measure m ∷ S) = after (open_seat S) (rest_of_measure m)
 atom_of (Len ∷ S) =
     after (open_seat S) (λ q R. after (comma_suit_close R) (λ s. got (suit_length q s)))
+atom_of (Cards ∷ S) = after (open_seat_comma S) (λ q R. rest_of_cards q R)
+atom_of (Longest ∷ S) = after (seat_in_brackets S) (λ q R. got (longest q) R)
+atom_of (Shortest ∷ S) = after (seat_in_brackets S) (λ q R. got (shortest q) R)
 atom_of S = stuck S
 
-unfoldable pub lengths : Reader (List ℕ)
-lengths S =
-    after (digits S) (λ a S. after (dash S) (λ _ S.
-    after (digits S) (λ b S. after (dash S) (λ _ S.
-    after (digits S) (λ c S. after (dash S) (λ _ S.
-    after (digits S) (λ d S. got (a ∷ b ∷ c ∷ d ∷ []) S)))))))
+unfoldable pub items : Reader (List Item)
+items S =
+    after (item S) (λ a S. after (dash S) (λ _ S.
+    after (item S) (λ b S. after (dash S) (λ _ S.
+    after (item S) (λ c S. after (dash S) (λ _ S.
+    after (item S) (λ d S. got (a ∷ b ∷ c ∷ d ∷ []) S)))))))
 
 -- ( seat , a - b - c - d )
-unfoldable pub seat_and_lengths : Reader (ASeat × List ℕ)
-seat_and_lengths S =
+unfoldable pub seat_and_items : Reader (ASeat × List Item)
+seat_and_items S =
     after (open_seat S) (λ q S. after (comma S) (λ _ S.
-    after (lengths S) (λ n S. closing (q, n) S)))
+    after (items S) (λ n S. closing (q, n) S)))
 
 -- what is to be read: a rule of the grammar, or the rest of a chain behind its first part
 pub data Goal : Type 0 where
@@ -115,10 +156,18 @@ Of (sums a) = Amount
 abbrev pub Readers : Type 0
 Readers = (g : Goal) → Reader (Of g)
 
+-- op value
+abbrev pub compared_by : Readers → Amount → Reader Form
+compared_by r a S =
+    after (relation S) (λ o S. after (r a_value S) (λ b S. got (compare a o b) S))
+
+-- in number - number, or op value
+abbrev pub related_by : Readers → Amount → Reader Form
+related_by r a (In ∷ S) = after (range S) (λ p S. got (within a p.0 p.1) S)
+related_by r a S = compared_by r a S
+
 abbrev pub comparing_by : Readers → Reader Form
-comparing_by r S =
-    after (r a_value S) (λ a S. after (relation S) (λ o S.
-    after (r a_value S) (λ b S. got (compare a o b) S)))
+comparing_by r S = after (r a_value S) (λ a S. related_by r a S)
 
 abbrev pub sums_by : Readers → Amount → Reader Amount
 sums_by r a (Plus ∷ S) = after (atom_of S) (λ b R. r (sums (sum a b)) R)
@@ -127,8 +176,8 @@ sums_by r a S = got a S
 -- a test with no `not` and no bracket before it
 abbrev pub test_by : Readers → Reader Form
 test_by r (Balanced ∷ S) = after (open_seat S) (λ q R. closing (balanced q) R)
-test_by r (Shape ∷ S) = after (seat_and_lengths S) (λ p R. got (shape p.0 p.1) R)
-test_by r (Pattern ∷ S) = after (seat_and_lengths S) (λ p R. got (pattern p.0 p.1) R)
+test_by r (Shape ∷ S) = after (seat_and_items S) (λ p R. got (shaped p.0 p.1) R)
+test_by r (Pattern ∷ S) = after (seat_and_items S) (λ p R. got (patterned p.0 p.1) R)
 test_by r S = comparing_by r S
 
 abbrev pub unit_by : Readers → Reader Form

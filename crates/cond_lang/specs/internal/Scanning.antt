@@ -4,10 +4,10 @@ use Rattle.std.specs.Str.{bytes_eq}
 use Rattle.std.specs.Char.{is_ascii_lowercase, is_ascii_digit}
 use Rattle.cond_lang.specs.declared.tree.Op.TheVariants.{Equal, NotEqual, Less, AtMost, More, AtLeast}
 use Rattle.cond_lang.specs.declared.token.Token.{Token}
-use Rattle.cond_lang.specs.declared.token.Token.TheVariants.{Number, Open, Close, Comma, Dash, Plus, Relation}
+use Rattle.cond_lang.specs.declared.token.Token.TheVariants.{Ranks, Number, Open, Close, Comma, Dash, Plus, Relation}
 use Rattle.cond_lang.specs.declared.token.Piece.{Piece}
 use Rattle.cond_lang.specs.declared.token.Piece.TheVariants.{Separator, Token as TokenPiece, StrayByte, UnknownWord, LongNumber}
-use Rattle.cond_lang.specs.Cut.{words, is_separator, is_comment_sign, is_in_comment, decimal}
+use Rattle.cond_lang.specs.Cut.{words, is_separator, is_comment_sign, is_in_comment, are_ranks, named_by, decimal}
 
 -- the token of the table's entry with this text
 abbrev pub token_of : List (List ℕ × Token) → List ℕ → Option Token
@@ -50,9 +50,13 @@ abbrev pub token_or : Piece → Option Token → Piece
 token_or other None = other
 token_or other (Some t) = TokenPiece t
 
+-- what letters are that are no known word
+unfoldable pub ranks_piece : List ℕ → Piece
+ranks_piece p = if are_ranks p then TokenPiece (Ranks (named_by p)) else UnknownWord
+
 -- what a run of letters is
 abbrev pub word_piece : List ℕ → Piece
-word_piece p = token_or UnknownWord (token_of words p)
+word_piece p = token_or (ranks_piece p) (token_of words p)
 
 -- what a run of digits is
 abbrev pub number_piece : List ℕ → Piece

@@ -14,7 +14,11 @@ fn comments_give_no_tokens(rt: HostRuntime) -> Result<(), Fail> {
         "1 # one\r\n== # is\r\n1 # one",
         "1==#a carriage return \r ends no comment, 2==2\n1",
     ] {
-        expect_tree(&rt, text, "Compare { left: Number(1), op: Equal, right: Number(1) }")?;
+        expect_tree(
+            &rt,
+            text,
+            "Compare { left: Number(1), op: Equal, right: Number(1) }",
+        )?;
     }
     Ok(())
 }

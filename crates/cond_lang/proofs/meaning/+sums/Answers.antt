@@ -1,5 +1,5 @@
 use Rattle.std.proofs.Common.{◌≡◌, ◌+◌, ◌∙◌, refl, sym, ap, arith}
-use Rattle.cards.specs.Hands.{total_of, total_in}
+use Rattle.cards.specs.Hands.{total_of, total_in, longest_of, shortest_of}
 use Rattle.cond_lang.specs.Meaning.{value_in}
 use Rattle.cond_lang.specs.Limits.{atoms_of}
 use Rattle.cond_lang.specs.Form.{amount_of}
@@ -29,3 +29,13 @@ value_in-returns-in-SuitTotal-clause-value t c =
     c.from-in-SuitTotal.ensures ∙ c.total_in.ensures.value
     ∙ ap (λ h. total_in c.in-SuitTotal.measure h c.in-SuitTotal.suit) c.hand-in-SuitTotal.ensures.value
     ∙ ap (λ v. value_in c.args.deal.now (amount_of v)) (sym c.in-SuitTotal.is)
+
+pub value_in-returns-in-Longest-clause-value : goal.value_in-returns-in-Longest-clause-value
+value_in-returns-in-Longest-clause-value t c =
+    c.from-in-Longest.ensures ∙ c.longest.ensures ∙ ap longest_of c.hand-in-Longest.ensures.value
+    ∙ ap (λ v. value_in c.args.deal.now (amount_of v)) (sym c.in-Longest.is)
+
+pub value_in-returns-in-Shortest-clause-value : goal.value_in-returns-in-Shortest-clause-value
+value_in-returns-in-Shortest-clause-value t c =
+    c.from-in-Shortest.ensures ∙ c.shortest.ensures ∙ ap shortest_of c.hand-in-Shortest.ensures.value
+    ∙ ap (λ v. value_in c.args.deal.now (amount_of v)) (sym c.in-Shortest.is)
