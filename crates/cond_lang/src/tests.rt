@@ -1,6 +1,7 @@
 //! Tests with outside values.
 
 mod comments;
+mod later_words;
 mod meaning;
 mod measures;
 mod random;

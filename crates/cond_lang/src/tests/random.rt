@@ -30,9 +30,9 @@ impl Dice {
     }
 }
 
-/// The words and symbols of the language, some numbers, and whole tests, so that more than the
-/// first token is read.
-const TOKENS: [&[u8]; 42] = [
+/// The words and symbols of the language, some ranks and numbers, comments, and whole tests, so that
+/// more than the first token is read.
+const TOKENS: [&[u8]; 56] = [
     b"or",
     b"and",
     b"not",
@@ -41,7 +41,17 @@ const TOKENS: [&[u8]; 42] = [
     b"pattern",
     b"hcp",
     b"controls",
+    b"losers",
+    b"cards",
     b"len",
+    b"longest",
+    b"shortest",
+    b"in",
+    b"x",
+    b"akq",
+    b"t",
+    b"# and\n",
+    b"\r",
     b"north",
     b"east",
     b"south",
@@ -68,8 +78,12 @@ const TOKENS: [&[u8]; 42] = [
     b"len(south,clubs)",
     b"hcp(east,hearts)",
     b"controls(east)",
+    b"losers(east,hearts)",
+    b"cards(north,ak)",
+    b"hcp(north) in",
     b"balanced(west)",
     b"shape(west,4-3-3-3)",
+    b"shape(west,x-x-3-3)",
     b"pattern(north,5-4-3-1)",
     b"1+2",
     b"0==0 and",
@@ -100,7 +114,7 @@ fn random_token_lists(rt: HostRuntime) -> Result<(), Fail> {
         let mut text = Vec::new(rt.alloc());
         let most = if dice.below(100) == 0 { 250 } else { 12 };
         for _ in 0..dice.below(most) {
-            text.extend_from_slice(TOKENS[usize::from(dice.below(42))])?;
+            text.extend_from_slice(TOKENS[usize::from(dice.below(56))])?;
             text.push(b' ')?;
         }
         expect_sound(&rt, &text);

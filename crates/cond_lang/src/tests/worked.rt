@@ -14,7 +14,7 @@ const DEALS: [&[u8]; 6] = [
 ];
 
 /// Each condition, and whether it is true of the six deals.
-const CONDITIONS: [(&str, [bool; 6]); 21] = [
+const CONDITIONS: [(&str, [bool; 6]); 26] = [
     // A strong notrump with North.
     (
         "hcp(north)>=15 and hcp(north)<=17 and balanced(north)",
@@ -121,6 +121,32 @@ const CONDITIONS: [(&str, [bool; 6]); 21] = [
     (
         "hcp(north)+hcp(south)>=30 and controls(north)+controls(south)>=10",
         [false, false, false, true, false, false],
+    ),
+    // A strong notrump, by its range.
+    (
+        "hcp(north) in 15-17 and balanced(north)",
+        [false, true, false, false, false, false],
+    ),
+    // A good weak two.
+    (
+        "shape(north,6-x-x-x) and hcp(north) in 6-10 and cards(north,spades,akq)>=2",
+        [false, false, false, true, false, false],
+    ),
+    // Six-four, whichever suits.
+    (
+        "pattern(north,6-4-x-x) and losers(north)<=6",
+        [false, false, false, true, false, false],
+    ),
+    // A slam on losers.
+    (
+        "losers(north)+losers(south)<=12 and controls(north)+controls(south)>=9 \
+        # few losers, and the controls for it",
+        [false, true, true, true, false, false],
+    ),
+    // A single-suited hand.
+    (
+        "longest(east)>=7 and shortest(east)>=1",
+        [false, false, true, false, false, false],
     ),
 ];
 
