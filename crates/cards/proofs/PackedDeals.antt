@@ -1,5 +1,5 @@
 -- A deal and a flag in three words.
-use Rattle.std.proofs.Common.{◌≡◌, ℕ, ◌+◌, ◌-◌, ◌*◌, ◌/◌, ◌%◌, ◌^◌, ◌<◌, ◌==◌, Bool, true, false, cond, List, refl, sym, ◌∙◌, ap, arith, subst}
+use Rattle.std.proofs.Common.{◌≡◌, ℕ, ◌+◌, ◌-◌, ◌*◌, ◌^◌, ◌<◌, Bool, true, false, List, refl, sym, ◌∙◌, ap, arith}
 use Rattle.std.specs.Int.RustNames.{bit_and, bit_or}
 use Rattle.std.proofs.lemmas.Nat.{and_comm, and_or_apart, or_disjoint}
 use Rattle.std.proofs.lemmas.Bool.Decides.{nat_tests}
@@ -7,7 +7,7 @@ use mir.Val.{bool_byte}
 use Rattle.cards.specs.declared.seat.Seat.{Seat}
 use Rattle.cards.specs.declared.seat.Seat.TheVariants.{North, East, South, West}
 use Rattle.cards.specs.Deals.{IsPartition}
-use Rattle.cards.specs.internal.Masks.{IsFull, IsMasks, seat_mask, seats_of_masks}
+use Rattle.cards.specs.internal.Masks.{IsFull, seat_mask, seats_of_masks}
 use Rattle.cards.specs.internal.PackedMasks.{IsPacked, flag_in, north_in, rest_of, word_of}
 use Rattle.cards.proofs.DealMasks.{masks_view, seat_mask-lt}
 use Rattle.cards.proofs.FullMasks.{full_masks, masks_of_partition}
@@ -39,7 +39,7 @@ west_is_rest : (n e s w : ℕ) → IsFull n e s w → w ≡ rest_of n e s
 west_is_rest n e s w full =
     let (ne, ns, nw, es, ew, sw) = full.apart in
     let none : bit_and (bit_or n e) (bit_or s w) ≡ 0 =
-        and_or_apart (bit_or s w) n e (apart_from_both e s w es ew) ∙ apart_from_both n s w ns nw in
+    and_or_apart (bit_or s w) n e (apart_from_both e s w es ew) ∙ apart_from_both n s w ns nw in
     let all : bit_or (bit_or n e) (bit_or s w) ≡ 2 ^ 52 - 1 = full.together in
     omega (arith, or_disjoint n e ne, or_disjoint s w sw, or_disjoint (bit_or n e) (bit_or s w) none, all)
 
@@ -52,7 +52,7 @@ is_packed deal flag north number east south ok en is ee es =
     let below : north < 2 ^ 52 = rw en (seat_mask-lt deal North ok) in
     let back : north_in (north + number * 2 ^ 52) ≡ north = ap north_in word ∙ north_back north flag below in
     let rest : rest_of north east south ≡ seat_mask deal West =
-        rw (en, ee, es) (sym (west_is_rest (seat_mask deal North) (seat_mask deal East) (seat_mask deal South) (seat_mask deal West) (full_masks deal ok))) in
+    rw (en, ee, es) (sym (west_is_rest (seat_mask deal North) (seat_mask deal East) (seat_mask deal South) (seat_mask deal West) (full_masks deal ok))) in
     record {
       below = rw word (word_below north flag below);
       masks = rw back (masks_of_partition deal north east south (rest_of north east south) ok en ee es rest);

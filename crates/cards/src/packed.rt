@@ -42,8 +42,11 @@ impl Model for PackedDeal {
       south = seat_mask v.deal South;
     } };
 
-    ghost inverse_ok = { λ p ok. Prim.rw (word_back p.north_and_flag p.east p.south ok,
-        ← ok.masks.east, ← ok.masks.south) refl };
+    ghost inverse_ok = { λ p ok. Prim.rw (
+      word_back p.north_and_flag p.east p.south ok,
+      ← ok.masks.east,
+      ← ok.masks.south,
+    ) refl };
 }
 
 impl PackedDeal {

@@ -5,8 +5,8 @@ ghost use Rattle.sinks.specs.Appended.{AppendsAll};
 ghost use Rattle.sinks.specs.Sinks.{CountsFault};
 ghost use Rattle.requests.specs.internal.Messages.{text_of};
 
-use sinks::{Sink, SinkFault, put_all};
 use itoa::Buffer;
+use sinks::{Sink, SinkFault, put_all};
 
 /// A line: two texts, and a number between them.
 #[derive(Drop)]

@@ -7,10 +7,10 @@
 #[cfg(test)]
 mod conditions;
 #[cfg(test)]
+mod memory_sinks;
+#[cfg(test)]
 mod programs;
 #[cfg(test)]
 mod rings;
 #[cfg(test)]
 mod runs;
-#[cfg(test)]
-mod sinks;

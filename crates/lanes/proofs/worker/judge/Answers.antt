@@ -3,7 +3,6 @@ use Rattle.std.proofs.lemmas.List.{length-set, take_more_set, append_assoc}
 use Rattle.cards.specs.CandidateWalks.{GoesOnAt}
 use Rattle.lanes.specs.declared.verdict.Verdict.{Verdict}
 use Rattle.lanes.specs.Jobs.{verdicts_of}
-use Rattle.lanes.specs.Verdicts.{verdict_of}
 use Rattle.lanes.proofs.VerdictLists.{one_more, verdict_made}
 use Rattle.lanes.proofs.worker.judge.Goals as goal
 

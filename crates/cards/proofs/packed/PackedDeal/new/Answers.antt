@@ -9,11 +9,11 @@ invariant_of-result c =
 pub returns-clause-deal : goal.returns-clause-deal
 returns-clause-deal c =
     let both = view_of_packed c.args.deal.now c.args.flag _ _ _ _ c.mask.ensures.partition
-        c.mask.ensures.value c.from.ensures c.mask-2.ensures.value c.mask-3.ensures.value in
+    c.mask.ensures.value c.from.ensures c.mask-2.ensures.value c.mask-3.ensures.value in
     both.0
 
 pub returns-clause-flag : goal.returns-clause-flag
 returns-clause-flag c =
     let both = view_of_packed c.args.deal.now c.args.flag _ _ _ _ c.mask.ensures.partition
-        c.mask.ensures.value c.from.ensures c.mask-2.ensures.value c.mask-3.ensures.value in
+    c.mask.ensures.value c.from.ensures c.mask-2.ensures.value c.mask-3.ensures.value in
     both.1

@@ -1,4 +1,4 @@
-use Rattle.std.proofs.Common.{◌≡◌, ◌<◌, ◌∙◌, length, sym, ap, arith, subst}
+use Rattle.std.proofs.Common.{◌<◌, ◌∙◌, length, sym, ap, arith}
 use Rattle.lanes.proofs.Blocks.{length_part, part_from}
 use Rattle.lanes.proofs.block.Block.take_first.Goals as goal
 

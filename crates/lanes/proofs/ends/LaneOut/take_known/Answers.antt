@@ -1,4 +1,4 @@
-use Rattle.std.proofs.Common.{◌∙◌, ◌++◌, ◌∷◌, [], sym, ap}
+use Rattle.std.proofs.Common.{◌∙◌, ◌++◌, ◌∷◌, [], ap}
 use Rattle.rtrb.specs.Ring.{received}
 use Rattle.lanes.proofs.Blocks.{rest_is_last, taken_with_first}
 use Rattle.lanes.proofs.ends.LaneOut.take_known.Goals as goal
