@@ -36,7 +36,7 @@ def of_output():
         yield Check(f"an output that can only be read, {words}", f"$DEALS {words} 1</dev/null", 4, err=FAILED)
         yield Check(f"nobody reads, {words}", f"exec $DEALS {words}", 4, err=FAILED, output="broken")
         yield Check(f"nothing more fits, {words}", f"exec $DEALS {words}", 4, err=FAILED, output="stuck")
-    for words in (WORDS, "make --seed 7 --candidates 1 --where x"):
+    for words in (WORDS, "make --seed 7 --candidates 1 --where y"):
         status, line = (2, REFUSED) if words == WORDS else (3, b"condition refused at byte 0: unknown word\n")
         yield Check(f"refused to a full disk, {words}", f"$DEALS {words} >/dev/full", status, err=line)
         yield Check(f"refused to a closed output, {words}", f"$DEALS {words} >&-", status, err=line)
