@@ -27,7 +27,7 @@ const MAX_SPINS: usize = 4096;
 
 /// More workers than this and their writer are taken to be more threads than there are cores to
 /// spare.
-const FEW_WORKERS: u32 = 2;
+const FEW_WORKERS: u32 = 3;
 
 /// How many spins a verdict of the other end takes, about, so that a pause lasts about a lane's
 /// content.
