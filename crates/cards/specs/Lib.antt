@@ -1,6 +1,7 @@
 pub mod Pack
 pub mod Shuffle
 pub mod Deals
+pub mod Turning
 pub mod Hands
 pub mod Balanced
 pub mod Ranks

@@ -8,6 +8,9 @@ ghost use Rattle.cards.specs.Hands.{is_rearrangement, is_balanced};
 ghost use Rattle.cards.specs.Balanced.{IsBalanced};
 ghost use Rattle.cards.specs.Candidates.{candidate};
 ghost use Rattle.cards.specs.Deals.{IsPartition};
+ghost use Rattle.cards.specs.Hands.{hand_of};
+ghost use Rattle.cards.specs.Turning.{goes_to, turned};
+ghost use Rattle.cards.specs.declared.seat.Seat.{Seat as ASeat};
 
 use crate::Deal;
 
@@ -39,4 +42,16 @@ pub fn equality(a: &Deal, b: &Deal) -> bool
 /// Every candidate of every seed is a partition of the pack into four hands of thirteen.
 pub fn candidates()
     ensures { (seed k : ℕ) → IsPartition (candidate seed k) }
+{}
+
+/// A turned deal has the same hands: each is where it went.
+#[tactic(auto, using(crate::proofs::Turning::hand_kept))]
+pub fn turning_keeps_hands()
+    ensures { (to seat : ASeat) (deal : List ASeat)
+        → hand_of (turned to deal) (goes_to to seat) ≡ hand_of deal seat }
+{}
+
+/// A turned partition is a partition.
+pub fn turning_keeps_partitions()
+    ensures { (to : ASeat) (deal : List ASeat) → IsPartition deal → IsPartition (turned to deal) }
 {}
