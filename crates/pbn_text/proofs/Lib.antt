@@ -2,6 +2,5 @@ pub mod Suits
 pub mod Copies
 pub mod Dates
 pub mod Reading
-pub mod Sets
 pub mod Buffers
 pub mod BoardLines

@@ -13,6 +13,7 @@ use Rattle.cards.specs.Pack.{suit_number, seat_number}
 use Rattle.cards.specs.Shuffle.{pack}
 use Rattle.cards.specs.Deals.{IsPartition}
 use Rattle.cards.specs.Hands.{holds_card, length_of, hand_of}
+use Rattle.printing.specs.Letters.{suit_letters}
 use Rattle.pbn_text.specs.Games.{letters, suit_text}
 
 -- the card of the suit and the rank
@@ -45,6 +46,11 @@ first_ranks-none hand suit = refl
 pub first_ranks-all : (hand : List Bool) (suit : Suit) (n : ℕ) → n ≡ 13 → first_ranks hand suit n ≡ suit_text hand suit
 unfolding first_ranks suit_text
 first_ranks-all hand suit n e = rw e refl
+
+-- the letters that every printer writes are this notation's
+pub letters_are : (hand : List Bool) (suit : Suit) → suit_letters hand suit ≡ suit_text hand suit
+unfolding suit_letters suit_text
+letters_are hand suit = refl
 
 suit_count : (hand : List Bool) (suit : Suit) → count_by (has hand suit) (range_with_len 0 13) ≡ length_of hand suit
 unfolding pack

@@ -2,5 +2,4 @@
 pub mod LabelBytes
 pub mod Lines
 pub mod Games
-pub mod SuitTexts
 pub mod Buffers

@@ -19,10 +19,10 @@ ghost use Rattle.pbn_text.specs.internal.Buffers.{IsPrefix, number_end};
 
 use crate::Heading;
 use crate::lines::{put, put_heading};
-use crate::suit_texts::SuitTexts;
 use arrayvec::ArrayVec;
 use cards::{Deal, Hand, Seat, Suit};
 use itoa::write_digits;
+use printing::SuitLetters;
 
 /// Holds a game, and after it the bytes that copies of a fixed length write over.
 pub(crate) type LineBuffer = [u8; 512];
@@ -106,37 +106,37 @@ pub(crate) fn put_number(
 pub(crate) fn put_hands(
     buffer: &mut LineBuffer,
     start: usize,
-    texts: &SuitTexts,
+    letters: &SuitLetters,
     deal: &Deal,
 ) -> usize
     requires { start ≤ 400 }
     ensures written { take result buffer.new ≡ take start buffer.old ++ hands_text deal.now }
     ensures end { result ≡ start + 71 }
 {
-    put_hand(buffer, start, texts, deal, Seat::North);
+    put_hand(buffer, start, letters, deal, Seat::North);
     buffer[start + 16] = b' ';
-    put_hand(buffer, start + 17, texts, deal, Seat::East);
+    put_hand(buffer, start + 17, letters, deal, Seat::East);
     buffer[start + 33] = b' ';
-    put_hand(buffer, start + 34, texts, deal, Seat::South);
+    put_hand(buffer, start + 34, letters, deal, Seat::South);
     buffer[start + 50] = b' ';
-    put_hand(buffer, start + 51, texts, deal, Seat::West);
+    put_hand(buffer, start + 51, letters, deal, Seat::West);
     buffer[start + 67..start + 71].copy_from_slice(b"\"]\n\n");
     start + 71
 }
 
 /// Writes the seat's thirteen cards and the three dots between its suits.
 #[inline(always)]
-fn put_hand(buffer: &mut LineBuffer, start: usize, texts: &SuitTexts, deal: &Deal, seat: Seat)
+fn put_hand(buffer: &mut LineBuffer, start: usize, letters: &SuitLetters, deal: &Deal, seat: Seat)
     requires { start ≤ 451 }
     ensures { take (start + 16) buffer.new
         ≡ take start buffer.old ++ hand_text (hand_of deal.now seat) }
 {
-    let _end = put_suits(buffer, start, texts, &deal.hand(seat));
+    let _end = put_suits(buffer, start, letters, &deal.hand(seat));
 }
 
 /// Writes the hand's cards with a dot after each suit. Returns where they end.
 #[inline(always)]
-fn put_suits(buffer: &mut LineBuffer, start: usize, texts: &SuitTexts, hand: &Hand) -> usize
+fn put_suits(buffer: &mut LineBuffer, start: usize, letters: &SuitLetters, hand: &Hand) -> usize
     requires { start ≤ 451 }
     ensures written { take result buffer.new
         ≡ take start buffer.old ++ (hand_text hand.now ++ codes ".") }
@@ -144,10 +144,10 @@ fn put_suits(buffer: &mut LineBuffer, start: usize, texts: &SuitTexts, hand: &Ha
         ≡ start + (length_of hand.now Spades + length_of hand.now Hearts
         + length_of hand.now Diamonds + length_of hand.now Clubs + 4) }
 {
-    let mut end = put_suit(buffer, start, texts, hand, Suit::Spades);
-    end = put_suit(buffer, end, texts, hand, Suit::Hearts);
-    end = put_suit(buffer, end, texts, hand, Suit::Diamonds);
-    put_suit(buffer, end, texts, hand, Suit::Clubs)
+    let mut end = put_suit(buffer, start, letters, hand, Suit::Spades);
+    end = put_suit(buffer, end, letters, hand, Suit::Hearts);
+    end = put_suit(buffer, end, letters, hand, Suit::Diamonds);
+    put_suit(buffer, end, letters, hand, Suit::Clubs)
 }
 
 /// Writes the letters of the hand's ranks in the suit and a dot. Returns where they end.
@@ -155,7 +155,7 @@ fn put_suits(buffer: &mut LineBuffer, start: usize, texts: &SuitTexts, hand: &Ha
 fn put_suit(
     buffer: &mut LineBuffer,
     start: usize,
-    texts: &SuitTexts,
+    letters: &SuitLetters,
     hand: &Hand,
     suit: Suit,
 ) -> usize
@@ -165,8 +165,7 @@ fn put_suit(
     ensures len { result ≡ start + (length_of hand.now suit + 1) }
     ensures max { result ≤ start + 14 }
 {
-    // A value of its own can't overlap the buffer, and is copied at once.
-    let text = *texts.of(hand.rank_set(suit));
+    let text = letters.with_dot(hand, suit);
     buffer[start..start + 16].copy_from_slice(&text);
-    start + usize::from(text[15])
+    start + usize::from(text[15]) + 1
 }

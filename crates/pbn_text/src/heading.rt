@@ -57,7 +57,7 @@ impl Label {
     }
 
     /// Returns the label's bytes.
-    pub(crate) fn as_bytes(&self) -> &[u8]
+    pub fn as_bytes(&self) -> &[u8]
         ensures value { result.now ≡ self.now }
         ensures label { IsLabel self.now }
     {
@@ -111,12 +111,12 @@ impl Date {
     }
 
     /// Returns the date's ten bytes.
-    pub(crate) fn as_bytes(&self) -> &[u8]
+    pub fn as_bytes(&self) -> &[u8]
         ensures value { result.now ≡ self.now }
         ensures date { IsDate self.now }
         ensures ten { length result.now ≡ 10 }
     {
-        &self.bytes
+        self.bytes.as_slice()
     }
 }
 

@@ -17,7 +17,6 @@ pub mod laws;
 mod lines;
 mod printer;
 mod reference;
-mod suit_texts;
 
 pub use boards::{Vul, dealer, vulnerable};
 pub use heading::{Date, Heading, Label};

@@ -1,4 +1,4 @@
-//! What both ways to print share: the header, the lines of a heading, and the letters of the ranks.
+//! What both ways to print share: the header, and the lines of a heading.
 
 ghost use Rattle.std.specs.Prelude.{◌≡◌, ◌≤◌, ◌+◌, ◌++◌, length};
 ghost use Rattle.arrayvec.specs.ArrayVec.{array_vec_len};
@@ -10,9 +10,6 @@ use arrayvec::ArrayVec;
 
 /// The line before the games, with its line feed.
 pub const HEADER: [u8; 10] = *b"% PBN 2.1\n";
-
-/// The ranks of a suit, the ace first.
-pub(crate) const LETTERS: [u8; 13] = *b"AKQJT98765432";
 
 /// The text of one game.
 pub(crate) type Text = ArrayVec<u8, 400>;

@@ -7,9 +7,9 @@ ghost use Rattle.pbn_text.specs.internal.Games.{game_has_byte};
 
 use crate::board_lines::put_board_lines;
 use crate::buffer::{LineBuffer, Prefix, first_prefix, put_hands, put_number};
-use crate::suit_texts::SuitTexts;
 use crate::{HEADER, Heading};
 use boards::{Board, Notation};
+use printing::SuitLetters;
 use std::alloc::{AllocError, Global};
 use std::marker::Model;
 
@@ -21,7 +21,7 @@ use std::marker::Model;
 #[derive(Drop)]
 pub struct Printer {
     heading: Heading,
-    texts: SuitTexts,
+    letters: SuitLetters,
     buffer: LineBuffer,
     prefix: Prefix,
     end: usize,
@@ -52,12 +52,12 @@ impl Printer {
         ensures heading { IfOk result (λ p. p.heading ≡ heading.now) }
         ensures text { IfOk result (λ p. p.text ≡ []) }
     {
-        let texts = SuitTexts::new(alloc)?;
+        let letters = SuitLetters::new(alloc)?;
         let mut buffer = [0; 512];
         let prefix = first_prefix(&mut buffer, heading);
         Ok(Printer {
             heading: *heading,
-            texts,
+            letters,
             buffer,
             prefix,
             end: prefix.start,
@@ -71,7 +71,7 @@ impl Printer {
     {
         self.prefix = put_number(&mut self.buffer, self.prefix, &self.heading, board.number);
         let hands = put_board_lines(&mut self.buffer, board.dealer, board.vulnerable);
-        self.end = put_hands(&mut self.buffer, hands, &self.texts, &board.deal);
+        self.end = put_hands(&mut self.buffer, hands, &self.letters, &board.deal);
     }
 
     /// Returns the text that was printed last.

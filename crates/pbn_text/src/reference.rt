@@ -16,12 +16,15 @@ ghost use Rattle.pbn_text.specs.internal.Games.{game_has_byte};
 ghost use Rattle.pbn_text.specs.internal.Lines.{deal_line};
 
 use crate::Heading;
-use crate::lines::{HEADER, LETTERS, Text, put, put_heading, put_line};
+use crate::lines::{HEADER, Text, put, put_heading, put_line};
 use arrayvec::ArrayVec;
 use boards::{Board, Notation, Vul};
 use cards::{Deal, Hand, Seat, Suit};
 use itoa::Buffer;
 use std::marker::Model;
+
+/// The ranks of a suit, the ace first.
+const LETTERS: [u8; 13] = *b"AKQJT98765432";
 
 /// How many bytes a hand is written into: its cards, its dots, and the letters that are written
 /// over.

@@ -1,0 +1,2 @@
+pub mod Lin
+pub mod internal

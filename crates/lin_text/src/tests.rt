@@ -1,0 +1,117 @@
+//! Lines written by hand, of the pack in order, of a worked deal and of two candidates.
+
+use super::*;
+use boards::{Board, Notation, Vul};
+use cards::{Candidates, Deal, Places, Seat};
+use std::process::Abort;
+use std::test::Fail;
+
+/// The deal of a pack in order, whose first thirteen cards are North's.
+fn pack_in_order() -> Result<Deal, Fail> {
+    let mut places = [0; 51];
+    for i in 0..51u8 {
+        places[usize::from(i)] = 51 - i;
+    }
+    Ok(Deal::shuffled(&Places::new(places).ok_or("places")?))
+}
+
+/// The worked deal by the seats of the cards, from the ace of spades to the two of clubs.
+fn worked_deal() -> Result<Deal, Fail> {
+    let (n, e, s, w) = (Seat::North, Seat::East, Seat::South, Seat::West);
+    let seats = [
+        e, w, w, s, w, s, e, s, e, e, e, s, w, w, e, e, s, w, s, s, s, n, e, s, n, s, n, n, n, w,
+        e, n, n, n, w, w, w, s, w, n, s, e, e, e, n, w, n, e, w, s, n, n,
+    ];
+    Ok(Deal::from_seats(&seats).ok_or("thirteen each")?)
+}
+
+#[test]
+fn two_candidates(rt: HostRuntime) -> Result<(), Fail> {
+    let mut candidates = Candidates::new(0, 0, 1);
+    let mut printer = LinPrinter::new(rt.alloc())?;
+    assert_eq!(rt; printer.text(), b"".as_slice());
+    printer.print(&Board::by_law(1, 0, candidates.next()));
+    let first = b"qx|o1|md|3SQJ43HQ732DQT3CK9,ST6HKJ9DKJ9842CJ3,S72HAT64D75CAT872,\
+        SAK985H85DA6CQ654|sv|o|ah|Board 1|pg||\n";
+    assert_eq!(rt; printer.text(), first.as_slice());
+    printer.print(&Board::by_law(2, 1, candidates.next()));
+    let second = b"qx|o2|md|4SJT2HAJTDT964CK95,S9H87632DAK872C87,SAQ764HKQDCQJT643,\
+        SK853H954DQJ53CA2|sv|n|ah|Board 2|pg||\n";
+    assert_eq!(rt; printer.text(), second.as_slice());
+    Ok(())
+}
+
+#[test]
+fn the_pack_in_order(rt: HostRuntime) -> Result<(), Fail> {
+    let mut printer = LinPrinter::new(rt.alloc())?;
+    printer.print(&Board::by_law(4, 0, pack_in_order()?));
+    let line = b"qx|o4|md|2SHDAKQJT98765432C,SHDCAKQJT98765432,SAKQJT98765432HDC,\
+        SHAKQJT98765432DC|sv|b|ah|Board 4|pg||\n";
+    assert_eq!(rt; printer.text(), line.as_slice());
+    Ok(())
+}
+
+/// The worked deal with other dealers, vulnerabilities and numbers than Law 2's.
+#[test]
+fn dealers_vulnerabilities_and_numbers(rt: HostRuntime) -> Result<(), Fail> {
+    let hands = b"SJ973HJ98742D3CK4,SKQT2HATDJ6542C85,SH63DAKQ987CA9732,SA8654HKQ5DTCQJT6|sv|";
+    let mut printer = LinPrinter::new(rt.alloc())?;
+    for (number, dealer, vulnerable, front, back) in [
+        (
+            2,
+            Seat::East,
+            Vul::NorthSouth,
+            "qx|o2|md|4",
+            "n|ah|Board 2|pg||\n",
+        ),
+        (
+            9,
+            Seat::South,
+            Vul::EastWest,
+            "qx|o9|md|1",
+            "e|ah|Board 9|pg||\n",
+        ),
+        (
+            10,
+            Seat::North,
+            Vul::Both,
+            "qx|o10|md|3",
+            "b|ah|Board 10|pg||\n",
+        ),
+        (
+            99_999_999_999,
+            Seat::West,
+            Vul::Neither,
+            "qx|o99999999999|md|2",
+            "o|ah|Board 99999999999|pg||\n",
+        ),
+        (
+            1_099_511_627_776,
+            Seat::West,
+            Vul::EastWest,
+            "qx|o1099511627776|md|2",
+            "e|ah|Board 1099511627776|pg||\n",
+        ),
+    ] {
+        printer.print(&Board {
+            number,
+            candidate: 7,
+            dealer,
+            vulnerable,
+            deal: worked_deal()?,
+        });
+        let mut line = Vec::from_slice(rt.alloc(), front.as_bytes())?;
+        line.extend_from_slice(hands)?;
+        line.extend_from_slice(back.as_bytes())?;
+        assert_eq!(rt; printer.text(), line.as_slice());
+    }
+    Ok(())
+}
+
+#[test]
+fn no_header_and_no_footer(rt: HostRuntime) -> Result<(), Fail> {
+    let printer = LinPrinter::new(rt.alloc())?;
+    assert_eq!(rt; printer.header(), b"".as_slice());
+    assert_eq!(rt; printer.footer(), b"".as_slice());
+    Ok(())
+}

@@ -1,0 +1,14 @@
+-- The letters of a suit's cards in a hand.
+use Rattle.std.specs.Prelude.{ℕ, Bool, List, map, filter, codes, slice_index}
+use Rattle.std.specs.List.{range_with_len}
+use Rattle.cards.specs.declared.suit.Suit.{Suit}
+use Rattle.cards.specs.Ranks.{has_rank}
+
+-- the ranks, the ace first
+abbrev pub letters : List ℕ
+letters = codes "AKQJT98765432"
+
+-- the letters of the ranks that the hand has in the suit, the ace first
+unfoldable pub suit_letters : List Bool → Suit → List ℕ
+suit_letters hand suit =
+    map (slice_index letters) (filter (has_rank hand suit) (range_with_len 0 13))
