@@ -43,7 +43,7 @@ no_tree text at t f s =
 -- A text has at most one syntax fault.
 
 -- what a viable list begins with is viable
-viable_part : (n m : ℕ) (T : List Token) → n ≤ m → IsViable (take m T) → IsViable (take n T)
+pub viable_part : (n m : ℕ) (T : List Token) → n ≤ m → IsViable (take m T) → IsViable (take n T)
 viable_part n m T h v =
     let more : List Token = drop n (take m T) ++ v.0 in
     let front : take n (take m T) ≡ take n T = take-take n m T h in

@@ -6,8 +6,9 @@
 --           | ( "shape" | "pattern" ) "(" seat "," item "-" item "-" item "-" item ")"
 --     item  = number | "x"
 --     value = atom ( "+" atom )*
---     atom  = number | measure "(" seat [ "," suit ] ")" | "cards" "(" seat [ "," suit ] "," ranks ")"
---           | "len" "(" seat "," suit ")" | ( "longest" | "shortest" ) "(" seat ")"
+--     atom  = number | measure "(" seat [ "," suit ] ")"
+--           | "cards" "(" seat [ "," suit ] "," ranks ")" | "len" "(" seat "," suit ")"
+--           | ( "longest" | "shortest" ) "(" seat ")"
 -- Chains group to the left, and brackets leave no node.
 use Rattle.std.specs.Prelude.{ℕ, List, [], ◌∷◌, ◌++◌}
 use Rattle.cards.specs.declared.honours.Honours.{Honours}

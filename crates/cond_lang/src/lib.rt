@@ -6,8 +6,10 @@
 //! without the addresses of its boxes.
 #![tactic(auto)]
 
+mod beginning;
 mod condition;
 mod error;
+mod kind;
 pub mod laws;
 mod meaning;
 mod parser;
@@ -15,8 +17,10 @@ mod scanner;
 mod token;
 mod tree;
 
+pub use beginning::Beginning;
 pub use condition::{Cond, parse};
 pub use error::CondError;
+pub use kind::Kind;
 pub use tree::{Item, Op, Tree, Value};
 
 #[cfg(test)]

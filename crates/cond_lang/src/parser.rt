@@ -1,22 +1,25 @@
 //! The parser: it reads the tokens from the left, with one token in sight, and builds the tree as
 //! it goes.
 
-ghost use Rattle.std.specs.Prelude.{◌≡◌, ◌≢◌, ◌≤◌, ◌⊎◌, ℕ, List, ◌∷◌, length, IfOk, IfErr, Err};
+ghost use Rattle.std.specs.Prelude.{◌≡◌, ◌≢◌, ◌≤◌, ◌⊎◌, ◌↔◌, ℕ, List, ◌∷◌, length};
+ghost use Rattle.std.specs.Prelude.{IfOk, IfErr, Err, IsTrue};
 ghost use Rattle.cond_lang.specs.declared.token.Token.{Token as AToken};
 ghost use Rattle.cond_lang.specs.Form.{Form, amount_of, form_of, any_of, all_of, negation};
 ghost use Rattle.cond_lang.specs.Grammar.{Spells};
 ghost use Rattle.cond_lang.specs.Text.{kinds};
+ghost use Rattle.cond_lang.specs.Continuations.{IsLongestViable};
 ghost use Rattle.cond_lang.specs.Faults.{offset_of, IsPlace};
-ghost use Rattle.cond_lang.specs.internal.Reading.{Gives, front, opened, closed, comma, dash, seat, suit, digits, relation};
-ghost use Rattle.cond_lang.specs.internal.Reading.{ranks, item, open_seat, open_seat_comma, seat_in_brackets, comma_suit_close};
-ghost use Rattle.cond_lang.specs.internal.Reading.{ranks_close, comma_ranks_close, rest_of_measure, rest_of_cards};
-ghost use Rattle.cond_lang.specs.internal.Reading.{range, items, seat_and_items, atom_of};
-ghost use Rattle.cond_lang.specs.internal.Reading.{reading, a_value, related_by, comparing_by, test_by, a_unit, a_both, a_cond, whole};
+ghost use Rattle.cond_lang.specs.internal.Reading.{Gives, front, rest_of_measure, rest_of_cards};
+ghost use Rattle.cond_lang.specs.internal.Reading.{atom_of, reading, a_value, related_by};
+ghost use Rattle.cond_lang.specs.internal.Reading.{comparing_by, test_by, a_unit, a_both, a_cond};
+ghost use Rattle.cond_lang.specs.internal.Reading.{whole};
+
+mod terminals;
 
 use crate::error::CondError;
 use crate::token::{Placed, Token};
-use crate::tree::{Item, Op, Tree, Value};
-use cards::{Honours, Measure, Seat, Suit};
+use crate::tree::{Tree, Value};
+use cards::{Measure, Seat};
 use std::alloc::Global;
 use std::marker::Model;
 use thiserror::Error;
@@ -80,218 +83,6 @@ impl<'a> Parser<'a> {
         ensures { (t : AToken) × (self.old ≡ t ∷ self.new) }
     {
         self.rest = &self.rest[1..];
-    }
-
-    fn open(&mut self) -> Result<(), Refusal>
-        ensures gives { Gives (λ _. tt) result self.new (opened self.old) }
-        ensures shorter { length self.new ≤ length self.old }
-    {
-        let Some(Token::Open) = self.peek() else {
-            return Err(Refusal::Syntax);
-        };
-        self.advance();
-        Ok(())
-    }
-
-    fn close(&mut self) -> Result<(), Refusal>
-        ensures gives { Gives (λ _. tt) result self.new (closed self.old) }
-        ensures shorter { length self.new ≤ length self.old }
-    {
-        let Some(Token::Close) = self.peek() else {
-            return Err(Refusal::Syntax);
-        };
-        self.advance();
-        Ok(())
-    }
-
-    fn comma(&mut self) -> Result<(), Refusal>
-        ensures gives { Gives (λ _. tt) result self.new (comma self.old) }
-        ensures shorter { length self.new ≤ length self.old }
-    {
-        let Some(Token::Comma) = self.peek() else {
-            return Err(Refusal::Syntax);
-        };
-        self.advance();
-        Ok(())
-    }
-
-    fn dash(&mut self) -> Result<(), Refusal>
-        ensures gives { Gives (λ _. tt) result self.new (dash self.old) }
-        ensures shorter { length self.new ≤ length self.old }
-    {
-        let Some(Token::Dash) = self.peek() else {
-            return Err(Refusal::Syntax);
-        };
-        self.advance();
-        Ok(())
-    }
-
-    fn seat(&mut self) -> Result<Seat, Refusal>
-        ensures gives { Gives (λ q. q) result self.new (seat self.old) }
-        ensures shorter { length self.new ≤ length self.old }
-    {
-        let Some(Token::Seat(seat)) = self.peek() else {
-            return Err(Refusal::Syntax);
-        };
-        self.advance();
-        Ok(seat)
-    }
-
-    fn suit(&mut self) -> Result<Suit, Refusal>
-        ensures gives { Gives (λ s. s) result self.new (suit self.old) }
-        ensures shorter { length self.new ≤ length self.old }
-    {
-        let Some(Token::Suit(suit)) = self.peek() else {
-            return Err(Refusal::Syntax);
-        };
-        self.advance();
-        Ok(suit)
-    }
-
-    fn number(&mut self) -> Result<u16, Refusal>
-        ensures gives { Gives (λ n. n) result self.new (digits self.old) }
-        ensures shorter { length self.new ≤ length self.old }
-    {
-        let Some(Token::Number(number)) = self.peek() else {
-            return Err(Refusal::Syntax);
-        };
-        self.advance();
-        Ok(number)
-    }
-
-    fn ranks(&mut self) -> Result<Honours, Refusal>
-        ensures gives { Gives (λ h. h) result self.new (ranks self.old) }
-        ensures shorter { length self.new ≤ length self.old }
-    {
-        let Some(Token::Ranks(ranks)) = self.peek() else {
-            return Err(Refusal::Syntax);
-        };
-        self.advance();
-        Ok(ranks)
-    }
-
-    /// A number or `x`.
-    fn item(&mut self) -> Result<Item, Refusal>
-        ensures gives { Gives (λ i. i) result self.new (item self.old) }
-        ensures shorter { length self.new ≤ length self.old }
-    {
-        let item = match self.peek() {
-            Some(Token::Number(number)) => Item::Length(number),
-            Some(Token::X) => Item::Any,
-            _ => return Err(Refusal::Syntax),
-        };
-        self.advance();
-        Ok(item)
-    }
-
-    fn relation(&mut self) -> Result<Op, Refusal>
-        ensures gives { Gives (λ o. o) result self.new (relation self.old) }
-        ensures shorter { length self.new ≤ length self.old }
-    {
-        let Some(Token::Relation(op)) = self.peek() else {
-            return Err(Refusal::Syntax);
-        };
-        self.advance();
-        Ok(op)
-    }
-
-    /// `( seat`
-    fn open_seat(&mut self) -> Result<Seat, Refusal>
-        ensures gives { Gives (λ q. q) result self.new (open_seat self.old) }
-        ensures shorter { length self.new ≤ length self.old }
-    {
-        self.open()?;
-        self.seat()
-    }
-
-    /// `( seat )`
-    fn seat_in_brackets(&mut self) -> Result<Seat, Refusal>
-        ensures gives { Gives (λ q. q) result self.new (seat_in_brackets self.old) }
-        ensures shorter { length self.new ≤ length self.old }
-    {
-        let seat = self.open_seat()?;
-        self.close()?;
-        Ok(seat)
-    }
-
-    /// `( seat ,`
-    fn open_seat_comma(&mut self) -> Result<Seat, Refusal>
-        ensures gives { Gives (λ q. q) result self.new (open_seat_comma self.old) }
-        ensures shorter { length self.new ≤ length self.old }
-    {
-        let seat = self.open_seat()?;
-        self.comma()?;
-        Ok(seat)
-    }
-
-    /// `ranks )`
-    fn ranks_close(&mut self) -> Result<Honours, Refusal>
-        ensures gives { Gives (λ h. h) result self.new (ranks_close self.old) }
-        ensures shorter { length self.new ≤ length self.old }
-    {
-        let ranks = self.ranks()?;
-        self.close()?;
-        Ok(ranks)
-    }
-
-    /// `, ranks )`
-    fn comma_ranks_close(&mut self) -> Result<Honours, Refusal>
-        ensures gives { Gives (λ h. h) result self.new (comma_ranks_close self.old) }
-        ensures shorter { length self.new ≤ length self.old }
-    {
-        self.comma()?;
-        self.ranks_close()
-    }
-
-    /// `number - number`
-    fn range(&mut self) -> Result<(u16, u16), Refusal>
-        ensures gives { Gives (λ p. (p.0, p.1)) result self.new (range self.old) }
-        ensures shorter { length self.new ≤ length self.old }
-    {
-        let least = self.number()?;
-        self.dash()?;
-        let most = self.number()?;
-        Ok((least, most))
-    }
-
-    /// `, suit )`
-    fn comma_suit_close(&mut self) -> Result<Suit, Refusal>
-        ensures gives { Gives (λ s. s) result self.new (comma_suit_close self.old) }
-        ensures shorter { length self.new ≤ length self.old }
-    {
-        self.comma()?;
-        let suit = self.suit()?;
-        self.close()?;
-        Ok(suit)
-    }
-
-    /// `item - item - item - item`
-    #[tactic(auto, unfolding(crate::specs::internal::Reading::items))]
-    fn items(&mut self) -> Result<[Item; 4], Refusal>
-        ensures gives { Gives (λ n. n) result self.new (items self.old) }
-        ensures shorter { length self.new ≤ length self.old }
-    {
-        let spades = self.item()?;
-        self.dash()?;
-        let hearts = self.item()?;
-        self.dash()?;
-        let diamonds = self.item()?;
-        self.dash()?;
-        let clubs = self.item()?;
-        Ok([spades, hearts, diamonds, clubs])
-    }
-
-    /// `( seat , item - item - item - item )`
-    #[tactic(auto, unfolding(crate::specs::internal::Reading::seat_and_items))]
-    fn seat_and_items(&mut self) -> Result<(Seat, [Item; 4]), Refusal>
-        ensures gives { Gives (λ p. (p.0, p.1)) result self.new (seat_and_items self.old) }
-        ensures shorter { length self.new ≤ length self.old }
-    {
-        let seat = self.open_seat()?;
-        self.comma()?;
-        let items = self.items()?;
-        self.close()?;
-        Ok((seat, items))
     }
 
     /// A number, a measure of a hand or suit, cards of some ranks, or a length.
@@ -574,6 +365,36 @@ pub(crate) fn parse_tokens(alloc: Global, tokens: &[Placed], end: usize) -> Resu
                 at: offset_of(tokens, end, index),
             })
         }
+    }
+}
+
+/// How far some tokens go, and whether they end there.
+#[derive(Clone, Copy, Debug)]
+pub(crate) struct Reach {
+    /// How many of the tokens, at most, begin a condition.
+    pub count: usize,
+    /// Whether all of them together are one.
+    pub is_whole: bool,
+}
+
+/// How many of the tokens a condition can begin with. The only error is `Memory`.
+pub(crate) fn read_as_far(alloc: Global, tokens: &[Placed]) -> Result<Reach, CondError>
+    ensures count { IfOk result (λ r. IsLongestViable (kinds tokens.now) r.count) }
+    ensures whole { IfOk result (λ r.
+        IsTrue r.is_whole ↔ ((t : Form) × Spells (kinds tokens.now) t)) }
+    ensures memory { IfErr result (λ e. e ≡ CondError.Memory) }
+{
+    let mut parser = Parser::new(alloc, tokens);
+    match parser.whole() {
+        Ok(_) => Ok(Reach {
+            count: tokens.len(),
+            is_whole: true,
+        }),
+        Err(Refusal::Syntax) => Ok(Reach {
+            count: tokens.len() - parser.left(),
+            is_whole: false,
+        }),
+        Err(Refusal::Memory) => Err(CondError::Memory),
     }
 }
 

@@ -1,6 +1,8 @@
 //! Tests with outside values.
 
+mod another_parser;
 mod comments;
+mod expected;
 mod later_words;
 mod meaning;
 mod measures;

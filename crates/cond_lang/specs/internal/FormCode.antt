@@ -130,7 +130,9 @@ items_of _ = []
 
 items_back : (items : List Item) → items_of (items_stored items) ≡ items
 items_back [] = refl
-items_back (i ∷ items) = ap (λ j. j ∷ items_of (items_stored items)) (item_back i) ∙ ap (λ is. i ∷ is) (items_back items)
+items_back (i ∷ items) =
+    ap (λ j. j ∷ items_of (items_stored items)) (item_back i)
+    ∙ ap (λ is. i ∷ is) (items_back items)
 
 abbrev truth_stored : Bool → Gv
 truth_stored b = gnum (cond b 1 0)
@@ -164,8 +166,13 @@ honours_from _ = record { ace = false; king = false; queen = false; jack = false
 
 honours_back : (h : Honours) → honours_from (honours_stored h) ≡ h
 honours_back h =
-    rw (truth_back h.ace, truth_back h.king, truth_back h.queen, truth_back h.jack, truth_back h.ten)
-    refl
+    rw (
+      truth_back h.ace,
+      truth_back h.king,
+      truth_back h.queen,
+      truth_back h.jack,
+      truth_back h.ten,
+    ) refl
 
 -- each kind of value is its number and then its parts: a new kind has a line in each of the next
 -- three
@@ -216,9 +223,13 @@ amount_back (suit_points q s) = rw (seat_back q, suit_back s) refl
 amount_back (suit_length q s) = rw (seat_back q, suit_back s) refl
 amount_back (total m q) = rw (measure_back m, seat_back q) refl
 amount_back (suit_total m q s) = rw (measure_back m, seat_back q, suit_back s) refl
-amount_back (cards_held q h) = ap (λ p. cards_held p (honours_from (honours_stored h))) (seat_back q) ∙ ap (cards_held q) (honours_back h)
+amount_back (cards_held q h) =
+    ap (λ p. cards_held p (honours_from (honours_stored h))) (seat_back q)
+    ∙ ap (cards_held q) (honours_back h)
 amount_back (suit_cards_held q s h) =
-    ap (λ p. suit_cards_held p (suit_of_number (suit_number s)) (honours_from (honours_stored h))) (seat_back q)
+    ap
+    (λ p. suit_cards_held p (suit_of_number (suit_number s)) (honours_from (honours_stored h)))
+    (seat_back q)
     ∙ ap (λ u. suit_cards_held q u (honours_from (honours_stored h))) (suit_back s)
     ∙ ap (suit_cards_held q s) (honours_back h)
 amount_back (longest q) = ap longest (seat_back q)
@@ -271,9 +282,11 @@ form_back (balanced q) = ap balanced (seat_back q)
 form_back (shape q ns) = rw (seat_back q, numbers_back ns) refl
 form_back (pattern q ns) = rw (seat_back q, numbers_back ns) refl
 form_back (loose_shape q items) =
-    ap (λ p. loose_shape p (items_of (items_stored items))) (seat_back q) ∙ ap (loose_shape q) (items_back items)
+    ap (λ p. loose_shape p (items_of (items_stored items))) (seat_back q)
+    ∙ ap (loose_shape q) (items_back items)
 form_back (loose_pattern q items) =
-    ap (λ p. loose_pattern p (items_of (items_stored items))) (seat_back q) ∙ ap (loose_pattern q) (items_back items)
+    ap (λ p. loose_pattern p (items_of (items_stored items))) (seat_back q)
+    ∙ ap (loose_pattern q) (items_back items)
 form_back (within a m n) = ap (λ x. within x m n) (amount_back a)
 
 pub one_form : (a b : Form) → form_stored a ≡ form_stored b → a ≡ b

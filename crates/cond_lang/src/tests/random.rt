@@ -30,8 +30,8 @@ impl Dice {
     }
 }
 
-/// The words and symbols of the language, some ranks, numbers and comments, and whole tests, so that
-/// more than the first token is read.
+/// The words and symbols of the language, some ranks, numbers and comments, and whole tests, so
+/// that more than the first token is read.
 const TOKENS: [&[u8]; 56] = [
     b"or",
     b"and",

@@ -1,5 +1,6 @@
-//! The worked conditions of docs/CONDITIONS.md, each over six deals: the truths come from a plain
-//! evaluation of the four hands, not from this crate.
+//! Conditions such as the worked ones of docs/CONDITIONS.md, each over six deals: the truths come
+//! from a plain evaluation of the four hands, not from this crate. The docs' own conditions are run
+//! by tests/conditions.
 
 use super::*;
 
@@ -95,7 +96,7 @@ const CONDITIONS: [(&str, [bool; 6]); 26] = [
         or len(south,clubs)==0",
         [false, true, false, false, false, false],
     ),
-    // Stayman.
+    // A strong notrump opposite a four-card major.
     (
         "balanced(north) and hcp(north)>=15 and hcp(north)<=17 and hcp(south)>=8 \
         and (len(south,spades)==4 or len(south,hearts)==4)",

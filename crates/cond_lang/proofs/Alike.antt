@@ -1,0 +1,350 @@
+-- A condition stays one if a token gives way to another of its kind.
+use Rattle.std.proofs.Common.{◌≡◌, ℕ, List, [], ◌∷◌, ◌++◌, Option, Some, None, refl, sym, ap, ◌∙◌, subst}
+use Rattle.cards.specs.declared.honours.Honours.{Honours}
+use Rattle.cards.specs.declared.measure.Measure.{Measure as AMeasure}
+use Rattle.cards.specs.declared.measure.Measure.TheVariants.{Hcp, Controls, Losers}
+use Rattle.cards.specs.declared.seat.Seat.{Seat as ASeat}
+use Rattle.cards.specs.declared.suit.Suit.{Suit as ASuit}
+use Rattle.cond_lang.specs.declared.kind.Kind.{Kind}
+use Rattle.cond_lang.specs.declared.kind.Kind.TheVariants as kind
+use Rattle.cond_lang.specs.declared.tree.Item.{Item}
+use Rattle.cond_lang.specs.declared.tree.Item.TheVariants.{Length, Any}
+use Rattle.cond_lang.specs.declared.tree.Op.{Op}
+use Rattle.cond_lang.specs.declared.token.Token.{Token}
+use Rattle.cond_lang.specs.declared.token.Token.TheVariants.{Or, And, Not, Balanced, Shape, Pattern, Measure, Cards, Len, Longest, Shortest, In, X, Seat, Suit, Ranks, Number, Open, Close, Comma, Dash, Plus, Relation}
+use Rattle.cond_lang.specs.Continuations.{kind_of}
+use Rattle.cond_lang.specs.Faults.{IsViable}
+use Rattle.cond_lang.specs.Form.{Amount, sum, number, measured, suit_measured, cards_held, suit_cards_held, suit_length, longest, shortest, Form, any_of, all_of, negation, compare, within, balanced, shaped, patterned}
+use Rattle.cond_lang.specs.Grammar.{SpellsAtom, SpellsValue, atom, plus, a_number, measure, measure_in, len, cards, cards_in, longest_suit, shortest_suit, item_token, four, SpellsCond, both, or, SpellsBoth, unit, and, SpellsUnit, not, brackets, test, SpellsTest, comparison, in_range, is_balanced, has_shape, has_pattern}
+
+-- the lists have tokens of the same kinds
+data Alike : List Token → List Token → Type 0 where
+  none : Alike [] []
+  more : {x y : Token} {T U : List Token} → kind_of x ≡ kind_of y → Alike T U → Alike (x ∷ T) (y ∷ U)
+
+alike_refl : (T : List Token) → Alike T T
+alike_refl [] = none
+alike_refl (x ∷ T) = more refl (alike_refl T)
+
+alike_append : {T U R S : List Token} → Alike T U → Alike R S → Alike (T ++ R) (U ++ S)
+alike_append none b = b
+alike_append (more e a) b = more e (alike_append a b)
+
+join : {x y : Token} {T U : List Token} → x ≡ y → T ≡ U → x ∷ T ≡ y ∷ U
+join {x} {y} {T} {U} e i = ap (λ x. x ∷ T) e ∙ ap (λ T. y ∷ T) i
+
+moved : (N : List Token → Type 0) {T U : List Token} → U ≡ T → N T → N U
+moved N e h = subst N (sym e) h
+
+-- ---- one token
+
+-- the only token of a kind
+abbrev only : Kind → Option Token
+only kind.Not = Some Not
+only kind.Open = Some Open
+only kind.Balanced = Some Balanced
+only kind.Shape = Some Shape
+only kind.Pattern = Some Pattern
+only kind.Hcp = Some (Measure Hcp)
+only kind.Controls = Some (Measure Controls)
+only kind.Losers = Some (Measure Losers)
+only kind.Cards = Some Cards
+only kind.Len = Some Len
+only kind.Longest = Some Longest
+only kind.Shortest = Some Shortest
+only kind.Plus = Some Plus
+only kind.In = Some In
+only kind.Dash = Some Dash
+only kind.X = Some X
+only kind.Comma = Some Comma
+only kind.Close = Some Close
+only kind.And = Some And
+only kind.Or = Some Or
+only k = None
+
+only_of : (y t : Token) → only (kind_of y) ≡ Some t → y ≡ t
+only_of Or t e = cc
+only_of And t e = cc
+only_of Not t e = cc
+only_of Balanced t e = cc
+only_of Shape t e = cc
+only_of Pattern t e = cc
+only_of (Measure Hcp) t e = cc
+only_of (Measure Controls) t e = cc
+only_of (Measure Losers) t e = cc
+only_of Cards t e = cc
+only_of Len t e = cc
+only_of Longest t e = cc
+only_of Shortest t e = cc
+only_of In t e = cc
+only_of X t e = cc
+only_of Open t e = cc
+only_of Close t e = cc
+only_of Comma t e = cc
+only_of Dash t e = cc
+only_of Plus t e = cc
+only_of (Seat q) t e = absurd (cc)
+only_of (Suit s) t e = absurd (cc)
+only_of (Ranks h) t e = absurd (cc)
+only_of (Number n) t e = absurd (cc)
+only_of (Relation o) t e = absurd (cc)
+
+-- a token that is the only one of its kind gives way to itself alone
+same : (x : Token) {y : Token} → only (kind_of x) ≡ Some x → kind_of x ≡ kind_of y → y ≡ x
+same x {y} h e = only_of y x (ap only (sym e) ∙ h)
+
+same_measure : (m : AMeasure) {y : Token} → kind_of (Measure m) ≡ kind_of y → y ≡ Measure m
+same_measure Hcp e = same (Measure Hcp) refl e
+same_measure Controls e = same (Measure Controls) refl e
+same_measure Losers e = same (Measure Losers) refl e
+
+like_number : (n : ℕ) (y : Token) → kind_of (Number n) ≡ kind_of y → (m : ℕ) × (y ≡ Number m)
+like_number n (Number m) e = (m, refl)
+like_number n (Measure Hcp) e = absurd (cc)
+like_number n (Measure Controls) e = absurd (cc)
+like_number n (Measure Losers) e = absurd (cc)
+like_number n y e = absurd (cc)
+
+like_seat : (q : ASeat) (y : Token) → kind_of (Seat q) ≡ kind_of y → (r : ASeat) × (y ≡ Seat r)
+like_seat q (Seat r) e = (r, refl)
+like_seat q (Measure Hcp) e = absurd (cc)
+like_seat q (Measure Controls) e = absurd (cc)
+like_seat q (Measure Losers) e = absurd (cc)
+like_seat q y e = absurd (cc)
+
+like_suit : (s : ASuit) (y : Token) → kind_of (Suit s) ≡ kind_of y → (r : ASuit) × (y ≡ Suit r)
+like_suit s (Suit r) e = (r, refl)
+like_suit s (Measure Hcp) e = absurd (cc)
+like_suit s (Measure Controls) e = absurd (cc)
+like_suit s (Measure Losers) e = absurd (cc)
+like_suit s y e = absurd (cc)
+
+like_ranks : (h : Honours) (y : Token) → kind_of (Ranks h) ≡ kind_of y → (r : Honours) × (y ≡ Ranks r)
+like_ranks h (Ranks r) e = (r, refl)
+like_ranks h (Measure Hcp) e = absurd (cc)
+like_ranks h (Measure Controls) e = absurd (cc)
+like_ranks h (Measure Losers) e = absurd (cc)
+like_ranks h y e = absurd (cc)
+
+like_relation : (o : Op) (y : Token) → kind_of (Relation o) ≡ kind_of y → (p : Op) × (y ≡ Relation p)
+like_relation o (Relation p) e = (p, refl)
+like_relation o (Measure Hcp) e = absurd (cc)
+like_relation o (Measure Controls) e = absurd (cc)
+like_relation o (Measure Losers) e = absurd (cc)
+like_relation o y e = absurd (cc)
+
+like_item : (i : Item) (y : Token) → kind_of (item_token i) ≡ kind_of y → (j : Item) × (y ≡ item_token j)
+like_item (Length n) y e = let m = like_number n y e in (Length m.0, m.1)
+like_item Any y e = (Any, same X refl e)
+
+-- ---- a token between two lists
+
+record Between (L : List Token) (x : Token) (R U : List Token) : Type 0 where
+  left : List Token
+  token : Token
+  right : List Token
+  is : U ≡ left ++ token ∷ right
+  like_left : Alike L left
+  like : kind_of x ≡ kind_of token
+  like_right : Alike R right
+
+between : (L : List Token) (x : Token) (R U : List Token) → Alike (L ++ x ∷ R) U → Between L x R U
+between [] x R [] a = elim a [ ]
+between [] x R (y ∷ U) (more e a) = record { left = []; token = y; right = U; is = refl; like_left = none; like = e; like_right = a }
+between (z ∷ L) x R [] a = elim a [ ]
+between (z ∷ L) x R (y ∷ U) (more e a) =
+    let p = between L x R U a in
+    record {
+      left = y ∷ p.left;
+      token = p.token;
+      right = p.right;
+      is = ap (λ L. y ∷ L) p.is;
+      like_left = more e p.like_left;
+      like = p.like;
+      like_right = p.like_right;
+    }
+
+-- the same, where the token between is the only one of its kind
+split_is : {L R U : List Token} {x : Token} (p : Between L x R U) → only (kind_of x) ≡ Some x → U ≡ p.left ++ x ∷ p.right
+split_is {L} {R} {U} {x} p h = p.is ∙ ap (λ y. p.left ++ y ∷ p.right) (same x h p.like)
+
+-- ---- atoms
+
+abbrev SomeAtom : List Token → Type 0
+SomeAtom T = (a : Amount) × SpellsAtom T a
+
+some_atom : {T U : List Token} (a : Amount) → U ≡ T → SpellsAtom T a → SomeAtom U
+some_atom a e h = (a, moved (λ L. SpellsAtom L a) e h)
+
+keep_atom : {T U : List Token} {a : Amount} → SpellsAtom T a → Alike T U → SomeAtom U
+keep_atom (a_number {n}) (more {y} e none) =
+    let m = like_number n y e in some_atom (number m.0) (join m.1 refl) a_number
+keep_atom (measure {m} {q}) (more e0 (more e1 (more {y} e2 (more e3 none)))) =
+    let r = like_seat q y e2 in
+    some_atom (measured m r.0) (join (same_measure m e0) (join (same Open refl e1) (join r.1 (join (same Close refl e3) refl)))) measure
+keep_atom (measure_in {m} {q} {s}) (more e0 (more e1 (more {y} e2 (more e3 (more {y = z} e4 (more e5 none)))))) =
+    let r = like_seat q y e2 in
+    let t = like_suit s z e4 in
+    some_atom (suit_measured m r.0 t.0)
+    (join (same_measure m e0) (join (same Open refl e1) (join r.1 (join (same Comma refl e3) (join t.1 (join (same Close refl e5) refl))))))
+    measure_in
+keep_atom (len {q} {s}) (more e0 (more e1 (more {y} e2 (more e3 (more {y = z} e4 (more e5 none)))))) =
+    let r = like_seat q y e2 in
+    let t = like_suit s z e4 in
+    some_atom (suit_length r.0 t.0)
+    (join (same Len refl e0) (join (same Open refl e1) (join r.1 (join (same Comma refl e3) (join t.1 (join (same Close refl e5) refl))))))
+    len
+keep_atom (cards {q} {h}) (more e0 (more e1 (more {y} e2 (more e3 (more {y = z} e4 (more e5 none)))))) =
+    let r = like_seat q y e2 in
+    let t = like_ranks h z e4 in
+    some_atom (cards_held r.0 t.0)
+    (join (same Cards refl e0) (join (same Open refl e1) (join r.1 (join (same Comma refl e3) (join t.1 (join (same Close refl e5) refl))))))
+    cards
+keep_atom (cards_in {q} {s} {h}) (more e0 (more e1 (more {y} e2 (more e3 (more {y = z} e4 (more e5 (more {y = w} e6 (more e7 none)))))))) =
+    let r = like_seat q y e2 in
+    let t = like_suit s z e4 in
+    let g = like_ranks h w e6 in
+    some_atom (suit_cards_held r.0 t.0 g.0)
+    (join (same Cards refl e0) (join (same Open refl e1) (join r.1 (join (same Comma refl e3) (join t.1
+    (join (same Comma refl e5) (join g.1 (join (same Close refl e7) refl))))))))
+    cards_in
+keep_atom (longest_suit {q}) (more e0 (more e1 (more {y} e2 (more e3 none)))) =
+    let r = like_seat q y e2 in
+    some_atom (longest r.0) (join (same Longest refl e0) (join (same Open refl e1) (join r.1 (join (same Close refl e3) refl)))) longest_suit
+keep_atom (shortest_suit {q}) (more e0 (more e1 (more {y} e2 (more e3 none)))) =
+    let r = like_seat q y e2 in
+    some_atom (shortest r.0) (join (same Shortest refl e0) (join (same Open refl e1) (join r.1 (join (same Close refl e3) refl)))) shortest_suit
+
+-- ---- values
+
+abbrev SomeValue : List Token → Type 0
+SomeValue T = (a : Amount) × SpellsValue T a
+
+keep_value : {T U : List Token} {a : Amount} → SpellsValue T a → Alike T U → SomeValue U
+keep_value (atom h) a = let k = keep_atom h a in (k.0, atom k.1)
+keep_value {T} {U} (plus {L} {R} l r) a =
+    let p = between L Plus R U a in
+    let left = keep_value l p.like_left in
+    let right = keep_atom r p.like_right in
+    (sum left.0 right.0, moved (λ L. SpellsValue L (sum left.0 right.0)) (split_is p refl) (plus left.1 right.1))
+
+-- ---- tests
+
+abbrev SomeTest : List Token → Type 0
+SomeTest T = (t : Form) × SpellsTest T t
+
+some_test : {T U : List Token} (t : Form) → U ≡ T → SpellsTest T t → SomeTest U
+some_test t e h = (t, moved (λ L. SpellsTest L t) e h)
+
+-- number - number
+like_range :
+    (m n : ℕ) (U : List Token) → Alike (Number m ∷ Dash ∷ Number n ∷ []) U
+    → (k : ℕ) × ((l : ℕ) × (U ≡ Number k ∷ Dash ∷ Number l ∷ []))
+like_range m n U (more {y} e0 (more e1 (more {y = z} e2 none))) =
+    let k = like_number m y e0 in
+    let l = like_number n z e2 in
+    (k.0, (l.0, join k.1 (join (same Dash refl e1) (join l.1 refl))))
+
+-- ( seat , item - item - item - item )
+record IsFour (U : List Token) : Type 0 where
+  seat : ASeat
+  first : Item
+  second : Item
+  third : Item
+  fourth : Item
+  is : U ≡ four seat first second third fourth
+
+like_four : (q : ASeat) (a b c d : Item) (U : List Token) → Alike (four q a b c d) U → IsFour U
+like_four q a b c d U
+    (more e0 (more {y = s} e1 (more e2 (more {y = i} e3 (more e4 (more {y = j} e5 (more e6 (more {y = k} e7 (more e8 (more {y = l} e9 (more e10 none))))))))))) =
+    let r = like_seat q s e1 in
+    let w = like_item a i e3 in
+    let x = like_item b j e5 in
+    let y = like_item c k e7 in
+    let z = like_item d l e9 in
+    record {
+      seat = r.0;
+      first = w.0;
+      second = x.0;
+      third = y.0;
+      fourth = z.0;
+      is =
+          join (same Open refl e0) (join r.1 (join (same Comma refl e2)
+          (join w.1 (join (same Dash refl e4) (join x.1 (join (same Dash refl e6) (join y.1 (join (same Dash refl e8) (join z.1
+          (join (same Close refl e10) refl))))))))));
+    }
+
+keep_test : {T U : List Token} {t : Form} → SpellsTest T t → Alike T U → SomeTest U
+keep_test {T} {U} (comparison {L} {R} {a} {b} {o} l r) h =
+    let p = between L (Relation o) R U h in
+    let left = keep_value l p.like_left in
+    let right = keep_value r p.like_right in
+    let by = like_relation o p.token p.like in
+    some_test (compare left.0 by.0 right.0) (p.is ∙ ap (λ y. p.left ++ y ∷ p.right) by.1) (comparison left.1 right.1)
+keep_test {T} {U} (in_range {L} {a} {m} {n = k} l) h =
+    let p = between L In (Number m ∷ Dash ∷ Number k ∷ []) U h in
+    let left = keep_value l p.like_left in
+    let r = like_range m k p.right p.like_right in
+    some_test (within left.0 r.0 r.1.0) (split_is p refl ∙ ap (λ R. p.left ++ In ∷ R) r.1.1) (in_range left.1)
+keep_test (is_balanced {q}) (more e0 (more e1 (more {y} e2 (more e3 none)))) =
+    let r = like_seat q y e2 in
+    some_test (balanced r.0) (join (same Balanced refl e0) (join (same Open refl e1) (join r.1 (join (same Close refl e3) refl)))) is_balanced
+keep_test (has_shape {q} a b c d) (more {U} e h) =
+    let f = like_four q a b c d U h in
+    some_test (shaped f.seat (f.first ∷ f.second ∷ f.third ∷ f.fourth ∷ []))
+    (join (same Shape refl e) f.is) (has_shape f.first f.second f.third f.fourth)
+keep_test (has_pattern {q} a b c d) (more {U} e h) =
+    let f = like_four q a b c d U h in
+    some_test (patterned f.seat (f.first ∷ f.second ∷ f.third ∷ f.fourth ∷ []))
+    (join (same Pattern refl e) f.is) (has_pattern f.first f.second f.third f.fourth)
+
+-- ---- conditions
+
+nothing_like : (U : List Token) → Alike [] U → U ≡ []
+nothing_like [] none = refl
+nothing_like (y ∷ U) a = elim a [ ]
+
+abbrev SomeCond : List Token → Type 0
+SomeCond T = (t : Form) × SpellsCond T t
+
+abbrev SomeBoth : List Token → Type 0
+SomeBoth T = (t : Form) × SpellsBoth T t
+
+abbrev SomeUnit : List Token → Type 0
+SomeUnit T = (t : Form) × SpellsUnit T t
+
+mutual
+  keep_cond : {T U : List Token} {t : Form} → SpellsCond T t → Alike T U → SomeCond U
+  keep_cond (both h) a = let k = keep_both h a in (k.0, both k.1)
+  keep_cond {T} {U} (or {L} {R} l r) a =
+      let p = between L Or R U a in
+      let left = keep_cond l p.like_left in
+      let right = keep_both r p.like_right in
+      (any_of left.0 right.0, moved (λ L. SpellsCond L (any_of left.0 right.0)) (split_is p refl) (or left.1 right.1))
+
+  keep_both : {T U : List Token} {t : Form} → SpellsBoth T t → Alike T U → SomeBoth U
+  keep_both (unit h) a = let k = keep_unit h a in (k.0, unit k.1)
+  keep_both {T} {U} (and {L} {R} l r) a =
+      let p = between L And R U a in
+      let left = keep_both l p.like_left in
+      let right = keep_unit r p.like_right in
+      (all_of left.0 right.0, moved (λ L. SpellsBoth L (all_of left.0 right.0)) (split_is p refl) (and left.1 right.1))
+
+  keep_unit : {T U : List Token} {t : Form} → SpellsUnit T t → Alike T U → SomeUnit U
+  keep_unit (not h) (more {U} e a) =
+      let k = keep_unit h a in
+      (negation k.0, moved (λ L. SpellsUnit L (negation k.0)) (join (same Not refl e) refl) (not k.1))
+  keep_unit (brackets {T} h) (more {U} e a) =
+      let p = between T Close [] U a in
+      let k = keep_cond h p.like_left in
+      let is : U ≡ p.left ++ Close ∷ [] = split_is p refl ∙ ap (λ R. p.left ++ Close ∷ R) (nothing_like p.right p.like_right) in
+      (k.0, moved (λ L. SpellsUnit L k.0) (join (same Open refl e) is) (brackets k.1))
+  keep_unit (test h) a = let k = keep_test h a in (k.0, test k.1)
+
+-- What goes on to a condition still does with another token of the same kind.
+pub viable_like : (T : List Token) (c d : Token) → kind_of c ≡ kind_of d → IsViable (T ++ c ∷ []) → IsViable (T ++ d ∷ [])
+viable_like T c d e v =
+    let a : Alike ((T ++ c ∷ []) ++ v.0) ((T ++ d ∷ []) ++ v.0) =
+    alike_append (alike_append (alike_refl T) (more e none)) (alike_refl v.0) in
+    let k = keep_cond v.2 a in
+    (v.0, k.0, k.1)

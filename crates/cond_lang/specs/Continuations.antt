@@ -1,0 +1,61 @@
+-- What could stand behind the tokens that a condition can begin with.
+use Rattle.std.specs.Prelude.{◌≡◌, ◌⊎◌, ◌+◌, ◌<◌, ◌≤◌, ℕ, List, [], ◌∷◌, ◌++◌, length, take}
+use Rattle.cards.specs.declared.measure.Measure.TheVariants as measure
+use Rattle.cond_lang.specs.declared.kind.Kind.{Kind}
+use Rattle.cond_lang.specs.declared.kind.Kind.TheVariants as kind
+use Rattle.cond_lang.specs.declared.token.Placed.{Placed}
+use Rattle.cond_lang.specs.declared.token.Token.{Token}
+use Rattle.cond_lang.specs.declared.token.Token.TheVariants.{Or, And, Not, Balanced, Shape, Pattern, Measure, Cards, Len, Longest, Shortest, In, X, Seat, Suit, Ranks, Number, Open, Close, Comma, Dash, Plus, Relation}
+use Rattle.cond_lang.specs.Cut.{HasTokens}
+use Rattle.cond_lang.specs.Faults.{IsViable}
+use Rattle.cond_lang.specs.Form.{Form}
+use Rattle.cond_lang.specs.Grammar.{Spells}
+use Rattle.cond_lang.specs.Text.{kinds}
+
+-- each word of its own, and one kind for all comparisons, seats, suits, ranks, numbers
+abbrev pub kind_of : Token → Kind
+kind_of Not = kind.Not
+kind_of Open = kind.Open
+kind_of Balanced = kind.Balanced
+kind_of Shape = kind.Shape
+kind_of Pattern = kind.Pattern
+kind_of (Number n) = kind.Number
+kind_of (Measure measure.Hcp) = kind.Hcp
+kind_of (Measure measure.Controls) = kind.Controls
+kind_of (Measure measure.Losers) = kind.Losers
+kind_of Cards = kind.Cards
+kind_of Len = kind.Len
+kind_of Longest = kind.Longest
+kind_of Shortest = kind.Shortest
+kind_of Plus = kind.Plus
+kind_of (Relation o) = kind.Relation
+kind_of In = kind.In
+kind_of Dash = kind.Dash
+kind_of X = kind.X
+kind_of Comma = kind.Comma
+kind_of (Seat q) = kind.Seat
+kind_of (Suit s) = kind.Suit
+kind_of (Ranks h) = kind.Ranks
+kind_of Close = kind.Close
+kind_of And = kind.And
+kind_of Or = kind.Or
+
+-- Behind T the list may end, since T is a condition, or some token of the kind goes on to one.
+abbrev pub CanFollow : List Token → Kind → Type 0
+CanFollow T k =
+    ((k ≡ kind.End) × ((t : Form) × Spells T t))
+    ⊎ ((c : Token) × (kind_of c ≡ k) × IsViable (T ++ c ∷ []))
+
+-- n tokens begin a condition, and no more of them do
+pub record IsLongestViable (T : List Token) (n : ℕ) : Type 0 where
+  pub within : n ≤ length T
+  pub viable : IsViable (take n T)
+  pub no_more : n < length T → IsViable (take (n + 1) T) → ⊥
+
+-- T is the longest beginning of the text's tokens that a condition goes on with
+pub record IsBeginning (text : List ℕ) (T : List Token) : Type 0 where
+  pub tokens : List Placed
+  pub whole : HasTokens text tokens
+  pub count : ℕ
+  pub longest : IsLongestViable (kinds tokens) count
+  pub is : T ≡ take count (kinds tokens)

@@ -1,0 +1,92 @@
+//! What could stand where a condition goes wrong.
+
+ghost use Rattle.std.specs.Prelude.{◌≡◌, ◌≢◌, ◌≤◌, ◌↔◌, ℕ, ◌++◌, ◌∷◌, [], length};
+ghost use Rattle.std.specs.Prelude.{Err, IfOk, IfErr, IsTrue};
+ghost use Rattle.cond_lang.specs.Continuations.{CanFollow, IsBeginning};
+ghost use Rattle.cond_lang.specs.Faults.{IsDue};
+ghost use Rattle.cond_lang.specs.Text.{kinds};
+
+use crate::error::CondError;
+use crate::kind::Kind;
+use crate::parser::read_as_far;
+use crate::scanner::{MAX_BYTES, scan};
+use crate::token::{Placed, Token};
+use arrayvec::ArrayVec;
+use std::alloc::{AllocError, Global};
+use std::marker::Model;
+
+/// The longest beginning of a text that some condition goes on with, which contracts see as its
+/// tokens.
+#[derive(Drop)]
+pub struct Beginning {
+    alloc: Global,
+    tokens: ArrayVec<Placed, 1024>,
+    count: usize,
+}
+
+impl Model for Beginning {
+    ghost use Rattle.std.specs.Prelude.{◌≤◌, List, length, take};
+    ghost use Rattle.cond_lang.specs.declared.token.Token.{Token as AToken};
+    ghost use Rattle.cond_lang.specs.Text.{kinds};
+
+    ghost Value = { List AToken };
+
+    ghost view = { λ b. take b.count (kinds b.tokens.items) };
+
+    ghost invariant = { λ b. (b.count ≤ length b.tokens.items) × (b.count ≤ 1024) };
+}
+
+impl Beginning {
+    /// The tokens of the text, up to the first that no condition goes on with. A text that spells a
+    /// condition is a beginning as a whole.
+    ///
+    /// A text that has more than 1,024 bytes or a faulty piece is refused as by [`parse`], and
+    /// never as `Syntax`. `Memory` comes when an allocation failed.
+    ///
+    /// [`parse`]: crate::parse
+    pub fn of(alloc: Global, text: &[u8]) -> Result<Beginning, CondError>
+        ensures begins { IfOk result (λ b. IsBeginning text.now b) }
+        ensures refused { IfErr result (λ e. IsDue text.now e) }
+        ensures spared { (at : ℕ) → result ≢ Err (CondError.Syntax at) }
+    {
+        if text.len() > MAX_BYTES {
+            return Err(CondError::TooLong);
+        }
+        let tokens = scan(text)?;
+        let count = read_as_far(alloc, tokens.as_slice())?.count;
+        Ok(Beginning {
+            alloc,
+            tokens,
+            count,
+        })
+    }
+
+    /// Whether some token of the kind could stand next: some condition begins with these tokens and
+    /// that one. The end may stand if the tokens are a condition. The only error is `Memory`, which
+    /// comes only when an allocation failed.
+    pub fn allows(&self, kind: Kind) -> Result<bool, CondError>
+        ensures allowed { IfOk result (λ b. IsTrue b ↔ CanFollow self.now kind) }
+        ensures memory { IfErr result (λ e. e ≡ CondError.Memory) }
+    {
+        let before = &self.tokens.as_slice()[..self.count];
+        match kind.token() {
+            None => Ok(read_as_far(self.alloc, before)?.is_whole),
+            Some(token) => {
+                let Ok(longer) = followed_by(self.alloc, before, token) else {
+                    return Err(CondError::Memory);
+                };
+                Ok(read_as_far(self.alloc, longer.as_slice())?.count == longer.len())
+            }
+        }
+    }
+}
+
+/// The tokens, with one more behind them.
+fn followed_by(alloc: Global, before: &[Placed], token: Token) -> Result<Vec<Placed>, AllocError>
+    ensures { IfOk result (λ longer. kinds longer.items ≡ kinds before.now ++ token ∷ []) }
+{
+    let mut longer = Vec::new(alloc);
+    longer.extend_from_slice(before)?;
+    longer.push(Placed { token, at: 0 })?;
+    Ok(longer)
+}

@@ -1,0 +1,181 @@
+"""The condition language, written from docs/CONDITIONS.md alone: a condition as a function of four hands.
+
+A hand is a list of card numbers, 13 times the suit (spades 0 to clubs 3) plus the rank (ace 0 to two 12).
+"""
+
+import itertools
+import operator
+import re
+
+SEATS = ["north", "east", "south", "west"]
+SUITS = ["spades", "hearts", "diamonds", "clubs"]
+RANKS = "akqjt"
+RELATIONS = {
+    "==": operator.eq,
+    "!=": operator.ne,
+    "<": operator.lt,
+    "<=": operator.le,
+    ">": operator.gt,
+    ">=": operator.ge,
+}
+TOKEN = re.compile(r"[ \t\r\n]|#[^\n]*|[a-z]+|[0-9]{1,4}|[<>=!]=|[<>]|[(),+-]")
+
+
+def ranks_in(hand, suit):
+    return {card % 13 for card in hand if card // 13 == suit}
+
+
+def lengths(hand):
+    return [len(ranks_in(hand, suit)) for suit in range(4)]
+
+
+def weighed(weights):
+    def measure(hand, suits):
+        return sum(weights.get(card % 13, 0) for card in hand if card // 13 in suits)
+
+    return measure
+
+
+def losers(hand, suits):
+    count = 0
+    for suit in suits:
+        held = ranks_in(hand, suit)
+        count += sum(1 for top in range(min(3, len(held))) if top not in held)
+    return count
+
+
+MEASURES = {"hcp": weighed({0: 4, 1: 3, 2: 2, 3: 1}), "controls": weighed({0: 2, 1: 1}), "losers": losers}
+
+
+def tokens_of(text):
+    tokens, at = [], 0
+    while at < len(text):
+        found = TOKEN.match(text, at)
+        if not found:
+            raise ValueError(f"byte {at}")
+        if not found.group().isspace() and not found.group().startswith("#"):
+            tokens.append(found.group())
+        at = found.end()
+    return tokens
+
+
+class Reader:
+    """Reads tokens from the left; each rule returns a function of the four hands."""
+
+    def __init__(self, tokens):
+        self.tokens = tokens
+
+    def sees(self, *words):
+        return bool(self.tokens) and self.tokens[0] in words
+
+    def next(self):
+        if not self.tokens:
+            raise ValueError("it ends too early")
+        return self.tokens.pop(0)
+
+    def expect(self, word):
+        found = self.next()
+        if found != word:
+            raise ValueError(f"{found!r} for {word!r}")
+
+    def one_of(self, words):
+        return words.index(self.next())
+
+    def condition(self):
+        parts = [self.both()]
+        while self.sees("or"):
+            self.next()
+            parts.append(self.both())
+        return lambda hands: any(part(hands) for part in parts)
+
+    def both(self):
+        parts = [self.unit()]
+        while self.sees("and"):
+            self.next()
+            parts.append(self.unit())
+        return lambda hands: all(part(hands) for part in parts)
+
+    def unit(self):
+        if self.sees("not"):
+            self.next()
+            inner = self.unit()
+            return lambda hands: not inner(hands)
+        if self.sees("("):
+            self.next()
+            inner = self.condition()
+            self.expect(")")
+            return inner
+        if self.sees("balanced", "shape", "pattern"):
+            return self.shape(self.next())
+        return self.comparison()
+
+    def shape(self, word):
+        self.expect("(")
+        seat = self.one_of(SEATS)
+        if word == "balanced":
+            self.expect(")")
+            wanted = ([3, 3, 3, 4], [2, 3, 4, 4], [2, 3, 3, 5])
+            return lambda hands: sorted(lengths(hands[seat])) in wanted
+        items = []
+        for sign in ",---":
+            self.expect(sign)
+            item = self.next()
+            items.append(None if item == "x" else int(item))
+        self.expect(")")
+        orders = [tuple(items)] if word == "shape" else set(itertools.permutations(items))
+        fits = lambda order, held: all(item in (None, length) for item, length in zip(order, held))  # noqa: E731
+        return lambda hands: any(fits(order, lengths(hands[seat])) for order in orders)
+
+    def comparison(self):
+        left = self.value()
+        if self.sees("in"):
+            self.next()
+            least = int(self.next())
+            self.expect("-")
+            most = int(self.next())
+            return lambda hands: least <= left(hands) <= most
+        relation = RELATIONS[self.next()]
+        right = self.value()
+        return lambda hands: relation(left(hands), right(hands))
+
+    def value(self):
+        parts = [self.atom()]
+        while self.sees("+"):
+            self.next()
+            parts.append(self.atom())
+        return lambda hands: sum(part(hands) for part in parts)
+
+    def atom(self):
+        word = self.next()
+        if word.isdigit():
+            return lambda hands: int(word)
+        self.expect("(")
+        seat = self.one_of(SEATS)
+        if word in ("longest", "shortest"):
+            self.expect(")")
+            choose = max if word == "longest" else min
+            return lambda hands: choose(lengths(hands[seat]))
+        suits = range(4)
+        if self.sees(","):
+            self.next()
+            if self.tokens[0] in SUITS:
+                suits = [self.one_of(SUITS)]
+                if word == "cards":
+                    self.expect(",")
+        ranks = {RANKS.index(letter) for letter in self.next()} if word == "cards" else set()
+        self.expect(")")
+        if word == "cards":
+            return lambda hands: sum(card % 13 in ranks and card // 13 in suits for card in hands[seat])
+        if word == "len":
+            return lambda hands: sum(card // 13 in suits for card in hands[seat])
+        measure = MEASURES[word]
+        return lambda hands: measure(hands[seat], suits)
+
+
+def condition(text):
+    """The condition of a text, as a function of four hands, clockwise from North."""
+    reader = Reader(tokens_of(text))
+    found = reader.condition()
+    if reader.tokens:
+        raise ValueError(f"{reader.tokens[0]!r} stands behind the end")
+    return found
