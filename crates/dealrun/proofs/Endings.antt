@@ -206,7 +206,7 @@ module _ (layout : Layout) (plan : Planned) (form : Form) (lanes : List OutView)
   fronts : ByNumber plan lanes (λ w l. IsPrefix l.taken (verdicts_for plan form w))
   fronts w e lt = prefix_front (get_or lanes w e).taken (get_or lanes w e).left (verdicts_for plan form w) (sent w e lt)
 
-  end_is : end_of plan form ≡ t
+  pub end_is : end_of plan form ≡ t
   end_is = ends plan form lanes t some le h.in_turn fronts layout boards old new h.written h.within h.short ended
 
   all_needed : plan.limit ≢ Some boards → t ≡ plan.count

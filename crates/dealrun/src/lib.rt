@@ -27,6 +27,6 @@ pub use cause::Cause;
 pub use pbn::{run, run_plain};
 pub use plans::{Plan, PlanError};
 pub use reference::{PlainFault, run_plain_in};
-pub use runs::{Report, RunFault, run_in};
+pub use runs::{Counted, Report, RunFault, run_and_count, run_in};
 pub use sinks::{Fuse, MemSink, Piped, Sink, SinkFault, put_all};
 pub use values::stream;

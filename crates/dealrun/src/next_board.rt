@@ -28,6 +28,7 @@ fn next_board(plan: &Plan, boards: u64, candidate: u64, deal: &Deal) -> Board
 }
 
 /// Writes the board of a candidate's deal, after `boards` of them.
+#[inline(always)]
 pub(crate) fn put_board<N: Notation, S: Sink>(
     plan: &Plan,
     notation: &mut N,

@@ -10,7 +10,7 @@ ghost use Rattle.sinks.specs.Sinks.{CountsFault};
 ghost use Rattle.dealrun.specs.Text.{accepted};
 
 use crate::reference::{PlainFault, run_plain_in};
-use crate::runs::{Report, RunFault, out_of_memory, start_and_write};
+use crate::runs::{Counted, Report, RunFault, out_of_memory, start_and_write};
 use cond_lang::Cond;
 use lanes::Gate;
 use pbn_text::{Printer, Reference};
@@ -70,7 +70,17 @@ pub fn run<
     let Ok(mut printer) = Printer::new(alloc, plan.heading()) else {
         return Err(out_of_memory(alloc));
     };
-    start_and_write(rt, alloc, plan, cond, &mut printer, sink, gate, stop)
+    let Counted { report, .. } = start_and_write(
+        rt,
+        alloc,
+        plan,
+        cond,
+        &mut printer,
+        sink,
+        gate,
+        stop,
+    )?;
+    Ok(report)
 }
 
 /// Tries the plan's candidates in order, and writes the header and the games of those that meet the

@@ -9,6 +9,7 @@ ghost use Rattle.cond_lang.specs.Form.{Form};
 ghost use Rattle.dealrun.specs.declared.cause.Cause.TheVariants.{Memory};
 ghost use Rattle.dealrun.specs.Outcomes.{FaultsAfter, InterruptedIn, StandsCompleteIn};
 ghost use Rattle.dealrun.specs.Outcomes.{TakesWhatIsOwed, WritesTextIn};
+ghost use Rattle.dealrun.specs.Text.{end_of};
 ghost use Rattle.dealrun.specs.internal.Ends.{Closes};
 ghost use Rattle.dealrun.specs.internal.Handles.{owed_by};
 ghost use Rattle.dealrun.specs.internal.Joins.{Owes};
@@ -34,6 +35,14 @@ use std::thread::Threads;
 pub struct Report {
     pub lanes: Vec<LaneOut>,
     pub boards: u64,
+}
+
+/// A run that wrote all that its plan asks for, and how many candidates that took.
+#[derive(Drop)]
+pub struct Counted {
+    pub report: Report,
+    /// The candidates up to the one whose board met the limit, or all.
+    pub candidates: u64,
 }
 
 /// A run that was interrupted: why, its lanes as they are, and the number of whole
@@ -91,6 +100,49 @@ pub fn run_in<
         (λ _. S.faults sink.new ≡ S.faults sink.old)
         (λ e. FaultsAfter e.cause (S.faults sink.old) (S.faults sink.new)) }
 {
+    let Counted { report, .. } = run_and_count(rt, alloc, plan, cond, notation, sink, gate)?;
+    Ok(report)
+}
+
+/// Writes as `run_in` does, and counts the candidates: those up to the one whose board met the
+/// limit, or all.
+///
+/// # Errors
+///
+/// Those of `run_in`.
+pub fn run_and_count<
+    R: Threads + Wait + Clone + Send + 'static,
+    G: Gate + Drop + Send + Sync + 'static,
+    N: Notation,
+    S: Sink,
+>(
+    rt: &R,
+    alloc: Global,
+    plan: &Plan,
+    cond: Cond,
+    notation: &mut N,
+    sink: &mut S,
+    gate: Arc<G, Global>,
+) -> Result<Counted, RunFault>
+    requires { S.faults sink.old < 2 ^ 64 - 1 }
+    ensures layout { N.layout notation.new ≡ N.layout notation.old }
+    ensures lanes { IfOk result (λ r.
+        TakesWhatIsOwed plan.now cond r.report.lanes.items r.report.boards) }
+    ensures text { IfOk result (λ r. WritesTextIn (N.layout notation.old) plan.now cond
+        r.report.boards (S.bytes sink.old) (S.bytes sink.new)) }
+    // So many candidates are needed.
+    ensures candidates { IfOk result (λ r. r.candidates ≡ end_of plan.now cond) }
+    ensures few { IfOk result (λ r.
+        (r.report.boards ≤ r.candidates) × (r.candidates ≤ plan.now.count)) }
+    ensures stands { MatchResult result
+        (λ r. StandsCompleteIn (N.layout notation.old) (N.layout notation.old).footer
+        plan.now cond r.report.lanes.items r.report.boards (S.bytes sink.old) (S.bytes sink.new))
+        (λ e. InterruptedIn (N.layout notation.old)
+        plan.now cond e.cause e.lanes.items e.boards (S.bytes sink.old) (S.bytes sink.new)) }
+    ensures faults { MatchResult result
+        (λ _. S.faults sink.new ≡ S.faults sink.old)
+        (λ e. FaultsAfter e.cause (S.faults sink.old) (S.faults sink.new)) }
+{
     match Arc::new(alloc, AtomicBool::new(false)) {
         Ok(stop) => start_and_write(rt, alloc, plan, cond, notation, sink, gate, stop),
         Err(_) => Err(out_of_memory(alloc)),
@@ -113,15 +165,19 @@ pub(crate) fn start_and_write<
     sink: &mut S,
     gate: Arc<G, Global>,
     stop: Arc<AtomicBool, Global>,
-) -> Result<Report, RunFault>
+) -> Result<Counted, RunFault>
     requires { S.faults sink.old < 2 ^ 64 - 1 }
     ensures layout { N.layout notation.new ≡ N.layout notation.old }
-    ensures lanes { IfOk result (λ r. TakesWhatIsOwed plan.now cond r.lanes.items r.boards) }
-    ensures text { IfOk result (λ r. WritesTextIn (N.layout notation.old) plan.now cond r.boards
-        (S.bytes sink.old) (S.bytes sink.new)) }
+    ensures lanes { IfOk result (λ r.
+        TakesWhatIsOwed plan.now cond r.report.lanes.items r.report.boards) }
+    ensures text { IfOk result (λ r. WritesTextIn (N.layout notation.old) plan.now cond
+        r.report.boards (S.bytes sink.old) (S.bytes sink.new)) }
+    ensures candidates { IfOk result (λ r. r.candidates ≡ end_of plan.now cond) }
+    ensures few { IfOk result (λ r.
+        (r.report.boards ≤ r.candidates) × (r.candidates ≤ plan.now.count)) }
     ensures stands { MatchResult result
         (λ r. StandsCompleteIn (N.layout notation.old) (N.layout notation.old).footer
-        plan.now cond r.lanes.items r.boards (S.bytes sink.old) (S.bytes sink.new))
+        plan.now cond r.report.lanes.items r.report.boards (S.bytes sink.old) (S.bytes sink.new))
         (λ e. InterruptedIn (N.layout notation.old)
         plan.now cond e.cause e.lanes.items e.boards (S.bytes sink.old) (S.bytes sink.new)) }
     ensures faults { MatchResult result
@@ -166,7 +222,7 @@ fn write_to_end<R: Threads + Wait, N: Notation, S: Sink>(
     notation: &mut N,
     sink: &mut S,
     stop: &AtomicBool,
-) -> Result<Report, RunFault>
+) -> Result<Counted, RunFault>
     requires faults { S.faults sink.old < 2 ^ 64 - 1 }
     requires counts { (vec_len handles ≡ plan.now.workers)
         × (vec_len lanes ≡ plan.now.workers)
@@ -179,8 +235,13 @@ fn write_to_end<R: Threads + Wait, N: Notation, S: Sink>(
     ensures layout { N.layout notation.new ≡ N.layout notation.old }
     ensures closes { IfOk result (λ r. (form : Form)
         → Owes plan.now form (owed_by handles.items)
-        → Closes (N.layout notation.old) plan.now form r.lanes.items r.boards
+        → Closes (N.layout notation.old) plan.now form r.report.lanes.items r.report.boards
         (S.bytes sink.old) (S.bytes sink.new)) }
+    ensures few { IfOk result (λ r.
+        (r.report.boards ≤ r.candidates) × (r.candidates ≤ plan.now.count)) }
+    ensures ends { IfOk result (λ r. (form : Form)
+        → Owes plan.now form (owed_by handles.items)
+        → r.candidates ≡ end_of plan.now form) }
     ensures stands { IfErr result (λ e. (form : Form)
         → Owes plan.now form (owed_by handles.items)
         → InterruptedIn (N.layout notation.old) plan.now form e.cause e.lanes.items e.boards
@@ -203,7 +264,10 @@ fn write_to_end<R: Threads + Wait, N: Notation, S: Sink>(
     );
     let boards = progress.boards;
     match ended {
-        Ok(()) => Ok(Report { lanes, boards }),
+        Ok(()) => Ok(Counted {
+            report: Report { lanes, boards },
+            candidates: progress.taken,
+        }),
         Err(cause) => Err(RunFault {
             cause,
             lanes,

@@ -7,6 +7,7 @@ ghost use Rattle.std.specs.Prelude.{slice_index_or};
 ghost use Rattle.cond_lang.specs.Form.{Form};
 ghost use Rattle.dealrun.specs.declared.cause.Cause.TheVariants.{Output};
 ghost use Rattle.dealrun.specs.Outcomes.{FaultsAfter, InterruptedIn};
+ghost use Rattle.dealrun.specs.Text.{end_of};
 ghost use Rattle.sinks.specs.Sinks.{CountsFault};
 ghost use Rattle.dealrun.specs.internal.Ends.{Closes};
 ghost use Rattle.dealrun.specs.internal.Handles.{owed_by};
@@ -56,6 +57,10 @@ pub(crate) fn write_all<R: Threads + Wait, N: Notation, S: Sink>(
         → Owes plan.now form (owed_by handles.items)
         → Closes (N.layout notation.old) plan.now form lanes.new.items progress.new.boards
         (S.bytes sink.old) (S.bytes sink.new)) }
+    ensures counts { OnOk result (progress.new.taken ≤ plan.now.count) }
+    ensures ends { OnOk result ((form : Form)
+        → Owes plan.now form (owed_by handles.items)
+        → progress.new.taken ≡ end_of plan.now form) }
     ensures stands { IfErr result (λ cause. (form : Form)
         → Owes plan.now form (owed_by handles.items)
         → InterruptedIn (N.layout notation.old) plan.now form cause lanes.new.items
@@ -135,6 +140,12 @@ fn write_rest<N: Notation, S: Sink>(
         progress.old.taken progress.old.boards base (S.bytes sink.old)
         → Closes (N.layout notation.old) plan.now form lanes.new.items progress.new.boards
         base (S.bytes sink.new)) }
+    ensures counts { OnOk result (progress.new.taken ≤ plan.now.count) }
+    ensures ends { OnOk result ((form : Form) (base : Option (List ℕ))
+        → AllParts plan.now form lanes.old.items
+        → WriterSoFar (N.layout notation.old) plan.now lanes.old.items
+        progress.old.taken progress.old.boards base (S.bytes sink.old)
+        → progress.new.taken ≡ end_of plan.now form) }
     ensures stands { OnErr result ((form : Form) (base : Option (List ℕ))
         → AllParts plan.now form lanes.old.items
         → WriterSoFar (N.layout notation.old) plan.now lanes.old.items

@@ -51,6 +51,8 @@ impl Progress {
     }
 
     /// Counts a verdict that was taken, and writes its board if it is accepted.
+    // In line, since to copy a verdict that was made just now takes 10 ns.
+    #[inline(always)]
     fn write<N: Notation, S: Sink>(
         &mut self,
         plan: &Plan,

@@ -220,8 +220,18 @@ impl LaneIn {
         ensures sent { self.new.sent ≡ self.old.sent ++ verdict ∷ [] }
         ensures room { self.old.room ≡ self.new.room + 1 }
     {
+        self.send_slot(Slot::of(&verdict));
+    }
+
+    /// Sends a verdict, as the lane keeps it, into a slot that is known to be free. Never blocks.
+    pub(crate) fn send_slot(&mut self, verdict: Slot)
+        requires { 0 < self.old.room }
+        ensures ring { self.new.ring ≡ self.old.ring }
+        ensures sent { self.new.sent ≡ self.old.sent ++ verdict ∷ [] }
+        ensures room { self.old.room ≡ self.new.room + 1 }
+    {
         // A push is the core's Send.
-        self.producer.push_reserved(Slot::of(&verdict));
+        self.producer.push_reserved(verdict);
     }
 
     /// How many verdicts the ring holds at most.

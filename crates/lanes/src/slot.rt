@@ -45,6 +45,13 @@ impl Slot {
         }
     }
 
+    /// The number of the verdict's candidate.
+    pub(crate) fn number(&self) -> u64
+        ensures { result ≡ self.now.number }
+    {
+        self.number
+    }
+
     /// The verdict.
     pub(crate) fn verdict(&self) -> Verdict
         ensures { result ≡ self.now }

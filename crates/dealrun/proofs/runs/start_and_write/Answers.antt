@@ -33,6 +33,15 @@ returns-clause-text g c =
     let owes = all_owe p c.args.cond (vec_len handles) (map (λ h. verdicts_of h.promise.job.value) handles.items) (map (λ a. verdicts_of a.job) assigned.items) c.start_all.ensures.jobs whole c.in-Ok.ensures.jobs in
     if_ok c.write_to_end.result _ _ (λ r h. (h c.args.cond owes).text_is) c.write_to_end.ensures.closes
 
+pub returns-clause-candidates : goal.returns-clause-candidates
+returns-clause-candidates g c =
+    let p = c.args.plan.now in
+    let handles = c.start_all.new.handles in
+    let assigned = c.in-Ok.assignments in
+    let whole : vec_len handles ≡ length (map (λ a. verdicts_of a.job) assigned.items) = simp length-map (omega (arith, c.start_all.ensures.all c.if-not-start_all.false, assigned.ok.0)) in
+    let owes = all_owe p c.args.cond (vec_len handles) (map (λ h. verdicts_of h.promise.job.value) handles.items) (map (λ a. verdicts_of a.job) assigned.items) c.start_all.ensures.jobs whole c.in-Ok.ensures.jobs in
+    if_ok c.write_to_end.result _ _ (λ r h. h c.args.cond owes) c.write_to_end.ensures.ends
+
 pub returns-clause-stands : goal.returns-clause-stands
 returns-clause-stands g c =
     let p = c.args.plan.now in

@@ -97,3 +97,17 @@ returns-in_ok-write_rest-in-None-clause-closes g c form owes =
     let after = c.write_rest.new in
     closes_at layout now p form after.lanes.items after.progress.boards base (g.S.Sink.bytes after.sink) w.ensures.layout
     (c.in_ok-write_rest-in-None.ensures.closes form base resumes.parts (so_far_at layout now w.ensures.layout resumes.so_far))
+
+pub returns-in_ok-write_rest-in-None-clause-ends : goal.returns-in_ok-write_rest-in-None-clause-ends
+returns-in_ok-write_rest-in-None-clause-ends g c form owes =
+    let p = c.args.plan.now in
+    let layout = g.N.Notation.layout c.args.notation.now in
+    let w = c.write_beside_workers-written in
+    let lanes = c.join_all-joined.new.lanes.items in
+    let base = g.S.Sink.bytes c.args.sink.now in
+    let new = g.S.Sink.bytes w.new.sink in
+    let wrote = wrote_still layout p w.result w.new.lanes.items lanes w.new.progress.taken w.new.progress.boards base new c.join_all-joined.ensures.taken w.ensures.wrote in
+    let resumes = from_none c.cause_of.result _ _ _ c.cause_of.ensures c.in-None.is
+    (at_end layout p form (vec_len c.args.handles) (owed c.args.handles.items) lanes w.new.progress.taken w.new.progress.boards base new c.requires.some c.requires.counts.0 w.ensures.counts.2 owes w.result _ _ wrote c.join_all-joined.ensures.joined) in
+    let now = g.N.Notation.layout w.new.notation in
+    c.in_ok-write_rest-in-None.ensures.ends form base resumes.parts (so_far_at layout now w.ensures.layout resumes.so_far)

@@ -1,7 +1,7 @@
-use Rattle.std.proofs.Common.{◌≡◌, ◌∙◌, ap, arith, inr, length, subst}
+use Rattle.std.proofs.Common.{◌≡◌, ◌∙◌, ap, arith, inr, length, subst, sym}
 use Rattle.sinks.specs.Appended.{append_known, AppendsPart}
 use Rattle.dealrun.proofs.Causes.{if_broken, if_written, parts_kept}
-use Rattle.dealrun.proofs.Endings.{closed, complete, footer_broken}
+use Rattle.dealrun.proofs.Endings.{closed, complete, end_is, footer_broken}
 use Rattle.dealrun.proofs.Finals.{stands_broken}
 use Rattle.dealrun.proofs.Maps.{on_err}
 use Rattle.dealrun.proofs.whole_text.write_rest.Goals as goal
@@ -30,6 +30,18 @@ returns-clause-closes g c =
     let kept = parts_kept p form c.args.lanes.now.items w.lanes.items long e.kept parts in
     let done = complete layout p form w.lanes.items w.progress.taken w.progress.boards base mid c.requires.some e.counts (e.written base begun) (λ k d lt. (kept k d lt).0) (λ k d lt _. (kept k d lt).1) e.end in
     closed layout p form w.lanes.items w.progress.boards base mid new done (at ∙ ap (append_known mid) footer)) c.put_all.ensures.bytes
+
+pub returns-clause-ends : goal.returns-clause-ends
+returns-clause-ends g c =
+    let p = c.args.plan.now in
+    let layout = g.N.Notation.layout c.args.notation.now in
+    let w = c.write_remaining.new in
+    let e = c.in_ok-write_remaining.ensures in
+    let mid = g.S.Sink.bytes w.sink in
+    let long : length c.args.lanes.now.items ≡ p.workers = omega (arith, c.args.lanes.now.ok.0, c.requires.counts.0) in
+    if_written c.put_all.result _ _ _ (λ at form base parts begun.
+    let kept = parts_kept p form c.args.lanes.now.items w.lanes.items long e.kept parts in
+    sym (end_is layout p form w.lanes.items w.progress.taken w.progress.boards base mid c.requires.some e.counts (e.written base begun) (λ k d lt. (kept k d lt).0) (λ k d lt _. (kept k d lt).1) e.end)) c.put_all.ensures.bytes
 
 pub returns-clause-stands : goal.returns-clause-stands
 returns-clause-stands g c =

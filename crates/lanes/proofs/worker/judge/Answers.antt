@@ -14,7 +14,7 @@ loop-i-preserved c =
     let i = c.loop-i.i in
     let k = s.first + s.worker + (p + i) * s.workers in
     let all = verdicts_of j in
-    let v : Verdict = record { number = c.at.result; accepted = c.holds.result; deal = c.next-deal.result } in
+    let v : Verdict = c.of.result in
     let kept = c.loop-i.invariant in
     let made = verdict_made j.seed j.cond k c.at.result c.holds.result c.next-deal.result c.at.ensures (c.next-deal.ensures.deal j.seed k s.workers kept.next) c.holds.ensures in
     let more = one_more j.seed s.first s.count j.cond s.workers s.worker (p + i) s.one_of (omega (arith, c.loop-i-test.true, c.loop-i.auto, c.requires.within)) in
@@ -26,7 +26,7 @@ loop-i-preserved c =
       judged = ap (λ xs. take p all ++ xs) (take_more_set c.loop-i.block i v (omega (arith, c.loop-i-test.true, c.loop-i.auto, kept.len)))
           ∙ sym (append_assoc (take p all) (take i c.loop-i.block) (v ∷ []))
           ∙ ap (λ xs. xs ++ v ∷ []) kept.judged
-          ∙ ap (λ u. take (p + i) all ++ u ∷ []) made
+          ∙ ap (λ u. take (p + i) all ++ u ∷ []) (c.of.ensures ∙ made)
           ∙ sym more
           ∙ ap (λ n. take n all) next;
     }
