@@ -63,6 +63,11 @@ def of_make():
         more = ["--first", "3", "--first-board", "16", "--event", "Club night", "--site", "", "--date", "2024.05.01"]
         labels = [("Event", "Club night"), ("Site", ""), ("Date", "2024.05.01")]
         yield made("labels", 20, workers, more=more, first=3, first_board=16, labels=labels)
+    words = ["make", "--seed", "7", "--boards", "5", "--workers", "3"]
+    yield Case("make, a limit alone", words, out=model.games(7, 5), workers=3)
+    report = b"36 boards from 36 candidates, numbers 0 to 35, of seed 7\nnext: --first 36 --first-board 37\n"
+    words = ["make", "--seed", "7", "--candidates", "36", "--report", "--workers", "3"]
+    yield Case("make, a report", words, out=model.games(7, 36), err=report, workers=3)
     deep = "(" * 509 + "0==0" + ")" * 509
     yield Case("make, brackets", asked("--where", deep), out=model.games(7, 1), workers=1)
     yield Case("make, negations", asked("--where", "not " * 255 + "0==0"), out=model.games(7, 0), workers=1)

@@ -1,23 +1,23 @@
 -- What words without a fault ask for.
-use Rattle.std.proofs.Common.{◌≡◌, ◌⊎◌, ◌∙◌, Bool, true, false, List, [], ◌∷◌, Option, Some, None, refl, sym, ap, subst, inl, inr, codes, option_map}
+use Rattle.std.proofs.Common.{◌≡◌, ◌⊎◌, ◌∙◌, Bool, true, false, List, [], ◌∷◌, Option, Some, None, refl, sym, ap, subst, inl, inr, codes, option_map, if◌then◌else◌}
 use Rattle.std.specs.Prelude.{IsSome, Box}
 use Rattle.std.specs.Borrow.{Bor}
 use Rattle.std.specs.Box.{box_value}
 use Rattle.std.specs.Str.{bytes_eq}
 use Rattle.std.proofs.lemmas.Slice.Eq.{bytes_eq-Decides}
 use Rattle.clap.specs.Faults.{fault_of, is_simple_and_free}
-use Rattle.clap.specs.Kinds.{HasKind, Kinds}
+use Rattle.clap.specs.Kinds.{HasKind, Kinds, or_else}
 use Rattle.clap.specs.Simple.{App, HasMatchesOf, argument_words, built, subcommand_of, subcommand_rows, subcommand_rows_of}
 use Rattle.clap.specs.Walk.{Row, Text, answers_to, rows_after}
 use Rattle.clap.specs.Words.{found_of, kind_of, rows_of, subcommand_name_of}
 use Rattle.clap.specs.declared.error.Error.{Error}
-use Rattle.clap.specs.declared.error.kind.ErrorKind.TheVariants.{OutOfMemory}
+use Rattle.clap.specs.declared.error.kind.ErrorKind.TheVariants.{MissingRequiredArgument, OutOfMemory}
 use Rattle.clap.specs.declared.parser.matches.ArgMatches.{ArgMatches}
 use Rattle.clap.specs.declared.parser.matches.ArgMatches.TheViews.{out-ArgMatches, out-SubCommand}
 use Rattle.clap.specs.declared.parser.matches.SubCommand.{SubCommand}
-use Rattle.deals_cli.specs.CommandLine.{asked, deals, kinds_for, making_in, stream_wish, unless_fault, wish_by}
+use Rattle.deals_cli.specs.CommandLine.{asked, deals, end_kinds, has_no_end, kinds_for, making_in, stream_wish, unless_fault, wish_by, wish_in}
 use Rattle.deals_cli.specs.internal.Readings.{MakeValues, StreamValues}
-use Rattle.requests.specs.Requests.{make}
+use Rattle.requests.specs.Requests.{Making, Wish, make}
 use Rattle.deals_cli.proofs.Commands.{make_built, make_values, stream_built, stream_values}
 use Rattle.deals_cli.proofs.Entered.{enters}
 
@@ -71,7 +71,7 @@ unfolding asked kinds_for
 err_kind app words e is h some =
     go (fault_of deals words) (subst (λ (a : App). (is_simple_and_free a ≡ true → HasKind (fault_of a words) e) → HasKind (fault_of deals words) e) (sym is) (λ k. k refl) h) some
   where
-    go : (ks : Kinds) → HasKind ks e → IsSome (unless_fault ks (option_map wish_by (subcommand_of deals words))) → kind_of e ≡ OutOfMemory
+    go : (ks : Kinds) → HasKind ks e → IsSome (unless_fault (or_else ks (end_kinds (wish_in words))) (wish_in words)) → kind_of e ≡ OutOfMemory
     go [] has s = elim has [ inl m ↦ m | inr bad ↦ absurd bad ]
     go (k ∷ ks) has s = let bad : false ≡ true = s in absurd cc
 
@@ -108,18 +108,46 @@ met app words m sub name rows is has names all named =
     let at = subst (λ (a : App). HasMatchesOf a words m) is has in
     met_by m sub name rows names all ((at refl).1 ∙ named)
 
-pub asked_stream : (words : List Text) → fault_of deals words ≡ [] → (n : NamesStream words) → asked words ≡ Some (stream_wish n.rows)
-unfolding asked kinds_for
-asked_stream words f n = ap (λ (k : Kinds). unless_fault k (option_map wish_by (subcommand_of deals words))) f ∙ ap (option_map wish_by) n.named
+-- ---- the wish
 
-pub asked_make : (words : List Text) → fault_of deals words ≡ [] → (n : NamesMake words) → asked words ≡ Some (make (making_in n.rows))
+by_wish : (words : List Text) (o : Option Wish) → fault_of deals words ≡ [] → wish_in words ≡ o → asked words ≡ unless_fault (end_kinds o) o
 unfolding asked kinds_for
-asked_make words f n = ap (λ (k : Kinds). unless_fault k (option_map wish_by (subcommand_of deals words))) f ∙ ap (option_map wish_by) n.named
+by_wish words o f is =
+    ap (λ (k : Kinds). unless_fault (or_else k (end_kinds (wish_in words))) (wish_in words)) f ∙ ap (λ (x : Option Wish). unless_fault (end_kinds x) x) is
+
+by_end : (words : List Text) (o : Option Wish) → fault_of deals words ≡ [] → wish_in words ≡ o → kinds_for words ≡ end_kinds o
+unfolding kinds_for
+by_end words o f is = ap (λ (k : Kinds). or_else k (end_kinds (wish_in words))) f ∙ ap end_kinds is
+
+pub asked_stream : (words : List Text) → fault_of deals words ≡ [] → (n : NamesStream words) → asked words ≡ Some (stream_wish n.rows)
+asked_stream words f n = by_wish words (Some (stream_wish n.rows)) f (ap (option_map wish_by) n.named)
+
+-- words that name `make` ask for it if its end is given, and else they are refused
+pub record AsksMake (words : List Text) (m : Making) : Type 0 where
+  pub ends : has_no_end m ≡ false → asked words ≡ Some (make m)
+  pub refused : has_no_end m ≡ true → asked words ≡ None
+  pub kinds : has_no_end m ≡ true → kinds_for words ≡ MissingRequiredArgument ∷ []
+
+pub asks_make : (words : List Text) → fault_of deals words ≡ [] → (n : NamesMake words) → AsksMake words (making_in n.rows)
+asks_make words f n = record {
+  ends = λ e. by_wish words found f is ∙ ap (λ (b : Bool). unless_fault (if b then missing else []) found) e;
+  refused = λ e. by_wish words found f is ∙ ap (λ (b : Bool). unless_fault (if b then missing else []) found) e;
+  kinds = λ e. by_end words found f is ∙ ap (λ (b : Bool). if b then missing else []) e;
+}
+  where
+    missing : Kinds
+    missing = MissingRequiredArgument ∷ []
+
+    found : Option Wish
+    found = Some (make (making_in n.rows))
+
+    is : wish_in words ≡ found
+    is = ap (option_map wish_by) n.named
 
 -- what the words ask for, by the name of the subcommand that was met
 pub record Chosen (words : List Text) (name : Text) (rows : List Row) : Type 0 where
   pub stream : bytes_eq name (codes "stream") ≡ true → StreamValues rows × (asked words ≡ Some (stream_wish rows))
-  pub make : bytes_eq name (codes "stream") ≡ false → MakeValues rows × (asked words ≡ Some (make (making_in rows)))
+  pub make : bytes_eq name (codes "stream") ≡ false → MakeValues rows × AsksMake words (making_in rows)
 
 abbrev of_pair : List Text → Bor Text × Bor ArgMatches → Type 0
 of_pair words p = Chosen words p.0.now (rows_of (found_of p.1.now))
@@ -128,7 +156,7 @@ chosen_stream : (words : List Text) → fault_of deals words ≡ [] → (n : Nam
 chosen_stream words f n = record { stream = λ e. (n.values, asked_stream words f n); make = λ e. absurd cc }
 
 chosen_make : (words : List Text) → fault_of deals words ≡ [] → (n : NamesMake words) → Chosen words (codes "make") n.rows
-chosen_make words f n = record { stream = λ e. absurd cc; make = λ e. (n.values, asked_make words f n) }
+chosen_make words f n = record { stream = λ e. absurd cc; make = λ e. (n.values, asks_make words f n) }
 
 from_met : (words : List Text) (sub : Option (Bor Text × Bor ArgMatches)) (p : Bor Text × Bor ArgMatches) (name : Text) (rows : List Row) → sub ≡ Some p → Met sub name rows
     → Chosen words name rows → of_pair words p
@@ -151,6 +179,20 @@ chosen app words m sub p is has none names rows sub_is =
     ]
 
 -- the kind of an error is one of those that clap may give for the words
+has_first : (a b : Kinds) (e : Error) → HasKind a e → HasKind (or_else a b) e
+has_first [] b e h = elim h [ inl memory ↦ inl memory | inr bad ↦ absurd bad ]
+has_first (k ∷ ks) b e h = h
+
 pub error_kind : (app : App) (words : List Text) (e : Error) → app ≡ deals → (is_simple_and_free app ≡ true → HasKind (fault_of app words) e) → HasKind (kinds_for words) e
 unfolding kinds_for
-error_kind app words e is h = subst (λ (a : App). (is_simple_and_free a ≡ true → HasKind (fault_of a words) e) → HasKind (fault_of deals words) e) (sym is) (λ k. k refl) h
+error_kind app words e is h =
+    has_first (fault_of deals words) (end_kinds (wish_in words)) e
+    (subst (λ (a : App). (is_simple_and_free a ≡ true → HasKind (fault_of a words) e) → HasKind (fault_of deals words) e) (sym is) (λ k. k refl) h)
+
+-- ---- a `make` whose end is not given
+
+pub no_end_kind : (words : List Text) (e : Error) → kinds_for words ≡ MissingRequiredArgument ∷ [] → kind_of e ≡ MissingRequiredArgument → HasKind (kinds_for words) e
+no_end_kind words e kinds is = rw kinds (inr (inl is))
+
+pub no_end_asked : {X : Type 0} (words : List Text) → asked words ≡ None → IsSome (asked words) → X
+no_end_asked words none some = let bad : false ≡ true = subst (λ (o : Option Wish). IsSome o) none some in absurd cc

@@ -1,12 +1,12 @@
 -- The options of each subcommand as built, and what a parse without a fault says of their values.
-use Rattle.std.proofs.Common.{◌≡◌, ◌⊎◌, ◌≤◌, ℕ, false, List, [], ◌∷◌, None, refl, inl, inr, codes, lit≤}
+use Rattle.std.proofs.Common.{◌≡◌, ◌⊎◌, ◌≤◌, ℕ, false, List, [], ◌∷◌, None, refl, inl, inr, codes, lit≤, lit<, ◌<◌, length, arith}
 use Rattle.clap.specs.Simple.{Shape, built, filled, new_shape}
 use Rattle.clap.specs.Faults.{level_fault}
-use Rattle.clap.specs.Walk.{Row, Rule, Text, nothing_held, one_of, rows_after}
+use Rattle.clap.specs.Walk.{Row, Rule, Text, nothing_held, one_of, rows_after, values_or_missing}
 use Rattle.clap.specs.declared.builder.value_parser.ValueParser.{ValueParser}
 use Rattle.clap.specs.declared.builder.value_parser.ValueParser.TheVariants.{Unsigned}
 use Rattle.clap.proofs.ValueTestLemmas.{accepts-Accepts}
-use Rattle.deals_cli.specs.CommandLine.{count_parser, deals, option_rule, required, u32_parser, u64_parser}
+use Rattle.deals_cli.specs.CommandLine.{count_parser, deals, flag_rule, option_rule, required, u32_parser, u64_parser}
 use Rattle.deals_cli.specs.internal.Readings.{Gives32, GivesUpTo, HasValue, MakeValues, MayGive32, MayGive64, StreamValues}
 use Rattle.deals_cli.proofs.Walks.{PlainRules, given_value, level_checked, level_passing, passed_value, required_given}
 
@@ -39,10 +39,15 @@ plain_stream = record {
   acts = λ a is. elim is [
     | inl e ↦ rw e (inl (refl, refl))
     | inr (inl e) ↦ rw e (inl (refl, refl))
-    | inr (inr (inl e)) ↦ rw e (inr refl)
+    | inr (inr (inl e)) ↦ rw e (inr (inl refl))
     | inr (inr (inr bad)) ↦ absurd bad
   ];
 }
+
+-- the flag as built has a value however it is used
+report_value : (vs : List Text) → 0 < length (values_or_missing (filled (flag_rule (codes "report"))) vs)
+report_value [] = lit< tt
+report_value (v ∷ vs) = omega arith
 
 plain_make : PlainRules make_built.rules
 plain_make = record {
@@ -59,7 +64,8 @@ plain_make = record {
     | inr (inr (inr (inr (inr (inr (inr (inr (inr (inl e))))))))) ↦ rw e refl
     | inr (inr (inr (inr (inr (inr (inr (inr (inr (inr (inl e)))))))))) ↦ rw e refl
     | inr (inr (inr (inr (inr (inr (inr (inr (inr (inr (inr (inl e))))))))))) ↦ rw e refl
-    | inr (inr (inr (inr (inr (inr (inr (inr (inr (inr (inr (inr bad))))))))))) ↦ absurd bad
+    | inr (inr (inr (inr (inr (inr (inr (inr (inr (inr (inr (inr (inl e)))))))))))) ↦ rw e refl
+    | inr (inr (inr (inr (inr (inr (inr (inr (inr (inr (inr (inr (inr bad)))))))))))) ↦ absurd bad
   ];
   acts = λ a is. elim is [
     | inl e ↦ rw e (inl (refl, refl))
@@ -73,8 +79,9 @@ plain_make = record {
     | inr (inr (inr (inr (inr (inr (inr (inr (inl e)))))))) ↦ rw e (inl (refl, refl))
     | inr (inr (inr (inr (inr (inr (inr (inr (inr (inl e))))))))) ↦ rw e (inl (refl, refl))
     | inr (inr (inr (inr (inr (inr (inr (inr (inr (inr (inl e)))))))))) ↦ rw e (inl (refl, refl))
-    | inr (inr (inr (inr (inr (inr (inr (inr (inr (inr (inr (inl e))))))))))) ↦ rw e (inr refl)
-    | inr (inr (inr (inr (inr (inr (inr (inr (inr (inr (inr (inr bad))))))))))) ↦ absurd bad
+    | inr (inr (inr (inr (inr (inr (inr (inr (inr (inr (inr (inl e))))))))))) ↦ rw e (inr (inr (refl, report_value)))
+    | inr (inr (inr (inr (inr (inr (inr (inr (inr (inr (inr (inr (inl e)))))))))))) ↦ rw e (inr (inl refl))
+    | inr (inr (inr (inr (inr (inr (inr (inr (inr (inr (inr (inr (inr bad)))))))))))) ↦ absurd bad
   ];
 }
 
@@ -139,9 +146,7 @@ make_values words f =
       seed = gives32 (codes "seed") rows (optional u32_parser (codes "seed") rows
           (given_value make_built.rules rows (filled (required (option_rule (codes "seed") u32_parser))) refl pass
           (required_given make_built rows false _ (inl refl) refl refl checked)));
-      candidates = gives_up_to 18446744073709551615 (lit≤ tt) (codes "candidates") rows (optional u64_parser (codes "candidates") rows
-          (given_value make_built.rules rows (filled (required (option_rule (codes "candidates") u64_parser))) refl pass
-          (required_given make_built rows false _ (inr (inl refl)) refl refl checked)));
+      candidates = may64 (codes "candidates") rows (passed_value make_built.rules rows (rule64 18446744073709551615 (codes "candidates")) refl pass);
       first = may64 (codes "first") rows (passed_value make_built.rules rows (rule64 18446744073709551615 (codes "first")) refl pass);
       workers = may32 (codes "workers") rows (passed_value make_built.rules rows (rule32 (codes "workers")) refl pass);
       lane = may32 (codes "lane") rows (passed_value make_built.rules rows (rule32 (codes "lane")) refl pass);

@@ -6,3 +6,4 @@ pub mod Commands
 pub mod Numbers
 pub mod Asked
 pub mod Statuses
+pub mod Reporting

@@ -10,7 +10,10 @@ use Rattle.requests.specs.Requests.{Wish}
 use Rattle.requests.specs.Wishes.{IsStatusOf}
 use Rattle.requests.proofs.Statuses.{served}
 use Rattle.deals_cli.specs.CommandLine.{kinds_for}
-use Rattle.deals_cli.specs.Program.{IsStatusOfNone, is_shown}
+use Rattle.requests.proofs.FirstDue.{output_due}
+use Rattle.requests.specs.declared.failure.Failure.TheVariants.{Interrupted}
+use Rattle.dealrun.specs.declared.cause.Cause.TheVariants.{Output}
+use Rattle.deals_cli.specs.Program.{IsStatusOfNone, MayFail, is_shown}
 use Rattle.deals_cli.specs.internal.Kinds.{IsStatusOfKind}
 
 -- ---- of words that ask for something
@@ -18,6 +21,9 @@ use Rattle.deals_cli.specs.internal.Kinds.{IsStatusOfKind}
 -- the output fails after all was done
 pub flush_failed : (w : Wish) → IsStatusOf w 0 → IsStatusOf w 4
 flush_failed w h = let both = h.accepted (inl refl) in served w 4 (inr refl) both.0 both.1
+
+pub flush_may_fail : (w : Wish) → IsStatusOf w 0 → MayFail w (Interrupted Output)
+flush_may_fail w h = inr (output_due w h)
 
 -- ---- of an error of clap
 
@@ -113,4 +119,4 @@ none_flush_failed words h = let may = h.shown (inl refl) in record {
 }
 
 -- a flush that fails, after words of either kind
-pub ruleset flushes = (flush_failed, none_flush_failed)
+pub ruleset flushes = (flush_failed, flush_may_fail, none_flush_failed)

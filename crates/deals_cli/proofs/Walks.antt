@@ -56,10 +56,14 @@ found_is_in test (x ∷ xs) a h = go (test x) refl (λ rest. found_is_in test xs
         inl is
     go false e rec = inr (rec (rw e at h))
 
--- each rule is found by its id, and takes a value of its own or asks for a text
+-- a flag, which has a value of its own
+abbrev pub IsFlag : Rule → Type 0
+IsFlag a = (action_of a ≡ SetTrue) × ((vs : List Text) → 0 < length (values_or_missing a vs))
+
+-- each rule is found by its id, and takes a value, asks for a text or is a flag
 pub record PlainRules (c : List Rule) : Type 0 where
   pub own : (a : Rule) → IsIn a c → arg_by_id c a.id ≡ Some a
-  pub acts : (a : Rule) → IsIn a c → ((action_of a ≡ Set) × (nat_lt 0 (unwrap_or_range a.range).start_inclusive ≡ true)) ⊎ (is_request (action_of a) ≡ true)
+  pub acts : (a : Rule) → IsIn a c → ((action_of a ≡ Set) × (nat_lt 0 (unwrap_or_range a.range).start_inclusive ≡ true)) ⊎ (is_request (action_of a) ≡ true) ⊎ IsFlag a
 
 -- ---- rows
 
@@ -136,11 +140,23 @@ set_passing c a again (v ∷ vs) rows found least act f h =
     with_values_passing c a.id a (reading_by a) _ (v ∷ vs) (without a.id rows) found passed (omega arith) refl (without_passing c a.id rows h) in
     subst (λ (x : ArgAction). Passing c (used_as x a.id (reading_by a) (v ∷ vs) rows)) (sym act) done
 
+flag_passing : (c : List Rule) (a : Rule) (again : Bool) (vs : List Text) (rows : List Row) → arg_by_id c a.id ≡ Some a → IsFlag a
+    → use_fault again a vs rows ≡ [] → Passing c rows → Passing c (used a vs rows)
+flag_passing c a again vs rows found flag f h =
+    let values = values_or_missing a vs in
+    let acts = or_none_second _ (action_fault (action_of a) again a values rows) f in
+    let set : action_fault SetTrue again a values rows ≡ [] = subst (λ (x : ArgAction). action_fault x again a values rows ≡ []) flag.0 acts in
+    let passed : values_fault a values ≡ [] = or_none_second _ (values_fault a values) set in
+    let done : Passing c (used_as SetTrue a.id (reading_by a) values rows) =
+    with_values_passing c a.id a (reading_by a) _ values (without a.id rows) found passed (flag.1 vs) refl (without_passing c a.id rows h) in
+    subst (λ (x : ArgAction). Passing c (used_as x a.id (reading_by a) values rows)) (sym flag.0) done
+
 pub used_passing : (c : List Rule) → PlainRules c → (a : Rule) → IsIn a c → (again : Bool) (vs : List Text) (rows : List Row)
     → use_fault again a vs rows ≡ [] → Passing c rows → Passing c (used a vs rows)
 used_passing c p a is again vs rows f h = elim (p.acts a is) [
   | inl set ↦ set_passing c a again vs rows (p.own a is) set.1 set.0 f h
-  | inr asks ↦ absurd (no_request (action_of a) again a (values_or_missing a vs) rows asks
+  | inr (inr flag) ↦ flag_passing c a again vs rows (p.own a is) flag f h
+  | inr (inl asks) ↦ absurd (no_request (action_of a) again a (values_or_missing a vs) rows asks
       (or_none_second _ (action_fault (action_of a) again a (values_or_missing a vs) rows) f))
 ]
 

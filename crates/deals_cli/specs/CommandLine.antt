@@ -1,9 +1,13 @@
 -- The command line: what the program's words ask for, by clap's own functions of the words.
-use Rattle.std.specs.Prelude.{ℕ, true, List, [], ◌∷◌, Option, Some, None, codes, fold, pos, option_map, unwrap_or, if◌then◌else◌}
+use Rattle.std.specs.Prelude.{◌&&◌, ℕ, Bool, true, false, not, List, [], ◌∷◌, Option, Some, None, is_some, codes, fold, pos, option_map, unwrap_or, if◌then◌else◌}
+use Rattle.std.specs.Option.{option_map_or}
 use Rattle.std.specs.Str.{bytes_eq}
 use Rattle.std.specs.Str.Parse.{digits_value, without_leading_plus}
 use Rattle.clap.specs.Words.{App, Kinds, Row, Rule, Text, fault_of, first_of, new_app, new_rule, one_of, subcommand_of, with_rule, with_subcommand}
+use Rattle.clap.specs.Kinds.{or_else}
+use Rattle.clap.specs.declared.builder.action.ArgAction.TheVariants.{SetTrue}
 use Rattle.clap.specs.Simple.{on_top}
+use Rattle.clap.specs.declared.error.kind.ErrorKind.TheVariants.{MissingRequiredArgument}
 use Rattle.clap.specs.declared.builder.value_parser.ValueParser.{ValueParser}
 use Rattle.clap.specs.declared.builder.value_parser.ValueParser.TheVariants as parsed
 use Rattle.requests.specs.Requests.{Making, Wish, stream, make}
@@ -14,6 +18,10 @@ use Rattle.requests.specs.Requests.{Making, Wish, stream, make}
 abbrev pub option_rule : Text → ValueParser → Rule
 option_rule id parser =
     record (new_rule id) { long = Some id; value_names = 1; parser = Some parser }
+
+-- a flag `--id`, which takes no value
+abbrev pub flag_rule : Text → Rule
+flag_rule id = record (new_rule id) { long = Some id; action = Some SetTrue }
 
 abbrev pub required : Rule → Rule
 required rule = record rule { required = true }
@@ -39,11 +47,11 @@ stream_app = command_with (codes "stream") (
     ∷ required (option_rule (codes "count") count_parser)
     ∷ [])
 
--- `deals make --seed S --candidates N` and its further options
+-- `deals make --seed S` and its further options
 abbrev pub make_app : App
 make_app = command_with (codes "make") (
     required (option_rule (codes "seed") u32_parser)
-    ∷ required (option_rule (codes "candidates") u64_parser)
+    ∷ option_rule (codes "candidates") u64_parser
     ∷ option_rule (codes "first") u64_parser
     ∷ option_rule (codes "workers") u32_parser
     ∷ option_rule (codes "lane") u32_parser
@@ -53,6 +61,7 @@ make_app = command_with (codes "make") (
     ∷ option_rule (codes "event") parsed.String
     ∷ option_rule (codes "site") parsed.String
     ∷ option_rule (codes "date") parsed.String
+    ∷ flag_rule (codes "report")
     ∷ [])
 
 -- `deals`, with clap's own `help` and `--version`, and a subcommand that has to be named
@@ -72,13 +81,17 @@ number_in id rows = option_map (λ t. digits_value 10 (without_leading_plus t)) 
 abbrev pub number_or : ℕ → Text → List Row → ℕ
 number_or default id rows = unwrap_or (number_in id rows) default
 
+-- clap reads a flag as the text `true` if it stands, and else as `false`
+abbrev pub is_set : Text → List Row → Bool
+is_set id rows = option_map_or (λ t. bytes_eq t (codes "true")) (first_of id rows) false
+
 abbrev pub stream_wish : List Row → Wish
 stream_wish rows = stream (number_or 0 (codes "seed") rows) (number_or 0 (codes "count") rows)
 
 abbrev pub making_in : List Row → Making
 making_in rows = record {
   seed = number_or 0 (codes "seed") rows;
-  candidates = number_or 0 (codes "candidates") rows;
+  candidates = number_in (codes "candidates") rows;
   first = number_or 0 (codes "first") rows;
   workers = number_or 1 (codes "workers") rows;
   lane = number_or 64 (codes "lane") rows;
@@ -88,21 +101,35 @@ making_in rows = record {
   event = first_of (codes "event") rows;
   site = first_of (codes "site") rows;
   date = first_of (codes "date") rows;
+  report = is_set (codes "report") rows;
 }
 
 -- by the subcommand's name and what its options were given
 abbrev pub wish_by : Text × List Row → Wish
 wish_by p = if bytes_eq p.0 (codes "stream") then stream_wish p.1 else make (making_in p.1)
 
+-- the wish of the subcommand that the words name, by clap's function of the words
+abbrev pub wish_in : List Text → Option Wish
+wish_in words = option_map wish_by (subcommand_of deals words)
+
+-- a `make` needs a number of candidates, or a limit of boards
+abbrev pub has_no_end : Making → Bool
+has_no_end m = not (is_some m.candidates) && not (is_some m.boards)
+
+abbrev pub end_kinds : Option Wish → Kinds
+end_kinds (Some (make m)) = if has_no_end m then MissingRequiredArgument ∷ [] else []
+end_kinds _ = []
+
 -- a wish, unless there is a fault
 abbrev pub unless_fault : Kinds → Option Wish → Option Wish
 unless_fault [] wish = wish
 unless_fault (k ∷ kinds) wish = None
 
--- the kinds of error of which clap gives one for these words: none if they ask for something
+-- the kinds of error of which one is given for these words, clap's first: none if they ask for
+-- something
 unfoldable pub kinds_for : List Text → Kinds
-kinds_for words = fault_of deals words
+kinds_for words = or_else (fault_of deals words) (end_kinds (wish_in words))
 
 -- what the words ask for, if nothing but want of memory can fail their parse
 unfoldable pub asked : List Text → Option Wish
-asked words = unless_fault (kinds_for words) (option_map wish_by (subcommand_of deals words))
+asked words = unless_fault (kinds_for words) (wish_in words)

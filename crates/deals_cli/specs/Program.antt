@@ -1,9 +1,18 @@
--- How the program ends for words that ask for nothing; for others `Wishes` of `requests` says it.
-use Rattle.std.specs.Prelude.{◌≡◌, ◌⊎◌, ℕ, Bool, true, false, List}
+-- How the program ends for words that ask for nothing, for others `Wishes` of `requests` says it;
+-- and what it says of a failure.
+use Rattle.std.specs.Prelude.{◌≡◌, ◌⊎◌, ℕ, Bool, true, false, List, Option}
 use Rattle.clap.specs.Kinds.{IsAmong}
 use Rattle.clap.specs.Walk.{Text}
 use Rattle.clap.specs.declared.error.kind.ErrorKind.{ErrorKind}
 use Rattle.clap.specs.declared.error.kind.ErrorKind.TheVariants as kind
+use Rattle.dealrun.specs.declared.cause.Cause.TheVariants.{Memory}
+use Rattle.sinks.specs.Appended.{AppendsAll}
+use Rattle.requests.specs.Failures.{status_of}
+use Rattle.requests.specs.FirstRefusal.{IsDueFor}
+use Rattle.requests.specs.Lines.{line_of}
+use Rattle.requests.specs.Requests.{Wish}
+use Rattle.requests.specs.declared.failure.Failure.{Failure}
+use Rattle.requests.specs.declared.failure.Failure.TheVariants.{Interrupted}
 use Rattle.deals_cli.specs.CommandLine.{kinds_for}
 pub use Rattle.requests.specs.Makings.{CanDate, CanLabel, HasLabels, HasNumbers, IsPlanned}
 pub use Rattle.requests.specs.Makings.{Means, plan_of}
@@ -35,3 +44,14 @@ pub record IsStatusOfNone (words : List Text) (status : ℕ) : Type 0 where
   pub refused : status ≡ 2 → MayRefuse words
   -- there is no condition, and no run
   pub neither : (status ≡ 3) ⊎ (status ≡ 6) → ⊥
+
+-- a wish fails so: memory ran out, as it may while the words are read, or the failure is due
+abbrev pub MayFail : Wish → Failure → Type 0
+MayFail w failure = (failure ≡ Interrupted Memory) ⊎ IsDueFor w failure
+
+-- the error output has the line of why a wish failed with this status
+pub record TellsWhy (w : Wish) (status : ℕ) (old new : Option (List ℕ)) : Type 0 where
+  pub failure : Failure
+  pub due : MayFail w failure
+  pub status_is : status ≡ status_of failure
+  pub line : AppendsAll old new (line_of failure)

@@ -1,14 +1,16 @@
 //! The commands and options of the program, as `clap` knows them.
 
 ghost use Rattle.std.specs.Prelude.{◌≡◌, false, IfOk};
-ghost use Rattle.clap.specs.Words.{app_of, rule_of, with_rule};
+ghost use Rattle.clap.specs.Words.{app_of, kind_of, rule_of, with_rule};
 ghost use Rattle.clap.specs.declared.Command.TheViews.{out-Command as fields_of};
-ghost use Rattle.deals_cli.specs.CommandLine.{deals, make_app, option_rule, required, stream_app};
+ghost use Rattle.deals_cli.specs.CommandLine.{deals, flag_rule, make_app, option_rule, required};
+ghost use Rattle.deals_cli.specs.CommandLine.{stream_app};
 ghost use Rattle.deals_cli.specs.internal.Commands.{with_boards, with_candidates, with_labels};
 ghost use Rattle.deals_cli.specs.internal.Commands.{with_search};
 
 use clap::builder::ValueParser;
-use clap::{Arg, Command, value_parser};
+use clap::error::ErrorKind;
+use clap::{Arg, ArgAction, Command, Error, value_parser};
 use std::alloc::{AllocError, Global};
 
 /// The most values that `stream` prints: the same as the most candidates of a seed.
@@ -23,11 +25,11 @@ const STREAM_EXAMPLES: &str = "Example:
 const MAKE_EXAMPLES: &str = "Examples:
   Thirty-six boards:
     deals make --seed 2024 --candidates 36
-  Strong balanced hands for North, from a million candidates, on four workers:
-    deals make --seed 2024 --candidates 1000000 --workers 4 \
+  Strong balanced hands for North, from a million candidates, on three workers:
+    deals make --seed 2024 --candidates 1000000 --workers 3 --lane 4096 \
     --where 'hcp(north)>=15 and balanced(north)'
-  The first twelve slam hands of a long search, on four workers:
-    deals make --seed 2024 --candidates 100000000 --boards 12 --workers 4 \
+  The first twelve slam hands of a long search:
+    deals make --seed 2024 --boards 12 --workers 3 --lane 4096 \
     --where 'hcp(north)+hcp(south)>=33'
 
 The same options give the same bytes, on every machine and with any number of workers.";
@@ -36,13 +38,19 @@ const SEED: &str = "The seed, 0 to 4294967295";
 
 const COUNT: &str = "How many values, 0 to 1099511627776";
 
-const CANDIDATES: &str = "How many candidates are tried; first + N is at most 1099511627776";
+const CANDIDATES: &str = "How many candidates are tried; first + N is at most 1099511627776 \
+    [default: all from the first on, where --boards is given]";
+
+const NO_END: &str = "the following required arguments were not provided:
+  --candidates <N> or --boards <M>";
 
 const FIRST: &str = "The number of the first candidate [default: 0]";
 
-const WORKERS: &str = "How many workers, 1 to 16 [default: 1]";
+const WORKERS: &str = "How many workers, 1 to 16; one fewer than the machine has cores is the \
+    fastest [default: 1]";
 
-const LANE: &str = "How many verdicts a worker may be ahead of the writer, 1 to 4096 [default: 64]";
+const LANE: &str = "How many verdicts a worker may be ahead of the writer, 1 to 4096; with several \
+    workers 4096 is the fastest [default: 64]";
 
 const WHERE: &str = "The condition that a deal has to meet [default: every deal]";
 
@@ -57,6 +65,9 @@ const EVENT: &str =
 const SITE: &str = "The place, like the event [default: no line]";
 
 const DATE: &str = "The date, as 2024.05.01 [default: no line]";
+
+const REPORT: &str = "Says afterwards how many boards there are, from which candidates, and where \
+    to go on";
 
 /// An option `--id NAME`, with its help.
 fn option<'a>(
@@ -73,6 +84,17 @@ fn option<'a>(
         .long(id)
         .value_parser(parser)
         .value_name(name)
+        .help(help)
+}
+
+/// A flag `--id`, with its help.
+fn flag<'a>(alloc: Global, id: &'a str, help: &'a str) -> Arg<'a>
+    ensures rule { rule_of result ≡ flag_rule id.entry.now }
+    ensures local { result.global ≡ false }
+{
+    Arg::new(alloc, id)
+        .long(id)
+        .action(ArgAction::SetTrue)
         .help(help)
 }
 
@@ -115,7 +137,7 @@ fn stream_command<'a>(alloc: Global) -> Result<Command<'a>, AllocError>
     with_option(command, count)
 }
 
-/// The command with the options that have to be given.
+/// The command with the options of which candidates are tried at most.
 fn with_candidates<'a>(alloc: Global, command: Command<'a>) -> Result<Command<'a>, AllocError>
     ensures app { IfOk result (λ c. app_of c ≡ with_candidates (app_of command.entry)) }
     ensures local { IfOk result (λ c. (fields_of c).has_globals
@@ -123,7 +145,7 @@ fn with_candidates<'a>(alloc: Global, command: Command<'a>) -> Result<Command<'a
 {
     let seed = required(alloc, "seed", value_parser!(u32), "S", SEED);
     let command = with_option(command, seed)?;
-    let candidates = required(alloc, "candidates", value_parser!(u64), "N", CANDIDATES);
+    let candidates = option(alloc, "candidates", value_parser!(u64), "N", CANDIDATES);
     with_option(command, candidates)
 }
 
@@ -179,7 +201,16 @@ fn make_command<'a>(alloc: Global) -> Result<Command<'a>, AllocError>
     let command = with_candidates(alloc, command)?;
     let command = with_search(alloc, command)?;
     let command = with_boards(alloc, command)?;
-    with_labels(alloc, command)
+    let command = with_labels(alloc, command)?;
+    with_option(command, flag(alloc, "report", REPORT))
+}
+
+/// clap's refusal of a `make` whose end is not given.
+pub fn missing_end(alloc: Global) -> Result<Error, AllocError>
+    ensures { IfOk result (λ e. kind_of e ≡ ErrorKind.MissingRequiredArgument) }
+{
+    let mut make = make_command(alloc)?.bin_name("deals make")?;
+    make.error(ErrorKind::MissingRequiredArgument, NO_END)
 }
 
 /// The program's whole command line.

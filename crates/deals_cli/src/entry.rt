@@ -1,20 +1,23 @@
 //! The program over its words and two sinks.
 
-ghost use Rattle.std.specs.Prelude.{◌≡◌, ◌⊎◌, ◌+◌, ◌-◌, ◌^◌, ◌<◌, ◌≤◌, ◌==◌, if◌then◌else◌};
-ghost use Rattle.std.specs.Prelude.{None, Some, true, IfErr, IsErrOf, OnOk, map, string_bytes};
+ghost use Rattle.std.specs.Prelude.{◌≡◌, ◌≢◌, ◌⊎◌, ◌+◌, ◌-◌, ◌^◌, ◌<◌, ◌≤◌, ◌==◌};
+ghost use Rattle.std.specs.Prelude.{if◌then◌else◌};
+ghost use Rattle.std.specs.Prelude.{None, Some, true, false, IfErr, IfOk, IsErrOf, OnOk, map};
+ghost use Rattle.std.specs.Prelude.{string_bytes};
 ghost use Rattle.clap.specs.Words.{kind_of};
 ghost use Rattle.requests.specs.Failures.{faults_in, is_untouched, status_in};
-ghost use Rattle.requests.specs.Requests.{Wish};
+ghost use Rattle.requests.specs.Reported.{Reports, ReportsFor, wants_report};
+ghost use Rattle.requests.specs.Requests.{Making, Wish, make};
 ghost use Rattle.requests.specs.Wishes.{Appends, IsStatus, IsStatusOf};
 ghost use Rattle.deals_cli.specs.CommandLine.{asked};
-ghost use Rattle.deals_cli.specs.Program.{IsStatusOfNone};
+ghost use Rattle.deals_cli.specs.Program.{IsStatusOfNone, MayFail, TellsWhy};
 ghost use Rattle.deals_cli.specs.internal.Kinds.{IsStatusOfKind};
 
 use crate::words::read_words;
 use clap::Error;
 use clap::error::ErrorKind;
 use dealrun::Cause;
-use requests::{Failure, serve};
+use requests::{Failure, Report, serve};
 use sinks::{Sink, put_all};
 use std::alloc::Global;
 use std::sync::Wait;
@@ -48,12 +51,18 @@ fn serve_words<R: Threads + Wait + Clone + Send + 'static, O: Sink>(
     alloc: Global,
     words: &[String],
     out: &mut O,
-) -> Result<(), Failure>
+) -> Result<Option<Report>, Failure>
     requires { O.faults out.old < 2 ^ 64 - 1 }
     ensures text { (w : Wish) → asked (map string_bytes words.now) ≡ Some w
         → OnOk result (Appends w (O.bytes out.old) (O.bytes out.new)) }
+    ensures report { (w : Wish) → asked (map string_bytes words.now) ≡ Some w
+        → IfOk result (ReportsFor w) }
+    ensures no_report { asked (map string_bytes words.now) ≡ None
+        → IfOk result (λ r. r ≡ None) }
     ensures wished { (w : Wish) → asked (map string_bytes words.now) ≡ Some w
         → IsStatusOf w (status_in result) }
+    ensures due { (w : Wish) → asked (map string_bytes words.now) ≡ Some w
+        → IfErr result (MayFail w) }
     ensures unasked { asked (map string_bytes words.now) ≡ None
         → IsStatusOfNone (map string_bytes words.now) (status_in result) }
     ensures untouched { IfErr result (λ e. is_untouched e ≡ true
@@ -62,7 +71,10 @@ fn serve_words<R: Threads + Wait + Clone + Send + 'static, O: Sink>(
 {
     match read_words(alloc, words) {
         Ok(request) => serve(rt, alloc, &request, out),
-        Err(error) => show(alloc, &error, out),
+        Err(error) => {
+            show(alloc, &error, out)?;
+            Ok(None)
+        }
     }
 }
 
@@ -73,21 +85,27 @@ fn serve_and_flush<R: Threads + Wait + Clone + Send + 'static, O: Sink>(
     alloc: Global,
     words: &[String],
     out: &mut O,
-) -> Result<(), Failure>
+) -> Result<Option<Report>, Failure>
     requires { O.faults out.old < 2 ^ 64 - 1 }
     ensures text { (w : Wish) → asked (map string_bytes words.now) ≡ Some w
         → OnOk result (Appends w (O.bytes out.old) (O.bytes out.new)) }
+    ensures report { (w : Wish) → asked (map string_bytes words.now) ≡ Some w
+        → IfOk result (ReportsFor w) }
+    ensures no_report { asked (map string_bytes words.now) ≡ None
+        → IfOk result (λ r. r ≡ None) }
     ensures wished { (w : Wish) → asked (map string_bytes words.now) ≡ Some w
         → IsStatusOf w (status_in result) }
+    ensures due { (w : Wish) → asked (map string_bytes words.now) ≡ Some w
+        → IfErr result (MayFail w) }
     ensures unasked { asked (map string_bytes words.now) ≡ None
         → IsStatusOfNone (map string_bytes words.now) (status_in result) }
     ensures untouched { IfErr result (λ e. is_untouched e ≡ true
         → O.bytes out.new ≡ O.bytes out.old) }
     ensures faults { O.faults out.new ≡ O.faults out.old + faults_in result }
 {
-    serve_words(rt, alloc, words, out)?;
+    let report = serve_words(rt, alloc, words, out)?;
     out.flush()?;
-    Ok(())
+    Ok(report)
 }
 
 /// Runs the program, and returns its exit status. The first word is the program's name.
@@ -95,8 +113,9 @@ fn serve_and_flush<R: Threads + Wait + Clone + Send + 'static, O: Sink>(
 /// 0: done, or help or the version was asked for, whose text is on `out`; 2: the command line, the
 /// plan or a label is refused; 3: the condition is refused; 4: the output failed; 5: want of
 /// memory; 6: a thread couldn't be started, or a worker stopped or wasn't closed. What went wrong
-/// is said on `err`, in one line but for clap's texts, and faults of `err` are ignored. It may wait
-/// for its workers.
+/// is said on `err`, in one line but for clap's texts, and a report if that is asked for; faults of
+/// `err` are ignored. It may wait for its workers.
+#[tactic(auto, using(crate::proofs::Reporting::reporting))]
 pub fn program<R: Threads + Wait + Clone + Send + 'static, O: Sink, E: Sink>(
     rt: &R,
     alloc: Global,
@@ -112,6 +131,11 @@ pub fn program<R: Threads + Wait + Clone + Send + 'static, O: Sink, E: Sink>(
     // The status says what of it was accepted, and what refused.
     ensures wished { (w : Wish) → asked (map string_bytes words.now) ≡ Some w
         → IsStatusOf w result }
+    // If it isn't 0, the error output has the line of the first failure that is due, unless it
+    // failed itself.
+    ensures told { (w : Wish) → asked (map string_bytes words.now) ≡ Some w → result ≢ 0
+        → E.faults err.new ≡ E.faults err.old
+        → TellsWhy w result (E.bytes err.old) (E.bytes err.new) }
     // For words that ask for nothing it says whether they ask for help, or are refused.
     ensures unasked { asked (map string_bytes words.now) ≡ None
         → IsStatusOfNone (map string_bytes words.now) result }
@@ -122,14 +146,23 @@ pub fn program<R: Threads + Wait + Clone + Send + 'static, O: Sink, E: Sink>(
         → O.bytes out.new ≡ O.bytes out.old }
     // The status is 4 if and only if the output failed, once.
     ensures output { O.faults out.new ≡ O.faults out.old + (if result == 4 then 1 else 0) }
-    // Status 0 says nothing on the error output.
-    ensures quiet { result ≡ 0 → E.bytes err.new ≡ E.bytes err.old }
+    // With status 0 a report that was asked for is on the error output, unless that failed itself,
+    ensures reported { (m : Making) → asked (map string_bytes words.now) ≡ Some (make m)
+        → m.report ≡ true → result ≡ 0 → E.faults err.new ≡ E.faults err.old
+        → Reports m (E.bytes err.old) (E.bytes err.new) }
+    // and else nothing.
+    ensures quiet { result ≡ 0 → wants_report (asked (map string_bytes words.now)) ≡ false
+        → E.bytes err.new ≡ E.bytes err.old }
     // A fault of the error output is at most one, and ends nothing.
     ensures said { (E.faults err.old ≤ E.faults err.new)
         × (E.faults err.new ≤ E.faults err.old + 1) }
 {
     match serve_and_flush(rt, alloc, words, out) {
-        Ok(()) => 0,
+        Ok(None) => 0,
+        Ok(Some(report)) => {
+            let _ = report.say(err);
+            0
+        }
         Err(failure) => {
             let _ = failure.say(err);
             failure.status()

@@ -1,6 +1,6 @@
 //! What the words of some command lines ask for: the definition of that, at examples.
 
-ghost use Rattle.std.specs.Prelude.{◌≡◌, ◌∷◌, [], None, Some, codes};
+ghost use Rattle.std.specs.Prelude.{◌≡◌, ◌∷◌, [], None, Some, codes, false};
 ghost use Rattle.deals_cli.specs.CommandLine.{asked};
 ghost use Rattle.requests.specs.Requests.{make, stream};
 
@@ -22,7 +22,7 @@ pub fn example_of_make()
         ∷ codes "--boards" ∷ codes "5" ∷ [])
         ≡ Some (make record {
           seed = 0;
-          candidates = 200;
+          candidates = Some 200;
           first = 0;
           workers = 1;
           lane = 64;
@@ -32,5 +32,6 @@ pub fn example_of_make()
           event = None;
           site = None;
           date = None;
+          report = false;
         }) }
 {}

@@ -3,11 +3,12 @@
 ghost use Rattle.std.specs.Prelude.{◌≡◌, ◌≤◌, ◌^◌, Some, codes, IfErr, IfOk, IsSome, map};
 ghost use Rattle.std.specs.Prelude.{option_map, string_bytes};
 ghost use Rattle.clap.specs.Words.{HasKind, first_of, found_of, kind_of, rows_of};
-ghost use Rattle.deals_cli.specs.CommandLine.{asked, kinds_for, making_in, number_in, number_or};
+ghost use Rattle.deals_cli.specs.CommandLine.{asked, has_no_end, is_set, kinds_for, making_in};
+ghost use Rattle.deals_cli.specs.CommandLine.{number_in, number_or};
 ghost use Rattle.requests.specs.Options.{IsInRange, making_of, wish_of};
 ghost use Rattle.deals_cli.specs.internal.Readings.{MakeValues, MayGive32, MayGive64, StreamValues};
 
-use crate::command::command;
+use crate::command::{command, missing_end};
 use clap::error::ErrorKind;
 use clap::{ArgMatches, Error};
 use requests::{MakeRequest, Request, StreamRequest};
@@ -49,6 +50,16 @@ fn text_in<'a>(matches: &ArgMatches<'a>, id: &str) -> Option<&'a str>
     matches.get_str(id)
 }
 
+/// Whether a flag stands.
+fn is_set(matches: &ArgMatches, id: &str) -> bool
+    ensures { result ≡ is_set id.now (rows_of (found_of matches.now)) }
+{
+    match text_in(matches, id) {
+        Some(text) => text == "true",
+        None => false,
+    }
+}
+
 /// What the options of `make` were given, or their defaults.
 fn make_request<'a>(matches: &ArgMatches<'a>) -> MakeRequest<'a>
     requires { MakeValues (rows_of (found_of matches.now)) }
@@ -56,7 +67,7 @@ fn make_request<'a>(matches: &ArgMatches<'a>) -> MakeRequest<'a>
 {
     MakeRequest {
         seed: u32_in(matches, "seed").unwrap(),
-        candidates: u64_in(matches, "candidates").unwrap(),
+        candidates: u64_in(matches, "candidates"),
         first: u64_in(matches, "first").unwrap_or(0),
         workers: u32_in(matches, "workers").unwrap_or(1),
         lane: u32_in(matches, "lane").unwrap_or(64),
@@ -66,7 +77,15 @@ fn make_request<'a>(matches: &ArgMatches<'a>) -> MakeRequest<'a>
         event: text_in(matches, "event"),
         site: text_in(matches, "site"),
         date: text_in(matches, "date"),
+        report: is_set(matches, "report"),
     }
+}
+
+/// Whether neither a number of candidates nor a limit of boards was given.
+fn has_no_end(request: &MakeRequest<'_>) -> bool
+    ensures { result ≡ has_no_end (making_of request.now) }
+{
+    request.candidates.is_none() && request.boards.is_none()
 }
 
 /// What the words ask for, the program's name first.
@@ -83,8 +102,11 @@ pub fn read_words<'a>(alloc: Global, words: &'a [String]) -> Result<Request<'a>,
     let matches = command(alloc)?.try_get_matches_from(words)?;
     let (name, inner) = matches.subcommand().unwrap();
     if name == "stream" {
-        Ok(Request::Stream(stream_request(inner)))
-    } else {
-        Ok(Request::Make(make_request(inner)))
+        return Ok(Request::Stream(stream_request(inner)));
     }
+    let request = make_request(inner);
+    if has_no_end(&request) {
+        return Err(missing_end(alloc)?);
+    }
+    Ok(Request::Make(request))
 }

@@ -1,2 +1,5 @@
+pub mod FirstDue
 pub mod Refusals
 pub mod Statuses
+pub mod Saying
+pub mod Reporting

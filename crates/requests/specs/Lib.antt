@@ -2,6 +2,9 @@ pub mod Requests
 pub mod Options
 pub mod Makings
 pub mod Wishes
+pub mod FirstRefusal
 pub mod Failures
 pub mod Lines
+pub mod Reports
+pub mod Reported
 pub mod internal

@@ -1,5 +1,6 @@
 -- What `make` is asked for: its plan, and its condition.
-use Rattle.std.specs.Prelude.{◌≡◌, ◌≤◌, ◌<◌, ◌^◌, ◌+◌, ℕ, List, Option, None, Some, length, unwrap_or}
+use Rattle.std.specs.Prelude.{◌≡◌, ◌≤◌, ◌<◌, ◌^◌, ◌+◌, ◌-◌, ℕ, List, Option, None, Some, length}
+use Rattle.std.specs.Prelude.{unwrap_or}
 use Rattle.cond_lang.specs.Form.{Form, compare, number}
 use Rattle.cond_lang.specs.Text.{SpellsTree}
 use Rattle.cond_lang.specs.declared.tree.Op.TheVariants.{Equal}
@@ -7,13 +8,17 @@ use Rattle.pbn_text.specs.Labels.{IsDate, IsLabel}
 use Rattle.plans.specs.Plans.{Planned}
 use Rattle.requests.specs.Requests.{Making}
 
+-- how many candidates are tried: as many as are asked for, or all that there are from the first on
+abbrev pub candidates_of : Making → ℕ
+candidates_of m = unwrap_or m.candidates (2 ^ 40 - m.first)
+
 -- the plan of `make`: from here on the candidates are its count, the lane its capacity, the
 -- boards its limit
 abbrev pub plan_of : Making → Planned
 plan_of m = record {
   seed = m.seed;
   first = m.first;
-  count = m.candidates;
+  count = candidates_of m;
   workers = m.workers;
   capacity = m.lane;
   limit = m.boards;
@@ -23,7 +28,7 @@ plan_of m = record {
 
 -- the plan's numbers are in range
 pub record HasNumbers (m : Making) : Type 0 where
-  pub candidates : m.first + m.candidates ≤ 2 ^ 40
+  pub candidates : m.first + candidates_of m ≤ 2 ^ 40
   pub workers : (0 < m.workers) × (m.workers ≤ 16)
   pub lane : (0 < m.lane) × (m.lane ≤ 4096)
   pub boards : m.boards ≡ Some 0 → ⊥

@@ -18,6 +18,7 @@ making_of r = record {
   event = option_map (λ s. s.now) r.event;
   site = option_map (λ s. s.now) r.site;
   date = option_map (λ s. s.now) r.date;
+  report = r.report;
 }
 
 abbrev pub wish_of : Request → Wish

@@ -1,11 +1,11 @@
 -- What can be asked for.
-use Rattle.std.specs.Prelude.{ℕ, List, Option}
+use Rattle.std.specs.Prelude.{ℕ, Bool, List, Option}
 
 -- `make`, with what its options were given or their defaults. A field is named as its option is,
 -- and `where` as where_text, since the bare word is the language's.
 pub record Making : Type 0 where
   pub seed : ℕ
-  pub candidates : ℕ
+  pub candidates : Option ℕ
   pub first : ℕ
   pub workers : ℕ
   pub lane : ℕ
@@ -15,6 +15,7 @@ pub record Making : Type 0 where
   pub event : Option (List ℕ)
   pub site : Option (List ℕ)
   pub date : Option (List ℕ)
+  pub report : Bool
 
 pub data Wish : Type 0 where
   -- the first values of a seed: the seed, and how many

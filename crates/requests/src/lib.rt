@@ -8,11 +8,13 @@
 mod failure;
 mod make;
 mod message;
+mod report;
 mod request;
 mod stream;
 
 pub use failure::{Failure, LabelName};
 pub use make::MakeRequest;
+pub use report::Report;
 pub use request::{Request, serve};
 pub use stream::StreamRequest;
 

@@ -5,17 +5,22 @@ ghost use Rattle.std.specs.Prelude.{IfErr, IfOk, OnOk, option_map};
 ghost use Rattle.cond_lang.specs.Form.{Form};
 ghost use Rattle.pbn_text.specs.Games.{no_heading};
 ghost use Rattle.requests.specs.Failures.{faults_in, is_untouched, status_in, status_of};
+ghost use Rattle.requests.specs.FirstRefusal.{IsDueOf, IsFirstOf, of_labels, of_numbers};
+ghost use Rattle.requests.specs.internal.Conditions.{IsConditionFailure};
 ghost use Rattle.requests.specs.Makings.{CanDate, CanLabel, HasLabels, HasNumbers, IsPlanned};
-ghost use Rattle.requests.specs.Makings.{Means, plan_of};
+ghost use Rattle.requests.specs.Makings.{Means, candidates_of, plan_of};
 ghost use Rattle.requests.specs.Options.{making_of};
+ghost use Rattle.requests.specs.Reported.{ReportsOf};
 ghost use Rattle.requests.specs.Requests.{make as wish};
 ghost use Rattle.requests.specs.Wishes.{Appends, IsStatusOf};
 
 use crate::failure::{Failure, LabelName};
+use crate::report::Report;
+use cards::MAX_CANDIDATES;
 use cond_lang::{Cond, parse};
-use dealrun::{Cause, run};
+use dealrun::{Cause, run_and_count};
 use lanes::OpenGate;
-use pbn_text::{Date, Heading, Label};
+use pbn_text::{Date, Heading, Label, Printer};
 use plans::{Plan, PlanError};
 use sinks::Sink;
 use std::alloc::Global;
@@ -27,7 +32,8 @@ use std::thread::Threads;
 #[derive(Clone, Copy, Debug)]
 pub struct MakeRequest<'a> {
     pub seed: u32,
-    pub candidates: u64,
+    /// How many candidates are tried; all that there are from the first on, if it isn't given.
+    pub candidates: Option<u64>,
     /// The number of the first candidate.
     pub first: u64,
     pub workers: u32,
@@ -41,6 +47,8 @@ pub struct MakeRequest<'a> {
     pub event: Option<&'a str>,
     pub site: Option<&'a str>,
     pub date: Option<&'a str>,
+    /// Whether the boards and the candidates are counted for a report.
+    pub report: bool,
 }
 
 /// The label of a text that was given. It is refused if and only if no label has the text.
@@ -81,6 +89,7 @@ fn heading_of(request: &MakeRequest<'_>) -> Result<Heading, Failure>
     ensures sound { IfOk result (λ _. HasLabels (making_of request.now)) }
     ensures refused { IfErr result (λ e.
         (status_of e ≡ 2) × (HasLabels (making_of request.now) → ⊥)) }
+    ensures due { IfErr result (λ e. IsFirstOf of_labels (making_of request.now) e) }
 {
     Ok(Heading {
         event: label_of(request.event, LabelName::Event)?,
@@ -89,19 +98,30 @@ fn heading_of(request: &MakeRequest<'_>) -> Result<Heading, Failure>
     })
 }
 
+/// How many candidates are tried.
+fn candidates_of(request: &MakeRequest<'_>) -> u64
+    ensures { result ≡ candidates_of (making_of request.now) }
+{
+    let all = MAX_CANDIDATES.saturating_sub(request.first);
+    request.candidates.unwrap_or(all)
+}
+
 /// The plan with the numbers of the options: the candidates, the workers, the lanes and the boards.
+#[tactic(auto, using(crate::proofs::FirstDue::numbers))]
 fn numbers_of(request: &MakeRequest<'_>) -> Result<Plan, PlanError>
     ensures made { IfOk result (λ p.
         p ≡ record (plan_of (making_of request.now)) { heading = no_heading }) }
     ensures sound { IfOk result (λ _. HasNumbers (making_of request.now)) }
     ensures refused { IfErr result (λ _. HasNumbers (making_of request.now) → ⊥) }
+    ensures due { IfErr result (λ e.
+        IsFirstOf of_numbers (making_of request.now) (Failure.Plan e)) }
 {
     // The options have their names up to here. The plan calls the candidates its count, the lane
     // its capacity and the boards its limit.
     let plan = Plan::new(
         request.seed,
         request.first,
-        request.candidates,
+        candidates_of(request),
         request.workers,
         request.lane,
     )?;
@@ -113,11 +133,13 @@ fn numbers_of(request: &MakeRequest<'_>) -> Result<Plan, PlanError>
 }
 
 /// The plan of the options, with its labels.
+#[tactic(auto, using(crate::proofs::FirstDue::failures))]
 fn planned(request: &MakeRequest<'_>) -> Result<Plan, Failure>
     ensures made { IfOk result (λ p. p ≡ plan_of (making_of request.now)) }
     ensures sound { IfOk result (λ _. IsPlanned (making_of request.now)) }
     ensures refused { IfErr result (λ e.
         (status_of e ≡ 2) × (IsPlanned (making_of request.now) → ⊥)) }
+    ensures due { IfErr result (λ e. IsDueOf (making_of request.now) e) }
 {
     let plan = match numbers_of(request) {
         Ok(plan) => plan,
@@ -133,6 +155,7 @@ fn condition_of(alloc: Global, request: &MakeRequest<'_>) -> Result<Cond, Failur
     ensures memory { IfErr result (λ e. (f : Form)
         → Means (making_of request.now).where_text f → status_of e ≡ 5) }
     ensures untouched { IfErr result (λ e. is_untouched e ≡ true) }
+    ensures due { IfErr result (λ e. IsConditionFailure (making_of request.now).where_text e) }
 {
     let Some(text) = request.where_text else {
         return Ok(Cond::any(alloc));
@@ -140,29 +163,40 @@ fn condition_of(alloc: Global, request: &MakeRequest<'_>) -> Result<Cond, Failur
     Ok(parse(alloc, text.as_bytes())?)
 }
 
-/// Writes the games that the options ask for, judged by their workers.
-#[tactic(auto, using(crate::proofs::Statuses::endings))]
+/// Writes the games that the options ask for, judged by their workers, and reports if it is asked
+/// to.
+#[tactic(auto, using(crate::proofs::Statuses::endings, crate::proofs::FirstDue::failures))]
 pub fn make<R: Threads + Wait + Clone + Send + 'static, O: Sink>(
     rt: &R,
     alloc: Global,
     request: &MakeRequest<'_>,
     out: &mut O,
-) -> Result<(), Failure>
+) -> Result<Option<Report>, Failure>
     requires { O.faults out.old < 2 ^ 64 - 1 }
+    ensures report { IfOk result (λ r. ReportsOf (making_of request.now) r) }
     ensures text { OnOk result
         (Appends (wish (making_of request.now)) (O.bytes out.old) (O.bytes out.new)) }
     ensures status { IsStatusOf (wish (making_of request.now)) (status_in result) }
     ensures untouched { IfErr result (λ e. is_untouched e ≡ true
         → O.bytes out.new ≡ O.bytes out.old) }
     ensures faults { O.faults out.new ≡ O.faults out.old + faults_in result }
+    ensures due { IfErr result (λ e. IsDueOf (making_of request.now) e) }
 {
     let plan = planned(request)?;
     let condition = condition_of(alloc, request)?;
     let Ok(gate) = Arc::new(alloc, OpenGate) else {
         return Err(Failure::Interrupted(Cause::Memory));
     };
-    match run(rt, alloc, &plan, condition, out, gate) {
-        Ok(_) => Ok(()),
+    let Ok(mut printer) = Printer::new(alloc, plan.heading()) else {
+        return Err(Failure::Interrupted(Cause::Memory));
+    };
+    match run_and_count(rt, alloc, &plan, condition, &mut printer, out, gate) {
+        Ok(counted) if request.report => Ok(Some(Report {
+            plan,
+            candidates: counted.candidates,
+            boards: counted.report.boards,
+        })),
+        Ok(_) => Ok(None),
         Err(fault) => Err(Failure::Interrupted(fault.cause)),
     }
 }

@@ -1,12 +1,15 @@
 //! The requests: one variant for each subcommand.
 
-ghost use Rattle.std.specs.Prelude.{◌≡◌, ◌-◌, ◌+◌, ◌^◌, ◌<◌, true, IfErr, OnOk};
+ghost use Rattle.std.specs.Prelude.{◌≡◌, ◌-◌, ◌+◌, ◌^◌, ◌<◌, true, IfErr, IfOk, OnOk};
 ghost use Rattle.requests.specs.Failures.{faults_in, is_untouched, status_in};
+ghost use Rattle.requests.specs.FirstRefusal.{IsDueFor};
 ghost use Rattle.requests.specs.Options.{IsInRange, wish_of};
+ghost use Rattle.requests.specs.Reported.{ReportsFor};
 ghost use Rattle.requests.specs.Wishes.{Appends, IsStatusOf};
 
 use crate::failure::Failure;
 use crate::make::{MakeRequest, make};
+use crate::report::Report;
 use crate::stream::{StreamRequest, stream};
 use sinks::Sink;
 use std::alloc::Global;
@@ -20,18 +23,20 @@ pub enum Request<'a> {
     Make(MakeRequest<'a>),
 }
 
-/// Does what is asked for. It may wait for its workers.
+/// Does what is asked for, and returns its report if one is asked for. It may wait for its workers.
 pub fn serve<R: Threads + Wait + Clone + Send + 'static, O: Sink>(
     rt: &R,
     alloc: Global,
     request: &Request<'_>,
     out: &mut O,
-) -> Result<(), Failure>
+) -> Result<Option<Report>, Failure>
     requires range { IsInRange request.now }
     requires faults { O.faults out.old < 2 ^ 64 - 1 }
     // All that is asked for was written, on Ok.
     ensures text { OnOk result
         (Appends (wish_of request.now) (O.bytes out.old) (O.bytes out.new)) }
+    // Its report, if one was asked for.
+    ensures report { IfOk result (ReportsFor (wish_of request.now)) }
     // The status says what of it was accepted, and what refused.
     ensures status { IsStatusOf (wish_of request.now) (status_in result) }
     // Nothing was written if something is refused or memory ran out.
@@ -39,9 +44,14 @@ pub fn serve<R: Threads + Wait + Clone + Send + 'static, O: Sink>(
         → O.bytes out.new ≡ O.bytes out.old) }
     // The output failed once if the failure says so, and else not.
     ensures faults { O.faults out.new ≡ O.faults out.old + faults_in result }
+    // The failure that is told is the first that is due.
+    ensures due { IfErr result (IsDueFor (wish_of request.now)) }
 {
     match request {
-        Request::Stream(request) => stream(request, out),
+        Request::Stream(request) => {
+            stream(request, out)?;
+            Ok(None)
+        }
         Request::Make(request) => make(rt, alloc, request, out),
     }
 }

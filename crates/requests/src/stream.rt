@@ -2,6 +2,7 @@
 
 ghost use Rattle.std.specs.Prelude.{◌≡◌, ◌-◌, ◌+◌, ◌^◌, ◌<◌, ◌≤◌, true, IfErr, OnOk};
 ghost use Rattle.requests.specs.Failures.{faults_in, is_untouched, status_in};
+ghost use Rattle.requests.specs.FirstRefusal.{IsDueFor};
 ghost use Rattle.requests.specs.Requests.{stream as wish};
 ghost use Rattle.requests.specs.Wishes.{Appends, IsStatusOf};
 
@@ -27,6 +28,7 @@ pub fn stream<O: Sink>(request: &StreamRequest, out: &mut O) -> Result<(), Failu
     ensures untouched { IfErr result (λ e. is_untouched e ≡ true
         → O.bytes out.new ≡ O.bytes out.old) }
     ensures faults { O.faults out.new ≡ O.faults out.old + faults_in result }
+    ensures due { IfErr result (IsDueFor (wish request.now.seed request.now.count)) }
 {
     Ok(values::stream(request.seed, request.count, out)?)
 }

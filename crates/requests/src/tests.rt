@@ -45,7 +45,7 @@ fn the_values_of_a_seed(rt: HostRuntime) {
 fn request_of(workers: u32, condition: &str) -> MakeRequest<'_> {
     MakeRequest {
         seed: 0,
-        candidates: 0,
+        candidates: Some(0),
         first: 0,
         workers,
         lane: 64,
@@ -55,6 +55,7 @@ fn request_of(workers: u32, condition: &str) -> MakeRequest<'_> {
         event: None,
         site: None,
         date: None,
+        report: false,
     }
 }
 
@@ -76,7 +77,7 @@ fn expect_refusal<R: Abort + Threads + Wait + Clone + Send + 'static>(
 ) {
     let mut out = MemSink::new(alloc);
     match serve(rt, alloc, &Request::Make(request), &mut out) {
-        Ok(()) => assert!(rt; false),
+        Ok(_) => assert!(rt; false),
         Err(failure) => expect_line(rt, alloc, &failure, status, line),
     }
     assert!(rt; out.bytes().is_empty());

@@ -16,6 +16,8 @@ mod plain;
 #[cfg(test)]
 mod refusals;
 #[cfg(test)]
+mod reports;
+#[cfg(test)]
 mod stream;
 #[cfg(test)]
 mod support;

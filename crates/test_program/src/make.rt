@@ -51,6 +51,17 @@ fn writes_so_many_bytes(rt: HostRuntime) -> Result<(), Fail> {
             10,
             0,
         ),
+        (["--boards", "3"].as_slice(), 381, 3),
+        (
+            ["--boards", "5", "--first", "1099511627774"].as_slice(),
+            258,
+            2,
+        ),
+        (
+            ["--boards", "5", "--first", "1099511627776"].as_slice(),
+            10,
+            0,
+        ),
     ] {
         let outcome = make_of(&rt, rt.alloc(), options)?;
         assert_eq!(rt; outcome.status, 0);
@@ -141,6 +152,30 @@ fn writes_labels_and_board_numbers(rt: HostRuntime) -> Result<(), Fail> {
             .bytes()
             .starts_with(b"% PBN 2.1\n[Event \"-x\"]\n")
     );
+    Ok(())
+}
+
+/// Without a number of candidates the search goes on to the last one.
+#[test]
+fn goes_on_to_the_last_candidate(rt: HostRuntime) -> Result<(), Fail> {
+    let outcome = make_of(
+        &rt,
+        rt.alloc(),
+        ["--boards", "5", "--first", "1099511627774"].as_slice(),
+    )?;
+    let want = "% PBN 2.1
+[Board \"1\"]
+[Dealer \"N\"]
+[Vulnerable \"None\"]
+[Deal \"N:J94.K9873.4.QJ52 K5.J6.AQJ93.A964 QT8762.Q5.T5.T87 A3.AT42.K8762.K3\"]
+
+[Board \"2\"]
+[Dealer \"E\"]
+[Vulnerable \"NS\"]
+[Deal \"N:Q8.KQ3.962.KJT97 KT74.J96.QT84.63 962.A8752.J5.A54 AJ53.T4.AK73.Q82\"]
+
+";
+    assert_eq!(rt; outcome.out.bytes(), want.as_bytes());
     Ok(())
 }
 

@@ -79,6 +79,31 @@ fn shows_help_and_version(rt: HostRuntime) -> Result<(), Fail> {
     Ok(())
 }
 
+/// All candidates from the first on are tried if a limit of boards stands in for their number.
+#[test]
+fn refuses_a_first_past_the_end(rt: HostRuntime) -> Result<(), Fail> {
+    for options in [
+        ["--boards", "4", "--first", "1099511627777"].as_slice(),
+        ["--boards", "0", "--first", "1099511627777"].as_slice(),
+    ] {
+        refuses(&rt, rt.alloc(), options, 2, "plan refused: range\n")?;
+    }
+    let options = ["--boards", "4", "--lane", "0"].as_slice();
+    refuses(&rt, rt.alloc(), options, 2, "plan refused: lane capacity\n")?;
+    let options = ["--boards", "4", "--where", "hcp(north) in 15-"].as_slice();
+    let line = "condition refused at byte 17: syntax\n";
+    refuses(&rt, rt.alloc(), options, 3, line)
+}
+
+/// clap's text names what is missing, and how the command is used.
+#[test]
+fn refuses_a_make_without_an_end(rt: HostRuntime) -> Result<(), Fail> {
+    let want =
+        "error: the following required arguments were not provided:\n  --candidates <N> or --boards <M>\n\nUsage: deals make [OPTIONS] --seed <S>\n\nFor more information, try '--help'.\n";
+    refuses(&rt, rt.alloc(), [].as_slice(), 2, want)?;
+    refuses(&rt, rt.alloc(), ["--first", "4"].as_slice(), 2, want)
+}
+
 /// The options after `make --seed 0`, the status and the line.
 #[test]
 fn refuses_plans_labels_and_conditions(rt: HostRuntime) -> Result<(), Fail> {

@@ -7,7 +7,7 @@ use Rattle.deals_cli.specs.CommandLine.{option_rule, required, u32_parser, u64_p
 abbrev pub with_candidates : App → App
 with_candidates a = with_rule (with_rule a
     (required (option_rule (codes "seed") u32_parser)))
-    (required (option_rule (codes "candidates") u64_parser))
+    (option_rule (codes "candidates") u64_parser)
 
 abbrev pub with_search : App → App
 with_search a = with_rule (with_rule (with_rule a

@@ -42,7 +42,7 @@ pub record StreamValues (rows : List Row) : Type 0 where
 -- the options of `make`
 pub record MakeValues (rows : List Row) : Type 0 where
   pub seed : Gives32 (codes "seed") rows
-  pub candidates : Gives64 (codes "candidates") rows
+  pub candidates : MayGive64 (codes "candidates") rows
   pub first : MayGive64 (codes "first") rows
   pub workers : MayGive32 (codes "workers") rows
   pub lane : MayGive32 (codes "lane") rows

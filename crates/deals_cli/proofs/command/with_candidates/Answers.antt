@@ -7,7 +7,7 @@ use Rattle.deals_cli.proofs.command.with_candidates.Goals as goal
 pub returns-clause-app : goal.returns-clause-app
 returns-clause-app c =
     let seed : rule_of c.required-seed.result ≡ required (option_rule (codes "seed") u32_parser) = search rules in
-    let candidates : rule_of c.required-candidates.result ≡ required (option_rule (codes "candidates") u64_parser) = search rules in
+    let candidates : rule_of c.option-candidates.result ≡ option_rule (codes "candidates") u64_parser = search rules in
     one_more c.with_option-2.result (app_of c.in_ok-command.command) (with_rule (app_of c.args.command) (required (option_rule (codes "seed") u32_parser)))
-    (rule_of c.required-candidates.result) (required (option_rule (codes "candidates") u64_parser))
+    (rule_of c.option-candidates.result) (option_rule (codes "candidates") u64_parser)
     (c.in_ok-command.ensures.app ∙ ap (with_rule (app_of c.args.command)) seed) candidates c.with_option-2.ensures.app

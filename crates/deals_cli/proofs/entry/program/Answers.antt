@@ -1,7 +1,27 @@
-use Rattle.std.proofs.Common.{sym, subst}
+use Rattle.std.proofs.Common.{◌∙◌, sym, subst, map, string_bytes}
 use Rattle.requests.specs.Wishes.{IsStatus}
 use Rattle.requests.proofs.Refusals.{status_of-status}
+use Rattle.requests.specs.Reported.{ReportsFor}
+use Rattle.requests.specs.Requests.{make}
+use Rattle.requests.proofs.Reporting.{none_made, said, some_made}
+use Rattle.deals_cli.specs.CommandLine.{asked}
+use Rattle.deals_cli.proofs.Reporting.{heard}
 use Rattle.deals_cli.proofs.entry.program.Goals as goal
 
 pub returns-in-Err-clause-status : goal.returns-in-Err-clause-status
 returns-in-Err-clause-status g c = subst IsStatus (sym c.status.ensures) (status_of-status c.in-Err.failure)
+
+pub returns-in-Ok-None-clause-reported : goal.returns-in-Ok-None-clause-reported
+returns-in-Ok-None-clause-reported g c m is wants zero same =
+    absurd (some_made m (subst (λ o. ReportsFor (make m) o) c.in-Ok-None.field-0-is (c.in-Ok-None.ensures.report (make m) is)) wants)
+
+pub returns-in-Ok-Some-clause-reported : goal.returns-in-Ok-Some-clause-reported
+returns-in-Ok-Some-clause-reported g c m is wants zero same =
+    said m c.in-Ok-Some.report _ _ (subst (λ o. ReportsFor (make m) o) c.in-Ok-Some.field-0-is (c.in-Ok-Some.ensures.report (make m) is))
+    (heard c.say.result _ _ _ c.say.ensures.faults same c.say.ensures.text)
+
+pub returns-in-Ok-Some-clause-quiet : goal.returns-in-Ok-Some-clause-quiet
+returns-in-Ok-Some-clause-quiet g c zero quiet =
+    absurd (none_made (asked (map string_bytes c.args.words.now)) c.in-Ok-Some.report
+    (λ w is. subst (λ o. ReportsFor w o) c.in-Ok-Some.field-0-is (c.in-Ok-Some.ensures.report w is))
+    (λ is. sym c.in-Ok-Some.field-0-is ∙ c.in-Ok-Some.ensures.no_report is) quiet)

@@ -1,7 +1,8 @@
 use Rattle.std.proofs.Common.{◌∙◌, ap, ap₂, sym, map, string_bytes, Some}
 use Rattle.std.proofs.lemmas.Result.{err_from_is_err_and}
 use Rattle.requests.specs.Requests.{make, stream}
-use Rattle.deals_cli.proofs.Asked.{chosen, err_kind, error_kind}
+use Rattle.deals_cli.specs.CommandLine.{has_no_end}
+use Rattle.deals_cli.proofs.Asked.{chosen, err_kind, error_kind, no_end_asked, no_end_kind}
 use Rattle.deals_cli.proofs.words.read_words.Goals as goal
 
 pub returns-in_err-matches-clause-err : goal.returns-in_err-matches-clause-err
@@ -26,14 +27,32 @@ returns-then-eq-clause-ok c =
     c.in_ok-matches.ensures.kinds c.subcommand.ensures.name c.subcommand.ensures.rows c.unwrap.ensures in
     (at.stream (sym c.if-eq.ensures)).1 ∙ ap₂ (λ x y. Some (stream x y)) (sym c.stream_request.ensures.seed) (sym c.stream_request.ensures.count)
 
-pub make_request-requires : goal.make_request-requires
-make_request-requires c =
+pub make_request-request-requires : goal.make_request-request-requires
+make_request-request-requires c =
     let at = chosen _ (map string_bytes c.args.words.now) c.in_ok-matches.matches c.subcommand.result c.unwrap.result c.in_ok-command.ensures c.in_ok-matches.ensures.matches
     c.in_ok-matches.ensures.kinds c.subcommand.ensures.name c.subcommand.ensures.rows c.unwrap.ensures in
     (at.make (sym c.if-eq.ensures)).0
+
+pub returns-then-has_no_end-clause-err : goal.returns-then-has_no_end-clause-err
+returns-then-has_no_end-clause-err c some =
+    let at = chosen _ (map string_bytes c.args.words.now) c.in_ok-matches.matches c.subcommand.result c.unwrap.result c.in_ok-command.ensures c.in_ok-matches.ensures.matches
+    c.in_ok-matches.ensures.kinds c.subcommand.ensures.name c.subcommand.ensures.rows c.unwrap.ensures in
+    let asks = (at.make (sym c.if-eq.ensures)).1 in
+    let none = ap has_no_end (sym c.make_request-request.ensures) ∙ sym c.if-has_no_end.ensures in
+    no_end_asked (map string_bytes c.args.words.now) (asks.refused none) some
+
+pub returns-then-has_no_end-clause-kinds : goal.returns-then-has_no_end-clause-kinds
+returns-then-has_no_end-clause-kinds c =
+    let at = chosen _ (map string_bytes c.args.words.now) c.in_ok-matches.matches c.subcommand.result c.unwrap.result c.in_ok-command.ensures c.in_ok-matches.ensures.matches
+    c.in_ok-matches.ensures.kinds c.subcommand.ensures.name c.subcommand.ensures.rows c.unwrap.ensures in
+    let asks = (at.make (sym c.if-eq.ensures)).1 in
+    let none = ap has_no_end (sym c.make_request-request.ensures) ∙ sym c.if-has_no_end.ensures in
+    no_end_kind (map string_bytes c.args.words.now) c.in_ok-missing_end.field-0 (asks.kinds none) c.in_ok-missing_end.ensures
 
 pub returns-clause-ok : goal.returns-clause-ok
 returns-clause-ok c =
     let at = chosen _ (map string_bytes c.args.words.now) c.in_ok-matches.matches c.subcommand.result c.unwrap.result c.in_ok-command.ensures c.in_ok-matches.ensures.matches
     c.in_ok-matches.ensures.kinds c.subcommand.ensures.name c.subcommand.ensures.rows c.unwrap.ensures in
-    (at.make (sym c.if-eq.ensures)).1 ∙ ap (λ m. Some (make m)) (sym c.make_request.ensures)
+    let asks = (at.make (sym c.if-eq.ensures)).1 in
+    let none = ap has_no_end (sym c.make_request-request.ensures) ∙ sym c.if-has_no_end.ensures in
+    asks.ends none ∙ ap (λ m. Some (make m)) (sym c.make_request-request.ensures)

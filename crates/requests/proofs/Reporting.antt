@@ -1,0 +1,34 @@
+-- What is said of a wish that was done.
+use Rattle.std.proofs.Common.{◌≡◌, ◌∙◌, ◌++◌, ℕ, Bool, true, false, List, Option, None, Some, OnOk, Result, Ok, Err, refl, sym, ap, ap₂, subst, length}
+use Rattle.cond_lang.specs.Form.{Form}
+use Rattle.dealrun.specs.Text.{accepted, end_of}
+use Rattle.plans.specs.Plans.{Planned}
+use Rattle.sinks.specs.Appended.{AppendsAll, append_known}
+use Rattle.requests.specs.Makings.{Means, plan_of}
+use Rattle.requests.specs.Reported.{Counts, Reports, ReportsFor, wants_report}
+use Rattle.requests.specs.Reports.{next_line, report_line, report_of}
+use Rattle.requests.specs.Requests.{Making, Wish, make, stream}
+use Rattle.requests.specs.declared.report.Report.{Report}
+
+same_text : (plan : Planned) (form : Form) (r : Report) → Counts plan form r
+    → report_line r.plan r.candidates r.boards ++ next_line r.plan r.candidates r.boards ≡ report_of plan form
+same_text plan form r h =
+    ap (λ (p : Planned). report_line p r.candidates r.boards ++ next_line p r.candidates r.boards) h.plan_is
+    ∙ ap₂ (λ (n b : ℕ). report_line plan n b ++ next_line plan n b) h.candidates_are h.boards_are
+
+-- the report of a `make` was said
+pub said : (m : Making) (r : Report) (old new : Option (List ℕ)) → ReportsFor (make m) (Some r)
+    → AppendsAll old new (report_line r.plan r.candidates r.boards ++ next_line r.plan r.candidates r.boards) → Reports m old new
+said m r old new h text =
+    let counts = h.1 in
+    (counts.0, counts.1, text ∙ ap (append_known old) (same_text (plan_of m) counts.0 r counts.2))
+
+-- no report is made unless it is asked for
+pub none_made : (o : Option Wish) (r : Report) → ((w : Wish) → o ≡ Some w → ReportsFor w (Some r)) → (o ≡ None → Some r ≡ None) → wants_report o ≡ false → ⊥
+none_made None r some none quiet = let bad : Some r ≡ None = none refl in cc
+none_made (Some (stream seed count)) r some none quiet = let bad : Some r ≡ None = some (stream seed count) refl in cc
+none_made (Some (make m)) r some none quiet = let is = (some (make m) refl).0 in let bad : true ≡ false = sym is ∙ quiet in cc
+
+-- a `make` that asks for a report has one
+pub some_made : (m : Making) → ReportsFor (make m) None → m.report ≡ true → ⊥
+some_made m h is = let bad : true ≡ false = sym is ∙ h in cc

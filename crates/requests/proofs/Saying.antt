@@ -1,0 +1,49 @@
+-- Texts that are said in parts.
+use Rattle.std.proofs.Common.{◌≡◌, ◌<◌, ◌≤◌, ◌+◌, ◌-◌, ◌^◌, ◌||◌, ◌++◌, ◌∙◌, ℕ, Bool, List, [], Option, Some, Result, Ok, Err, OnOk, refl, sym, ap, ap₂, append_assoc, codes, decimal, if◌then◌else◌}
+use Rattle.std.proofs.lemmas.Bool.{le-ltb, lt-ltb, ne_eqb}
+use Rattle.sinks.specs.Appended.{append_known, AppendsAll}
+use Rattle.sinks.specs.Sinks.{AppendsOrBreaksOff}
+use Rattle.sinks.proofs.SinkLemmas.{append_known-append}
+use Rattle.requests.specs.Reports.{candidates_text, goes_on_at, shortfall}
+
+-- a part, and what comes after it
+pub part : (old mid new : Option (List ℕ)) (x y z : List ℕ) → x ++ y ≡ z → AppendsAll old mid x → AppendsAll mid new y → AppendsAll old new z
+part old mid new x y z e a b = b ∙ ap (λ o. append_known o y) a ∙ append_known-append old x y ∙ ap (append_known old) e
+
+pub last_part : {T E : Type 0} (r : Result T E) (old mid new : Option (List ℕ)) (x y z : List ℕ) → x ++ y ≡ z → AppendsAll old mid x
+    → OnOk r (AppendsAll mid new y) → OnOk r (AppendsAll old new z)
+last_part (Ok v) old mid new x y z e a h = part old mid new x y z e a h
+last_part (Err f) old mid new x y z e a h = tt
+
+-- the same text
+pub as_text : (old new : Option (List ℕ)) (x y : List ℕ) → x ≡ y → AppendsAll old new x → AppendsAll old new y
+as_text old new x y e h = h ∙ ap (append_known old) e
+
+pub ok_as_text : {T E : Type 0} (r : Result T E) (old new : Option (List ℕ)) (x y : List ℕ) → x ≡ y → OnOk r (AppendsAll old new x) → OnOk r (AppendsAll old new y)
+ok_as_text (Ok v) old new x y e h = as_text old new x y e h
+ok_as_text (Err f) old new x y e h = tt
+
+-- what `put_all` appends at Ok
+pub written : {T E : Type 0} (r : Result T E) (old new : Option (List ℕ)) (x : List ℕ) → AppendsOrBreaksOff old new r x → OnOk r (AppendsAll old new x)
+written (Ok v) old new x h = h
+written (Err f) old new x h = tt
+
+pub several : (first candidates : ℕ) → (candidates ≡ 0 → ⊥) → (candidates ≡ 1 → ⊥)
+    → decimal candidates ++ codes " candidates, numbers " ++ decimal first ++ codes " to " ++ decimal (first + candidates - 1) ++ codes "," ≡ candidates_text first candidates
+several first candidates some more =
+    sym (ap₂ (λ (x y : Bool). if x then codes "no candidates" else (if y then codes "1 candidate, number " ++ decimal first ++ codes ","
+    else decimal candidates ++ codes " candidates, numbers " ++ decimal first ++ codes " to " ++ decimal (first + candidates - 1) ++ codes ","))
+    (ne_eqb candidates 0 some) (ne_eqb candidates 1 more))
+
+pub fewer : (asked : Option ℕ) (most boards : ℕ) → asked ≡ Some most → boards < most
+    → codes ", fewer than the " ++ decimal most ++ codes " asked for" ≡ shortfall asked boards
+fewer asked most boards is less =
+    sym (ap (λ (o : Option ℕ). shortfall o boards) is
+    ∙ ap (λ (b : Bool). if b then codes ", fewer than the " ++ decimal most ++ codes " asked for" else []) (lt-ltb boards most less))
+
+pub goes_on : (first board : ℕ) → (first ≡ 2 ^ 40 → ⊥) → board ≤ 2 ^ 40
+    → codes "next: --first " ++ decimal first ++ codes " --first-board " ++ decimal board ++ codes "\n" ≡ goes_on_at first board
+goes_on first board other within =
+    sym (ap₂ (λ (x y : Bool). if x || y then []
+    else codes "next: --first " ++ decimal first ++ codes " --first-board " ++ decimal board ++ codes "\n")
+    (ne_eqb first (2 ^ 40) other) (le-ltb (2 ^ 40) board within))

@@ -1,0 +1,13 @@
+-- Why a condition is not read.
+use Rattle.std.specs.Prelude.{◌≡◌, ◌⊎◌, ℕ, List, Option}
+use Rattle.cond_lang.specs.declared.error.CondError.{CondError}
+use Rattle.dealrun.specs.declared.cause.Cause.TheVariants.{Memory}
+use Rattle.requests.specs.FirstRefusal.{IsConditionDue}
+use Rattle.requests.specs.declared.failure.Failure.{Failure}
+use Rattle.requests.specs.declared.failure.Failure.TheVariants.{Condition, Interrupted}
+
+-- memory ran out, or the condition is refused so
+abbrev pub IsConditionFailure : Option (List ℕ) → Failure → Type 0
+IsConditionFailure given failure =
+    (failure ≡ Interrupted Memory)
+    ⊎ ((error : CondError) × (failure ≡ Condition error) × IsConditionDue given error)
