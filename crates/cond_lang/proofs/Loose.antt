@@ -19,11 +19,11 @@ numbers_back : (ns : List ℕ) → map number_of (as_items ns) ≡ ns
 numbers_back [] = refl
 numbers_back (n ∷ ns) = ap (λ ms. n ∷ ms) (numbers_back ns)
 
-pub numbers_shaped : (q : Seat) (ns : List ℕ) → shaped q (map (λ n. Length n) ns) ≡ shape q ns
-numbers_shaped q ns = rw (none_is_any ns) (ap (shape q) (numbers_back ns))
+pub number_shapes : (q : Seat) (ns : List ℕ) → shaped q (map (λ n. Length n) ns) ≡ shape q ns
+number_shapes q ns = rw (none_is_any ns) (ap (shape q) (numbers_back ns))
 
-pub numbers_patterned : (q : Seat) (ns : List ℕ) → patterned q (map (λ n. Length n) ns) ≡ pattern q ns
-numbers_patterned q ns = rw (none_is_any ns) (ap (pattern q) (numbers_back ns))
+pub number_patterns : (q : Seat) (ns : List ℕ) → patterned q (map (λ n. Length n) ns) ≡ pattern q ns
+number_patterns q ns = rw (none_is_any ns) (ap (pattern q) (numbers_back ns))
 
 pub numbers_allowed : (ns xs : List ℕ) → are_allowed (map (λ n. Length n) ns) xs ≡ is_same xs ns
 numbers_allowed [] [] = refl
@@ -31,6 +31,6 @@ numbers_allowed [] (x ∷ xs) = refl
 numbers_allowed (n ∷ ns) [] = refl
 numbers_allowed (n ∷ ns) (x ∷ xs) = ap (λ b. (x == n) && b) (numbers_allowed ns xs)
 
-pub numbers_allowed_in_some_order : (ns xs : List ℕ) → are_allowed_in_some_order (map (λ n. Length n) ns) xs ≡ is_rearrangement xs ns
+pub orders_allowed : (ns xs : List ℕ) → are_allowed_in_some_order (map (λ n. Length n) ns) xs ≡ is_rearrangement xs ns
 unfolding are_allowed_in_some_order is_rearrangement
-numbers_allowed_in_some_order ns xs = ap (λ f. list_any f (orders_of xs)) (λ i. λ zs. numbers_allowed ns zs i)
+orders_allowed ns xs = ap (λ f. list_any f (orders_of xs)) (λ i. λ zs. numbers_allowed ns zs i)

@@ -1,7 +1,9 @@
 -- The core of a run: a machine of four events over the counters of its lanes, one flag and the
 -- turn. An event that is not allowed changes nothing. No thread, no ring and no waiting stands in
 -- it.
-use Rattle.std.specs.Prelude.{ℕ, ◌+◌, ◌-◌, ◌%◌, ◌==◌, ◌&&◌, ◌||◌, Bool, true, false, not, cond, List, [], ◌∷◌, nat_lt, replicate, sum, count_by, slice_index, slice_index_or, slice_set}
+use Rattle.std.specs.Prelude.{ℕ, ◌+◌, ◌-◌, ◌%◌, ◌==◌, ◌&&◌, ◌||◌, Bool, true, false, not, cond}
+use Rattle.std.specs.Prelude.{List, [], ◌∷◌, nat_lt, replicate, sum, count_by}
+use Rattle.std.specs.Prelude.{slice_index, slice_index_or, slice_set}
 use Rattle.lanes.specs.declared.model.event.Event.{Event}
 use Rattle.lanes.specs.declared.model.event.Event.TheVariants.{Send, Take, Close, Stop}
 use Rattle.lanes.specs.Verdicts.{turns}
@@ -53,7 +55,8 @@ next_lane m = m.turn % m.workers
 abbrev pub is_allowed : Machine → Event → Bool
 is_allowed m (Send w) =
     nat_lt w m.workers
-    && (not (is_closed m w) && (nat_lt (held m w) m.capacity && nat_lt (sent_of m w) (share_of m w)))
+    && (not (is_closed m w)
+    && (nat_lt (held m w) m.capacity && nat_lt (sent_of m w) (share_of m w)))
 is_allowed m Take = not m.stopped && nat_lt 0 (held m (next_lane m))
 is_allowed m (Close w) =
     nat_lt w m.workers && (not (is_closed m w) && (m.stopped || (sent_of m w == share_of m w)))
@@ -63,7 +66,10 @@ is_allowed m Stop = true
 abbrev pub changed : Machine → Event → Machine
 changed m (Send w) = record m { sent = slice_set m.sent w (sent_of m w + 1) }
 changed m Take =
-    record m { taken = slice_set m.taken (next_lane m) (taken_of m (next_lane m) + 1); turn = m.turn + 1 }
+    record m {
+      taken = slice_set m.taken (next_lane m) (taken_of m (next_lane m) + 1);
+      turn = m.turn + 1;
+    }
 changed m (Close w) = record m { closed = slice_set m.closed w true }
 changed m Stop = record m { stopped = true }
 

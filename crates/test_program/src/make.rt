@@ -125,11 +125,11 @@ fn writes_labels_and_board_numbers(rt: HostRuntime) -> Result<(), Fail> {
     let outcome = make_of(&rt, rt.alloc(), options.as_slice())?;
     assert_eq!(rt; outcome.status, 0);
     assert_eq!(rt; outcome.out.bytes().len(), 342);
-    let first =
-        b"% PBN 2.1\n[Event \"Club night\"]\n[Date \"2024.05.01\"]\n[Board \"16\"]\n[Dealer \"W\"]\n[Vulnerable \"EW\"]\n";
+    let first = b"% PBN 2.1\n[Event \"Club night\"]\n[Date \"2024.05.01\"]\n[Board \"16\"]\n\
+            [Dealer \"W\"]\n[Vulnerable \"EW\"]\n";
     assert!(rt; outcome.out.bytes().starts_with(first));
-    let second =
-        b"[Event \"Club night\"]\n[Date \"2024.05.01\"]\n[Board \"17\"]\n[Dealer \"N\"]\n[Vulnerable \"None\"]\n";
+    let second = b"[Event \"Club night\"]\n[Date \"2024.05.01\"]\n[Board \"17\"]\n[Dealer \"N\"]\n\
+            [Vulnerable \"None\"]\n";
     let Some(rest) = outcome.out.bytes().get(342 - 80 - second.len()..) else {
         assert!(rt; false);
         return Ok(());

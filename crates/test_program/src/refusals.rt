@@ -98,8 +98,9 @@ fn refuses_a_first_past_the_end(rt: HostRuntime) -> Result<(), Fail> {
 /// clap's text names what is missing, and how the command is used.
 #[test]
 fn refuses_a_make_without_an_end(rt: HostRuntime) -> Result<(), Fail> {
-    let want =
-        "error: the following required arguments were not provided:\n  --candidates <N> or --boards <M>\n\nUsage: deals make [OPTIONS] --seed <S>\n\nFor more information, try '--help'.\n";
+    let want = "error: the following required arguments were not provided:\n  --candidates <N> \
+        or --boards <M>\n\nUsage: deals make [OPTIONS] --seed <S>\n\n\
+        For more information, try '--help'.\n";
     refuses(&rt, rt.alloc(), [].as_slice(), 2, want)?;
     refuses(&rt, rt.alloc(), ["--first", "4"].as_slice(), 2, want)
 }

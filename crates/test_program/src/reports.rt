@@ -26,7 +26,8 @@ fn reports_all_candidates(rt: HostRuntime) -> Result<(), Fail> {
     for (options, want) in [
         (
             ["--candidates", "36", "--report"].as_slice(),
-            "36 boards from 36 candidates, numbers 0 to 35, of seed 0\nnext: --first 36 --first-board 37\n",
+            "36 boards from 36 candidates, numbers 0 to 35, of seed 0\n\
+             next: --first 36 --first-board 37\n",
         ),
         (
             ["--candidates", "1", "--report"].as_slice(),
@@ -49,11 +50,13 @@ fn reports_all_candidates(rt: HostRuntime) -> Result<(), Fail> {
                 "9",
             ]
             .as_slice(),
-            "0 boards from no candidates of seed 0, fewer than the 7 asked for\nnext: --first 5 --first-board 9\n",
+            "0 boards from no candidates of seed 0, fewer than the 7 asked for\n\
+             next: --first 5 --first-board 9\n",
         ),
         (
             ["--candidates", "50", "--boards", "50", "--report"].as_slice(),
-            "50 boards from 50 candidates, numbers 0 to 49, of seed 0\nnext: --first 50 --first-board 51\n",
+            "50 boards from 50 candidates, numbers 0 to 49, of seed 0\n\
+             next: --first 50 --first-board 51\n",
         ),
         (
             ["--candidates", "50", "--boards", "1", "--report"].as_slice(),
@@ -61,7 +64,8 @@ fn reports_all_candidates(rt: HostRuntime) -> Result<(), Fail> {
         ),
         (
             ["--candidates", "1", "--boards", "2", "--report"].as_slice(),
-            "1 board from 1 candidate, number 0, of seed 0, fewer than the 2 asked for\nnext: --first 1 --first-board 2\n",
+            "1 board from 1 candidate, number 0, of seed 0, fewer than the 2 asked for\n\
+             next: --first 1 --first-board 2\n",
         ),
     ] {
         reports(&rt, rt.alloc(), options, want)?;
@@ -82,7 +86,8 @@ fn reports_a_search(rt: HostRuntime) -> Result<(), Fail> {
                 "--report",
             ]
             .as_slice(),
-            "3 boards from 119 candidates, numbers 0 to 118, of seed 0\nnext: --first 119 --first-board 4\n",
+            "3 boards from 119 candidates, numbers 0 to 118, of seed 0\n\
+             next: --first 119 --first-board 4\n",
         ),
         (
             [
@@ -95,7 +100,8 @@ fn reports_a_search(rt: HostRuntime) -> Result<(), Fail> {
                 "--report",
             ]
             .as_slice(),
-            "1 board from 50 candidates, numbers 0 to 49, of seed 0, fewer than the 9 asked for\nnext: --first 50 --first-board 2\n",
+            "1 board from 50 candidates, numbers 0 to 49, of seed 0, fewer than the 9 asked for\n\
+             next: --first 50 --first-board 2\n",
         ),
         (
             [
@@ -106,7 +112,8 @@ fn reports_a_search(rt: HostRuntime) -> Result<(), Fail> {
                 "--report",
             ]
             .as_slice(),
-            "0 boards from 50 candidates, numbers 0 to 49, of seed 0\nnext: --first 50 --first-board 1\n",
+            "0 boards from 50 candidates, numbers 0 to 49, of seed 0\n\
+             next: --first 50 --first-board 1\n",
         ),
         (
             [
@@ -121,7 +128,8 @@ fn reports_a_search(rt: HostRuntime) -> Result<(), Fail> {
                 "--report",
             ]
             .as_slice(),
-            "2 boards from 6 candidates, numbers 0 to 5, of seed 0\nnext: --first 6 --first-board 3\n",
+            "2 boards from 6 candidates, numbers 0 to 5, of seed 0\n\
+             next: --first 6 --first-board 3\n",
         ),
     ] {
         reports(&rt, rt.alloc(), options, want)?;
@@ -135,11 +143,13 @@ fn reports_at_the_ends(rt: HostRuntime) -> Result<(), Fail> {
     for (options, want) in [
         (
             ["--first", "1099511627774", "--boards", "5", "--report"].as_slice(),
-            "2 boards from 2 candidates, numbers 1099511627774 to 1099511627775, of seed 0, fewer than the 5 asked for\n",
+            "2 boards from 2 candidates, numbers 1099511627774 to 1099511627775, of seed 0, \
+             fewer than the 5 asked for\n",
         ),
         (
             ["--first", "1099511627770", "--boards", "5", "--report"].as_slice(),
-            "5 boards from 5 candidates, numbers 1099511627770 to 1099511627774, of seed 0\nnext: --first 1099511627775 --first-board 6\n",
+            "5 boards from 5 candidates, numbers 1099511627770 to 1099511627774, of seed 0\n\
+             next: --first 1099511627775 --first-board 6\n",
         ),
         (
             ["--first", "1099511627776", "--boards", "5", "--report"].as_slice(),
@@ -165,7 +175,8 @@ fn reports_at_the_ends(rt: HostRuntime) -> Result<(), Fail> {
                 "--report",
             ]
             .as_slice(),
-            "2 boards from 2 candidates, numbers 0 to 1, of seed 0\nnext: --first 2 --first-board 1099511627776\n",
+            "2 boards from 2 candidates, numbers 0 to 1, of seed 0\n\
+             next: --first 2 --first-board 1099511627776\n",
         ),
     ] {
         reports(&rt, rt.alloc(), options, want)?;

@@ -14,8 +14,12 @@ use Rattle.cards.specs.Pack.{seat_number, seat_of_number, suit_number}
 use Rattle.cond_lang.specs.declared.tree.Item.{Item}
 use Rattle.cond_lang.specs.declared.tree.Item.TheVariants.{Length, Any}
 use Rattle.cond_lang.specs.declared.tree.Op.{Op}
-use Rattle.cond_lang.specs.declared.tree.Op.TheVariants.{Equal, NotEqual, Less, AtMost, More, AtLeast}
-use Rattle.cond_lang.specs.Form.{Amount, sum, number, points, suit_points, suit_length, total, suit_total, cards_held, suit_cards_held, longest, shortest, Form, any_of, all_of, negation, compare, within, balanced, shape, pattern, loose_shape, loose_pattern}
+use Rattle.cond_lang.specs.declared.tree.Op.TheVariants.{Equal, NotEqual, Less}
+use Rattle.cond_lang.specs.declared.tree.Op.TheVariants.{AtMost, More, AtLeast}
+use Rattle.cond_lang.specs.Form.{Amount, sum, number, points, suit_points, suit_length, total}
+use Rattle.cond_lang.specs.Form.{suit_total, cards_held, suit_cards_held, longest, shortest}
+use Rattle.cond_lang.specs.Form.{Form, any_of, all_of, negation, compare, within, balanced}
+use Rattle.cond_lang.specs.Form.{shape, pattern, loose_shape, loose_pattern}
 
 abbrev suit_of_number : ℕ → Suit
 suit_of_number zero = Spades
@@ -205,7 +209,8 @@ amount_from (gcons (gnum (suc (suc (suc (suc (suc (suc zero))))))) (gcons m (gco
     suit_total (measure_from m) (seat_from q) (suit_from s)
 amount_from (gcons (gnum (suc (suc (suc (suc (suc (suc (suc zero)))))))) (gcons q h)) =
     cards_held (seat_from q) (honours_from h)
-amount_from (gcons (gnum (suc (suc (suc (suc (suc (suc (suc (suc zero))))))))) (gcons q (gcons s h))) =
+amount_from
+    (gcons (gnum (suc (suc (suc (suc (suc (suc (suc (suc zero))))))))) (gcons q (gcons s h))) =
     suit_cards_held (seat_from q) (suit_from s) (honours_from h)
 amount_from (gcons (gnum (suc (suc (suc (suc (suc (suc (suc (suc (suc zero)))))))))) q) =
     longest (seat_from q)
@@ -264,7 +269,8 @@ form_from (gcons (gnum (suc (suc (suc (suc (suc (suc (suc zero)))))))) (gcons q 
     loose_shape (seat_from q) (items_of items)
 form_from (gcons (gnum (suc (suc (suc (suc (suc (suc (suc (suc zero))))))))) (gcons q items)) =
     loose_pattern (seat_from q) (items_of items)
-form_from (gcons (gnum (suc (suc (suc (suc (suc (suc (suc (suc (suc k)))))))))) (gcons a (gcons m n))) =
+form_from
+    (gcons (gnum (suc (suc (suc (suc (suc (suc (suc (suc (suc k)))))))))) (gcons a (gcons m n))) =
     within (amount_from a) (number_of m) (number_of n)
 form_from _ = balanced North
 
