@@ -1,12 +1,13 @@
 -- A hand is the list of 52 truth values "this card is the seat's".
-use Rattle.std.specs.Prelude.{ℕ, ◌+◌, ◌*◌, ◌==◌, min, max, not, ◌&&◌, ◌||◌, Bool, true, false, cond, List, [], ◌∷◌, map, count_by, slice_index_or}
+use Rattle.std.specs.Prelude.{ℕ, ◌+◌, ◌*◌, ◌==◌, min, max, not, ◌&&◌, ◌||◌, Bool, true, false, cond, List, [], ◌∷◌, map, count_by, slice_index_or, unwrap_or, option_map}
 use Rattle.std.specs.List.{flat_map, list_any, sum_by, range_with_len}
 use Rattle.cards.specs.declared.seat.Seat.{Seat}
 use Rattle.cards.specs.declared.suit.Suit.{Suit}
 use Rattle.cards.specs.declared.suit.Suit.TheVariants.{Spades, Hearts, Diamonds, Clubs}
 use Rattle.cards.specs.declared.measure.Measure.{Measure}
-use Rattle.cards.specs.declared.measure.Measure.TheVariants.{Hcp, Controls, Losers}
+use Rattle.cards.specs.declared.measure.Measure.TheVariants.{Hcp}
 use Rattle.cards.specs.declared.honours.Honours.{Honours}
+use Rattle.cards.specs.Measures.{weights_of}
 use Rattle.cards.specs.Pack.{seat_number, suit_number, is_in_suit, rank_of}
 use Rattle.cards.specs.Shuffle.{pack}
 
@@ -25,15 +26,8 @@ holds_in hand suit c = is_in_suit suit c && holds_card hand c
 abbrev pub length_of : List Bool → Suit → ℕ
 length_of hand suit = count_by (holds_in hand suit) pack
 
--- what an ace, a king, a queen and a jack count as points and as controls; the other ranks count
--- nothing
-abbrev pub points_by_rank : List ℕ
-points_by_rank = 4 ∷ 3 ∷ 2 ∷ 1 ∷ []
-
-abbrev pub controls_by_rank : List ℕ
-controls_by_rank = 2 ∷ 1 ∷ 0 ∷ 0 ∷ []
-
--- what the hand's cards, and its cards of one suit, count together by such weights
+-- what the hand's cards, and its cards of one suit, count together, by what an ace, a king, a queen
+-- and a jack count; the other ranks count nothing
 abbrev pub weight_of : List ℕ → List Bool → ℕ
 weight_of weights hand =
     sum_by (λ c. cond (holds_card hand c) (slice_index_or weights (rank_of c) 0) 0) pack
@@ -56,14 +50,12 @@ losers_of hand =
 
 -- what a measure says of the hand, and of its cards of one suit
 abbrev pub total_of : Measure → List Bool → ℕ
-total_of Hcp hand = weight_of points_by_rank hand
-total_of Controls hand = weight_of controls_by_rank hand
-total_of Losers hand = losers_of hand
+total_of measure hand =
+    unwrap_or (option_map (λ w. weight_of w hand) (weights_of measure)) (losers_of hand)
 
 abbrev pub total_in : Measure → List Bool → Suit → ℕ
-total_in Hcp hand suit = weight_in points_by_rank hand suit
-total_in Controls hand suit = weight_in controls_by_rank hand suit
-total_in Losers hand suit = losers_in hand suit
+total_in measure hand suit =
+    unwrap_or (option_map (λ w. weight_in w hand suit) (weights_of measure)) (losers_in hand suit)
 
 -- the high card points of the hand, and those of one suit
 abbrev pub points_of : List Bool → ℕ

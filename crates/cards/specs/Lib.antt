@@ -2,6 +2,7 @@ pub mod Pack
 pub mod Shuffle
 pub mod Deals
 pub mod Turning
+pub mod Measures
 pub mod Hands
 pub mod Balanced
 pub mod Ranks

@@ -12,7 +12,6 @@ ghost use Rattle.cards.specs.internal.Masks.{cards_of_mask};
 ghost use Rattle.cards.specs.internal.BalancedInOrder.{IsBalancedInOrder};
 
 use crate::masks::{honours_of_mask, suit_mask, weight_of_mask};
-use crate::measure::{CONTROLS, POINTS};
 use crate::{Honours, Measure, Suit};
 use std::marker::Model;
 
@@ -53,7 +52,7 @@ impl Hand {
         ensures value { result ≡ points_of self.now }
         ensures most { result ≤ 40 }
     {
-        weight_of_mask(POINTS, self.cards)
+        self.total(Measure::Hcp)
     }
 
     /// The high card points of the suit's cards alone. At most 10.
@@ -61,18 +60,18 @@ impl Hand {
         ensures value { result ≡ points_in self.now suit }
         ensures most { result ≤ 10 }
     {
-        self.weight_in(POINTS, suit)
+        self.total_in(Measure::Hcp, suit)
     }
 
     /// What the measure counts in the hand. At most 40.
+    #[inline(always)]
     pub fn total(&self, measure: Measure) -> u8
         ensures value { result ≡ total_of measure self.now }
         ensures most { result ≤ 40 }
     {
-        match measure {
-            Measure::Hcp => self.points(),
-            Measure::Controls => weight_of_mask(CONTROLS, self.cards),
-            Measure::Losers => self.losers(),
+        match measure.weights() {
+            Some(weights) => weight_of_mask(weights, self.cards),
+            None => self.losers(),
         }
     }
 
@@ -82,10 +81,9 @@ impl Hand {
         ensures value { result ≡ total_in measure self.now suit }
         ensures most { result ≤ 10 }
     {
-        match measure {
-            Measure::Hcp => self.points_in(suit),
-            Measure::Controls => self.weight_in(CONTROLS, suit),
-            Measure::Losers => self.losers_in(suit),
+        match measure.weights() {
+            Some(weights) => self.weight_in(weights, suit),
+            None => self.losers_in(suit),
         }
     }
 

@@ -1,5 +1,8 @@
 //! What is counted in a hand.
 
+ghost use Rattle.std.specs.Prelude.{◌≡◌, ◌≤◌, IfSome, sum};
+ghost use Rattle.cards.specs.Measures.{weights_of};
+
 /// A way to count a hand.
 #[derive(Clone, Copy, PartialEq, Eq, Debug)]
 pub enum Measure {
@@ -11,8 +14,18 @@ pub enum Measure {
     Losers,
 }
 
-/// The points of an ace, a king, a queen and a jack.
-pub(crate) const POINTS: [u8; 4] = [4, 3, 2, 1];
-
-/// Their controls.
-pub(crate) const CONTROLS: [u8; 4] = [2, 1, 0, 0];
+impl Measure {
+    /// What an ace, a king, a queen and a jack count, at most 10 together. Losers have none: ranks
+    /// alone don't count them.
+    #[inline(always)]
+    pub(crate) fn weights(self) -> Option<[u8; 4]>
+        ensures value { result ≡ weights_of self }
+        ensures light { IfSome result (λ w. sum w ≤ 10) }
+    {
+        match self {
+            Measure::Hcp => Some([4, 3, 2, 1]),
+            Measure::Controls => Some([2, 1, 0, 0]),
+            Measure::Losers => None,
+        }
+    }
+}

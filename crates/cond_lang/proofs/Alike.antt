@@ -2,11 +2,10 @@
 use Rattle.std.proofs.Common.{◌≡◌, ℕ, List, [], ◌∷◌, ◌++◌, Option, Some, None, refl, sym, ap, ◌∙◌, subst}
 use Rattle.cards.specs.declared.honours.Honours.{Honours}
 use Rattle.cards.specs.declared.measure.Measure.{Measure as AMeasure}
-use Rattle.cards.specs.declared.measure.Measure.TheVariants.{Hcp, Controls, Losers}
 use Rattle.cards.specs.declared.seat.Seat.{Seat as ASeat}
 use Rattle.cards.specs.declared.suit.Suit.{Suit as ASuit}
-use Rattle.cond_lang.specs.declared.kind.Kind.{Kind}
-use Rattle.cond_lang.specs.declared.kind.Kind.TheVariants as kind
+use Rattle.cond_lang.specs.declared.words.Kind.{Kind}
+use Rattle.cond_lang.specs.declared.words.Kind.TheVariants as kind
 use Rattle.cond_lang.specs.declared.tree.Item.{Item}
 use Rattle.cond_lang.specs.declared.tree.Item.TheVariants.{Length, Any}
 use Rattle.cond_lang.specs.declared.tree.Op.{Op}
@@ -45,9 +44,7 @@ only kind.Open = Some Open
 only kind.Balanced = Some Balanced
 only kind.Shape = Some Shape
 only kind.Pattern = Some Pattern
-only kind.Hcp = Some (Measure Hcp)
-only kind.Controls = Some (Measure Controls)
-only kind.Losers = Some (Measure Losers)
+only (kind.Measure m) = Some (Measure m)
 only kind.Cards = Some Cards
 only kind.Len = Some Len
 only kind.Longest = Some Longest
@@ -69,9 +66,7 @@ only_of Not t e = cc
 only_of Balanced t e = cc
 only_of Shape t e = cc
 only_of Pattern t e = cc
-only_of (Measure Hcp) t e = cc
-only_of (Measure Controls) t e = cc
-only_of (Measure Losers) t e = cc
+only_of (Measure m) t e = cc
 only_of Cards t e = cc
 only_of Len t e = cc
 only_of Longest t e = cc
@@ -94,43 +89,26 @@ same : (x : Token) {y : Token} → only (kind_of x) ≡ Some x → kind_of x ≡
 same x {y} h e = only_of y x (ap only (sym e) ∙ h)
 
 same_measure : (m : AMeasure) {y : Token} → kind_of (Measure m) ≡ kind_of y → y ≡ Measure m
-same_measure Hcp e = same (Measure Hcp) refl e
-same_measure Controls e = same (Measure Controls) refl e
-same_measure Losers e = same (Measure Losers) refl e
+same_measure m e = same (Measure m) refl e
 
 like_number : (n : ℕ) (y : Token) → kind_of (Number n) ≡ kind_of y → (m : ℕ) × (y ≡ Number m)
 like_number n (Number m) e = (m, refl)
-like_number n (Measure Hcp) e = absurd (cc)
-like_number n (Measure Controls) e = absurd (cc)
-like_number n (Measure Losers) e = absurd (cc)
 like_number n y e = absurd (cc)
 
 like_seat : (q : ASeat) (y : Token) → kind_of (Seat q) ≡ kind_of y → (r : ASeat) × (y ≡ Seat r)
 like_seat q (Seat r) e = (r, refl)
-like_seat q (Measure Hcp) e = absurd (cc)
-like_seat q (Measure Controls) e = absurd (cc)
-like_seat q (Measure Losers) e = absurd (cc)
 like_seat q y e = absurd (cc)
 
 like_suit : (s : ASuit) (y : Token) → kind_of (Suit s) ≡ kind_of y → (r : ASuit) × (y ≡ Suit r)
 like_suit s (Suit r) e = (r, refl)
-like_suit s (Measure Hcp) e = absurd (cc)
-like_suit s (Measure Controls) e = absurd (cc)
-like_suit s (Measure Losers) e = absurd (cc)
 like_suit s y e = absurd (cc)
 
 like_ranks : (h : Honours) (y : Token) → kind_of (Ranks h) ≡ kind_of y → (r : Honours) × (y ≡ Ranks r)
 like_ranks h (Ranks r) e = (r, refl)
-like_ranks h (Measure Hcp) e = absurd (cc)
-like_ranks h (Measure Controls) e = absurd (cc)
-like_ranks h (Measure Losers) e = absurd (cc)
 like_ranks h y e = absurd (cc)
 
 like_relation : (o : Op) (y : Token) → kind_of (Relation o) ≡ kind_of y → (p : Op) × (y ≡ Relation p)
 like_relation o (Relation p) e = (p, refl)
-like_relation o (Measure Hcp) e = absurd (cc)
-like_relation o (Measure Controls) e = absurd (cc)
-like_relation o (Measure Losers) e = absurd (cc)
 like_relation o y e = absurd (cc)
 
 like_item : (i : Item) (y : Token) → kind_of (item_token i) ≡ kind_of y → (j : Item) × (y ≡ item_token j)

@@ -1,13 +1,12 @@
 -- The longest beginning of some tokens that a condition goes on with, and what could follow it.
-use Rattle.std.proofs.Common.{◌≡◌, ℕ, ◌+◌, ◌-◌, ◌≤◌, ◌<◌, ◌⊎◌, List, [], ◌∷◌, ◌++◌, map, length, take, refl, sym, ap, ◌∙◌, subst, inl, inr, append-nil, arith}
-use Rattle.std.specs.Prelude.{◌↔◌, ◌==◌, IsTrue, Bool, true, false}
+use Rattle.std.proofs.Common.{◌≡◌, ℕ, ◌+◌, ◌-◌, List, [], ◌∷◌, ◌++◌, length, take, sym, ap, ◌∙◌, subst, inl, inr, append-nil, arith}
+use Rattle.std.specs.Prelude.{◌↔◌, ◌==◌, IsTrue, Bool}
 use Rattle.std.specs.List.{take-map}
 use Rattle.std.proofs.lemmas.Bool.{cases_lt}
 use Rattle.std.proofs.lemmas.Bool.Decides.{nat_tests}
 use Rattle.std.proofs.lemmas.List.{length-map, length-take-le, take_all}
-use Rattle.cond_lang.specs.declared.kind.Kind.{Kind}
-use Rattle.cond_lang.specs.declared.kind.Kind.TheVariants.{End}
-use Rattle.cards.specs.declared.measure.Measure.TheVariants.{Hcp, Controls, Losers}
+use Rattle.cond_lang.specs.declared.words.Kind.{Kind}
+use Rattle.cond_lang.specs.declared.words.Kind.TheVariants.{End}
 use Rattle.cond_lang.specs.declared.token.Placed.{Placed}
 use Rattle.cond_lang.specs.declared.token.Token.{Token}
 use Rattle.cond_lang.specs.declared.token.Token.TheVariants.{Measure}
@@ -80,9 +79,7 @@ kinds_of_part placed n = sym (take-map (λ s. s.token) n placed)
 
 -- no token is of the kind of the end
 not_the_end : (c : Token) → kind_of c ≡ End → ⊥
-not_the_end (Measure Hcp) e = cc
-not_the_end (Measure Controls) e = cc
-not_the_end (Measure Losers) e = cc
+not_the_end (Measure m) e = cc
 not_the_end c e = cc
 
 pub may_end :

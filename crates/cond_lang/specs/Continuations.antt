@@ -1,8 +1,7 @@
 -- What could stand behind the tokens that a condition can begin with.
 use Rattle.std.specs.Prelude.{◌≡◌, ◌⊎◌, ◌+◌, ◌<◌, ◌≤◌, ℕ, List, [], ◌∷◌, ◌++◌, length, take}
-use Rattle.cards.specs.declared.measure.Measure.TheVariants as measure
-use Rattle.cond_lang.specs.declared.kind.Kind.{Kind}
-use Rattle.cond_lang.specs.declared.kind.Kind.TheVariants as kind
+use Rattle.cond_lang.specs.declared.words.Kind.{Kind}
+use Rattle.cond_lang.specs.declared.words.Kind.TheVariants as kind
 use Rattle.cond_lang.specs.declared.token.Placed.{Placed}
 use Rattle.cond_lang.specs.declared.token.Token.{Token}
 use Rattle.cond_lang.specs.declared.token.Token.TheVariants.{Or, And, Not, Balanced, Shape, Pattern, Measure, Cards, Len, Longest, Shortest, In, X, Seat, Suit, Ranks, Number, Open, Close, Comma, Dash, Plus, Relation}
@@ -20,9 +19,7 @@ kind_of Balanced = kind.Balanced
 kind_of Shape = kind.Shape
 kind_of Pattern = kind.Pattern
 kind_of (Number n) = kind.Number
-kind_of (Measure measure.Hcp) = kind.Hcp
-kind_of (Measure measure.Controls) = kind.Controls
-kind_of (Measure measure.Losers) = kind.Losers
+kind_of (Measure m) = kind.Measure m
 kind_of Cards = kind.Cards
 kind_of Len = kind.Len
 kind_of Longest = kind.Longest

@@ -7,10 +7,10 @@ ghost use Rattle.cond_lang.specs.Faults.{IsDue};
 ghost use Rattle.cond_lang.specs.Text.{kinds};
 
 use crate::error::CondError;
-use crate::kind::Kind;
 use crate::parser::read_as_far;
 use crate::scanner::{MAX_BYTES, scan};
 use crate::token::{Placed, Token};
+use crate::words::Kind;
 use arrayvec::ArrayVec;
 use std::alloc::{AllocError, Global};
 use std::marker::Model;

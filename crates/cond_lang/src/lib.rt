@@ -9,19 +9,19 @@
 mod beginning;
 mod condition;
 mod error;
-mod kind;
 pub mod laws;
 mod meaning;
 mod parser;
 mod scanner;
 mod token;
 mod tree;
+mod words;
 
 pub use beginning::Beginning;
 pub use condition::{Cond, parse};
 pub use error::CondError;
-pub use kind::Kind;
 pub use tree::{Item, Op, Tree, Value};
+pub use words::Kind;
 
 #[cfg(test)]
 mod tests;

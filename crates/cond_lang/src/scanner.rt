@@ -12,38 +12,12 @@ ghost use Rattle.cond_lang.specs.internal.Scanning.{token_of, run, begins_with, 
 use crate::error::CondError;
 use crate::token::{Piece, Placed, Token};
 use crate::tree::Op;
+use crate::words::WORDS;
 use arrayvec::ArrayVec;
-use cards::{Honours, Measure, Seat, Suit};
+use cards::Honours;
 
 /// The longest text that is read, in bytes.
 pub(crate) const MAX_BYTES: usize = 1024;
-
-/// The known words, each with its token: the table `words` of the definition.
-const WORDS: [(&[u8], Token); 23] = [
-    (b"or", Token::Or),
-    (b"and", Token::And),
-    (b"not", Token::Not),
-    (b"balanced", Token::Balanced),
-    (b"shape", Token::Shape),
-    (b"pattern", Token::Pattern),
-    (b"hcp", Token::Measure(Measure::Hcp)),
-    (b"controls", Token::Measure(Measure::Controls)),
-    (b"losers", Token::Measure(Measure::Losers)),
-    (b"cards", Token::Cards),
-    (b"len", Token::Len),
-    (b"longest", Token::Longest),
-    (b"shortest", Token::Shortest),
-    (b"in", Token::In),
-    (b"x", Token::X),
-    (b"north", Token::Seat(Seat::North)),
-    (b"east", Token::Seat(Seat::East)),
-    (b"south", Token::Seat(Seat::South)),
-    (b"west", Token::Seat(Seat::West)),
-    (b"spades", Token::Suit(Suit::Spades)),
-    (b"hearts", Token::Suit(Suit::Hearts)),
-    (b"diamonds", Token::Suit(Suit::Diamonds)),
-    (b"clubs", Token::Suit(Suit::Clubs)),
-];
 
 /// The tokens of a text, or its leftmost faulty piece.
 pub(crate) fn scan(text: &[u8]) -> Result<ArrayVec<Placed, 1024>, CondError>

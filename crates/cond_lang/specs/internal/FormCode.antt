@@ -4,12 +4,12 @@ use Rattle.std.specs.Prelude.{◌≡◌, ℕ, zero, suc, Bool, true, false, cond
 use Rattle.std.proofs.Common.{sym, ap, ◌∙◌}
 use base.Stored.{Gv, gnil, gnum, gcons, Coded}
 use Rattle.cards.specs.declared.measure.Measure.{Measure}
-use Rattle.cards.specs.declared.measure.Measure.TheVariants.{Hcp, Controls, Losers}
 use Rattle.cards.specs.declared.honours.Honours.{Honours}
 use Rattle.cards.specs.declared.seat.Seat.{Seat}
 use Rattle.cards.specs.declared.seat.Seat.TheVariants.{North, East, South, West}
 use Rattle.cards.specs.declared.suit.Suit.{Suit}
 use Rattle.cards.specs.declared.suit.Suit.TheVariants.{Spades, Hearts, Diamonds, Clubs}
+use Rattle.cards.specs.Measures.{measure_number, measure_of_number, measure_back}
 use Rattle.cards.specs.Pack.{seat_number, seat_of_number, suit_number}
 use Rattle.cond_lang.specs.declared.tree.Item.{Item}
 use Rattle.cond_lang.specs.declared.tree.Item.TheVariants.{Length, Any}
@@ -26,16 +26,6 @@ suit_of_number zero = Spades
 suit_of_number (suc zero) = Hearts
 suit_of_number (suc (suc zero)) = Diamonds
 suit_of_number _ = Clubs
-
-abbrev measure_number : Measure → ℕ
-measure_number Hcp = 0
-measure_number Controls = 1
-measure_number Losers = 2
-
-abbrev measure_of_number : ℕ → Measure
-measure_of_number zero = Hcp
-measure_of_number (suc zero) = Controls
-measure_of_number _ = Losers
 
 abbrev op_number : Op → ℕ
 op_number Equal = 0
@@ -64,11 +54,6 @@ suit_back Spades = refl
 suit_back Hearts = refl
 suit_back Diamonds = refl
 suit_back Clubs = refl
-
-measure_back : (m : Measure) → measure_of_number (measure_number m) ≡ m
-measure_back Hcp = refl
-measure_back Controls = refl
-measure_back Losers = refl
 
 op_back : (o : Op) → op_of_number (op_number o) ≡ o
 op_back Equal = refl

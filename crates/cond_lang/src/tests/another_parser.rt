@@ -5,6 +5,8 @@ ghost use Rattle.std.specs.Prelude.{◌<◌};
 
 use super::random::Dice;
 use super::*;
+use crate::token::Token;
+use crate::words::WORDS;
 use crate::{Beginning, CondError, Kind};
 
 /// What comes next where nothing is owed.
@@ -95,7 +97,7 @@ impl Machine {
             Kind::Shape | Kind::Pattern => self.owe(b"(q,i-i-i-i)", State::Test),
             Kind::In => self.owe(b"n-n", State::Test),
             Kind::Number => self.state = State::Atom,
-            Kind::Hcp | Kind::Controls | Kind::Losers => self.owe(b"(q?", State::Atom),
+            Kind::Measure(_) => self.owe(b"(q?", State::Atom),
             Kind::Cards => self.owe(b"(q,e)", State::Atom),
             Kind::Len => self.owe(b"(q,s)", State::Atom),
             Kind::Longest | Kind::Shortest => self.owe(b"(q)", State::Atom),
@@ -120,7 +122,7 @@ impl Machine {
 
 fn begins_value(kind: Kind) -> bool {
     match kind {
-        Kind::Number | Kind::Hcp | Kind::Controls | Kind::Losers => true,
+        Kind::Number | Kind::Measure(_) => true,
         Kind::Cards | Kind::Len | Kind::Longest | Kind::Shortest => true,
         _ => false,
     }
@@ -145,6 +147,16 @@ fn is_owed(code: u8, kind: Kind) -> bool {
     }
 }
 
+/// The word that stands for the token.
+fn word_of(token: Token) -> &'static [u8] {
+    for (word, meant) in WORDS.iter() {
+        if *meant == token {
+            return word;
+        }
+    }
+    b""
+}
+
 /// A token of the kind.
 fn word(kind: Kind, dice: &mut Dice) -> &'static [u8] {
     match kind {
@@ -154,9 +166,7 @@ fn word(kind: Kind, dice: &mut Dice) -> &'static [u8] {
         Kind::Shape => b"shape",
         Kind::Pattern => b"pattern",
         Kind::Number => [b"0".as_slice(), b"13", b"9999"][usize::from(dice.below(3))],
-        Kind::Hcp => b"hcp",
-        Kind::Controls => b"controls",
-        Kind::Losers => b"losers",
+        Kind::Measure(measure) => word_of(Token::Measure(measure)),
         Kind::Cards => b"cards",
         Kind::Len => b"len",
         Kind::Longest => b"longest",

@@ -2,18 +2,20 @@
 
 use super::*;
 use crate::{Beginning, CondError, Kind};
+use cards::Measure;
+
+/// Any measure: all of them stand in the same places.
+const MEASURE: Kind = Kind::Measure(Measure::Hcp);
 
 /// All that begins a condition.
-const CONDITION: [Kind; 13] = [
+const CONDITION: [Kind; 11] = [
     Kind::Not,
     Kind::Open,
     Kind::Balanced,
     Kind::Shape,
     Kind::Pattern,
     Kind::Number,
-    Kind::Hcp,
-    Kind::Controls,
-    Kind::Losers,
+    MEASURE,
     Kind::Cards,
     Kind::Len,
     Kind::Longest,
@@ -21,11 +23,9 @@ const CONDITION: [Kind; 13] = [
 ];
 
 /// All that begins a value.
-const VALUE: [Kind; 8] = [
+const VALUE: [Kind; 6] = [
     Kind::Number,
-    Kind::Hcp,
-    Kind::Controls,
-    Kind::Losers,
+    MEASURE,
     Kind::Cards,
     Kind::Len,
     Kind::Longest,
@@ -88,7 +88,11 @@ fn what_could_stand_there(rt: HostRuntime) -> Result<(), Fail> {
     for (text, expected) in EXPECTED.iter() {
         let beginning = Beginning::of(rt.alloc(), text.as_bytes())?;
         for kind in Kind::ALL {
-            let is_expected = expected.iter().any(|it| *it == kind);
+            let listed = match kind {
+                Kind::Measure(_) => MEASURE,
+                other => other,
+            };
+            let is_expected = expected.iter().any(|it| *it == listed);
             assert_eq!(rt; beginning.allows(kind)?, is_expected);
         }
     }

@@ -1,4 +1,4 @@
-//! Kinds of tokens: what a person is told could stand at a place.
+//! The words of the language, and the kinds of its tokens, which a person is told.
 
 ghost use Rattle.std.specs.Prelude.{◌≡◌, None, IfSome};
 ghost use Rattle.cond_lang.specs.Continuations.{kind_of};
@@ -6,6 +6,33 @@ ghost use Rattle.cond_lang.specs.Continuations.{kind_of};
 use crate::token::Token;
 use crate::tree::Op;
 use cards::{Honours, Measure, Seat, Suit};
+
+/// The known words, each with its token: the table `words` of the definition.
+pub(crate) const WORDS: [(&[u8], Token); 23] = [
+    (b"or", Token::Or),
+    (b"and", Token::And),
+    (b"not", Token::Not),
+    (b"balanced", Token::Balanced),
+    (b"shape", Token::Shape),
+    (b"pattern", Token::Pattern),
+    (b"hcp", Token::Measure(Measure::Hcp)),
+    (b"controls", Token::Measure(Measure::Controls)),
+    (b"losers", Token::Measure(Measure::Losers)),
+    (b"cards", Token::Cards),
+    (b"len", Token::Len),
+    (b"longest", Token::Longest),
+    (b"shortest", Token::Shortest),
+    (b"in", Token::In),
+    (b"x", Token::X),
+    (b"north", Token::Seat(Seat::North)),
+    (b"east", Token::Seat(Seat::East)),
+    (b"south", Token::Seat(Seat::South)),
+    (b"west", Token::Seat(Seat::West)),
+    (b"spades", Token::Suit(Suit::Spades)),
+    (b"hearts", Token::Suit(Suit::Hearts)),
+    (b"diamonds", Token::Suit(Suit::Diamonds)),
+    (b"clubs", Token::Suit(Suit::Clubs)),
+];
 
 /// What can stand at a place of a condition: a kind of token, or the end. Each word of its own, the
 /// six comparisons, the four seats, the four suits, all ranks and all numbers are one kind each.
@@ -17,9 +44,7 @@ pub enum Kind {
     Shape,
     Pattern,
     Number,
-    Hcp,
-    Controls,
-    Losers,
+    Measure(Measure),
     Cards,
     Len,
     Longest,
@@ -57,9 +82,9 @@ impl Kind {
         Kind::Shape,
         Kind::Pattern,
         Kind::Number,
-        Kind::Hcp,
-        Kind::Controls,
-        Kind::Losers,
+        Kind::Measure(Measure::Hcp),
+        Kind::Measure(Measure::Controls),
+        Kind::Measure(Measure::Losers),
         Kind::Cards,
         Kind::Len,
         Kind::Longest,
@@ -92,9 +117,7 @@ impl Kind {
             Kind::Shape => Token::Shape,
             Kind::Pattern => Token::Pattern,
             Kind::Number => Token::Number(0),
-            Kind::Hcp => Token::Measure(Measure::Hcp),
-            Kind::Controls => Token::Measure(Measure::Controls),
-            Kind::Losers => Token::Measure(Measure::Losers),
+            Kind::Measure(measure) => Token::Measure(measure),
             Kind::Cards => Token::Cards,
             Kind::Len => Token::Len,
             Kind::Longest => Token::Longest,

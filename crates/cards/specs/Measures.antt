@@ -1,0 +1,26 @@
+-- The measures of a hand: the table of what each counts.
+use Rattle.std.specs.Prelude.{◌≡◌, ℕ, zero, suc, List, [], ◌∷◌, Option, Some, None, refl}
+use Rattle.cards.specs.declared.measure.Measure.{Measure}
+use Rattle.cards.specs.declared.measure.Measure.TheVariants.{Hcp, Controls, Losers}
+
+-- what an ace, a king, a queen and a jack count; losers are not counted by ranks alone
+abbrev pub weights_of : Measure → Option (List ℕ)
+weights_of Hcp = Some (4 ∷ 3 ∷ 2 ∷ 1 ∷ [])
+weights_of Controls = Some (2 ∷ 1 ∷ 0 ∷ 0 ∷ [])
+weights_of Losers = None
+
+-- the measures by number, and back
+abbrev pub measure_number : Measure → ℕ
+measure_number Hcp = 0
+measure_number Controls = 1
+measure_number Losers = 2
+
+abbrev pub measure_of_number : ℕ → Measure
+measure_of_number zero = Hcp
+measure_of_number (suc zero) = Controls
+measure_of_number _ = Losers
+
+pub measure_back : (m : Measure) → measure_of_number (measure_number m) ≡ m
+measure_back Hcp = refl
+measure_back Controls = refl
+measure_back Losers = refl
