@@ -187,6 +187,9 @@ fn word(kind: Kind, dice: &mut Dice) -> &'static [u8] {
     }
 }
 
+/// How many kinds of tokens there are: all kinds but the end, which is the last.
+const TOKENS: u8 = Kind::ALL.len() as u8 - 1;
+
 const RELATIONS: [&[u8]; 6] = [b"==", b"!=", b"<", b"<=", b">", b">="];
 
 const SEATS: [&[u8]; 4] = [b"north", b"east", b"south", b"west"];
@@ -197,13 +200,13 @@ const RANKS: [&[u8]; 3] = [b"a", b"kqt", b"jtakq"];
 
 /// A kind of token, mostly one that may come next.
 fn some_kind(machine: &Machine, dice: &mut Dice) -> Kind {
-    let mut kind = Kind::ALL[usize::from(dice.below(25))];
+    let mut kind = Kind::ALL[usize::from(dice.below(TOKENS))];
     if dice.below(16) > 0 {
         for _ in 0..60 {
             if machine.allows(kind) {
                 break;
             }
-            kind = Kind::ALL[usize::from(dice.below(25))];
+            kind = Kind::ALL[usize::from(dice.below(TOKENS))];
         }
     }
     kind
