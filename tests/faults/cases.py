@@ -68,6 +68,9 @@ def of_make():
     report = b"36 boards from 36 candidates, numbers 0 to 35, of seed 7\nnext: --first 36 --first-board 37\n"
     words = ["make", "--seed", "7", "--candidates", "36", "--report", "--workers", "3"]
     yield Case("make, a report", words, out=model.games(7, 36), err=report, workers=3)
+    for more in (["--format", "hands", "--event", "Club night"], ["--format", "lin", "--rotate", "--dealer", "S"]):
+        words = ["make", "--seed", "7", "--candidates", "40", "--workers", "3", *more]
+        yield Case(f"make, {more[1]}", words, out=None, workers=3)
     deep = "(" * 509 + "0==0" + ")" * 509
     yield Case("make, brackets", asked("--where", deep), out=model.games(7, 1), workers=1)
     yield Case("make, negations", asked("--where", "not " * 255 + "0==0"), out=model.games(7, 0), workers=1)

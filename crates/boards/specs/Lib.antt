@@ -1,2 +1,3 @@
 pub mod Law2
+pub mod Settings
 pub mod Layouts

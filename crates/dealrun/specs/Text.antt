@@ -4,8 +4,8 @@ use Rattle.std.specs.Prelude.{ℕ, ◌+◌, ◌==◌, List, ◌++◌, length, ma
 use Rattle.std.specs.Prelude.{Option, None, Some}
 use Rattle.std.specs.List.{enumerate_from, flat_map, position_or_len, range_with_len}
 use Rattle.boards.specs.declared.board.Board.{Board}
-use Rattle.boards.specs.Law2.{board_by_law}
 use Rattle.boards.specs.Layouts.{Layout}
+use Rattle.boards.specs.Settings.{board_in}
 use Rattle.cards.specs.declared.seat.Seat.{Seat}
 use Rattle.cards.specs.Candidates.{candidate}
 use Rattle.cond_lang.specs.Form.{Form}
@@ -26,9 +26,10 @@ limited (Some most) xs = take most xs
 abbrev pub accepted : Planned → Form → List ℕ
 accepted plan form = limited plan.limit (accepted_among plan.seed plan.first form plan.count)
 
--- the board that a plan makes of a candidate's deal, after n boards
+-- the board that a plan makes of a candidate's deal, after n boards. A setting may turn it: the
+-- condition was asked before, of the candidate itself
 abbrev pub board_of : Planned → ℕ → ℕ → List Seat → Board
-board_of plan n candidate deal = board_by_law (plan.first_board + n) candidate deal
+board_of plan n candidate deal = board_in plan.setting (plan.first_board + n) candidate deal
 
 -- the boards of these candidates, in order
 unfoldable pub boards_of : Planned → List ℕ → List Board

@@ -19,12 +19,13 @@ pub(crate) fn is_full(plan: &Plan, boards: u64) -> bool
     }
 }
 
-/// The board of a candidate's deal, after `boards` of them.
+/// The board of a candidate's deal, after `boards` of them, by the plan's setting.
 fn next_board(plan: &Plan, boards: u64, candidate: u64, deal: &Deal) -> Board
     requires { boards ≤ 2 ^ 40 }
     ensures { result ≡ board_of plan.now boards candidate deal.now }
 {
-    Board::by_law(plan.first_board() + boards, candidate, *deal)
+    let number = plan.first_board() + boards;
+    plan.setting().board(number, candidate, *deal)
 }
 
 /// Writes the board of a candidate's deal, after `boards` of them.

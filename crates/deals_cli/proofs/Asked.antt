@@ -3,6 +3,7 @@ use Rattle.std.proofs.Common.{◌≡◌, ◌⊎◌, ◌∙◌, Bool, true, false
 use Rattle.std.specs.Prelude.{IsSome, Box}
 use Rattle.std.specs.Borrow.{Bor}
 use Rattle.std.specs.Box.{box_value}
+use Rattle.std.specs.Option.{option_map_or}
 use Rattle.std.specs.Str.{bytes_eq}
 use Rattle.std.proofs.lemmas.Slice.Eq.{bytes_eq-Decides}
 use Rattle.clap.specs.Faults.{fault_of, is_simple_and_free}
@@ -11,13 +12,14 @@ use Rattle.clap.specs.Simple.{App, HasMatchesOf, argument_words, built, subcomma
 use Rattle.clap.specs.Walk.{Row, Text, answers_to, rows_after}
 use Rattle.clap.specs.Words.{found_of, kind_of, rows_of, subcommand_name_of}
 use Rattle.clap.specs.declared.error.Error.{Error}
-use Rattle.clap.specs.declared.error.kind.ErrorKind.TheVariants.{MissingRequiredArgument, OutOfMemory}
+use Rattle.clap.specs.declared.error.kind.ErrorKind.{ErrorKind}
+use Rattle.clap.specs.declared.error.kind.ErrorKind.TheVariants.{InvalidValue, MissingRequiredArgument, OutOfMemory}
 use Rattle.clap.specs.declared.parser.matches.ArgMatches.{ArgMatches}
 use Rattle.clap.specs.declared.parser.matches.ArgMatches.TheViews.{out-ArgMatches, out-SubCommand}
 use Rattle.clap.specs.declared.parser.matches.SubCommand.{SubCommand}
-use Rattle.deals_cli.specs.CommandLine.{asked, deals, end_kinds, has_no_end, kinds_for, making_in, stream_wish, unless_fault, wish_by, wish_in}
+use Rattle.deals_cli.specs.CommandLine.{asked, deals, end_kinds, further_kinds, has_no_end, has_unknown, kinds_by, kinds_for, making_in, stream_wish, unless_fault, wish_by, wish_in}
 use Rattle.deals_cli.specs.internal.Readings.{MakeValues, StreamValues}
-use Rattle.requests.specs.Requests.{Making, Wish, make}
+use Rattle.requests.specs.Requests.{Wish, make}
 use Rattle.deals_cli.proofs.Commands.{make_built, make_values, stream_built, stream_values}
 use Rattle.deals_cli.proofs.Entered.{enters}
 
@@ -71,7 +73,7 @@ unfolding asked kinds_for
 err_kind app words e is h some =
     go (fault_of deals words) (subst (λ (a : App). (is_simple_and_free a ≡ true → HasKind (fault_of a words) e) → HasKind (fault_of deals words) e) (sym is) (λ k. k refl) h) some
   where
-    go : (ks : Kinds) → HasKind ks e → IsSome (unless_fault (or_else ks (end_kinds (wish_in words))) (wish_in words)) → kind_of e ≡ OutOfMemory
+    go : (ks : Kinds) → HasKind ks e → IsSome (unless_fault (or_else ks (further_kinds words)) (wish_in words)) → kind_of e ≡ OutOfMemory
     go [] has s = elim has [ inl m ↦ m | inr bad ↦ absurd bad ]
     go (k ∷ ks) has s = let bad : false ≡ true = s in absurd cc
 
@@ -110,44 +112,61 @@ met app words m sub name rows is has names all named =
 
 -- ---- the wish
 
-by_wish : (words : List Text) (o : Option Wish) → fault_of deals words ≡ [] → wish_in words ≡ o → asked words ≡ unless_fault (end_kinds o) o
+by_wish : (words : List Text) (p : Text × List Row) → fault_of deals words ≡ [] → subcommand_of deals words ≡ Some p → asked words ≡ unless_fault (kinds_by p) (Some (wish_by p))
 unfolding asked kinds_for
-by_wish words o f is =
-    ap (λ (k : Kinds). unless_fault (or_else k (end_kinds (wish_in words))) (wish_in words)) f ∙ ap (λ (x : Option Wish). unless_fault (end_kinds x) x) is
+by_wish words p f is =
+    ap (λ (k : Kinds). unless_fault (or_else k (further_kinds words)) (wish_in words)) f
+    ∙ ap (λ (o : Option (Text × List Row)). unless_fault (option_map_or kinds_by o []) (option_map wish_by o)) is
 
-by_end : (words : List Text) (o : Option Wish) → fault_of deals words ≡ [] → wish_in words ≡ o → kinds_for words ≡ end_kinds o
+by_kinds : (words : List Text) (p : Text × List Row) → fault_of deals words ≡ [] → subcommand_of deals words ≡ Some p → kinds_for words ≡ kinds_by p
 unfolding kinds_for
-by_end words o f is = ap (λ (k : Kinds). or_else k (end_kinds (wish_in words))) f ∙ ap end_kinds is
+by_kinds words p f is =
+    ap (λ (k : Kinds). or_else k (further_kinds words)) f ∙ ap (λ (o : Option (Text × List Row)). option_map_or kinds_by o []) is
 
 pub asked_stream : (words : List Text) → fault_of deals words ≡ [] → (n : NamesStream words) → asked words ≡ Some (stream_wish n.rows)
-asked_stream words f n = by_wish words (Some (stream_wish n.rows)) f (ap (option_map wish_by) n.named)
+asked_stream words f n = by_wish words (codes "stream", n.rows) f n.named
 
--- words that name `make` ask for it if its end is given, and else they are refused
-pub record AsksMake (words : List Text) (m : Making) : Type 0 where
-  pub ends : has_no_end m ≡ false → asked words ≡ Some (make m)
-  pub refused : has_no_end m ≡ true → asked words ≡ None
-  pub kinds : has_no_end m ≡ true → kinds_for words ≡ MissingRequiredArgument ∷ []
+-- the words are refused with an error of this kind
+pub record IsRefused (words : List Text) (kind : ErrorKind) : Type 0 where
+  pub asked_is : asked words ≡ None
+  pub kinds_are : kinds_for words ≡ kind ∷ []
 
-pub asks_make : (words : List Text) → fault_of deals words ≡ [] → (n : NamesMake words) → AsksMake words (making_in n.rows)
+-- words that name `make` ask for it if each word is one of its option's values and an end is given,
+-- and else they are refused
+pub record AsksMake (words : List Text) (rows : List Row) : Type 0 where
+  pub ends : has_unknown rows ≡ false → has_no_end (making_in rows) ≡ false → asked words ≡ Some (make (making_in rows))
+  pub no_end : has_unknown rows ≡ false → has_no_end (making_in rows) ≡ true → IsRefused words MissingRequiredArgument
+  pub unknown : has_unknown rows ≡ true → IsRefused words InvalidValue
+
+pub asks_make : (words : List Text) → fault_of deals words ≡ [] → (n : NamesMake words) → AsksMake words n.rows
 asks_make words f n = record {
-  ends = λ e. by_wish words found f is ∙ ap (λ (b : Bool). unless_fault (if b then missing else []) found) e;
-  refused = λ e. by_wish words found f is ∙ ap (λ (b : Bool). unless_fault (if b then missing else []) found) e;
-  kinds = λ e. by_end words found f is ∙ ap (λ (b : Bool). if b then missing else []) e;
+  ends = λ u e. by_wish words found f n.named ∙ ap (λ (k : Kinds). unless_fault k wish) (known u ∙ ending e);
+  no_end = λ u e. record {
+    asked_is = by_wish words found f n.named ∙ ap (λ (k : Kinds). unless_fault k wish) (known u ∙ ending e);
+    kinds_are = by_kinds words found f n.named ∙ known u ∙ ending e;
+  };
+  unknown = λ u. record {
+    asked_is = by_wish words found f n.named ∙ ap (λ (k : Kinds). unless_fault k wish) (known u);
+    kinds_are = by_kinds words found f n.named ∙ known u;
+  };
 }
   where
-    missing : Kinds
-    missing = MissingRequiredArgument ∷ []
+    found : Text × List Row
+    found = (codes "make", n.rows)
 
-    found : Option Wish
-    found = Some (make (making_in n.rows))
+    wish : Option Wish
+    wish = Some (make (making_in n.rows))
 
-    is : wish_in words ≡ found
-    is = ap (option_map wish_by) n.named
+    known : {b : Bool} → has_unknown n.rows ≡ b → kinds_by found ≡ (if b then InvalidValue ∷ [] else end_kinds (making_in n.rows))
+    known {b} u = ap (λ (x : Bool). if x then InvalidValue ∷ [] else end_kinds (making_in n.rows)) u
+
+    ending : {b : Bool} → has_no_end (making_in n.rows) ≡ b → end_kinds (making_in n.rows) ≡ (if b then MissingRequiredArgument ∷ [] else [])
+    ending {b} e = ap (λ (x : Bool). if x then MissingRequiredArgument ∷ [] else []) e
 
 -- what the words ask for, by the name of the subcommand that was met
 pub record Chosen (words : List Text) (name : Text) (rows : List Row) : Type 0 where
   pub stream : bytes_eq name (codes "stream") ≡ true → StreamValues rows × (asked words ≡ Some (stream_wish rows))
-  pub make : bytes_eq name (codes "stream") ≡ false → MakeValues rows × AsksMake words (making_in rows)
+  pub make : bytes_eq name (codes "stream") ≡ false → MakeValues rows × AsksMake words rows
 
 abbrev of_pair : List Text → Bor Text × Bor ArgMatches → Type 0
 of_pair words p = Chosen words p.0.now (rows_of (found_of p.1.now))
@@ -186,13 +205,13 @@ has_first (k ∷ ks) b e h = h
 pub error_kind : (app : App) (words : List Text) (e : Error) → app ≡ deals → (is_simple_and_free app ≡ true → HasKind (fault_of app words) e) → HasKind (kinds_for words) e
 unfolding kinds_for
 error_kind app words e is h =
-    has_first (fault_of deals words) (end_kinds (wish_in words)) e
+    has_first (fault_of deals words) (further_kinds words) e
     (subst (λ (a : App). (is_simple_and_free a ≡ true → HasKind (fault_of a words) e) → HasKind (fault_of deals words) e) (sym is) (λ k. k refl) h)
 
--- ---- a `make` whose end is not given
+-- ---- words that clap takes and that are refused
 
-pub no_end_kind : (words : List Text) (e : Error) → kinds_for words ≡ MissingRequiredArgument ∷ [] → kind_of e ≡ MissingRequiredArgument → HasKind (kinds_for words) e
-no_end_kind words e kinds is = rw kinds (inr (inl is))
+pub refused_kind : (words : List Text) (kind : ErrorKind) (e : Error) → IsRefused words kind → kind_of e ≡ kind → HasKind (kinds_for words) e
+refused_kind words kind e r is = rw r.kinds_are (inr (inl is))
 
-pub no_end_asked : {X : Type 0} (words : List Text) → asked words ≡ None → IsSome (asked words) → X
-no_end_asked words none some = let bad : false ≡ true = subst (λ (o : Option Wish). IsSome o) none some in absurd cc
+pub refused_asked : {X : Type 0} (words : List Text) (kind : ErrorKind) → IsRefused words kind → IsSome (asked words) → X
+refused_asked words kind r some = let bad : false ≡ true = subst (λ (o : Option Wish). IsSome o) r.asked_is some in absurd cc

@@ -6,7 +6,7 @@ use Rattle.clap.specs.Walk.{Row, Rule, Text, nothing_held, one_of, rows_after, v
 use Rattle.clap.specs.declared.builder.value_parser.ValueParser.{ValueParser}
 use Rattle.clap.specs.declared.builder.value_parser.ValueParser.TheVariants.{Unsigned}
 use Rattle.clap.proofs.ValueTestLemmas.{accepts-Accepts}
-use Rattle.deals_cli.specs.CommandLine.{count_parser, deals, flag_rule, option_rule, required, u32_parser, u64_parser}
+use Rattle.deals_cli.specs.CommandLine.{count_parser, deals, flag_rule, option_rule, required, u32_parser}
 use Rattle.deals_cli.specs.internal.Readings.{Gives32, GivesUpTo, HasValue, MakeValues, MayGive32, MayGive64, StreamValues}
 use Rattle.deals_cli.proofs.Walks.{PlainRules, given_value, level_checked, level_passing, passed_value, required_given}
 
@@ -44,10 +44,10 @@ plain_stream = record {
   ];
 }
 
--- the flag as built has a value however it is used
-report_value : (vs : List Text) → 0 < length (values_or_missing (filled (flag_rule (codes "report"))) vs)
-report_value [] = lit< tt
-report_value (v ∷ vs) = omega arith
+-- a flag as built has a value however it is used
+flag_value : (id : Text) (vs : List Text) → 0 < length (values_or_missing (filled (flag_rule id)) vs)
+flag_value id [] = lit< tt
+flag_value id (v ∷ vs) = omega arith
 
 plain_make : PlainRules make_built.rules
 plain_make = record {
@@ -65,7 +65,11 @@ plain_make = record {
     | inr (inr (inr (inr (inr (inr (inr (inr (inr (inr (inl e)))))))))) ↦ rw e refl
     | inr (inr (inr (inr (inr (inr (inr (inr (inr (inr (inr (inl e))))))))))) ↦ rw e refl
     | inr (inr (inr (inr (inr (inr (inr (inr (inr (inr (inr (inr (inl e)))))))))))) ↦ rw e refl
-    | inr (inr (inr (inr (inr (inr (inr (inr (inr (inr (inr (inr (inr bad)))))))))))) ↦ absurd bad
+    | inr (inr (inr (inr (inr (inr (inr (inr (inr (inr (inr (inr (inr (inl e))))))))))))) ↦ rw e refl
+    | inr (inr (inr (inr (inr (inr (inr (inr (inr (inr (inr (inr (inr (inr (inl e)))))))))))))) ↦ rw e refl
+    | inr (inr (inr (inr (inr (inr (inr (inr (inr (inr (inr (inr (inr (inr (inr (inl e))))))))))))))) ↦ rw e refl
+    | inr (inr (inr (inr (inr (inr (inr (inr (inr (inr (inr (inr (inr (inr (inr (inr (inl e)))))))))))))))) ↦ rw e refl
+    | inr (inr (inr (inr (inr (inr (inr (inr (inr (inr (inr (inr (inr (inr (inr (inr (inr bad)))))))))))))))) ↦ absurd bad
   ];
   acts = λ a is. elim is [
     | inl e ↦ rw e (inl (refl, refl))
@@ -79,9 +83,13 @@ plain_make = record {
     | inr (inr (inr (inr (inr (inr (inr (inr (inl e)))))))) ↦ rw e (inl (refl, refl))
     | inr (inr (inr (inr (inr (inr (inr (inr (inr (inl e))))))))) ↦ rw e (inl (refl, refl))
     | inr (inr (inr (inr (inr (inr (inr (inr (inr (inr (inl e)))))))))) ↦ rw e (inl (refl, refl))
-    | inr (inr (inr (inr (inr (inr (inr (inr (inr (inr (inr (inl e))))))))))) ↦ rw e (inr (inr (refl, report_value)))
-    | inr (inr (inr (inr (inr (inr (inr (inr (inr (inr (inr (inr (inl e)))))))))))) ↦ rw e (inr (inl refl))
-    | inr (inr (inr (inr (inr (inr (inr (inr (inr (inr (inr (inr (inr bad)))))))))))) ↦ absurd bad
+    | inr (inr (inr (inr (inr (inr (inr (inr (inr (inr (inr (inl e))))))))))) ↦ rw e (inl (refl, refl))
+    | inr (inr (inr (inr (inr (inr (inr (inr (inr (inr (inr (inr (inl e)))))))))))) ↦ rw e (inl (refl, refl))
+    | inr (inr (inr (inr (inr (inr (inr (inr (inr (inr (inr (inr (inr (inl e))))))))))))) ↦ rw e (inl (refl, refl))
+    | inr (inr (inr (inr (inr (inr (inr (inr (inr (inr (inr (inr (inr (inr (inl e)))))))))))))) ↦ rw e (inr (inr (refl, flag_value (codes "rotate"))))
+    | inr (inr (inr (inr (inr (inr (inr (inr (inr (inr (inr (inr (inr (inr (inr (inl e))))))))))))))) ↦ rw e (inr (inr (refl, flag_value (codes "report"))))
+    | inr (inr (inr (inr (inr (inr (inr (inr (inr (inr (inr (inr (inr (inr (inr (inr (inl e)))))))))))))))) ↦ rw e (inr (inl refl))
+    | inr (inr (inr (inr (inr (inr (inr (inr (inr (inr (inr (inr (inr (inr (inr (inr (inr bad)))))))))))))))) ↦ absurd bad
   ];
 }
 

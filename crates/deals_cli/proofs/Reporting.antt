@@ -1,5 +1,5 @@
 -- What is said of a wish that was done.
-use Rattle.std.proofs.Common.{◌≡◌, ◌+◌, ℕ, Result, Ok, Err, OnOk, arith}
+use Rattle.std.proofs.Common.{◌≡◌, ℕ, Result, Ok, Err, OnOk, arith}
 use Rattle.sinks.specs.Sinks.{CountsFault}
 use Rattle.requests.proofs.Reporting.{none_made, said, some_made}
 

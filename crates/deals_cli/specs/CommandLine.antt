@@ -1,16 +1,23 @@
 -- The command line: what the program's words ask for, by clap's own functions of the words.
-use Rattle.std.specs.Prelude.{◌&&◌, ℕ, Bool, true, false, not, List, [], ◌∷◌, Option, Some, None, is_some, codes, fold, pos, option_map, unwrap_or, if◌then◌else◌}
-use Rattle.std.specs.Option.{option_map_or}
+use Rattle.std.specs.Prelude.{◌&&◌, ◌||◌, ℕ, Bool, true, false, not, List, [], ◌∷◌, Option, Some, None, is_some, codes, fold, pos, option_map, unwrap_or, if◌then◌else◌}
+use Rattle.std.specs.Option.{option_and_then, option_map_or}
 use Rattle.std.specs.Str.{bytes_eq}
 use Rattle.std.specs.Str.Parse.{digits_value, without_leading_plus}
 use Rattle.clap.specs.Words.{App, Kinds, Row, Rule, Text, fault_of, first_of, new_app, new_rule, one_of, subcommand_of, with_rule, with_subcommand}
 use Rattle.clap.specs.Kinds.{or_else}
 use Rattle.clap.specs.declared.builder.action.ArgAction.TheVariants.{SetTrue}
 use Rattle.clap.specs.Simple.{on_top}
+use Rattle.clap.specs.declared.error.kind.ErrorKind.TheVariants.{InvalidValue}
 use Rattle.clap.specs.declared.error.kind.ErrorKind.TheVariants.{MissingRequiredArgument}
 use Rattle.clap.specs.declared.builder.value_parser.ValueParser.{ValueParser}
 use Rattle.clap.specs.declared.builder.value_parser.ValueParser.TheVariants as parsed
+use Rattle.boards.specs.declared.law2.Vul.{Vul}
+use Rattle.boards.specs.declared.law2.Vul.TheVariants.{Neither, NorthSouth, EastWest, Both}
+use Rattle.cards.specs.declared.seat.Seat.{Seat}
+use Rattle.cards.specs.declared.seat.Seat.TheVariants.{North, East, South, West}
 use Rattle.requests.specs.Requests.{Making, Wish, stream, make}
+use Rattle.requests.specs.declared.format.Format.{Format}
+use Rattle.requests.specs.declared.format.Format.TheVariants.{Pbn, Hands, Lin}
 
 -- ---- the commands
 
@@ -61,6 +68,10 @@ make_app = command_with (codes "make") (
     ∷ option_rule (codes "event") parsed.String
     ∷ option_rule (codes "site") parsed.String
     ∷ option_rule (codes "date") parsed.String
+    ∷ option_rule (codes "format") parsed.String
+    ∷ option_rule (codes "dealer") parsed.String
+    ∷ option_rule (codes "vulnerable") parsed.String
+    ∷ flag_rule (codes "rotate")
     ∷ flag_rule (codes "report")
     ∷ [])
 
@@ -85,6 +96,38 @@ number_or default id rows = unwrap_or (number_in id rows) default
 abbrev pub is_set : Text → List Row → Bool
 is_set id rows = option_map_or (λ t. bytes_eq t (codes "true")) (first_of id rows) false
 
+-- the options that have one of a few words, and what each word stands for, in just this case
+abbrev pub formats : List (Text × Format)
+formats = (codes "pbn", Pbn) ∷ (codes "hands", Hands) ∷ (codes "lin", Lin) ∷ []
+
+abbrev pub dealers : List (Text × Seat)
+dealers =
+    (codes "N", North) ∷ (codes "E", East) ∷ (codes "S", South) ∷ (codes "W", West) ∷ []
+
+abbrev pub sides : List (Text × Vul)
+sides =
+    (codes "None", Neither) ∷ (codes "NS", NorthSouth) ∷ (codes "EW", EastWest)
+    ∷ (codes "All", Both) ∷ []
+
+-- what a word stands for in such a table
+abbrev pub meant_by : {A : Type 0} → List (Text × A) → Text → Option A
+meant_by [] word = None
+meant_by (p ∷ table) word = if bytes_eq word p.0 then Some p.1 else meant_by table word
+
+-- what the word stands for that an option was given
+abbrev pub choice_in : {A : Type 0} → List (Text × A) → Text → List Row → Option A
+choice_in table id rows = option_and_then (meant_by table) (first_of id rows)
+
+-- an option was given a word that stands for nothing
+abbrev pub is_unknown : {A : Type 0} → List (Text × A) → Text → List Row → Bool
+is_unknown table id rows =
+    option_map_or (λ word. not (is_some (meant_by table word))) (first_of id rows) false
+
+abbrev pub has_unknown : List Row → Bool
+has_unknown rows =
+    is_unknown formats (codes "format") rows
+    || (is_unknown dealers (codes "dealer") rows || is_unknown sides (codes "vulnerable") rows)
+
 abbrev pub stream_wish : List Row → Wish
 stream_wish rows = stream (number_or 0 (codes "seed") rows) (number_or 0 (codes "count") rows)
 
@@ -101,6 +144,10 @@ making_in rows = record {
   event = first_of (codes "event") rows;
   site = first_of (codes "site") rows;
   date = first_of (codes "date") rows;
+  format = unwrap_or (choice_in formats (codes "format") rows) Pbn;
+  dealer = choice_in dealers (codes "dealer") rows;
+  vulnerable = choice_in sides (codes "vulnerable") rows;
+  rotate = is_set (codes "rotate") rows;
   report = is_set (codes "report") rows;
 }
 
@@ -116,9 +163,20 @@ wish_in words = option_map wish_by (subcommand_of deals words)
 abbrev pub has_no_end : Making → Bool
 has_no_end m = not (is_some m.candidates) && not (is_some m.boards)
 
-abbrev pub end_kinds : Option Wish → Kinds
-end_kinds (Some (make m)) = if has_no_end m then MissingRequiredArgument ∷ [] else []
-end_kinds _ = []
+abbrev pub end_kinds : Making → Kinds
+end_kinds m = if has_no_end m then MissingRequiredArgument ∷ [] else []
+
+-- clap reads those words as texts: one that stands for nothing is refused as clap refuses a value
+abbrev pub make_kinds : List Row → Kinds
+make_kinds rows = if has_unknown rows then InvalidValue ∷ [] else end_kinds (making_in rows)
+
+-- by the subcommand's name and what its options were given
+abbrev pub kinds_by : Text × List Row → Kinds
+kinds_by p = if bytes_eq p.0 (codes "stream") then [] else make_kinds p.1
+
+-- the kinds of error in words that clap takes
+abbrev pub further_kinds : List Text → Kinds
+further_kinds words = option_map_or kinds_by (subcommand_of deals words) []
 
 -- a wish, unless there is a fault
 abbrev pub unless_fault : Kinds → Option Wish → Option Wish
@@ -128,7 +186,7 @@ unless_fault (k ∷ kinds) wish = None
 -- the kinds of error of which one is given for these words, clap's first: none if they ask for
 -- something
 unfoldable pub kinds_for : List Text → Kinds
-kinds_for words = or_else (fault_of deals words) (end_kinds (wish_in words))
+kinds_for words = or_else (fault_of deals words) (further_kinds words)
 
 -- what the words ask for, if nothing but want of memory can fail their parse
 unfoldable pub asked : List Text → Option Wish

@@ -5,9 +5,11 @@ ghost use Rattle.clap.specs.Words.{app_of, kind_of, rule_of, with_rule};
 ghost use Rattle.clap.specs.declared.Command.TheViews.{out-Command as fields_of};
 ghost use Rattle.deals_cli.specs.CommandLine.{deals, flag_rule, make_app, option_rule, required};
 ghost use Rattle.deals_cli.specs.CommandLine.{stream_app};
-ghost use Rattle.deals_cli.specs.internal.Commands.{with_boards, with_candidates, with_labels};
+ghost use Rattle.deals_cli.specs.internal.Commands.{with_boards, with_candidates, with_flags};
+ghost use Rattle.deals_cli.specs.internal.Commands.{with_form, with_labels, with_notation};
 ghost use Rattle.deals_cli.specs.internal.Commands.{with_search};
 
+use crate::choices::Unknown;
 use clap::builder::ValueParser;
 use clap::error::ErrorKind;
 use clap::{Arg, ArgAction, Command, Error, value_parser};
@@ -31,6 +33,9 @@ const MAKE_EXAMPLES: &str = "Examples:
   The first twelve slam hands of a long search:
     deals make --seed 2024 --boards 12 --workers 3 --lane 4096 \
     --where 'hcp(north)+hcp(south)>=33'
+  A lesson for print: twelve 1NT openings, each by the board's dealer:
+    deals make --seed 2024 --boards 12 --format hands --rotate \
+    --where 'hcp(north) in 15-17 and balanced(north)'
 
 The same options give the same bytes, on every machine and with any number of workers.";
 
@@ -65,6 +70,18 @@ const EVENT: &str =
 const SITE: &str = "The place, like the event [default: no line]";
 
 const DATE: &str = "The date, as 2024.05.01 [default: no line]";
+
+const FORMAT: &str = "The notation: Portable Bridge Notation, hand records for print, or LIN \
+    [default: pbn] [possible values: pbn, hands, lin]";
+
+const DEALER: &str = "The dealer of every board [default: by its number, as Law 2 says] \
+    [possible values: N, E, S, W]";
+
+const VULNERABLE: &str = "The vulnerability of every board [default: by its number, as Law 2 \
+    says] [possible values: None, NS, EW, All]";
+
+const ROTATE: &str = "Turns each deal, so that the hand which the condition calls north is the \
+    dealer's, east's the next one's, and so on";
 
 const REPORT: &str = "Says afterwards how many boards there are, from which candidates, and where \
     to go on";
@@ -191,18 +208,58 @@ fn with_labels<'a>(alloc: Global, command: Command<'a>) -> Result<Command<'a>, A
     with_option(command, date)
 }
 
+/// The command with the options of the notation, and of what stands in place of Law 2.
+fn with_notation<'a>(alloc: Global, command: Command<'a>) -> Result<Command<'a>, AllocError>
+    ensures app { IfOk result (λ c. app_of c ≡ with_notation (app_of command.entry)) }
+    ensures local { IfOk result (λ c. (fields_of c).has_globals
+        ≡ (fields_of command.entry).has_globals) }
+{
+    let format = option(alloc, "format", ValueParser::String, "FORMAT", FORMAT);
+    let command = with_option(command, format)?;
+    let dealer = option(alloc, "dealer", ValueParser::String, "SEAT", DEALER);
+    let command = with_option(command, dealer)?;
+    let sides = option(
+        alloc,
+        "vulnerable",
+        ValueParser::String,
+        "SIDES",
+        VULNERABLE,
+    );
+    with_option(command, sides)
+}
+
+/// The command with its flags.
+fn with_flags<'a>(alloc: Global, command: Command<'a>) -> Result<Command<'a>, AllocError>
+    ensures app { IfOk result (λ c. app_of c ≡ with_flags (app_of command.entry)) }
+    ensures local { IfOk result (λ c. (fields_of c).has_globals
+        ≡ (fields_of command.entry).has_globals) }
+{
+    let command = with_option(command, flag(alloc, "rotate", ROTATE))?;
+    with_option(command, flag(alloc, "report", REPORT))
+}
+
+/// The command with the options of how boards are written, and its flags.
+fn with_form<'a>(alloc: Global, command: Command<'a>) -> Result<Command<'a>, AllocError>
+    ensures app { IfOk result (λ c. app_of c ≡ with_form (app_of command.entry)) }
+    ensures local { IfOk result (λ c. (fields_of c).has_globals
+        ≡ (fields_of command.entry).has_globals) }
+{
+    let command = with_labels(alloc, command)?;
+    let command = with_notation(alloc, command)?;
+    with_flags(alloc, command)
+}
+
 fn make_command<'a>(alloc: Global) -> Result<Command<'a>, AllocError>
     ensures app { IfOk result (λ c. app_of c ≡ make_app) }
     ensures local { IfOk result (λ c. (fields_of c).has_globals ≡ false) }
 {
     let command = Command::new(alloc, "make")
-        .about("Writes bridge deals as games of Portable Bridge Notation")
+        .about("Writes bridge deals in Portable Bridge Notation, as hand records or as LIN")
         .after_help(MAKE_EXAMPLES);
     let command = with_candidates(alloc, command)?;
     let command = with_search(alloc, command)?;
     let command = with_boards(alloc, command)?;
-    let command = with_labels(alloc, command)?;
-    with_option(command, flag(alloc, "report", REPORT))
+    with_form(alloc, command)
 }
 
 /// clap's refusal of a `make` whose end is not given.
@@ -211,6 +268,20 @@ pub fn missing_end(alloc: Global) -> Result<Error, AllocError>
 {
     let mut make = make_command(alloc)?.bin_name("deals make")?;
     make.error(ErrorKind::MissingRequiredArgument, NO_END)
+}
+
+/// clap's refusal of a word that is none of an option's values.
+pub fn invalid_value(alloc: Global, unknown: &Unknown<'_>) -> Result<Error, AllocError>
+    ensures { IfOk result (λ e. kind_of e ≡ ErrorKind.InvalidValue) }
+{
+    let word = unknown.word;
+    let option = unknown.option;
+    let values = unknown.values;
+    let message = format!(in alloc;
+        "invalid value '{word}' for '{option}'\n  [possible values: {values}]"
+    )?;
+    let mut make = make_command(alloc)?.bin_name("deals make")?;
+    make.error(ErrorKind::InvalidValue, message.as_str())
 }
 
 /// The program's whole command line.

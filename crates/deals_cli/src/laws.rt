@@ -1,8 +1,12 @@
 //! What the words of some command lines ask for: the definition of that, at examples.
 
-ghost use Rattle.std.specs.Prelude.{◌≡◌, ◌∷◌, [], None, Some, codes, false};
-ghost use Rattle.deals_cli.specs.CommandLine.{asked};
+ghost use Rattle.std.specs.Prelude.{◌≡◌, ◌∷◌, [], None, Some, codes, false, true};
+ghost use Rattle.boards.specs.declared.law2.Vul.TheVariants.{NorthSouth};
+ghost use Rattle.cards.specs.declared.seat.Seat.TheVariants.{South};
+ghost use Rattle.clap.specs.declared.error.kind.ErrorKind.TheVariants.{InvalidValue};
+ghost use Rattle.deals_cli.specs.CommandLine.{asked, kinds_for};
 ghost use Rattle.requests.specs.Requests.{make, stream};
+ghost use Rattle.requests.specs.declared.format.Format.TheVariants.{Hands, Pbn};
 
 /// `deals stream --seed 0 --count 3` asks for the first three values of seed 0.
 pub fn example_of_stream()
@@ -32,6 +36,43 @@ pub fn example_of_make()
           event = None;
           site = None;
           date = None;
+          format = Pbn;
+          dealer = None;
+          vulnerable = None;
+          rotate = false;
           report = false;
         }) }
+{}
+
+/// `deals make --seed 0 --boards 12 --format hands --dealer S --vulnerable NS --rotate` asks for
+/// hand records of twelve boards with dealer South, each turned so that North's hand is South's.
+/// A word that is none of its option's values is refused, in another case too.
+pub fn example_of_formats()
+    ensures asked { asked
+        (codes "deals" ∷ codes "make" ∷ codes "--seed" ∷ codes "0"
+        ∷ codes "--boards" ∷ codes "12" ∷ codes "--format" ∷ codes "hands"
+        ∷ codes "--dealer" ∷ codes "S" ∷ codes "--vulnerable" ∷ codes "NS"
+        ∷ codes "--rotate" ∷ [])
+        ≡ Some (make record {
+          seed = 0;
+          candidates = None;
+          first = 0;
+          workers = 1;
+          lane = 64;
+          where_text = None;
+          boards = Some 12;
+          first_board = None;
+          event = None;
+          site = None;
+          date = None;
+          format = Hands;
+          dealer = Some South;
+          vulnerable = Some NorthSouth;
+          rotate = true;
+          report = false;
+        }) }
+    ensures refused { kinds_for
+        (codes "deals" ∷ codes "make" ∷ codes "--seed" ∷ codes "0"
+        ∷ codes "--boards" ∷ codes "12" ∷ codes "--format" ∷ codes "PBN" ∷ [])
+        ≡ InvalidValue ∷ [] }
 {}

@@ -1,6 +1,7 @@
 //! The command line of `deals`: what its words ask for, and the program.
 #![tactic(auto)]
 
+mod choices;
 mod command;
 mod entry;
 pub mod laws;

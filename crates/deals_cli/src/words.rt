@@ -8,10 +8,11 @@ ghost use Rattle.deals_cli.specs.CommandLine.{number_in, number_or};
 ghost use Rattle.requests.specs.Options.{IsInRange, making_of, wish_of};
 ghost use Rattle.deals_cli.specs.internal.Readings.{MakeValues, MayGive32, MayGive64, StreamValues};
 
-use crate::command::{command, missing_end};
+use crate::choices::{dealer_in, format_in, sides_in, unknown_in};
+use crate::command::{command, invalid_value, missing_end};
 use clap::error::ErrorKind;
 use clap::{ArgMatches, Error};
-use requests::{MakeRequest, Request, StreamRequest};
+use requests::{Format, MakeRequest, Request, StreamRequest};
 use std::alloc::Global;
 
 /// What an option of 32 bits was given.
@@ -44,7 +45,7 @@ fn stream_request(matches: &ArgMatches) -> StreamRequest
 }
 
 /// The text that an option was given.
-fn text_in<'a>(matches: &ArgMatches<'a>, id: &str) -> Option<&'a str>
+pub fn text_in<'a>(matches: &ArgMatches<'a>, id: &str) -> Option<&'a str>
     ensures { option_map (λ s. s.now) result ≡ first_of id.now (rows_of (found_of matches.now)) }
 {
     matches.get_str(id)
@@ -77,6 +78,10 @@ fn make_request<'a>(matches: &ArgMatches<'a>) -> MakeRequest<'a>
         event: text_in(matches, "event"),
         site: text_in(matches, "site"),
         date: text_in(matches, "date"),
+        format: format_in(matches).unwrap_or(Format::Pbn),
+        dealer: dealer_in(matches),
+        vulnerable: sides_in(matches),
+        rotate: is_set(matches, "rotate"),
         report: is_set(matches, "report"),
     }
 }
@@ -103,6 +108,9 @@ pub fn read_words<'a>(alloc: Global, words: &'a [String]) -> Result<Request<'a>,
     let (name, inner) = matches.subcommand().unwrap();
     if name == "stream" {
         return Ok(Request::Stream(stream_request(inner)));
+    }
+    if let Some(unknown) = unknown_in(inner) {
+        return Err(invalid_value(alloc, &unknown)?);
     }
     let request = make_request(inner);
     if has_no_end(&request) {

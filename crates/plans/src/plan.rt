@@ -2,9 +2,11 @@
 
 ghost use Rattle.std.specs.Prelude.{◌≡◌, ◌+◌, ◌≤◌, ◌<◌, ◌^◌, ◌↔◌, None, Some, IfErr, IfOk, IfSome};
 ghost use Rattle.std.specs.Prelude.{IsErr, IsOk};
+ghost use Rattle.boards.specs.Settings.{by_law};
 ghost use Rattle.pbn_text.specs.Games.{no_heading};
 ghost use Rattle.plans.specs.Refusals.{refusal_of};
 
+use boards::Setting;
 use cards::MAX_CANDIDATES;
 use lanes::{MAX_CAPACITY, MAX_WORKERS};
 use pbn_text::Heading;
@@ -28,7 +30,8 @@ pub enum PlanError {
 
 /// A run: the candidates `first` to `first + count - 1` of a seed, tried by `workers` workers, each
 /// at most `capacity` verdicts ahead of the writer; the accepted ones are boards from `first_board`
-/// on, under a heading, `limit` of them at most.
+/// on, under a heading, `limit` of them at most. Its setting says who deals them, which sides are
+/// vulnerable, and whether deals are turned.
 #[derive(Clone, Copy, Debug)]
 pub struct Plan {
     seed: u32,
@@ -39,6 +42,7 @@ pub struct Plan {
     limit: Option<u32>,
     first_board: u64,
     heading: Heading,
+    setting: Setting,
 }
 
 impl Model for Plan {
@@ -57,6 +61,7 @@ impl Model for Plan {
       limit = p.limit;
       first_board = p.first_board;
       heading = p.heading;
+      setting = p.setting;
     } };
 
     ghost invariant = { λ p. record {
@@ -76,11 +81,12 @@ impl Model for Plan {
       limit = v.limit;
       first_board = v.first_board;
       heading = v.heading;
+      setting = v.setting;
     } };
 }
 
 impl Plan {
-    /// A plan without a limit, with boards from 1 and no heading.
+    /// A plan without a limit, with boards from 1, by Law 2, and no heading.
     ///
     /// # Errors
     ///
@@ -105,6 +111,7 @@ impl Plan {
           limit = None;
           first_board = 1;
           heading = no_heading;
+          setting = by_law;
         }) }
         ensures refused { IfErr result (λ e. e ≡ refusal_of first count workers) }
     {
@@ -127,6 +134,7 @@ impl Plan {
             limit: None,
             first_board: 1,
             heading: Heading::none(),
+            setting: Setting::by_law(),
         })
     }
 
@@ -166,6 +174,13 @@ impl Plan {
         ensures { result ≡ record self { heading = heading } }
     {
         Plan { heading, ..self }
+    }
+
+    /// The plan with what stands in place of Law 2, and whether deals are turned.
+    pub fn set(self, setting: Setting) -> Plan
+        ensures { result ≡ record self { setting = setting } }
+    {
+        Plan { setting, ..self }
     }
 
     pub fn seed(&self) -> u32
@@ -226,5 +241,12 @@ impl Plan {
         ensures { result.now ≡ self.now.heading }
     {
         &self.heading
+    }
+
+    /// Who deals the boards, which sides are vulnerable, and whether deals are turned.
+    pub fn setting(&self) -> &Setting
+        ensures { result.now ≡ self.now.setting }
+    {
+        &self.setting
     }
 }

@@ -1,10 +1,9 @@
 -- What is said of a wish that was done.
-use Rattle.std.proofs.Common.{◌≡◌, ◌∙◌, ◌++◌, ℕ, Bool, true, false, List, Option, None, Some, OnOk, Result, Ok, Err, refl, sym, ap, ap₂, subst, length}
+use Rattle.std.proofs.Common.{◌≡◌, ◌∙◌, ◌++◌, ℕ, true, false, List, Option, None, Some, refl, sym, ap, ap₂}
 use Rattle.cond_lang.specs.Form.{Form}
-use Rattle.dealrun.specs.Text.{accepted, end_of}
 use Rattle.plans.specs.Plans.{Planned}
 use Rattle.sinks.specs.Appended.{AppendsAll, append_known}
-use Rattle.requests.specs.Makings.{Means, plan_of}
+use Rattle.requests.specs.Makings.{plan_of}
 use Rattle.requests.specs.Reported.{Counts, Reports, ReportsFor, wants_report}
 use Rattle.requests.specs.Reports.{next_line, report_line, report_of}
 use Rattle.requests.specs.Requests.{Making, Wish, make, stream}

@@ -1,5 +1,5 @@
 -- Texts that are said in parts.
-use Rattle.std.proofs.Common.{◌≡◌, ◌<◌, ◌≤◌, ◌+◌, ◌-◌, ◌^◌, ◌||◌, ◌++◌, ◌∙◌, ℕ, Bool, List, [], Option, Some, Result, Ok, Err, OnOk, refl, sym, ap, ap₂, append_assoc, codes, decimal, if◌then◌else◌}
+use Rattle.std.proofs.Common.{◌≡◌, ◌<◌, ◌≤◌, ◌+◌, ◌-◌, ◌^◌, ◌||◌, ◌++◌, ◌∙◌, ℕ, Bool, List, [], Option, Some, Result, Ok, Err, OnOk, sym, ap, ap₂, codes, decimal, if◌then◌else◌}
 use Rattle.std.proofs.lemmas.Bool.{le-ltb, lt-ltb, ne_eqb}
 use Rattle.sinks.specs.Appended.{append_known, AppendsAll}
 use Rattle.sinks.specs.Sinks.{AppendsOrBreaksOff}

@@ -24,6 +24,7 @@ plan_of m = record {
   limit = m.boards;
   first_board = unwrap_or m.first_board 1;
   heading = record { event = m.event; site = m.site; date = m.date };
+  setting = record { dealer = m.dealer; vulnerable = m.vulnerable; rotate = m.rotate };
 }
 
 -- the plan's numbers are in range

@@ -18,6 +18,10 @@ making_of r = record {
   event = option_map (λ s. s.now) r.event;
   site = option_map (λ s. s.now) r.site;
   date = option_map (λ s. s.now) r.date;
+  format = r.format;
+  dealer = r.dealer;
+  vulnerable = r.vulnerable;
+  rotate = r.rotate;
   report = r.report;
 }
 

@@ -1,5 +1,8 @@
 -- What can be asked for.
 use Rattle.std.specs.Prelude.{ℕ, Bool, List, Option}
+use Rattle.boards.specs.declared.law2.Vul.{Vul}
+use Rattle.cards.specs.declared.seat.Seat.{Seat}
+use Rattle.requests.specs.declared.format.Format.{Format}
 
 -- `make`, with what its options were given or their defaults. A field is named as its option is,
 -- and `where` as where_text, since the bare word is the language's.
@@ -15,6 +18,10 @@ pub record Making : Type 0 where
   pub event : Option (List ℕ)
   pub site : Option (List ℕ)
   pub date : Option (List ℕ)
+  pub format : Format
+  pub dealer : Option Seat
+  pub vulnerable : Option Vul
+  pub rotate : Bool
   pub report : Bool
 
 pub data Wish : Type 0 where

@@ -2,8 +2,8 @@
 use Rattle.std.specs.Prelude.{◌≡◌, ◌⊎◌, ℕ, List, [], ◌∷◌, Contains, Option}
 use Rattle.cond_lang.specs.Form.{Form}
 use Rattle.sinks.specs.Appended.{AppendsAll}
-use Rattle.dealrun.specs.Pbn.{text}
 use Rattle.values.specs.Values.{lines}
+use Rattle.requests.specs.Formats.{text_as}
 use Rattle.requests.specs.Makings.{IsPlanned, Means, plan_of}
 use Rattle.requests.specs.Requests.{Wish, stream, make}
 
@@ -11,7 +11,8 @@ use Rattle.requests.specs.Requests.{Wish, stream, make}
 abbrev pub Appends : Wish → Option (List ℕ) → Option (List ℕ) → Type 0
 Appends (stream seed count) old new = AppendsAll old new (lines seed count)
 Appends (make m) old new =
-    (form : Form) × Means m.where_text form × AppendsAll old new (text (plan_of m) form)
+    (form : Form) × Means m.where_text form
+    × AppendsAll old new (text_as m.format (plan_of m) form)
 
 -- the words of a wish have to be accepted, so far as they aren't a condition
 abbrev pub HasPlan : Wish → Type 0

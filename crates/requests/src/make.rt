@@ -1,7 +1,8 @@
-//! The subcommand `make`: its plan, its condition and its run.
+//! The subcommand `make`: its plan and its condition.
 
 ghost use Rattle.std.specs.Prelude.{◌≡◌, ◌⊎◌, ◌-◌, ◌+◌, ◌^◌, ◌<◌, true};
 ghost use Rattle.std.specs.Prelude.{IfErr, IfOk, OnOk, option_map};
+ghost use Rattle.boards.specs.Settings.{by_law};
 ghost use Rattle.cond_lang.specs.Form.{Form};
 ghost use Rattle.pbn_text.specs.Games.{no_heading};
 ghost use Rattle.requests.specs.Failures.{faults_in, is_untouched, status_in, status_of};
@@ -15,19 +16,20 @@ ghost use Rattle.requests.specs.Requests.{make as wish};
 ghost use Rattle.requests.specs.Wishes.{Appends, IsStatusOf};
 
 use crate::failure::{Failure, LabelName};
+use crate::format::Format;
 use crate::report::Report;
-use cards::MAX_CANDIDATES;
+use crate::run::write_as;
+use boards::{Setting, Vul};
+use cards::{MAX_CANDIDATES, Seat};
 use cond_lang::{Cond, parse};
-use dealrun::{Cause, run_and_count};
-use lanes::OpenGate;
-use pbn_text::{Date, Heading, Label, Printer};
+use pbn_text::{Date, Heading, Label};
 use plans::{Plan, PlanError};
 use sinks::Sink;
 use std::alloc::Global;
-use std::sync::{Arc, Wait};
+use std::sync::Wait;
 use std::thread::Threads;
 
-/// The games of the accepted ones among the candidates of a seed. What an option was not given has
+/// The boards of the accepted ones among the candidates of a seed. What an option was not given has
 /// its default.
 #[derive(Clone, Copy, Debug)]
 pub struct MakeRequest<'a> {
@@ -47,6 +49,15 @@ pub struct MakeRequest<'a> {
     pub event: Option<&'a str>,
     pub site: Option<&'a str>,
     pub date: Option<&'a str>,
+    /// The notation that the boards are written in.
+    pub format: Format,
+    /// The dealer of every board, in place of Law 2's.
+    pub dealer: Option<Seat>,
+    /// The vulnerability of every board, in place of Law 2's.
+    pub vulnerable: Option<Vul>,
+    /// Whether each deal is turned, so that the hand which the condition calls north is the
+    /// dealer's.
+    pub rotate: bool,
     /// Whether the boards and the candidates are counted for a report.
     pub report: bool,
 }
@@ -110,7 +121,10 @@ fn candidates_of(request: &MakeRequest<'_>) -> u64
 #[tactic(auto, using(crate::proofs::FirstDue::numbers))]
 fn numbers_of(request: &MakeRequest<'_>) -> Result<Plan, PlanError>
     ensures made { IfOk result (λ p.
-        p ≡ record (plan_of (making_of request.now)) { heading = no_heading }) }
+        p ≡ record (plan_of (making_of request.now)) {
+          heading = no_heading;
+          setting = by_law;
+        }) }
     ensures sound { IfOk result (λ _. HasNumbers (making_of request.now)) }
     ensures refused { IfErr result (λ _. HasNumbers (making_of request.now) → ⊥) }
     ensures due { IfErr result (λ e.
@@ -132,7 +146,18 @@ fn numbers_of(request: &MakeRequest<'_>) -> Result<Plan, PlanError>
     plan.numbered(request.first_board.unwrap_or(1))
 }
 
-/// The plan of the options, with its labels.
+/// What the options set in place of Law 2, and whether deals are turned.
+fn setting_of(request: &MakeRequest<'_>) -> Setting
+    ensures { result ≡ (plan_of (making_of request.now)).setting }
+{
+    Setting {
+        dealer: request.dealer,
+        vulnerable: request.vulnerable,
+        rotate: request.rotate,
+    }
+}
+
+/// The plan of the options, with its labels and its setting.
 #[tactic(auto, using(crate::proofs::FirstDue::failures))]
 fn planned(request: &MakeRequest<'_>) -> Result<Plan, Failure>
     ensures made { IfOk result (λ p. p ≡ plan_of (making_of request.now)) }
@@ -145,7 +170,8 @@ fn planned(request: &MakeRequest<'_>) -> Result<Plan, Failure>
         Ok(plan) => plan,
         Err(error) => return Err(Failure::Plan(error)),
     };
-    Ok(plan.headed(heading_of(request)?))
+    let heading = heading_of(request)?;
+    Ok(plan.headed(heading).set(setting_of(request)))
 }
 
 /// What the condition's text means; without a text every deal is accepted.
@@ -163,7 +189,7 @@ fn condition_of(alloc: Global, request: &MakeRequest<'_>) -> Result<Cond, Failur
     Ok(parse(alloc, text.as_bytes())?)
 }
 
-/// Writes the games that the options ask for, judged by their workers, and reports if it is asked
+/// Writes the boards that the options ask for, judged by their workers, and reports if it is asked
 /// to.
 #[tactic(auto, using(crate::proofs::Statuses::endings, crate::proofs::FirstDue::failures))]
 pub fn make<R: Threads + Wait + Clone + Send + 'static, O: Sink>(
@@ -184,19 +210,9 @@ pub fn make<R: Threads + Wait + Clone + Send + 'static, O: Sink>(
 {
     let plan = planned(request)?;
     let condition = condition_of(alloc, request)?;
-    let Ok(gate) = Arc::new(alloc, OpenGate) else {
-        return Err(Failure::Interrupted(Cause::Memory));
-    };
-    let Ok(mut printer) = Printer::new(alloc, plan.heading()) else {
-        return Err(Failure::Interrupted(Cause::Memory));
-    };
-    match run_and_count(rt, alloc, &plan, condition, &mut printer, out, gate) {
-        Ok(counted) if request.report => Ok(Some(Report {
-            plan,
-            candidates: counted.candidates,
-            boards: counted.report.boards,
-        })),
+    match write_as(rt, alloc, &plan, condition, request.format, out) {
+        Ok(report) if request.report => Ok(Some(report)),
         Ok(_) => Ok(None),
-        Err(fault) => Err(Failure::Interrupted(fault.cause)),
+        Err(cause) => Err(Failure::Interrupted(cause)),
     }
 }

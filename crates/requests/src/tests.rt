@@ -1,4 +1,4 @@
-use crate::{Failure, MakeRequest, Request, StreamRequest, serve};
+use crate::{Failure, Format, MakeRequest, Request, StreamRequest, serve};
 use dealrun::Cause;
 use sinks::MemSink;
 use std::alloc::Global;
@@ -55,6 +55,10 @@ fn request_of(workers: u32, condition: &str) -> MakeRequest<'_> {
         event: None,
         site: None,
         date: None,
+        format: Format::Pbn,
+        dealer: None,
+        vulnerable: None,
+        rotate: false,
         report: false,
     }
 }

@@ -2,7 +2,7 @@
 use Rattle.std.specs.Prelude.{codes}
 use Rattle.clap.specs.Words.{App, with_rule}
 use Rattle.clap.specs.declared.builder.value_parser.ValueParser.TheVariants.{String}
-use Rattle.deals_cli.specs.CommandLine.{option_rule, required, u32_parser, u64_parser}
+use Rattle.deals_cli.specs.CommandLine.{flag_rule, option_rule, required, u32_parser, u64_parser}
 
 abbrev pub with_candidates : App → App
 with_candidates a = with_rule (with_rule a
@@ -26,3 +26,16 @@ with_labels a = with_rule (with_rule (with_rule a
     (option_rule (codes "event") String))
     (option_rule (codes "site") String))
     (option_rule (codes "date") String)
+
+abbrev pub with_notation : App → App
+with_notation a = with_rule (with_rule (with_rule a
+    (option_rule (codes "format") String))
+    (option_rule (codes "dealer") String))
+    (option_rule (codes "vulnerable") String)
+
+abbrev pub with_flags : App → App
+with_flags a = with_rule (with_rule a (flag_rule (codes "rotate"))) (flag_rule (codes "report"))
+
+-- how the boards are written
+abbrev pub with_form : App → App
+with_form a = with_flags (with_notation (with_labels a))

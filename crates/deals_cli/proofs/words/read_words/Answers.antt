@@ -1,8 +1,9 @@
-use Rattle.std.proofs.Common.{◌∙◌, ap, ap₂, sym, map, string_bytes, Some}
+use Rattle.std.proofs.Common.{◌∙◌, ap, ap₂, is_some, sym, map, string_bytes, Some}
 use Rattle.std.proofs.lemmas.Result.{err_from_is_err_and}
+use Rattle.clap.specs.declared.error.kind.ErrorKind.TheVariants.{InvalidValue, MissingRequiredArgument}
 use Rattle.requests.specs.Requests.{make, stream}
 use Rattle.deals_cli.specs.CommandLine.{has_no_end}
-use Rattle.deals_cli.proofs.Asked.{chosen, err_kind, error_kind, no_end_asked, no_end_kind}
+use Rattle.deals_cli.proofs.Asked.{chosen, err_kind, error_kind, refused_asked, refused_kind}
 use Rattle.deals_cli.proofs.words.read_words.Goals as goal
 
 pub returns-in_err-matches-clause-err : goal.returns-in_err-matches-clause-err
@@ -33,26 +34,45 @@ make_request-request-requires c =
     c.in_ok-matches.ensures.kinds c.subcommand.ensures.name c.subcommand.ensures.rows c.unwrap.ensures in
     (at.make (sym c.if-eq.ensures)).0
 
+pub returns-in-Some-clause-err : goal.returns-in-Some-clause-err
+returns-in-Some-clause-err c some =
+    let at = chosen _ (map string_bytes c.args.words.now) c.in_ok-matches.matches c.subcommand.result c.unwrap.result c.in_ok-command.ensures c.in_ok-matches.ensures.matches
+    c.in_ok-matches.ensures.kinds c.subcommand.ensures.name c.subcommand.ensures.rows c.unwrap.ensures in
+    let asks = (at.make (sym c.if-eq.ensures)).1 in
+    let unknown = sym c.unknown_in.ensures ∙ ap is_some c.in-Some.is in
+    refused_asked (map string_bytes c.args.words.now) InvalidValue (asks.unknown unknown) some
+
+pub returns-in-Some-clause-kinds : goal.returns-in-Some-clause-kinds
+returns-in-Some-clause-kinds c =
+    let at = chosen _ (map string_bytes c.args.words.now) c.in_ok-matches.matches c.subcommand.result c.unwrap.result c.in_ok-command.ensures c.in_ok-matches.ensures.matches
+    c.in_ok-matches.ensures.kinds c.subcommand.ensures.name c.subcommand.ensures.rows c.unwrap.ensures in
+    let asks = (at.make (sym c.if-eq.ensures)).1 in
+    let unknown = sym c.unknown_in.ensures ∙ ap is_some c.in-Some.is in
+    refused_kind (map string_bytes c.args.words.now) InvalidValue c.in_ok-invalid_value.field-0 (asks.unknown unknown) c.in_ok-invalid_value.ensures
+
 pub returns-then-has_no_end-clause-err : goal.returns-then-has_no_end-clause-err
 returns-then-has_no_end-clause-err c some =
     let at = chosen _ (map string_bytes c.args.words.now) c.in_ok-matches.matches c.subcommand.result c.unwrap.result c.in_ok-command.ensures c.in_ok-matches.ensures.matches
     c.in_ok-matches.ensures.kinds c.subcommand.ensures.name c.subcommand.ensures.rows c.unwrap.ensures in
     let asks = (at.make (sym c.if-eq.ensures)).1 in
-    let none = ap has_no_end (sym c.make_request-request.ensures) ∙ sym c.if-has_no_end.ensures in
-    no_end_asked (map string_bytes c.args.words.now) (asks.refused none) some
+    let known = sym c.unknown_in.ensures ∙ ap is_some c.in_default.is in
+    let end = ap has_no_end (sym c.make_request-request.ensures) ∙ sym c.if-has_no_end.ensures in
+    refused_asked (map string_bytes c.args.words.now) MissingRequiredArgument (asks.no_end known end) some
 
 pub returns-then-has_no_end-clause-kinds : goal.returns-then-has_no_end-clause-kinds
 returns-then-has_no_end-clause-kinds c =
     let at = chosen _ (map string_bytes c.args.words.now) c.in_ok-matches.matches c.subcommand.result c.unwrap.result c.in_ok-command.ensures c.in_ok-matches.ensures.matches
     c.in_ok-matches.ensures.kinds c.subcommand.ensures.name c.subcommand.ensures.rows c.unwrap.ensures in
     let asks = (at.make (sym c.if-eq.ensures)).1 in
-    let none = ap has_no_end (sym c.make_request-request.ensures) ∙ sym c.if-has_no_end.ensures in
-    no_end_kind (map string_bytes c.args.words.now) c.in_ok-missing_end.field-0 (asks.kinds none) c.in_ok-missing_end.ensures
+    let known = sym c.unknown_in.ensures ∙ ap is_some c.in_default.is in
+    let end = ap has_no_end (sym c.make_request-request.ensures) ∙ sym c.if-has_no_end.ensures in
+    refused_kind (map string_bytes c.args.words.now) MissingRequiredArgument c.in_ok-missing_end.field-0 (asks.no_end known end) c.in_ok-missing_end.ensures
 
 pub returns-clause-ok : goal.returns-clause-ok
 returns-clause-ok c =
     let at = chosen _ (map string_bytes c.args.words.now) c.in_ok-matches.matches c.subcommand.result c.unwrap.result c.in_ok-command.ensures c.in_ok-matches.ensures.matches
     c.in_ok-matches.ensures.kinds c.subcommand.ensures.name c.subcommand.ensures.rows c.unwrap.ensures in
     let asks = (at.make (sym c.if-eq.ensures)).1 in
-    let none = ap has_no_end (sym c.make_request-request.ensures) ∙ sym c.if-has_no_end.ensures in
-    asks.ends none ∙ ap (λ m. Some (make m)) (sym c.make_request-request.ensures)
+    let known = sym c.unknown_in.ensures ∙ ap is_some c.in_default.is in
+    let end = ap has_no_end (sym c.make_request-request.ensures) ∙ sym c.if-has_no_end.ensures in
+    asks.ends known end ∙ ap (λ m. Some (make m)) (sym c.make_request-request.ensures)

@@ -1,0 +1,92 @@
+//! The run of a plan in the format that is asked for.
+
+ghost use Rattle.std.specs.Prelude.{◌≡◌, ◌-◌, ◌^◌, ◌<◌, true, IfErr, IfOk, MatchResult, OnOk};
+ghost use Rattle.dealrun.specs.Outcomes.{FaultsAfter};
+ghost use Rattle.dealrun.specs.Text.{text_in};
+ghost use Rattle.requests.specs.Failures.{is_untouched};
+ghost use Rattle.requests.specs.Formats.{text_as};
+ghost use Rattle.requests.specs.Reported.{Counts};
+ghost use Rattle.requests.specs.declared.failure.Failure.TheVariants.{Interrupted};
+ghost use Rattle.sinks.specs.Appended.{AppendsAll};
+
+use crate::format::Format;
+use crate::report::Report;
+use boards::Notation;
+use cond_lang::Cond;
+use dealrun::{Cause, run_and_count};
+use hand_records::HandsPrinter;
+use lanes::OpenGate;
+use lin_text::LinPrinter;
+use pbn_text::Printer;
+use plans::Plan;
+use sinks::Sink;
+use std::alloc::Global;
+use std::sync::{Arc, Wait};
+use std::thread::Threads;
+
+/// Writes the plan's boards in a notation, and counts them.
+fn write_in<R: Threads + Wait + Clone + Send + 'static, N: Notation, O: Sink>(
+    rt: &R,
+    alloc: Global,
+    plan: &Plan,
+    condition: Cond,
+    notation: &mut N,
+    out: &mut O,
+) -> Result<Report, Cause>
+    requires { O.faults out.old < 2 ^ 64 - 1 }
+    ensures text { OnOk result (AppendsAll (O.bytes out.old) (O.bytes out.new)
+        (text_in (N.layout notation.old) plan.now condition)) }
+    ensures report { IfOk result (λ r. Counts plan.now condition r) }
+    ensures untouched { IfErr result (λ cause. is_untouched (Interrupted cause) ≡ true
+        → O.bytes out.new ≡ O.bytes out.old) }
+    ensures faults { MatchResult result
+        (λ _. O.faults out.new ≡ O.faults out.old)
+        (λ cause. FaultsAfter cause (O.faults out.old) (O.faults out.new)) }
+{
+    let Ok(gate) = Arc::new(alloc, OpenGate) else {
+        return Err(Cause::Memory);
+    };
+    match run_and_count(rt, alloc, plan, condition, notation, out, gate) {
+        Ok(counted) => Ok(Report {
+            plan: *plan,
+            candidates: counted.candidates,
+            boards: counted.report.boards,
+        }),
+        Err(fault) => Err(fault.cause),
+    }
+}
+
+/// Writes the plan's boards in a format, and counts them.
+pub fn write_as<R: Threads + Wait + Clone + Send + 'static, O: Sink>(
+    rt: &R,
+    alloc: Global,
+    plan: &Plan,
+    condition: Cond,
+    format: Format,
+    out: &mut O,
+) -> Result<Report, Cause>
+    requires { O.faults out.old < 2 ^ 64 - 1 }
+    ensures text { OnOk result (AppendsAll (O.bytes out.old) (O.bytes out.new)
+        (text_as format plan.now condition)) }
+    ensures report { IfOk result (λ r. Counts plan.now condition r) }
+    ensures untouched { IfErr result (λ cause. is_untouched (Interrupted cause) ≡ true
+        → O.bytes out.new ≡ O.bytes out.old) }
+    ensures faults { MatchResult result
+        (λ _. O.faults out.new ≡ O.faults out.old)
+        (λ cause. FaultsAfter cause (O.faults out.old) (O.faults out.new)) }
+{
+    match format {
+        Format::Pbn => match Printer::new(alloc, plan.heading()) {
+            Ok(mut printer) => write_in(rt, alloc, plan, condition, &mut printer, out),
+            Err(_) => Err(Cause::Memory),
+        },
+        Format::Hands => match HandsPrinter::new(alloc, plan.heading()) {
+            Ok(mut printer) => write_in(rt, alloc, plan, condition, &mut printer, out),
+            Err(_) => Err(Cause::Memory),
+        },
+        Format::Lin => match LinPrinter::new(alloc) {
+            Ok(mut printer) => write_in(rt, alloc, plan, condition, &mut printer, out),
+            Err(_) => Err(Cause::Memory),
+        },
+    }
+}
