@@ -6,12 +6,14 @@ mod excerpt;
 mod expected;
 mod hint;
 mod kinds;
+mod language;
 mod parts;
 mod refusal;
 mod rules;
 mod said;
 mod shown;
 
+pub use language::LANGUAGE;
 pub use refusal::explain;
 
 #[cfg(test)]

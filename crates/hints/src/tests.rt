@@ -4,6 +4,7 @@ mod bytes;
 mod calls;
 mod expected;
 mod joins;
+mod language;
 mod lines;
 mod ranges;
 mod shapes;
