@@ -1,0 +1,63 @@
+-- What is written of a refusal, below the line that names it.
+use Rattle.std.specs.Prelude.{◌≡◌, ◌⊎◌, ◌↔◌, ℕ, Bool, IsTrue, ◌<◌, List, [], ◌++◌, codes, decimal, length, map}
+use Rattle.cond_lang.specs.declared.error.CondError.{CondError}
+use Rattle.cond_lang.specs.declared.error.CondError.TheVariants.{TooLong, Byte, Word, Number, Syntax, Memory}
+use Rattle.cond_lang.specs.declared.words.Kind.{Kind}
+use Rattle.cond_lang.specs.declared.token.Token.{Token}
+use Rattle.cond_lang.specs.Continuations.{CanFollow, IsBeginning}
+use Rattle.cond_lang.specs.Faults.{HasFault}
+use Rattle.hints.specs.Excerpt.{IsExcerpt, shown}
+use Rattle.hints.specs.Expected.{expected_line}
+
+-- a hint is one line of bytes that are shown
+abbrev pub hint_line : List ℕ → List ℕ
+hint_line bytes = codes "  hint: " ++ map shown bytes ++ codes "\n"
+
+-- nothing, or a hint
+abbrev pub MayHint : List ℕ → Type 0
+MayHint written = (written ≡ []) ⊎ ((bytes : List ℕ) × (written ≡ hint_line bytes))
+
+-- the line of all kinds that can stand behind the longest beginning of the text, and no other
+pub record TellsAll (text written : List ℕ) : Type 0 where
+  pub beginning : List Token
+  pub begins : IsBeginning text beginning
+  pub can : Kind → Bool
+  pub all : (k : Kind) → IsTrue (can k) ↔ CanFollow beginning k
+  pub is : written ≡ expected_line can
+
+-- the text is too long, or has a piece that isn't in the language
+abbrev pub IsFaulty : List ℕ → Type 0
+IsFaulty text = (1024 < length text) ⊎ ((fault : CondError) × HasFault text fault)
+
+-- what could stand there; nothing of a text that has no tokens
+abbrev pub MayTell : List ℕ → List ℕ → Type 0
+MayTell text written = TellsAll text written ⊎ ((written ≡ []) × IsFaulty text)
+
+-- the excerpt of the text, then what could stand there, then perhaps a hint
+pub record Shows (Expects : List ℕ → Type 0) (text : List ℕ) (at : ℕ) (written : List ℕ) : Type 0 where
+  pub excerpt : List ℕ
+  pub expected : List ℕ
+  pub hint : List ℕ
+  pub is : written ≡ excerpt ++ expected ++ hint
+  pub shows : IsExcerpt text at excerpt
+  pub expects : Expects expected
+  pub hints : MayHint hint
+
+-- nothing is said of what could stand there
+abbrev pub Nothing : List ℕ → Type 0
+Nothing written = written ≡ []
+
+-- the hint for a text that is too long
+abbrev pub length_line : List ℕ → List ℕ
+length_line text =
+    codes "  hint: a condition has at most 1024 bytes, and this one has " ++ decimal (length text)
+    ++ codes "\n"
+
+-- what is written of a text that is refused so
+abbrev pub Explains : List ℕ → CondError → List ℕ → Type 0
+Explains text TooLong written = written ≡ length_line text
+Explains text (Byte at) written = Shows Nothing text at written
+Explains text (Word at) written = Shows Nothing text at written
+Explains text (Number at) written = Shows Nothing text at written
+Explains text (Syntax at) written = Shows (MayTell text) text at written
+Explains text Memory written = Nothing written

@@ -1,0 +1,59 @@
+//! The page of the language, for a terminal.
+
+/// The language of conditions on one page: plain text of ASCII, 80 columns at most, with ten
+/// examples, each on a line of its own that begins with four spaces. The last line is ended too.
+pub const LANGUAGE: &str = "\
+A condition says which deals you want. It is one text, behind --where.
+
+What you can ask of a hand:
+  hcp(north)                  high card points: ace 4, king 3, queen 2, jack 1
+  hcp(north,spades)           those of the spades alone
+  controls(north)             2 for each ace, 1 for each king; also with a suit
+  losers(north)               of each suit's ace, king and queen, as many as the
+                              suit has cards, those that are not in the hand;
+                              also with a suit
+  cards(north,akq)            how many aces, kings and queens; the ranks are a,
+                              k, q, j and t
+  cards(north,spades,akq)     how many of them in spades
+  len(north,spades)           how many spades
+  longest(north)              how many cards the longest suit has
+  shortest(north)             how many cards the shortest suit has
+  balanced(north)             4-3-3-3, 4-4-3-2 or 5-3-3-2, in any order
+  shape(north,5-3-3-2)        5 spades, 3 hearts, 3 diamonds and 2 clubs
+  pattern(north,5-3-3-2)      these lengths, whichever suit is which
+  shape(north,5-x-x-3)        x is any length, in a pattern too
+
+Seats:        north, east, south, west
+Suits:        spades, hearts, diamonds, clubs
+Comparisons:  ==  !=  <  <=  >  >=
+Sums:         hcp(north)+hcp(south)>=25
+Ranges:       hcp(north) in 15-17, both ends included
+Tests:        and, or, not, and brackets around tests; and binds tighter than
+              or, not belongs to the one test after it
+
+Everything is written in small letters. Spaces and new lines don't matter, and a
+comment goes from # to the end of its line. A condition has at most 1024 bytes,
+a number at most four digits.
+
+Examples:
+  a strong notrump
+    balanced(north) and hcp(north) in 15-17
+  a weak two in spades
+    shape(north,6-x-x-x) and hcp(north) in 6-10 and cards(north,spades,akq)>=2
+  an opening in a five-card major
+    hcp(north)>=12 and (len(north,spades)>=5 or len(north,hearts)>=5)
+  a strong two clubs
+    hcp(south)>=22 or hcp(south)>=18 and losers(south)<=3
+  a preempt
+    longest(east)>=7 and hcp(east)<10
+  an eight-card fit in hearts
+    len(north,hearts)+len(south,hearts)>=8
+  a slam with its controls
+    hcp(north)+hcp(south)>=30 and controls(north)+controls(south)>=10
+  a two-suiter
+    pattern(north,5-5-x-x)
+  a void with South
+    shortest(south)==0
+  not a notrump hand with either opponent
+    not (balanced(east) or balanced(west))
+";

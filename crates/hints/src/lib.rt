@@ -1,0 +1,20 @@
+//! What a person is told beside the line of a refusal: where a condition goes wrong, what could
+//! stand there, and what was perhaps meant.
+#![tactic(auto)]
+
+mod excerpt;
+mod expected;
+mod hint;
+mod kinds;
+mod language;
+mod parts;
+mod refusal;
+mod rules;
+mod said;
+mod shown;
+
+pub use language::LANGUAGE;
+pub use refusal::explain;
+
+#[cfg(test)]
+mod tests;

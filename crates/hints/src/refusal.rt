@@ -1,0 +1,101 @@
+//! All that is written of a refusal.
+
+ghost use Rattle.std.specs.Prelude.{◌≡◌, ◌++◌, IfOk, MatchOption, OnOk, string_bytes};
+ghost use Rattle.cond_lang.specs.Continuations.{IsBeginning};
+ghost use Rattle.hints.specs.Explanation.{Explains, IsFaulty, MayHint, MayTell, Nothing, Shows, length_line};
+ghost use Rattle.hints.specs.internal.Appends.{Appends};
+
+use crate::excerpt::put_excerpt;
+use crate::expected::put_expected;
+use crate::hint::{of_piece, of_syntax};
+use crate::kinds::KindSet;
+use crate::said::Said;
+use crate::shown::put_shown;
+use cond_lang::{Beginning, CondError};
+use itoa::Buffer;
+use std::alloc::{AllocError, Global};
+
+/// Returns what helps a person with a text that is refused as `error`: the lines that stand below
+/// the one that names the refusal, each ended by a line feed.
+///
+/// They are the line of the text that has the fault, cut to 72 columns around it, and carets below
+/// the fault; for a syntax fault what could stand there; and a hint, if a rule gives one. Bytes
+/// that would disturb a terminal, or aren't ASCII, are shown as `?`, and a tab as a space. For a
+/// text that is too long the hint alone tells how long it is, and for want of memory there is
+/// nothing to say.
+///
+/// # Errors
+/// `AllocError` if an allocation failed.
+pub fn explain(alloc: Global, text: &[u8], error: CondError) -> Result<String, AllocError>
+    ensures { IfOk result (λ written. Explains text.now error (string_bytes written)) }
+{
+    let mut out = String::new(alloc);
+    match error {
+        CondError::TooLong => put_length(&mut out, text)?,
+        CondError::Byte { at } | CondError::Word { at } | CondError::Number { at } => {
+            put_piece(alloc, &mut out, text, at)?
+        }
+        CondError::Syntax { at } => put_syntax(alloc, &mut out, text, at)?,
+        CondError::Memory => {}
+    }
+    Ok(out)
+}
+
+/// Appends what is said of a piece that isn't in the language.
+fn put_piece(alloc: Global, out: &mut String, text: &[u8], at: usize) -> Result<(), AllocError>
+    ensures { OnOk result (Appends (Shows Nothing text.now at) (string_bytes out.old) (string_bytes out.new)) }
+{
+    put_excerpt(out, text, at)?;
+    put_hint(out, of_piece(alloc, text, at))
+}
+
+/// Appends what is said of a token that can't stand where it is.
+fn put_syntax(alloc: Global, out: &mut String, text: &[u8], at: usize) -> Result<(), AllocError>
+    ensures { OnOk result (Appends (Shows (MayTell text.now) text.now at) (string_bytes out.old) (string_bytes out.new)) }
+{
+    put_excerpt(out, text, at)?;
+    let Some(beginning) = beginning_of(alloc, text)? else {
+        return Ok(());
+    };
+    let Ok(can) = KindSet::of(&beginning) else {
+        return Err(AllocError);
+    };
+    put_expected(alloc, out, &can)?;
+    put_hint(out, of_syntax(alloc, text, at, &can))
+}
+
+/// The beginning of the text, if it has tokens.
+fn beginning_of(alloc: Global, text: &[u8]) -> Result<Option<Beginning>, AllocError>
+    ensures { IfOk result (λ found. MatchOption found (IsFaulty text.now) (IsBeginning text.now)) }
+{
+    match Beginning::of(alloc, text) {
+        Ok(beginning) => Ok(Some(beginning)),
+        Err(CondError::TooLong) => Ok(None),
+        Err(CondError::Byte { .. }) => Ok(None),
+        Err(CondError::Word { .. }) => Ok(None),
+        Err(CondError::Number { .. }) => Ok(None),
+        Err(CondError::Syntax { .. } | CondError::Memory) => Err(AllocError),
+    }
+}
+
+/// Appends the hint for a text that is too long.
+fn put_length(out: &mut String, text: &[u8]) -> Result<(), AllocError>
+    ensures { OnOk result (string_bytes out.new ≡ string_bytes out.old ++ length_line text.now) }
+{
+    out.push_str("  hint: a condition has at most 1024 bytes, and this one has ")?;
+    out.push_str(Buffer::new().format(text.len() as u64))?;
+    out.push_str("\n")?;
+    Ok(())
+}
+
+/// Appends the hint, if there is one.
+fn put_hint(out: &mut String, hint: Said) -> Result<(), AllocError>
+    ensures { OnOk result (Appends MayHint (string_bytes out.old) (string_bytes out.new)) }
+{
+    if let Some(hint) = hint? {
+        out.push_str("  hint: ")?;
+        put_shown(out, hint.as_slice())?;
+        out.push_str("\n")?;
+    }
+    Ok(())
+}

@@ -1,0 +1,45 @@
+//! Bytes as they are shown on a terminal.
+
+ghost use Rattle.std.specs.Prelude.{◌≡◌, ◌<◌, ◌++◌, map, replicate, string_bytes, OnOk};
+ghost use Rattle.hints.specs.Excerpt.{shown};
+
+use std::alloc::AllocError;
+
+/// A byte as it is shown: printable ASCII as it is, a tab as a space, any other as `?`.
+fn shown(byte: u8) -> u8
+    ensures value { result ≡ shown byte }
+    ensures plain { result < 128 }
+{
+    if 32 <= byte && byte < 127 {
+        byte
+    } else if byte == b'\t' {
+        b' '
+    } else {
+        b'?'
+    }
+}
+
+/// Appends the bytes as they are shown.
+pub(crate) fn put_shown(out: &mut String, bytes: &[u8]) -> Result<(), AllocError>
+    ensures { OnOk result (string_bytes out.new ≡ string_bytes out.old ++ map shown bytes.now) }
+{
+    for byte in bytes {
+        out.push(char::from(shown(*byte)))?;
+    }
+    Ok(())
+}
+
+/// Appends an ASCII character so many times.
+pub(crate) fn put_repeated(
+    out: &mut String,
+    character: char,
+    count: usize,
+) -> Result<(), AllocError>
+    requires { character < 128 }
+    ensures { OnOk result (string_bytes out.new ≡ string_bytes out.old ++ replicate count character) }
+{
+    for done in 0..count {
+        out.push(character)?;
+    }
+    Ok(())
+}

@@ -1,0 +1,38 @@
+//! Mistakes, with all that is said of each.
+
+mod bytes;
+mod calls;
+mod expected;
+mod joins;
+mod language;
+mod lines;
+mod ranges;
+mod shapes;
+mod words;
+
+use crate::explain;
+use cond_lang::{CondError, parse};
+use std::alloc::Global;
+use std::process::Abort;
+use std::test::Fail;
+
+/// A text, and all that is said of it.
+type Mistake = (&'static [u8], &'static str);
+
+/// Compares what is said of each text, and reads again what is suggested.
+fn check(rt: &impl Abort, alloc: Global, mistakes: &[Mistake]) -> Result<(), Fail> {
+    for (text, wanted) in mistakes {
+        let Err(error) = parse(alloc, text) else {
+            assert!(rt; false, "it is no mistake: {wanted}");
+            return Ok(());
+        };
+        let told = explain(alloc, text, error)?;
+        assert_eq!(rt; told.as_str(), *wanted);
+        if let Some((_, suggestion)) = told.as_str().split_once("write: ") {
+            let suggested = suggestion.strip_suffix("\n").ok_or("no line")?;
+            let parsed = parse(alloc, suggested.as_bytes()).is_ok();
+            assert!(rt; parsed, "{suggested}");
+        }
+    }
+    Ok(())
+}
