@@ -1,7 +1,8 @@
 -- The line of a text where a condition goes wrong, and the carets below the fault.
 use Rattle.std.specs.Prelude.{◌≡◌, ◌≢◌, ◌⊎◌, ℕ, suc, ◌+◌, ◌-◌, ◌<◌, ◌≤◌, min, max}
 use Rattle.std.specs.Prelude.{Bool, true, false, ◌==◌, ◌&&◌, ◌||◌, nat_le, nat_lt, if◌then◌else◌}
-use Rattle.std.specs.Prelude.{List, [], ◌∷◌, ◌++◌, codes, drop, length, map, replicate, slice_index, slice_range, take}
+use Rattle.std.specs.Prelude.{List, [], ◌∷◌, ◌++◌, codes, drop, length, map, replicate}
+use Rattle.std.specs.Prelude.{slice_index, slice_range, take}
 use Rattle.std.specs.Char.{is_ascii_lowercase, is_ascii_digit}
 
 -- ---- bytes on a terminal
@@ -107,4 +108,6 @@ pub record IsExcerpt (text : List ℕ) (at : ℕ) (written : List ℕ) : Type 0 
   pub start : ℕ
   pub end : ℕ
   pub is_line : IsLineAt text place start end
-  pub is : written ≡ excerpt (without_return (slice_range text start end)) (place - start) (token_len (drop at text))
+  pub is : written
+      ≡ excerpt (without_return (slice_range text start end)) (place - start)
+      (token_len (drop at text))

@@ -1,5 +1,6 @@
 -- What is said of the kinds that could stand at a fault.
-use Rattle.std.specs.Prelude.{ℕ, zero, suc, Bool, ◌&&◌, List, [], ◌∷◌, ◌++◌, codes, if◌then◌else◌, length, map}
+use Rattle.std.specs.Prelude.{ℕ, zero, suc, Bool, ◌&&◌, List, [], ◌∷◌, ◌++◌, codes, if◌then◌else◌}
+use Rattle.std.specs.Prelude.{length, map}
 use Rattle.std.specs.List.{filter, list_all}
 use Rattle.cond_lang.specs.declared.words.Kind.{Kind}
 use Rattle.cards.specs.declared.measure.Measure.TheVariants as measure
@@ -16,8 +17,15 @@ test_kinds = kind.Not ∷ kind.Open ∷ kind.Balanced ∷ kind.Shape ∷ kind.Pa
 -- the kinds that begin a value
 abbrev pub value_kinds : List Kind
 value_kinds =
-    kind.Number ∷ (kind.Measure measure.Hcp) ∷ (kind.Measure measure.Controls) ∷ (kind.Measure measure.Losers) ∷ kind.Cards ∷ kind.Len ∷ kind.Longest
-    ∷ kind.Shortest ∷ []
+    kind.Number
+    ∷ kind.Measure measure.Hcp
+    ∷ kind.Measure measure.Controls
+    ∷ kind.Measure measure.Losers
+    ∷ kind.Cards
+    ∷ kind.Len
+    ∷ kind.Longest
+    ∷ kind.Shortest
+    ∷ []
 
 -- the kinds that begin neither
 abbrev pub other_kinds : List Kind

@@ -1,7 +1,9 @@
 -- What is written of a refusal, below the line that names it.
-use Rattle.std.specs.Prelude.{◌≡◌, ◌⊎◌, ◌↔◌, ℕ, Bool, IsTrue, ◌<◌, List, [], ◌++◌, codes, decimal, length, map}
+use Rattle.std.specs.Prelude.{◌≡◌, ◌⊎◌, ◌↔◌, ℕ, Bool, IsTrue, ◌<◌, List, [], ◌++◌, codes, decimal}
+use Rattle.std.specs.Prelude.{length, map}
 use Rattle.cond_lang.specs.declared.error.CondError.{CondError}
-use Rattle.cond_lang.specs.declared.error.CondError.TheVariants.{TooLong, Byte, Word, Number, Syntax, Memory}
+use Rattle.cond_lang.specs.declared.error.CondError.TheVariants.{TooLong, Byte, Word, Number}
+use Rattle.cond_lang.specs.declared.error.CondError.TheVariants.{Syntax, Memory}
 use Rattle.cond_lang.specs.declared.words.Kind.{Kind}
 use Rattle.cond_lang.specs.declared.token.Token.{Token}
 use Rattle.cond_lang.specs.Continuations.{CanFollow, IsBeginning}
@@ -34,7 +36,8 @@ abbrev pub MayTell : List ℕ → List ℕ → Type 0
 MayTell text written = TellsAll text written ⊎ ((written ≡ []) × IsFaulty text)
 
 -- the excerpt of the text, then what could stand there, then perhaps a hint
-pub record Shows (Expects : List ℕ → Type 0) (text : List ℕ) (at : ℕ) (written : List ℕ) : Type 0 where
+pub record Shows
+    (Expects : List ℕ → Type 0) (text : List ℕ) (at : ℕ) (written : List ℕ) : Type 0 where
   pub excerpt : List ℕ
   pub expected : List ℕ
   pub hint : List ℕ

@@ -1,9 +1,12 @@
 //! The excerpt of a text: the line where it goes wrong, and carets below the fault.
 
-ghost use Rattle.std.specs.Prelude.{◌≡◌, ◌≢◌, ℕ, ◌+◌, ◌-◌, ◌<◌, ◌≤◌, ◌++◌, drop, length, slice_index, string_bytes, OnOk};
+ghost use Rattle.std.specs.Prelude.{◌≡◌, ◌≢◌, ℕ, ◌+◌, ◌-◌, ◌<◌, ◌≤◌, ◌++◌, drop, length};
+ghost use Rattle.std.specs.Prelude.{slice_index, string_bytes, OnOk};
 ghost use Rattle.std.specs.Char.{is_ascii_lowercase, is_ascii_digit};
-ghost use Rattle.hints.specs.Excerpt.{IsExcerpt, IsPlace, IsWithoutEnds, begins_with_equals, caret_line};
-ghost use Rattle.hints.specs.Excerpt.{count_shown, excerpt, first_shown, run, shown_line, token_len, where_cut, without_return};
+ghost use Rattle.hints.specs.Excerpt.{IsExcerpt, IsPlace, IsWithoutEnds, begins_with_equals};
+ghost use Rattle.hints.specs.Excerpt.{caret_line};
+ghost use Rattle.hints.specs.Excerpt.{count_shown, excerpt, first_shown, run, shown_line};
+ghost use Rattle.hints.specs.Excerpt.{token_len, where_cut, without_return};
 ghost use Rattle.hints.specs.internal.Appends.{Appends};
 
 use crate::shown::{put_repeated, put_shown};
@@ -20,7 +23,8 @@ const BEFORE: usize = 34;
 /// Appends the line of the text that has the byte at `at`, or the last one, and carets below the
 /// token there, or one behind its end.
 pub(crate) fn put_excerpt(out: &mut String, text: &[u8], at: usize) -> Result<(), AllocError>
-    ensures { OnOk result (Appends (IsExcerpt text.now at) (string_bytes out.old) (string_bytes out.new)) }
+    ensures { OnOk result
+        (Appends (IsExcerpt text.now at) (string_bytes out.old) (string_bytes out.new)) }
 {
     let place = place_of(text, at);
     let start = line_start(text, place);
@@ -160,7 +164,8 @@ fn put_line_and_carets(
     column: usize,
     width: usize,
 ) -> Result<(), AllocError>
-    ensures { OnOk result (string_bytes out.new ≡ string_bytes out.old ++ excerpt line.now column width) }
+    ensures { OnOk result
+        (string_bytes out.new ≡ string_bytes out.old ++ excerpt line.now column width) }
 {
     let first = first_shown(line.len(), column);
     let after = first + count_shown(line.len());

@@ -1,7 +1,8 @@
 //! What could stand at a fault, as a line of text.
 
 ghost use Rattle.std.specs.Prelude.{◌≡◌, ◌++◌, length, string_bytes, IfOk, OnOk};
-ghost use Rattle.hints.specs.Expected.{each, expected_line, joined, kind_text, separator, term_text, terms};
+ghost use Rattle.hints.specs.Expected.{each, expected_line, joined, kind_text, separator};
+ghost use Rattle.hints.specs.Expected.{term_text, terms};
 ghost use Rattle.hints.specs.internal.Kinds.{in_set};
 
 use crate::kinds::KindSet;
@@ -57,7 +58,8 @@ const OTHER_KINDS: [Kind; 13] = [
 
 /// Appends the line that says what could stand there.
 pub(crate) fn put_expected(alloc: Global, out: &mut String, can: &KindSet) -> Result<(), AllocError>
-    ensures { OnOk result (string_bytes out.new ≡ string_bytes out.old ++ expected_line (in_set can.now)) }
+    ensures { OnOk result
+        (string_bytes out.new ≡ string_bytes out.old ++ expected_line (in_set can.now)) }
 {
     let terms = terms(alloc, can)?;
     out.push_str("  expected ")?;

@@ -43,8 +43,10 @@ Vul NS            ♦ -
 
 /// The same boards in LIN.
 const LINES: &str = "\
-qx|o1|md|3SQJ43HQ732DQT3CK9,ST6HKJ9DKJ9842CJ3,S72HAT64D75CAT872,SAK985H85DA6CQ654|sv|o|ah|Board 1|pg||
-qx|o2|md|4SJT2HAJTDT964CK95,S9H87632DAK872C87,SAQ764HKQDCQJT643,SK853H954DQJ53CA2|sv|n|ah|Board 2|pg||
+qx|o1|md|3SQJ43HQ732DQT3CK9,ST6HKJ9DKJ9842CJ3,S72HAT64D75CAT872,SAK985H85DA6CQ654\
+|sv|o|ah|Board 1|pg||
+qx|o2|md|4SJT2HAJTDT964CK95,S9H87632DAK872C87,SAQ764HKQDCQJT643,SK853H954DQJ53CA2\
+|sv|n|ah|Board 2|pg||
 ";
 
 /// The first four boards of seed 0, each turned to its dealer.
@@ -133,7 +135,8 @@ fn turned_to_one_dealer(rt: HostRuntime) -> Result<(), Fail> {
         ("W", [EAST, SOUTH, WEST, NORTH]),
     ] {
         let want = format!(in rt.alloc();
-            "% PBN 2.1\n[Board \"1\"]\n[Dealer \"{dealer}\"]\n[Vulnerable \"None\"]\n[Deal \"N:{a} {b} {c} {d}\"]\n\n"
+            "% PBN 2.1\n[Board \"1\"]\n[Dealer \"{dealer}\"]\n[Vulnerable \"None\"]\n\
+             [Deal \"N:{a} {b} {c} {d}\"]\n\n"
         )?;
         let one = ["--candidates", "1", "--rotate", "--dealer", dealer];
         writes(&rt, rt.alloc(), one.as_slice(), want.as_str())?;
@@ -166,7 +169,8 @@ fn words_that_are_no_values(rt: HostRuntime) -> Result<(), Fail> {
         (
             "--format",
             "text",
-            "error: invalid value 'text' for '--format <FORMAT>'\n  [possible values: pbn, hands, lin]\n",
+            "error: invalid value 'text' for '--format <FORMAT>'\n  \
+             [possible values: pbn, hands, lin]\n",
         ),
         (
             "--format",
@@ -186,7 +190,8 @@ fn words_that_are_no_values(rt: HostRuntime) -> Result<(), Fail> {
         (
             "--vulnerable",
             "both",
-            "error: invalid value 'both' for '--vulnerable <SIDES>'\n  [possible values: None, NS, EW, All]\n",
+            "error: invalid value 'both' for '--vulnerable <SIDES>'\n  \
+             [possible values: None, NS, EW, All]\n",
         ),
         (
             "--vulnerable",

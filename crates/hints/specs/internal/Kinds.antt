@@ -37,9 +37,11 @@ number_of kind.End = 25
 -- all kinds, in this order
 abbrev pub all_kinds : List Kind
 all_kinds =
-    kind.Not ∷ kind.Open ∷ kind.Balanced ∷ kind.Shape ∷ kind.Pattern ∷ kind.Number ∷ (kind.Measure measure.Hcp) ∷ (kind.Measure measure.Controls) ∷ (kind.Measure measure.Losers)
-    ∷ kind.Cards ∷ kind.Len ∷ kind.Longest ∷ kind.Shortest ∷ kind.Plus ∷ kind.Relation ∷ kind.In ∷ kind.Dash ∷ kind.X
-    ∷ kind.Comma ∷ kind.Seat ∷ kind.Suit ∷ kind.Ranks ∷ kind.Close ∷ kind.And ∷ kind.Or ∷ kind.End ∷ []
+    kind.Not ∷ kind.Open ∷ kind.Balanced ∷ kind.Shape ∷ kind.Pattern ∷ kind.Number
+    ∷ kind.Measure measure.Hcp ∷ kind.Measure measure.Controls ∷ kind.Measure measure.Losers
+    ∷ kind.Cards ∷ kind.Len ∷ kind.Longest ∷ kind.Shortest ∷ kind.Plus ∷ kind.Relation
+    ∷ kind.In ∷ kind.Dash ∷ kind.X ∷ kind.Comma ∷ kind.Seat ∷ kind.Suit ∷ kind.Ranks
+    ∷ kind.Close ∷ kind.And ∷ kind.Or ∷ kind.End ∷ []
 
 -- whether the set has the kind
 abbrev pub in_set : KindSet → Kind → Bool

@@ -293,7 +293,8 @@ fn difference(alloc: Global, parts: &Parts) -> Said {
         return say(
             alloc,
             &[
-                b"there is no \"-\" of values: add to the other side, as in hcp(north)>=hcp(south)+5",
+                b"there is no \"-\" of values: add to the other side, \
+                  as in hcp(north)>=hcp(south)+5",
             ],
         );
     }
