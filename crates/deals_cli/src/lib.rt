@@ -8,3 +8,4 @@ pub mod laws;
 mod words;
 
 pub use entry::program;
+pub use words::read_words;
