@@ -108,6 +108,6 @@ pub record IsExcerpt (text : List ℕ) (at : ℕ) (written : List ℕ) : Type 0 
   pub start : ℕ
   pub end : ℕ
   pub is_line : IsLineAt text place start end
-  pub is : written
-      ≡ excerpt (without_return (slice_range text start end)) (place - start)
-      (token_len (drop at text))
+  pub is :
+      let line = without_return (slice_range text start end) in
+      written ≡ excerpt line (place - start) (token_len (drop at text))

@@ -36,8 +36,8 @@ abbrev pub MayTell : List ℕ → List ℕ → Type 0
 MayTell text written = TellsAll text written ⊎ ((written ≡ []) × IsFaulty text)
 
 -- the excerpt of the text, then what could stand there, then perhaps a hint
-pub record Shows
-    (Expects : List ℕ → Type 0) (text : List ℕ) (at : ℕ) (written : List ℕ) : Type 0 where
+pub record Shows (Expects : List ℕ → Type 0) (text : List ℕ) (at : ℕ) (written : List ℕ)
+    : Type 0 where
   pub excerpt : List ℕ
   pub expected : List ℕ
   pub hint : List ℕ

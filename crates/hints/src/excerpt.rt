@@ -23,8 +23,8 @@ const BEFORE: usize = 34;
 /// Appends the line of the text that has the byte at `at`, or the last one, and carets below the
 /// token there, or one behind its end.
 pub(crate) fn put_excerpt(out: &mut String, text: &[u8], at: usize) -> Result<(), AllocError>
-    ensures { OnOk result
-        (Appends (IsExcerpt text.now at) (string_bytes out.old) (string_bytes out.new)) }
+    ensures { OnOk result (Appends (IsExcerpt text.now at)
+        (string_bytes out.old) (string_bytes out.new)) }
 {
     let place = place_of(text, at);
     let start = line_start(text, place);
@@ -164,8 +164,8 @@ fn put_line_and_carets(
     column: usize,
     width: usize,
 ) -> Result<(), AllocError>
-    ensures { OnOk result
-        (string_bytes out.new ≡ string_bytes out.old ++ excerpt line.now column width) }
+    ensures { OnOk result (string_bytes out.new
+        ≡ string_bytes out.old ++ excerpt line.now column width) }
 {
     let first = first_shown(line.len(), column);
     let after = first + count_shown(line.len());

@@ -58,8 +58,8 @@ const OTHER_KINDS: [Kind; 13] = [
 
 /// Appends the line that says what could stand there.
 pub(crate) fn put_expected(alloc: Global, out: &mut String, can: &KindSet) -> Result<(), AllocError>
-    ensures { OnOk result
-        (string_bytes out.new ≡ string_bytes out.old ++ expected_line (in_set can.now)) }
+    ensures { OnOk result (string_bytes out.new
+        ≡ string_bytes out.old ++ expected_line (in_set can.now)) }
 {
     let terms = terms(alloc, can)?;
     out.push_str("  expected ")?;

@@ -190,10 +190,11 @@ impl<'t> Parts<'t> {
     /// How many brackets are open at the fault.
     pub(crate) fn open_brackets(&self) -> usize {
         let mut open: usize = 0;
-        for part in self.parts.as_slice().iter().take(self.fault) {
-            if is(part.bytes, "(") {
+        for i in 0..self.fault {
+            let bytes = self.at(i);
+            if is(bytes, "(") {
                 open = open.saturating_add(1);
-            } else if is(part.bytes, ")") {
+            } else if is(bytes, ")") {
                 open = open.saturating_sub(1);
             }
         }
@@ -283,6 +284,15 @@ pub(crate) fn is_word(bytes: &[u8]) -> bool {
         [first, ..] => first.is_ascii_alphabetic(),
         [] => false,
     }
+}
+
+fn is_rank(letter: u8) -> bool {
+    matches!(letter, b'a' | b'k' | b'q' | b'j' | b't')
+}
+
+/// Whether the letters are ranks, whether or not one stands twice.
+pub(crate) fn are_ranks(word: &[u8]) -> bool {
+    word.iter().all(|letter| is_rank(*letter))
 }
 
 /// Whether the bytes fit in a hint as they are.

@@ -44,8 +44,8 @@ pub fn explain(alloc: Global, text: &[u8], error: CondError) -> Result<String, A
 
 /// Appends what is said of a piece that isn't in the language.
 fn put_piece(alloc: Global, out: &mut String, text: &[u8], at: usize) -> Result<(), AllocError>
-    ensures { OnOk result
-        (Appends (Shows Nothing text.now at) (string_bytes out.old) (string_bytes out.new)) }
+    ensures { OnOk result (Appends (Shows Nothing text.now at)
+        (string_bytes out.old) (string_bytes out.new)) }
 {
     put_excerpt(out, text, at)?;
     put_hint(out, of_piece(alloc, text, at))

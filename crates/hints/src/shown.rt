@@ -36,8 +36,8 @@ pub(crate) fn put_repeated(
     count: usize,
 ) -> Result<(), AllocError>
     requires { character < 128 }
-    ensures { OnOk result
-        (string_bytes out.new ≡ string_bytes out.old ++ replicate count character) }
+    ensures { OnOk result (string_bytes out.new
+        ≡ string_bytes out.old ++ replicate count character) }
 {
     for done in 0..count {
         out.push(character)?;

@@ -31,12 +31,16 @@ pub(crate) fn hint(alloc: Global, parts: &Parts, can: &KindSet) -> Said {
 
 /// What may stand behind a word and a seat.
 fn rest_of(call: &[u8]) -> &[u8] {
-    match call {
-        b"len" => b",spades)",
-        b"cards" => b",akq)",
-        b"shape" | b"pattern" => b",5-3-3-2)",
-        _ => b")",
+    if is(call, "len") {
+        return b",spades)";
     }
+    if is(call, "cards") {
+        return b",akq)";
+    }
+    if is(call, "shape") || is(call, "pattern") {
+        return b",5-3-3-2)";
+    }
+    b")"
 }
 
 /// `hcp north`, `hcp>=15`

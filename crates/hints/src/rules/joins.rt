@@ -1,7 +1,7 @@
 //! How tests are joined, brackets, and values where tests are wanted.
 
 use crate::kinds::KindSet;
-use crate::parts::{Parts, is, is_number, is_relation, is_seat, is_suit, is_word};
+use crate::parts::{Parts, are_ranks, is, is_number, is_relation, is_seat, is_suit, is_word};
 use crate::said::{Said, first_of, say};
 use cond_lang::Kind;
 use std::alloc::Global;
@@ -65,9 +65,7 @@ fn no_value(alloc: Global, parts: &Parts) -> Said {
             &[b"a value is missing before this sign, as in hcp(north)>=15"],
         );
     }
-    if is_word(token)
-        && token.iter().all(|letter| matches!(letter, b'a' | b'k' | b'q' | b'j' | b't'))
-    {
+    if is_word(token) && are_ranks(token) {
         return say(
             alloc,
             &[b"for cards of a rank write \"cards(north,", token, b")\""],

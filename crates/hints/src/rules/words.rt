@@ -1,6 +1,6 @@
 //! Words that aren't in the language.
 
-use crate::parts::{Parts, is, is_measure, is_number, is_word};
+use crate::parts::{Parts, are_ranks, is, is_measure, is_number, is_word};
 use crate::said::{Said, first_of, say};
 use std::alloc::{AllocError, Global};
 use strsim::jaro;
@@ -58,22 +58,20 @@ pub(crate) fn hint(alloc: Global, parts: &Parts) -> Said {
 /// What stands where the word is, by the parts before it.
 fn place_of(parts: &Parts) -> Place {
     let call = parts.call();
-    let before = parts.back(1);
-    if is(call, "shape") || is(call, "pattern") {
-        if is(before, "(") {
-            Place::Seat
-        } else {
-            Place::Lengths
-        }
-    } else if !is_measure(call) && !is(call, "balanced") {
-        Place::Other
-    } else if is(before, "(") {
-        Place::Seat
-    } else if is(call, "cards") {
-        Place::Ranks
-    } else {
-        Place::Suit
+    let is_shape = is(call, "shape") || is(call, "pattern");
+    if !is_shape && !is_measure(call) && !is(call, "balanced") {
+        return Place::Other;
     }
+    if is(parts.back(1), "(") {
+        return Place::Seat;
+    }
+    if is_shape {
+        return Place::Lengths;
+    }
+    if is(call, "cards") {
+        return Place::Ranks;
+    }
+    Place::Suit
 }
 
 /// A word that is known once its letters are small.
@@ -104,15 +102,6 @@ fn in_lengths(alloc: Global, parts: &Parts, word: &[u8], place: Place) -> Said {
         ),
         _ => say(alloc, &[b"for any length write \"x\""]),
     }
-}
-
-fn is_rank(letter: u8) -> bool {
-    matches!(letter, b'a' | b'k' | b'q' | b'j' | b't')
-}
-
-/// Whether the letters are ranks, whether or not one stands twice.
-fn are_ranks(word: &[u8]) -> bool {
-    word.iter().all(|letter| is_rank(*letter))
 }
 
 /// `akk`
