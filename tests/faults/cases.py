@@ -12,6 +12,7 @@ class Case:
     status: int = 0
     out: bytes | None = b""  # None: whatever it writes undisturbed, as help
     err: bytes | None = b""
+    line: bytes = b""  # what err begins with: below it a refused condition is explained, where memory allows
     workers: int = 0  # how many threads it starts
 
 
@@ -129,7 +130,7 @@ def of_refusals():
         if line is None:
             yield Case("a sum of many", asked("--where", text), out=model.games(7, 0), workers=1)
         else:
-            yield Case(line, asked("--where", text), 3, err=line.encode() + b"\n")
+            yield Case(line, asked("--where", text), 3, err=None, line=line.encode() + b"\n")
 
 
 def of_more():
