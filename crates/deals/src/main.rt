@@ -43,7 +43,7 @@ fn main(rt: HostRuntime) -> ExitCode {
         Ok((words, writer)) => {
             let mut out = Piped::new(writer);
             let status = program(&rt, rt.alloc(), words.as_slice(), &mut out, &mut err);
-            if status == REFUSED_CONDITION {
+            if status == REFUSED_CONDITION && err.fault_count() == 0 {
                 if let Some(text) = explanation(rt.alloc(), words.as_slice()) {
                     let _ = put_all(&mut err, text.as_bytes());
                 }

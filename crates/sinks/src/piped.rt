@@ -23,6 +23,14 @@ impl<W: Write> Piped<W> {
     {
         Piped { writer, faults: 0 }
     }
+
+    /// How many calls failed.
+    pub fn fault_count(&self) -> u64
+        ensures { result ≡ ⟦<Piped<W> as Sink>⟧.faults self.now }
+    {
+        let Piped { faults, .. } = self;
+        *faults
+    }
 }
 
 impl<W: Write> Sink for Piped<W> {
