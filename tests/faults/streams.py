@@ -37,9 +37,9 @@ def of_output():
         yield Check(f"nobody reads, {words}", f"exec $DEALS {words}", 4, err=FAILED, output="broken")
         yield Check(f"nothing more fits, {words}", f"exec $DEALS {words}", 4, err=FAILED, output="stuck")
     for words in (WORDS, "make --seed 7 --candidates 1 --where y"):
-        status, line = (2, REFUSED) if words == WORDS else (3, b"condition refused at byte 0: unknown word\n")
-        yield Check(f"refused to a full disk, {words}", f"$DEALS {words} >/dev/full", status, err=line)
-        yield Check(f"refused to a closed output, {words}", f"$DEALS {words} >&-", status, err=line)
+        status, text = (2, REFUSED) if words == WORDS else (3, b"condition refused at byte 0: unknown word\n  y\n  ^\n")
+        yield Check(f"refused to a full disk, {words}", f"$DEALS {words} >/dev/full", status, err=text)
+        yield Check(f"refused to a closed output, {words}", f"$DEALS {words} >&-", status, err=text)
 
 
 def of_readers():
