@@ -19,6 +19,10 @@ use sinks::{Sink, SinkFault, put_all};
 use std::sync::Wait;
 use std::sync::atomic::AtomicBool;
 
+/// After how many verdicts the sink hears how far the run has come. That is some milliseconds at
+/// most, and the sink may read a clock each time.
+const BETWEEN_WATCHES: u64 = 4096;
+
 /// How far the writer has come: whose turn it is, how many verdicts were taken, and how many boards
 /// were written.
 #[derive(Drop)]
@@ -50,7 +54,8 @@ impl Progress {
         is_full(plan, self.boards)
     }
 
-    /// Counts a verdict that was taken, and writes its board if it is accepted.
+    /// Counts a verdict that was taken, and writes its board if it is accepted. Now and then the
+    /// sink hears how far that is.
     // In line, since to copy a verdict that was made just now takes 10 ns.
     #[inline(always)]
     fn write<N: Notation, S: Sink>(
@@ -82,6 +87,9 @@ impl Progress {
             let board = self.boards;
             put_board(plan, notation, board, verdict.number, &verdict.deal, sink)?;
             self.boards += 1;
+        }
+        if self.taken % BETWEEN_WATCHES == 0 {
+            sink.watch(self.taken, self.boards);
         }
         Ok(())
     }

@@ -29,6 +29,19 @@ pub trait Sink {
         requires { faults self.old < 2 ^ 64 - 1 }
         ensures bytes { bytes self.new ≡ bytes self.old }
         ensures faults { CountsFault (faults self.old) (faults self.new) result };
+
+    /// Hears now and then how far the run has come that writes here: how many candidates were
+    /// taken, and how many boards were written.
+    ///
+    /// A sink may pass on what it has gathered, or show the counts to a person; unless it says
+    /// otherwise, it does nothing. It takes no bytes, and no call of it fails: if passing on fails,
+    /// so does the next `write` or `flush`.
+    fn watch(&mut self, candidates: u64, boards: u64)
+        ensures bytes { bytes self.new ≡ bytes self.old }
+        ensures faults { faults self.new ≡ faults self.old }
+    {
+        let _ = (candidates, boards);
+    }
 }
 
 /// Writes the whole piece. After a fault a proper prefix of it is written, and nothing more.

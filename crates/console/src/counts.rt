@@ -1,0 +1,79 @@
+//! The line of counts, as it is drawn while a run lasts.
+
+use crate::over_line::Drawn;
+use crate::style::Style;
+use crate::tally::{Tally, tally_line};
+use std::alloc::{AllocError, Global};
+use std::io::Write;
+
+/// In the first second nothing is shown.
+const QUIET_MILLIS: u64 = 1000;
+
+/// Draws a run's counts on a writer.
+#[derive(Drop)]
+pub struct Counts<E> {
+    err: E,
+    alloc: Global,
+    style: Style,
+    all: Option<u64>,
+    started: u64,
+    due: u64,
+    drawn: Drawn,
+}
+
+impl<E: Write> Counts<E> {
+    /// The counts of a run over `all` candidates, if it is known how many, that started at `now`.
+    pub fn new(
+        alloc: Global,
+        err: E,
+        drawn: Drawn,
+        style: Style,
+        all: Option<u64>,
+        now: u64,
+    ) -> Counts<E> {
+        Counts {
+            err,
+            alloc,
+            style,
+            all,
+            started: now,
+            due: now.saturating_add(QUIET_MILLIS),
+            drawn,
+        }
+    }
+
+    /// Shows how far the run is, if it is time to. Times are in milliseconds.
+    pub(crate) fn show(&mut self, now: u64, candidates: u64, boards: u64) {
+        if self.style == Style::Never || now < self.due {
+            return;
+        }
+        self.due = now.saturating_add(self.style.interval());
+        let tally = Tally {
+            candidates,
+            boards,
+            all: self.all,
+            millis: now.saturating_sub(self.started),
+        };
+        // Where memory runs out no line is drawn.
+        let _ = self.draw(&tally);
+    }
+
+    /// Draws the line of these counts.
+    fn draw(&mut self, tally: &Tally) -> Result<(), AllocError> {
+        let text = tally_line(self.alloc, tally)?;
+        let drawn = if self.style == Style::Redrawn {
+            self.drawn.note();
+            // A line longer than the terminal is wide is cut there, and not broken in two.
+            format!(in self.alloc; "\r\x1b[?7l{text}\x1b[K\x1b[?7h")?
+        } else {
+            format!(in self.alloc; "{text}\n")?
+        };
+        let _ = self.err.write_all(drawn.as_bytes());
+        Ok(())
+    }
+
+    /// Wipes the line, if one stands.
+    pub(crate) fn wipe(&mut self) {
+        self.drawn.wipe(&mut self.err);
+    }
+}

@@ -1,0 +1,156 @@
+//! The output, with its boards passed on as they are found.
+
+ghost use Rattle.std.specs.Prelude.{◌≡◌, ◌+◌, ◌-◌, ◌^◌, ◌<◌, None};
+ghost use Rattle.sinks.specs.Sinks.{CountsFault};
+
+use crate::counts::Counts;
+use sinks::{Sink, SinkFault};
+use std::io;
+use std::io::{Error, Write};
+use std::time::Clock;
+
+/// For how many milliseconds a board may be gathered, before it is passed on.
+const GATHERED_MILLIS: u64 = 200;
+
+/// A clock's time in milliseconds, if it tells one.
+pub fn millis(clock: &impl Clock) -> Option<u64> {
+    u64::try_from(clock.monotonic().ok()?.as_millis()).ok()
+}
+
+/// A sink over a writer that gathers, for a person who may watch. It doesn't tell its bytes.
+///
+/// Whatever it has gathered is passed on after a fifth of a second, when the run says how far it
+/// is, and then the counts are shown. They are wiped when the sink is flushed or fails.
+///
+/// Any error of the writer is a fault, and so is a count of 0 for a piece that isn't empty. If
+/// passing on fails, the next `write` or `flush` is a fault.
+#[derive(Drop)]
+pub struct Prompt<W, C, E> {
+    writer: W,
+    clock: C,
+    counts: Counts<E>,
+    /// Whether bytes were gathered since the last ones were passed on, and when that was.
+    gathers: bool,
+    passed_on: u64,
+    /// Whether passing on failed, and no call told it so far.
+    fails: bool,
+    /// Why the writer failed last.
+    reason: Option<Error>,
+    faults: u64,
+}
+
+impl<W: Write, C: Clock, E: Write> Prompt<W, C, E> {
+    /// A sink over `writer`, with no fault so far.
+    pub fn new(writer: W, clock: C, counts: Counts<E>) -> Prompt<W, C, E>
+        ensures bytes { ⟦<Prompt<W, C, E> as Sink>⟧.bytes result ≡ None }
+        ensures faults { ⟦<Prompt<W, C, E> as Sink>⟧.faults result ≡ 0 }
+    {
+        Prompt {
+            writer,
+            clock,
+            counts,
+            gathers: false,
+            passed_on: 0,
+            fails: false,
+            reason: None,
+            faults: 0,
+        }
+    }
+
+    /// How many calls failed.
+    pub fn fault_count(&self) -> u64
+        ensures { result ≡ ⟦<Prompt<W, C, E> as Sink>⟧.faults self.now }
+    {
+        self.faults
+    }
+
+    /// Why the writer failed last, if it told why.
+    pub fn reason(&self) -> Option<&Error> {
+        self.reason.as_ref()
+    }
+
+    /// Passes on what was gathered, if that is due.
+    fn pass_on(&mut self, now: u64)
+        ensures { self.new.faults ≡ self.old.faults }
+    {
+        if !self.gathers || now.saturating_sub(self.passed_on) < GATHERED_MILLIS {
+            return;
+        }
+        self.gathers = false;
+        self.passed_on = now;
+        if let Err(error) = self.writer.flush() {
+            self.fails = true;
+            self.reason = Some(error);
+        }
+    }
+}
+
+impl<W: Write, C: Clock, E: Write> Prompt<W, C, E> {
+    /// Counts a fault, and says nothing more of the counts.
+    fn fault(&mut self) -> SinkFault
+        requires { self.old.faults < 2 ^ 64 - 1 }
+        ensures { self.new.faults ≡ self.old.faults + 1 }
+    {
+        self.counts.wipe();
+        self.faults += 1;
+        SinkFault
+    }
+
+    /// Tells that passing on failed, if no call told it so far.
+    fn tell(&mut self) -> Result<(), SinkFault>
+        requires { self.old.faults < 2 ^ 64 - 1 }
+        ensures { CountsFault self.old.faults self.new.faults result }
+    {
+        if !self.fails {
+            return Ok(());
+        }
+        self.fails = false;
+        Err(self.fault())
+    }
+}
+
+impl<W: Write, C: Clock, E: Write> Sink for Prompt<W, C, E> {
+    ghost bytes = { λ _. None };
+
+    ghost faults = { λ s. s.faults };
+
+    fn write(&mut self, piece: &[u8]) -> Result<usize, SinkFault> {
+        self.tell()?;
+        match self.writer.write(piece) {
+            Ok(taken) if taken > 0 || piece.is_empty() => {
+                self.gathers = true;
+                Ok(taken)
+            }
+            Ok(_) => Err(self.fault()),
+            Err(error) => {
+                self.reason = Some(error);
+                Err(self.fault())
+            }
+        }
+    }
+
+    /// Passes on all, and wipes the counts.
+    fn flush(&mut self) -> Result<(), SinkFault> {
+        self.tell()?;
+        self.counts.wipe();
+        match self.writer.flush() {
+            Ok(()) => {
+                self.gathers = false;
+                Ok(())
+            }
+            Err(error) => {
+                self.reason = Some(error);
+                Err(self.fault())
+            }
+        }
+    }
+
+    /// Passes on what was gathered and shows the counts, each if it is due.
+    fn watch(&mut self, candidates: u64, boards: u64) {
+        let Some(now) = millis(&self.clock) else {
+            return;
+        };
+        self.pass_on(now);
+        self.counts.show(now, candidates, boards);
+    }
+}

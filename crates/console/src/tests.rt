@@ -1,0 +1,4 @@
+//! Tests of what a person sees.
+
+mod showing;
+mod tallies;
