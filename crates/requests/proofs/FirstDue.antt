@@ -13,7 +13,7 @@ use Rattle.plans.specs.declared.plan.PlanError.TheVariants.{Range, Workers, Capa
 use Rattle.requests.specs.Failures.{failure_of}
 use Rattle.requests.specs.FirstRefusal.{IsConditionDue, IsDueFor, IsDueOf, IsFirstOf, Meets, of_labels, of_numbers}
 use Rattle.requests.specs.Makings.{HasNumbers, IsPlanned, candidates_of}
-use Rattle.requests.specs.Requests.{Making, Wish, make, stream}
+use Rattle.requests.specs.Requests.{Making, Wish, conditions, make, stream}
 use Rattle.requests.specs.Wishes.{HasMeaning, IsStatusOf}
 use Rattle.requests.specs.declared.failure.Failure.{Failure}
 use Rattle.requests.specs.declared.failure.Failure.TheVariants.{Plan, Label, Interrupted}
@@ -121,6 +121,7 @@ run_due m (cause.Unclosed worker) plan meaning = (plan, meaning)
 -- the output fails after all was done
 pub output_due : (w : Wish) → IsStatusOf w 0 → IsDueFor w (Interrupted cause.Output)
 output_due (stream seed count) status = refl
+output_due conditions status = refl
 output_due (make m) status = status.accepted (inl refl)
 
 -- each way to fail

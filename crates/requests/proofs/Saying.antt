@@ -1,6 +1,7 @@
 -- Texts that are said in parts.
-use Rattle.std.proofs.Common.{◌≡◌, ◌<◌, ◌≤◌, ◌+◌, ◌-◌, ◌^◌, ◌||◌, ◌++◌, ◌∙◌, ℕ, Bool, List, [], Option, Some, Result, Ok, Err, OnOk, sym, ap, ap₂, codes, decimal, if◌then◌else◌}
+use Rattle.std.proofs.Common.{◌≡◌, ◌<◌, ◌≤◌, ◌+◌, ◌-◌, ◌^◌, ◌||◌, ◌++◌, ◌∙◌, ℕ, Bool, List, [], Option, Some, Result, Ok, Err, OnOk, refl, sym, ap, ap₂, append_assoc, codes, decimal, if◌then◌else◌}
 use Rattle.std.proofs.lemmas.Bool.{le-ltb, lt-ltb, ne_eqb}
+use Rattle.std.proofs.lemmas.List.{append-nil}
 use Rattle.sinks.specs.Appended.{append_known, AppendsAll}
 use Rattle.sinks.specs.Sinks.{AppendsOrBreaksOff}
 use Rattle.sinks.proofs.SinkLemmas.{append_known-append}
@@ -10,14 +11,21 @@ use Rattle.requests.specs.Reports.{candidates_text, goes_on_at, shortfall}
 pub part : (old mid new : Option (List ℕ)) (x y z : List ℕ) → x ++ y ≡ z → AppendsAll old mid x → AppendsAll mid new y → AppendsAll old new z
 part old mid new x y z e a b = b ∙ ap (λ o. append_known o y) a ∙ append_known-append old x y ∙ ap (append_known old) e
 
+-- the same text
+pub as_text : (old new : Option (List ℕ)) (x y : List ℕ) → x ≡ y → AppendsAll old new x → AppendsAll old new y
+as_text old new x y e h = h ∙ ap (append_known old) e
+
+-- three parts, by the texts that they are
+pub three_parts : (b0 b1 b2 b3 : Option (List ℕ)) (x y z u v w : List ℕ) → x ≡ u → y ≡ v → z ≡ w
+    → AppendsAll b0 b1 x → AppendsAll b1 b2 y → AppendsAll b2 b3 z → AppendsAll b0 b3 (u ++ (v ++ (w ++ [])))
+three_parts b0 b1 b2 b3 x y z u v w xu yv zw one more last =
+    let two = part b0 b1 b2 u v (u ++ v) refl (as_text b0 b1 x u xu one) (as_text b1 b2 y v yv more) in
+    part b0 b2 b3 (u ++ v) w (u ++ (v ++ (w ++ []))) (append_assoc u v w ∙ ap (λ t. u ++ (v ++ t)) (sym (append-nil w))) two (as_text b2 b3 z w zw last)
+
 pub last_part : {T E : Type 0} (r : Result T E) (old mid new : Option (List ℕ)) (x y z : List ℕ) → x ++ y ≡ z → AppendsAll old mid x
     → OnOk r (AppendsAll mid new y) → OnOk r (AppendsAll old new z)
 last_part (Ok v) old mid new x y z e a h = part old mid new x y z e a h
 last_part (Err f) old mid new x y z e a h = tt
-
--- the same text
-pub as_text : (old new : Option (List ℕ)) (x y : List ℕ) → x ≡ y → AppendsAll old new x → AppendsAll old new y
-as_text old new x y e h = h ∙ ap (append_known old) e
 
 pub ok_as_text : {T E : Type 0} (r : Result T E) (old new : Option (List ℕ)) (x y : List ℕ) → x ≡ y → OnOk r (AppendsAll old new x) → OnOk r (AppendsAll old new y)
 ok_as_text (Ok v) old new x y e h = as_text old new x y e h

@@ -8,7 +8,7 @@ use Rattle.dealrun.specs.declared.cause.Cause.TheVariants.{Memory, Output}
 use Rattle.plans.specs.declared.plan.PlanError.TheVariants.{Range, Workers, Capacity, Boards}
 use Rattle.plans.specs.declared.plan.PlanError.TheVariants.{FirstBoard}
 use Rattle.requests.specs.Makings.{CanDate, CanLabel, IsPlanned, candidates_of}
-use Rattle.requests.specs.Requests.{Making, Wish, stream, make}
+use Rattle.requests.specs.Requests.{Making, Wish, conditions, stream, make}
 use Rattle.requests.specs.Wishes.{HasMeaning}
 use Rattle.requests.specs.declared.failure.Failure.{Failure}
 use Rattle.requests.specs.declared.failure.Failure.TheVariants.{CommandLine, Plan, Label}
@@ -62,4 +62,5 @@ IsDueOf m (Interrupted cause) = IsPlanned m × HasMeaning (make m)
 -- why a wish fails
 abbrev pub IsDueFor : Wish → Failure → Type 0
 IsDueFor (stream seed count) failure = failure ≡ Interrupted Output
+IsDueFor conditions failure = failure ≡ Interrupted Output
 IsDueFor (make m) failure = IsDueOf m failure

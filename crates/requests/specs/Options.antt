@@ -1,9 +1,9 @@
 -- What a request asks for.
 use Rattle.std.specs.Prelude.{◌≤◌, ◌^◌, option_map}
-use Rattle.requests.specs.Requests.{Making, Wish, stream, make}
+use Rattle.requests.specs.Requests.{Making, Wish, conditions, stream, make}
 use Rattle.requests.specs.declared.make.MakeRequest.{MakeRequest}
 use Rattle.requests.specs.declared.request.Request.{Request}
-use Rattle.requests.specs.declared.request.Request.TheVariants.{Stream, Make}
+use Rattle.requests.specs.declared.request.Request.TheVariants.{Conditions, Stream, Make}
 
 abbrev pub making_of : MakeRequest → Making
 making_of r = record {
@@ -23,13 +23,15 @@ making_of r = record {
   vulnerable = r.vulnerable;
   rotate = r.rotate;
   report = r.report;
+  progress = r.progress;
 }
 
 abbrev pub wish_of : Request → Wish
-wish_of (Stream r) = stream r.seed r.count
 wish_of (Make r) = make (making_of r)
+wish_of Conditions = conditions
+wish_of (Stream r) = stream r.seed r.count
 
 -- the numbers are within the limits of their options
 abbrev pub IsInRange : Request → Type 0
 IsInRange (Stream r) = r.count ≤ 2 ^ 40
-IsInRange (Make r) = Unit {0}
+IsInRange _ = Unit {0}

@@ -3,6 +3,7 @@ use Rattle.std.specs.Prelude.{ℕ, Bool, List, Option}
 use Rattle.boards.specs.declared.law2.Vul.{Vul}
 use Rattle.cards.specs.declared.seat.Seat.{Seat}
 use Rattle.requests.specs.declared.format.Format.{Format}
+use Rattle.requests.specs.declared.progress.Progress.{Progress}
 
 -- `make`, with what its options were given or their defaults. A field is named as its option is,
 -- and `where` as where_text, since the bare word is the language's.
@@ -23,8 +24,11 @@ pub record Making : Type 0 where
   pub vulnerable : Option Vul
   pub rotate : Bool
   pub report : Bool
+  pub progress : Progress
 
 pub data Wish : Type 0 where
+  make : Making → Wish
+  -- the page of the language
+  conditions : Wish
   -- the first values of a seed: the seed, and how many
   stream : ℕ → ℕ → Wish
-  make : Making → Wish

@@ -1,16 +1,18 @@
 //! The requests of the program: what each means, what is done for it, and how it ends.
 //!
 //! A subcommand is a file: its request, with the values of its options, and the function that
-//! serves it (`make.rt`, `stream.rt`). `request.rt` has one variant for each. `run.rt` runs a plan
-//! in the format that is asked for. How the words of a
-//! command line become a request is no business of this crate.
+//! serves it (`make.rt`, `conditions.rt`, `stream.rt`). `request.rt` has one variant for each.
+//! `run.rt` runs a plan in the format that is asked for. How the words of a command line become a
+//! request is no business of this crate.
 #![tactic(auto)]
 
+mod conditions;
 mod failure;
 mod format;
 pub mod laws;
 mod make;
 mod message;
+mod progress;
 mod report;
 mod request;
 mod run;
@@ -19,6 +21,7 @@ mod stream;
 pub use failure::{Failure, LabelName};
 pub use format::Format;
 pub use make::MakeRequest;
+pub use progress::Progress;
 pub use report::Report;
 pub use request::{Request, serve};
 pub use stream::StreamRequest;

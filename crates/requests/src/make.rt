@@ -17,6 +17,7 @@ ghost use Rattle.requests.specs.Wishes.{Appends, IsStatusOf};
 
 use crate::failure::{Failure, LabelName};
 use crate::format::Format;
+use crate::progress::Progress;
 use crate::report::Report;
 use crate::run::write_as;
 use boards::{Setting, Vul};
@@ -60,6 +61,8 @@ pub struct MakeRequest<'a> {
     pub rotate: bool,
     /// Whether the boards and the candidates are counted for a report.
     pub report: bool,
+    /// Whether the counts are shown while the run lasts.
+    pub progress: Progress,
 }
 
 /// The label of a text that was given. It is refused if and only if no label has the text.

@@ -7,6 +7,7 @@ ghost use Rattle.requests.specs.Options.{IsInRange, wish_of};
 ghost use Rattle.requests.specs.Reported.{ReportsFor};
 ghost use Rattle.requests.specs.Wishes.{Appends, IsStatusOf};
 
+use crate::conditions::conditions;
 use crate::failure::Failure;
 use crate::make::{MakeRequest, make};
 use crate::report::Report;
@@ -19,8 +20,10 @@ use std::thread::Threads;
 /// What is asked for.
 #[derive(Debug, Drop)]
 pub enum Request<'a> {
-    Stream(StreamRequest),
     Make(MakeRequest<'a>),
+    /// The page of the language.
+    Conditions,
+    Stream(StreamRequest),
 }
 
 /// Does what is asked for, and returns its report if one is asked for. It may wait for its workers.
@@ -48,10 +51,14 @@ pub fn serve<R: Threads + Wait + Clone + Send + 'static, O: Sink>(
     ensures due { IfErr result (IsDueFor (wish_of request.now)) }
 {
     match request {
+        Request::Make(request) => make(rt, alloc, request, out),
+        Request::Conditions => {
+            conditions(out)?;
+            Ok(None)
+        }
         Request::Stream(request) => {
             stream(request, out)?;
             Ok(None)
         }
-        Request::Make(request) => make(rt, alloc, request, out),
     }
 }

@@ -1,4 +1,4 @@
-use crate::{Failure, Format, MakeRequest, Request, StreamRequest, serve};
+use crate::{Failure, Format, MakeRequest, Progress, Request, StreamRequest, serve};
 use dealrun::Cause;
 use sinks::MemSink;
 use std::alloc::Global;
@@ -60,6 +60,7 @@ fn request_of(workers: u32, condition: &str) -> MakeRequest<'_> {
         vulnerable: None,
         rotate: false,
         report: false,
+        progress: Progress::Auto,
     }
 }
 
