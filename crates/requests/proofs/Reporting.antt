@@ -7,20 +7,21 @@ use Rattle.requests.specs.Makings.{plan_of}
 use Rattle.requests.specs.Reported.{Counts, Reports, ReportsFor, wants_report}
 use Rattle.requests.specs.Reports.{next_line, report_line, report_of}
 use Rattle.requests.specs.Requests.{Making, Wish, conditions, make, stream}
+use Rattle.requests.specs.declared.format.Format.{Format}
 use Rattle.requests.specs.declared.report.Report.{Report}
 
-same_text : (plan : Planned) (form : Form) (r : Report) → Counts plan form r
-    → report_line r.plan r.candidates r.boards ++ next_line r.plan r.candidates r.boards ≡ report_of plan form
-same_text plan form r h =
-    ap (λ (p : Planned). report_line p r.candidates r.boards ++ next_line p r.candidates r.boards) h.plan_is
-    ∙ ap₂ (λ (n b : ℕ). report_line plan n b ++ next_line plan n b) h.candidates_are h.boards_are
+same_text : (format : Format) (plan : Planned) (form : Form) (r : Report) → Counts format plan form r
+    → report_line r.plan r.candidates r.boards ++ next_line r.format r.plan r.candidates r.boards ≡ report_of format plan form
+same_text format plan form r h =
+    ap₂ (λ (f : Format) (p : Planned). report_line p r.candidates r.boards ++ next_line f p r.candidates r.boards) h.format_is h.plan_is
+    ∙ ap₂ (λ (n b : ℕ). report_line plan n b ++ next_line format plan n b) h.candidates_are h.boards_are
 
 -- the report of a `make` was said
 pub said : (m : Making) (r : Report) (old new : Option (List ℕ)) → ReportsFor (make m) (Some r)
-    → AppendsAll old new (report_line r.plan r.candidates r.boards ++ next_line r.plan r.candidates r.boards) → Reports m old new
+    → AppendsAll old new (report_line r.plan r.candidates r.boards ++ next_line r.format r.plan r.candidates r.boards) → Reports m old new
 said m r old new h text =
     let counts = h.1 in
-    (counts.0, counts.1, text ∙ ap (append_known old) (same_text (plan_of m) counts.0 r counts.2))
+    (counts.0, counts.1, text ∙ ap (append_known old) (same_text m.format (plan_of m) counts.0 r counts.2))
 
 -- no report is made unless it is asked for
 pub none_made : (o : Option Wish) (r : Report) → ((w : Wish) → o ≡ Some w → ReportsFor w (Some r)) → (o ≡ None → Some r ≡ None) → wants_report o ≡ false → ⊥

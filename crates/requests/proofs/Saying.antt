@@ -1,11 +1,14 @@
 -- Texts that are said in parts.
-use Rattle.std.proofs.Common.{◌≡◌, ◌<◌, ◌≤◌, ◌+◌, ◌-◌, ◌^◌, ◌||◌, ◌++◌, ◌∙◌, ℕ, Bool, List, [], Option, Some, Result, Ok, Err, OnOk, refl, sym, ap, ap₂, append_assoc, codes, decimal, if◌then◌else◌}
+use Rattle.std.proofs.Common.{◌≡◌, ◌<◌, ◌≤◌, ◌+◌, ◌-◌, ◌^◌, ◌||◌, ◌++◌, ◌∙◌, ℕ, Bool, true, false, List, [], Option, Some, Result, Ok, Err, OnOk, refl, sym, ap, ap₂, append_assoc, codes, decimal, if◌then◌else◌}
 use Rattle.std.proofs.lemmas.Bool.{le-ltb, lt-ltb, ne_eqb}
 use Rattle.std.proofs.lemmas.List.{append-nil}
 use Rattle.sinks.specs.Appended.{append_known, AppendsAll}
 use Rattle.sinks.specs.Sinks.{AppendsOrBreaksOff}
 use Rattle.sinks.proofs.SinkLemmas.{append_known-append}
-use Rattle.requests.specs.Reports.{candidates_text, goes_on_at, shortfall}
+use Rattle.requests.specs.Reports.{candidates_text, goes_on_at, goes_on_from, next_line, shortfall}
+use Rattle.requests.specs.Formats.{numbers_boards}
+use Rattle.requests.specs.declared.format.Format.{Format}
+use Rattle.plans.specs.Plans.{Planned}
 
 -- a part, and what comes after it
 pub part : (old mid new : Option (List ℕ)) (x y z : List ℕ) → x ++ y ≡ z → AppendsAll old mid x → AppendsAll mid new y → AppendsAll old new z
@@ -48,6 +51,17 @@ pub fewer : (asked : Option ℕ) (most boards : ℕ) → asked ≡ Some most →
 fewer asked most boards is less =
     sym (ap (λ (o : Option ℕ). shortfall o boards) is
     ∙ ap (λ (b : Bool). if b then codes ", fewer than the " ++ decimal most ++ codes " asked for" else []) (lt-ltb boards most less))
+
+-- the line of a format whose boards have numbers, and of one whose boards have none
+pub next_board_line : (format : Format) (plan : Planned) (candidates boards : ℕ) → true ≡ numbers_boards format
+    → goes_on_at (plan.first + candidates) (plan.first_board + boards) ≡ next_line format plan candidates boards
+next_board_line format plan candidates boards is =
+    ap (λ (b : Bool). if b then goes_on_at (plan.first + candidates) (plan.first_board + boards) else goes_on_from (plan.first + candidates)) is
+
+pub next_candidate_line : (format : Format) (plan : Planned) (candidates boards : ℕ) → false ≡ numbers_boards format
+    → goes_on_from (plan.first + candidates) ≡ next_line format plan candidates boards
+next_candidate_line format plan candidates boards is =
+    ap (λ (b : Bool). if b then goes_on_at (plan.first + candidates) (plan.first_board + boards) else goes_on_from (plan.first + candidates)) is
 
 pub goes_on : (first board : ℕ) → (first ≡ 2 ^ 40 → ⊥) → board ≤ 2 ^ 40
     → codes "next: --first " ++ decimal first ++ codes " --first-board " ++ decimal board ++ codes "\n" ≡ goes_on_at first board

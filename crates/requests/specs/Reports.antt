@@ -4,6 +4,8 @@ use Rattle.std.specs.Prelude.{codes, decimal, length, nat_lt, if◌then◌else�
 use Rattle.cond_lang.specs.Form.{Form}
 use Rattle.dealrun.specs.Text.{accepted, end_of}
 use Rattle.plans.specs.Plans.{Planned}
+use Rattle.requests.specs.Formats.{numbers_boards}
+use Rattle.requests.specs.declared.format.Format.{Format}
 
 -- 1 board, 2 boards
 abbrev pub boards_text : ℕ → List ℕ
@@ -36,13 +38,20 @@ goes_on_at first board =
     else codes "next: --first " ++ decimal first ++ codes " --first-board " ++ decimal board
     ++ codes "\n"
 
-abbrev pub next_line : Planned → ℕ → ℕ → List ℕ
-next_line plan candidates boards =
-    goes_on_at (plan.first + candidates) (plan.first_board + boards)
+-- the same where boards have no numbers
+abbrev pub goes_on_from : ℕ → List ℕ
+goes_on_from first =
+    if first == 2 ^ 40 then [] else codes "next: --first " ++ decimal first ++ codes "\n"
+
+abbrev pub next_line : Format → Planned → ℕ → ℕ → List ℕ
+next_line format plan candidates boards =
+    if numbers_boards format
+    then goes_on_at (plan.first + candidates) (plan.first_board + boards)
+    else goes_on_from (plan.first + candidates)
 
 -- the candidates are those up to the one whose board met the limit, or all; the boards are those of
 -- the accepted ones
-abbrev pub report_of : Planned → Form → List ℕ
-report_of plan form =
+abbrev pub report_of : Format → Planned → Form → List ℕ
+report_of format plan form =
     report_line plan (end_of plan form) (length (accepted plan form))
-    ++ next_line plan (end_of plan form) (length (accepted plan form))
+    ++ next_line format plan (end_of plan form) (length (accepted plan form))

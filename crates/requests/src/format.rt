@@ -1,5 +1,8 @@
 //! The formats that boards are written in.
 
+ghost use Rattle.std.specs.Prelude.{◌≡◌};
+ghost use Rattle.requests.specs.Formats.{numbers_boards};
+
 /// A notation, as it is asked for by its name.
 #[derive(Clone, Copy, PartialEq, Eq, Debug)]
 pub enum Format {
@@ -9,4 +12,18 @@ pub enum Format {
     Hands,
     /// The notation of Bridge Base Online.
     Lin,
+    /// The numbers of the candidates, which is what `find` prints.
+    Numbers,
+}
+
+impl Format {
+    /// Whether the boards have numbers of their own.
+    pub(crate) fn numbers_boards(self) -> bool
+        ensures { result ≡ numbers_boards self }
+    {
+        match self {
+            Format::Pbn | Format::Hands | Format::Lin => true,
+            Format::Numbers => false,
+        }
+    }
 }

@@ -3,9 +3,10 @@
 ghost use Rattle.std.specs.Prelude.{◌≡◌, ◌-◌, ◌+◌, ◌^◌, ◌<◌, ◌≤◌, ◌++◌, OnOk, Option};
 ghost use Rattle.sinks.specs.Appended.{AppendsAll};
 ghost use Rattle.sinks.specs.Sinks.{CountsFault};
-ghost use Rattle.requests.specs.Reports.{boards_text, candidates_text, goes_on_at, next_line};
-ghost use Rattle.requests.specs.Reports.{report_line, shortfall};
+ghost use Rattle.requests.specs.Reports.{boards_text, candidates_text, goes_on_at, goes_on_from};
+ghost use Rattle.requests.specs.Reports.{next_line, report_line, shortfall};
 
+use crate::format::Format;
 use crate::message::Message;
 use cards::MAX_CANDIDATES;
 use plans::Plan;
@@ -15,6 +16,7 @@ use sinks::{Sink, SinkFault, put_all};
 #[derive(Clone, Copy, Debug)]
 pub struct Report {
     pub plan: Plan,
+    pub format: Format,
     /// The candidates up to the one whose board met the limit, or all.
     pub candidates: u64,
     pub boards: u64,
@@ -81,6 +83,19 @@ fn put_next<E: Sink>(first: u64, board: u64, err: &mut E) -> Result<(), SinkFaul
     Message::with("", board, "\n").print(err)
 }
 
+/// Says at which candidate a further run goes on, if one comes after.
+fn put_next_candidate<E: Sink>(first: u64, err: &mut E) -> Result<(), SinkFault>
+    requires { E.faults err.old < 2 ^ 64 - 1 }
+    ensures text { OnOk result (AppendsAll (E.bytes err.old) (E.bytes err.new)
+        (goes_on_from first)) }
+    ensures faults { CountsFault (E.faults err.old) (E.faults err.new) result }
+{
+    if first == MAX_CANDIDATES {
+        return Ok(());
+    }
+    Message::with("next: --first ", first, "\n").print(err)
+}
+
 impl Report {
     /// Says how many boards from which candidates.
     fn say_counts<E: Sink>(&self, err: &mut E) -> Result<(), SinkFault>
@@ -97,16 +112,30 @@ impl Report {
         put_all(err, b"\n")
     }
 
+    /// Says where to go on.
+    fn say_next<E: Sink>(&self, err: &mut E) -> Result<(), SinkFault>
+        requires { E.faults err.old < 2 ^ 64 - 1 }
+        ensures text { OnOk result (AppendsAll (E.bytes err.old) (E.bytes err.new)
+            (next_line self.now.format self.now.plan self.now.candidates self.now.boards)) }
+        ensures faults { CountsFault (E.faults err.old) (E.faults err.new) result }
+    {
+        let first = self.plan.first() + self.candidates;
+        if self.format.numbers_boards() {
+            put_next(first, self.plan.first_board() + self.boards, err)
+        } else {
+            put_next_candidate(first, err)
+        }
+    }
+
     /// Says it to the user: how many boards from which candidates, and where to go on.
     pub fn say<E: Sink>(&self, err: &mut E) -> Result<(), SinkFault>
         requires { E.faults err.old < 2 ^ 64 - 1 }
         ensures text { OnOk result (AppendsAll (E.bytes err.old) (E.bytes err.new)
             (report_line self.now.plan self.now.candidates self.now.boards
-            ++ next_line self.now.plan self.now.candidates self.now.boards)) }
+            ++ next_line self.now.format self.now.plan self.now.candidates self.now.boards)) }
         ensures faults { CountsFault (E.faults err.old) (E.faults err.new) result }
     {
         self.say_counts(err)?;
-        let first = self.plan.first() + self.candidates;
-        put_next(first, self.plan.first_board() + self.boards, err)
+        self.say_next(err)
     }
 }

@@ -17,6 +17,7 @@ use dealrun::{Cause, run_and_count};
 use hand_records::HandsPrinter;
 use lanes::OpenGate;
 use lin_text::LinPrinter;
+use number_lines::NumberPrinter;
 use pbn_text::Printer;
 use plans::Plan;
 use sinks::Sink;
@@ -24,19 +25,20 @@ use std::alloc::Global;
 use std::sync::{Arc, Wait};
 use std::thread::Threads;
 
-/// Writes the plan's boards in a notation, and counts them.
+/// Writes the plan's boards in a notation, which is that of a format, and counts them.
 fn write_in<R: Threads + Wait + Clone + Send + 'static, N: Notation, O: Sink>(
     rt: &R,
     alloc: Global,
     plan: &Plan,
     condition: Cond,
+    format: Format,
     notation: &mut N,
     out: &mut O,
 ) -> Result<Report, Cause>
     requires { O.faults out.old < 2 ^ 64 - 1 }
     ensures text { OnOk result (AppendsAll (O.bytes out.old) (O.bytes out.new)
         (text_in (N.layout notation.old) plan.now condition)) }
-    ensures report { IfOk result (λ r. Counts plan.now condition r) }
+    ensures report { IfOk result (λ r. Counts format plan.now condition r) }
     ensures untouched { IfErr result (λ cause. is_untouched (Interrupted cause) ≡ true
         → O.bytes out.new ≡ O.bytes out.old) }
     ensures faults { MatchResult result
@@ -49,6 +51,7 @@ fn write_in<R: Threads + Wait + Clone + Send + 'static, N: Notation, O: Sink>(
     match run_and_count(rt, alloc, plan, condition, notation, out, gate) {
         Ok(counted) => Ok(Report {
             plan: *plan,
+            format,
             candidates: counted.candidates,
             boards: counted.report.boards,
         }),
@@ -68,7 +71,7 @@ pub fn write_as<R: Threads + Wait + Clone + Send + 'static, O: Sink>(
     requires { O.faults out.old < 2 ^ 64 - 1 }
     ensures text { OnOk result (AppendsAll (O.bytes out.old) (O.bytes out.new)
         (text_as format plan.now condition)) }
-    ensures report { IfOk result (λ r. Counts plan.now condition r) }
+    ensures report { IfOk result (λ r. Counts format plan.now condition r) }
     ensures untouched { IfErr result (λ cause. is_untouched (Interrupted cause) ≡ true
         → O.bytes out.new ≡ O.bytes out.old) }
     ensures faults { MatchResult result
@@ -77,16 +80,27 @@ pub fn write_as<R: Threads + Wait + Clone + Send + 'static, O: Sink>(
 {
     match format {
         Format::Pbn => match Printer::new(alloc, plan.heading()) {
-            Ok(mut printer) => write_in(rt, alloc, plan, condition, &mut printer, out),
+            Ok(mut printer) => write_in(rt, alloc, plan, condition, format, &mut printer, out),
             Err(_) => Err(Cause::Memory),
         },
         Format::Hands => match HandsPrinter::new(alloc, plan.heading()) {
-            Ok(mut printer) => write_in(rt, alloc, plan, condition, &mut printer, out),
+            Ok(mut printer) => write_in(rt, alloc, plan, condition, format, &mut printer, out),
             Err(_) => Err(Cause::Memory),
         },
         Format::Lin => match LinPrinter::new(alloc) {
-            Ok(mut printer) => write_in(rt, alloc, plan, condition, &mut printer, out),
+            Ok(mut printer) => write_in(rt, alloc, plan, condition, format, &mut printer, out),
             Err(_) => Err(Cause::Memory),
         },
+        Format::Numbers => {
+            write_in(
+                rt,
+                alloc,
+                plan,
+                condition,
+                format,
+                &mut NumberPrinter::new(),
+                out,
+            )
+        }
     }
 }
