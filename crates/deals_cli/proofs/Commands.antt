@@ -8,7 +8,7 @@ use Rattle.clap.specs.declared.builder.value_parser.ValueParser.TheVariants.{Uns
 use Rattle.clap.proofs.ValueTestLemmas.{accepts-Accepts}
 use Rattle.deals_cli.specs.CommandLine.{count_parser, deals, flag_rule, option_rule, required, u32_parser}
 use Rattle.deals_cli.specs.internal.Readings.{Gives32, GivesUpTo, HasValue, MakeValues, MayGive32, MayGive64, StreamValues}
-use Rattle.deals_cli.proofs.Walks.{PlainRules, given_value, level_checked, level_passing, passed_value, required_given}
+use Rattle.deals_cli.proofs.Walks.{PlainRules, absent_value, given_value, level_checked, level_passing, passed_value, required_given}
 
 abbrev first_shape : List Shape → Shape
 first_shape [] = new_shape []
@@ -18,15 +18,18 @@ abbrev rest_of : List Shape → List Shape
 rest_of [] = []
 rest_of (s ∷ shapes) = shapes
 
--- `stream`, `make` and clap's `help` as built
-abbrev pub stream_built : Shape
-stream_built = first_shape (built deals).subs
-
+-- the subcommands and clap's `help` as built
 abbrev pub make_built : Shape
-make_built = first_shape (rest_of (built deals).subs)
+make_built = first_shape (built deals).subs
 
-abbrev pub help_built : Shape
-help_built = first_shape (rest_of (rest_of (built deals).subs))
+abbrev pub find_built : Shape
+find_built = first_shape (rest_of (built deals).subs)
+
+abbrev pub conditions_built : Shape
+conditions_built = first_shape (rest_of (rest_of (built deals).subs))
+
+abbrev pub stream_built : Shape
+stream_built = first_shape (rest_of (rest_of (rest_of (built deals).subs)))
 
 plain_stream : PlainRules stream_built.rules
 plain_stream = record {
@@ -69,7 +72,8 @@ plain_make = record {
     | inr (inr (inr (inr (inr (inr (inr (inr (inr (inr (inr (inr (inr (inr (inl e)))))))))))))) ↦ rw e refl
     | inr (inr (inr (inr (inr (inr (inr (inr (inr (inr (inr (inr (inr (inr (inr (inl e))))))))))))))) ↦ rw e refl
     | inr (inr (inr (inr (inr (inr (inr (inr (inr (inr (inr (inr (inr (inr (inr (inr (inl e)))))))))))))))) ↦ rw e refl
-    | inr (inr (inr (inr (inr (inr (inr (inr (inr (inr (inr (inr (inr (inr (inr (inr (inr bad)))))))))))))))) ↦ absurd bad
+    | inr (inr (inr (inr (inr (inr (inr (inr (inr (inr (inr (inr (inr (inr (inr (inr (inr (inl e))))))))))))))))) ↦ rw e refl
+    | inr (inr (inr (inr (inr (inr (inr (inr (inr (inr (inr (inr (inr (inr (inr (inr (inr (inr bad))))))))))))))))) ↦ absurd bad
   ];
   acts = λ a is. elim is [
     | inl e ↦ rw e (inl (refl, refl))
@@ -88,8 +92,39 @@ plain_make = record {
     | inr (inr (inr (inr (inr (inr (inr (inr (inr (inr (inr (inr (inr (inl e))))))))))))) ↦ rw e (inl (refl, refl))
     | inr (inr (inr (inr (inr (inr (inr (inr (inr (inr (inr (inr (inr (inr (inl e)))))))))))))) ↦ rw e (inr (inr (refl, flag_value (codes "rotate"))))
     | inr (inr (inr (inr (inr (inr (inr (inr (inr (inr (inr (inr (inr (inr (inr (inl e))))))))))))))) ↦ rw e (inr (inr (refl, flag_value (codes "report"))))
-    | inr (inr (inr (inr (inr (inr (inr (inr (inr (inr (inr (inr (inr (inr (inr (inr (inl e)))))))))))))))) ↦ rw e (inr (inl refl))
-    | inr (inr (inr (inr (inr (inr (inr (inr (inr (inr (inr (inr (inr (inr (inr (inr (inr bad)))))))))))))))) ↦ absurd bad
+    | inr (inr (inr (inr (inr (inr (inr (inr (inr (inr (inr (inr (inr (inr (inr (inr (inl e)))))))))))))))) ↦ rw e (inl (refl, refl))
+    | inr (inr (inr (inr (inr (inr (inr (inr (inr (inr (inr (inr (inr (inr (inr (inr (inr (inl e))))))))))))))))) ↦ rw e (inr (inl refl))
+    | inr (inr (inr (inr (inr (inr (inr (inr (inr (inr (inr (inr (inr (inr (inr (inr (inr (inr bad))))))))))))))))) ↦ absurd bad
+  ];
+}
+
+plain_find : PlainRules find_built.rules
+plain_find = record {
+  own = λ a is. elim is [
+    | inl e ↦ rw e refl
+    | inr (inl e) ↦ rw e refl
+    | inr (inr (inl e)) ↦ rw e refl
+    | inr (inr (inr (inl e))) ↦ rw e refl
+    | inr (inr (inr (inr (inl e)))) ↦ rw e refl
+    | inr (inr (inr (inr (inr (inl e))))) ↦ rw e refl
+    | inr (inr (inr (inr (inr (inr (inl e)))))) ↦ rw e refl
+    | inr (inr (inr (inr (inr (inr (inr (inl e))))))) ↦ rw e refl
+    | inr (inr (inr (inr (inr (inr (inr (inr (inl e)))))))) ↦ rw e refl
+    | inr (inr (inr (inr (inr (inr (inr (inr (inr (inl e))))))))) ↦ rw e refl
+    | inr (inr (inr (inr (inr (inr (inr (inr (inr (inr bad))))))))) ↦ absurd bad
+  ];
+  acts = λ a is. elim is [
+    | inl e ↦ rw e (inl (refl, refl))
+    | inr (inl e) ↦ rw e (inl (refl, refl))
+    | inr (inr (inl e)) ↦ rw e (inl (refl, refl))
+    | inr (inr (inr (inl e))) ↦ rw e (inl (refl, refl))
+    | inr (inr (inr (inr (inl e)))) ↦ rw e (inl (refl, refl))
+    | inr (inr (inr (inr (inr (inl e))))) ↦ rw e (inl (refl, refl))
+    | inr (inr (inr (inr (inr (inr (inl e)))))) ↦ rw e (inl (refl, refl))
+    | inr (inr (inr (inr (inr (inr (inr (inl e))))))) ↦ rw e (inr (inr (refl, flag_value (codes "report"))))
+    | inr (inr (inr (inr (inr (inr (inr (inr (inl e)))))))) ↦ rw e (inl (refl, refl))
+    | inr (inr (inr (inr (inr (inr (inr (inr (inr (inl e))))))))) ↦ rw e (inr (inl refl))
+    | inr (inr (inr (inr (inr (inr (inr (inr (inr (inr bad))))))))) ↦ absurd bad
   ];
 }
 
@@ -129,7 +164,7 @@ may64 id rows (inr v) = inr (gives_up_to 18446744073709551615 (lit≤ tt) id row
 optional : (parser : ValueParser) (id : Text) (rows : List Row) → HasValue (filled (required (option_rule id parser))) rows → HasValue (filled (option_rule id parser)) rows
 optional parser id rows v = record { text = v.text; read = v.read; passed = v.passed }
 
--- ---- the two subcommands
+-- ---- the subcommands with options
 
 pub stream_values : (words : List Text) → level_fault stream_built [] nothing_held words false [] ≡ [] → StreamValues (rows_after stream_built.rules [] words)
 stream_values words f =
@@ -160,4 +195,22 @@ make_values words f =
       lane = may32 (codes "lane") rows (passed_value make_built.rules rows (rule32 (codes "lane")) refl pass);
       boards = may32 (codes "boards") rows (passed_value make_built.rules rows (rule32 (codes "boards")) refl pass);
       first_board = may64 (codes "first-board") rows (passed_value make_built.rules rows (rule64 18446744073709551615 (codes "first-board")) refl pass);
+    }
+
+-- `find` has no option of the first board
+pub find_values : (words : List Text) → level_fault find_built [] nothing_held words false [] ≡ [] → MakeValues (rows_after find_built.rules [] words)
+find_values words f =
+    let rows = rows_after find_built.rules [] words in
+    let pass = level_passing find_built [] words false [] plain_find f in
+    let checked = level_checked find_built [] words false [] f in
+    record {
+      seed = gives32 (codes "seed") rows (optional u32_parser (codes "seed") rows
+          (given_value find_built.rules rows (filled (required (option_rule (codes "seed") u32_parser))) refl pass
+          (required_given find_built rows false _ (inl refl) refl refl checked)));
+      candidates = may64 (codes "candidates") rows (passed_value find_built.rules rows (rule64 18446744073709551615 (codes "candidates")) refl pass);
+      first = may64 (codes "first") rows (passed_value find_built.rules rows (rule64 18446744073709551615 (codes "first")) refl pass);
+      workers = may32 (codes "workers") rows (passed_value find_built.rules rows (rule32 (codes "workers")) refl pass);
+      lane = may32 (codes "lane") rows (passed_value find_built.rules rows (rule32 (codes "lane")) refl pass);
+      boards = may32 (codes "boards") rows (passed_value find_built.rules rows (rule32 (codes "boards")) refl pass);
+      first_board = inl (absent_value find_built.rules rows (codes "first-board") refl pass);
     }

@@ -452,6 +452,18 @@ passed_value c rows a own pass = go (find (λ x. bytes_eq x.id a.id) rows) refl
     go None e = inl (rw e refl)
     go (Some r) e = inr (found_value c rows a r own pass e)
 
+-- an option that the command has not was given no value
+pub absent_value : (c : List Rule) (rows : List Row) (id : Text) → arg_by_id c id ≡ None → Passing c rows → one_of id rows ≡ None
+absent_value c [] id none pass = refl
+absent_value c (r ∷ rows) id none pass = go (bytes_eq r.id id) refl (absent_value c rows id none pass.1)
+  where
+    go : (b : Bool) → bytes_eq r.id id ≡ b → one_of id rows ≡ None → one_of id (r ∷ rows) ≡ None
+    go true e rec =
+        let same_id : r.id ≡ id = (bytes_eq-Decides r.id id).0 e in
+        let bad : Some pass.0.rule ≡ None = sym pass.0.found ∙ (ap (arg_by_id c) same_id ∙ none) in
+        cc
+    go false e rec = rw e rec
+
 -- an option that was given has such a value
 pub given_value : (c : List Rule) (rows : List Row) (a : Rule) → arg_by_id c a.id ≡ Some a → Passing c rows → is_given a.id rows ≡ true → HasValue a rows
 given_value c rows a own pass given = go (find (λ x. bytes_eq x.id a.id) rows) refl

@@ -15,9 +15,11 @@ use Rattle.boards.specs.declared.law2.Vul.{Vul}
 use Rattle.boards.specs.declared.law2.Vul.TheVariants.{Neither, NorthSouth, EastWest, Both}
 use Rattle.cards.specs.declared.seat.Seat.{Seat}
 use Rattle.cards.specs.declared.seat.Seat.TheVariants.{North, East, South, West}
-use Rattle.requests.specs.Requests.{Making, Wish, stream, make}
+use Rattle.requests.specs.Requests.{Making, Wish, conditions, stream, make}
 use Rattle.requests.specs.declared.format.Format.{Format}
-use Rattle.requests.specs.declared.format.Format.TheVariants.{Pbn, Hands, Lin}
+use Rattle.requests.specs.declared.format.Format.TheVariants.{Pbn, Hands, Lin, Numbers}
+use Rattle.requests.specs.declared.progress.Progress.{Progress}
+use Rattle.requests.specs.declared.progress.Progress.TheVariants.{Auto, Always, Never}
 
 -- ---- the commands
 
@@ -47,13 +49,6 @@ count_parser = parsed.Unsigned 0 1099511627776
 abbrev pub command_with : Text → List Rule → App
 command_with name options = fold with_rule (new_app name) options
 
--- `deals stream --seed S --count N`
-abbrev pub stream_app : App
-stream_app = command_with (codes "stream") (
-    required (option_rule (codes "seed") u32_parser)
-    ∷ required (option_rule (codes "count") count_parser)
-    ∷ [])
-
 -- `deals make --seed S` and its further options
 abbrev pub make_app : App
 make_app = command_with (codes "make") (
@@ -73,6 +68,32 @@ make_app = command_with (codes "make") (
     ∷ option_rule (codes "vulnerable") parsed.String
     ∷ flag_rule (codes "rotate")
     ∷ flag_rule (codes "report")
+    ∷ option_rule (codes "progress") parsed.String
+    ∷ [])
+
+-- `deals find --seed S` and its further options
+abbrev pub find_app : App
+find_app = command_with (codes "find") (
+    required (option_rule (codes "seed") u32_parser)
+    ∷ option_rule (codes "candidates") u64_parser
+    ∷ option_rule (codes "first") u64_parser
+    ∷ option_rule (codes "workers") u32_parser
+    ∷ option_rule (codes "lane") u32_parser
+    ∷ option_rule (codes "where") parsed.String
+    ∷ option_rule (codes "boards") u32_parser
+    ∷ flag_rule (codes "report")
+    ∷ option_rule (codes "progress") parsed.String
+    ∷ [])
+
+-- `deals conditions`, without options
+abbrev pub conditions_app : App
+conditions_app = new_app (codes "conditions")
+
+-- `deals stream --seed S --count N`
+abbrev pub stream_app : App
+stream_app = command_with (codes "stream") (
+    required (option_rule (codes "seed") u32_parser)
+    ∷ required (option_rule (codes "count") count_parser)
     ∷ [])
 
 -- `deals`, with clap's own `help` and `--version`, and a subcommand that has to be named
@@ -81,7 +102,8 @@ deals_top = on_top (λ s. record s { has_version = true; subcommand_required = t
     (new_app (codes "deals"))
 
 abbrev pub deals : App
-deals = with_subcommand (with_subcommand deals_top stream_app.top) make_app.top
+deals = with_subcommand (with_subcommand (with_subcommand (with_subcommand deals_top
+    make_app.top) find_app.top) conditions_app.top) stream_app.top
 
 -- ---- what the words ask for
 
@@ -109,6 +131,9 @@ sides =
     (codes "None", Neither) ∷ (codes "NS", NorthSouth) ∷ (codes "EW", EastWest)
     ∷ (codes "All", Both) ∷ []
 
+abbrev pub progresses : List (Text × Progress)
+progresses = (codes "auto", Auto) ∷ (codes "always", Always) ∷ (codes "never", Never) ∷ []
+
 -- what a word stands for in such a table
 abbrev pub meant_by : {A : Type 0} → List (Text × A) → Text → Option A
 meant_by [] word = None
@@ -126,13 +151,22 @@ is_unknown table id rows =
 abbrev pub has_unknown : List Row → Bool
 has_unknown rows =
     is_unknown formats (codes "format") rows
-    || (is_unknown dealers (codes "dealer") rows || is_unknown sides (codes "vulnerable") rows)
+    || (is_unknown dealers (codes "dealer") rows
+    || (is_unknown sides (codes "vulnerable") rows
+    || is_unknown progresses (codes "progress") rows))
 
 abbrev pub stream_wish : List Row → Wish
 stream_wish rows = stream (number_or 0 (codes "seed") rows) (number_or 0 (codes "count") rows)
 
-abbrev pub making_in : List Row → Making
-making_in rows = record {
+-- `find` is a run of the same, whose boards are written as their candidates' numbers
+abbrev pub format_in : Text → List Row → Format
+format_in name rows =
+    if bytes_eq name (codes "find") then Numbers
+    else unwrap_or (choice_in formats (codes "format") rows) Pbn
+
+-- by the subcommand's name and what its options were given
+abbrev pub making_in : Text → List Row → Making
+making_in name rows = record {
   seed = number_or 0 (codes "seed") rows;
   candidates = number_in (codes "candidates") rows;
   first = number_or 0 (codes "first") rows;
@@ -144,22 +178,25 @@ making_in rows = record {
   event = first_of (codes "event") rows;
   site = first_of (codes "site") rows;
   date = first_of (codes "date") rows;
-  format = unwrap_or (choice_in formats (codes "format") rows) Pbn;
+  format = format_in name rows;
   dealer = choice_in dealers (codes "dealer") rows;
   vulnerable = choice_in sides (codes "vulnerable") rows;
   rotate = is_set (codes "rotate") rows;
   report = is_set (codes "report") rows;
+  progress = unwrap_or (choice_in progresses (codes "progress") rows) Auto;
 }
 
 -- by the subcommand's name and what its options were given
 abbrev pub wish_by : Text × List Row → Wish
-wish_by p = if bytes_eq p.0 (codes "stream") then stream_wish p.1 else make (making_in p.1)
+wish_by p =
+    if bytes_eq p.0 (codes "stream") then stream_wish p.1
+    else (if bytes_eq p.0 (codes "conditions") then conditions else make (making_in p.0 p.1))
 
 -- the wish of the subcommand that the words name, by clap's function of the words
 abbrev pub wish_in : List Text → Option Wish
 wish_in words = option_map wish_by (subcommand_of deals words)
 
--- a `make` needs a number of candidates, or a limit of boards
+-- a `make` or a `find` needs a number of candidates, or a limit of boards
 abbrev pub has_no_end : Making → Bool
 has_no_end m = not (is_some m.candidates) && not (is_some m.boards)
 
@@ -167,12 +204,15 @@ abbrev pub end_kinds : Making → Kinds
 end_kinds m = if has_no_end m then MissingRequiredArgument ∷ [] else []
 
 -- clap reads those words as texts: one that stands for nothing is refused as clap refuses a value
-abbrev pub make_kinds : List Row → Kinds
-make_kinds rows = if has_unknown rows then InvalidValue ∷ [] else end_kinds (making_in rows)
+abbrev pub make_kinds : Text → List Row → Kinds
+make_kinds name rows =
+    if has_unknown rows then InvalidValue ∷ [] else end_kinds (making_in name rows)
 
 -- by the subcommand's name and what its options were given
 abbrev pub kinds_by : Text × List Row → Kinds
-kinds_by p = if bytes_eq p.0 (codes "stream") then [] else make_kinds p.1
+kinds_by p =
+    if bytes_eq p.0 (codes "stream") then []
+    else (if bytes_eq p.0 (codes "conditions") then [] else make_kinds p.0 p.1)
 
 -- the kinds of error in words that clap takes
 abbrev pub further_kinds : List Text → Kinds

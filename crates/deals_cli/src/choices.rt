@@ -1,4 +1,5 @@
-//! Options that have one of a few words: the format, the dealer and the vulnerability.
+//! Options that have one of a few words: the format, the dealer, the vulnerability, and when counts
+//! are shown.
 //!
 //! clap knows them as texts. It could compare words with a list of values itself, but the command
 //! would then hold where in memory that list is, and no two commands would be the same to a proof.
@@ -6,13 +7,13 @@
 ghost use Rattle.std.specs.Prelude.{◌≡◌, codes, is_some};
 ghost use Rattle.clap.specs.Words.{found_of, rows_of};
 ghost use Rattle.deals_cli.specs.CommandLine.{choice_in, dealers, formats, has_unknown};
-ghost use Rattle.deals_cli.specs.CommandLine.{is_unknown, meant_by, sides};
+ghost use Rattle.deals_cli.specs.CommandLine.{is_unknown, meant_by, progresses, sides};
 
 use crate::words::text_in;
 use boards::Vul;
 use cards::Seat;
 use clap::ArgMatches;
-use requests::Format;
+use requests::{Format, Progress};
 
 /// A word that is none of its option's values.
 #[derive(Clone, Copy, Debug)]
@@ -61,6 +62,18 @@ fn sides_of(word: &str) -> Option<Vul>
     }
 }
 
+/// When counts are shown, by this name.
+fn progress_of(word: &str) -> Option<Progress>
+    ensures { result ≡ meant_by progresses word.now }
+{
+    match word {
+        "auto" => Some(Progress::Auto),
+        "always" => Some(Progress::Always),
+        "never" => Some(Progress::Never),
+        _ => None,
+    }
+}
+
 /// The format that was given, if it is one.
 pub fn format_in(matches: &ArgMatches) -> Option<Format>
     ensures { result ≡ choice_in formats (codes "format") (rows_of (found_of matches.now)) }
@@ -87,6 +100,17 @@ pub fn sides_in(matches: &ArgMatches) -> Option<Vul>
 {
     match text_in(matches, "vulnerable") {
         Some(word) => sides_of(word),
+        None => None,
+    }
+}
+
+/// When counts are shown, as it was given, if the word says when.
+pub fn progress_in(matches: &ArgMatches) -> Option<Progress>
+    ensures { result
+        ≡ choice_in progresses (codes "progress") (rows_of (found_of matches.now)) }
+{
+    match text_in(matches, "progress") {
+        Some(word) => progress_of(word),
         None => None,
     }
 }
@@ -124,6 +148,17 @@ fn unknown_sides<'a>(matches: &ArgMatches<'a>) -> Option<&'a str>
     }
 }
 
+/// The word that was given as a time to show counts and is none.
+fn unknown_progress<'a>(matches: &ArgMatches<'a>) -> Option<&'a str>
+    ensures { is_some result
+        ≡ is_unknown progresses (codes "progress") (rows_of (found_of matches.now)) }
+{
+    match text_in(matches, "progress") {
+        Some(word) if progress_of(word).is_none() => Some(word),
+        _ => None,
+    }
+}
+
 /// The first word that is none of its option's values.
 pub fn unknown_in<'a>(matches: &ArgMatches<'a>) -> Option<Unknown<'a>>
     ensures { is_some result ≡ has_unknown (rows_of (found_of matches.now)) }
@@ -142,11 +177,18 @@ pub fn unknown_in<'a>(matches: &ArgMatches<'a>) -> Option<Unknown<'a>>
             values: "N, E, S, W",
         });
     }
-    match unknown_sides(matches) {
-        Some(word) => Some(Unknown {
+    if let Some(word) = unknown_sides(matches) {
+        return Some(Unknown {
             word,
             option: "--vulnerable <SIDES>",
             values: "None, NS, EW, All",
+        });
+    }
+    match unknown_progress(matches) {
+        Some(word) => Some(Unknown {
+            word,
+            option: "--progress <WHEN>",
+            values: "auto, always, never",
         }),
         None => None,
     }

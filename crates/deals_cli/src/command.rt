@@ -3,10 +3,11 @@
 ghost use Rattle.std.specs.Prelude.{◌≡◌, false, IfOk};
 ghost use Rattle.clap.specs.Words.{app_of, kind_of, rule_of, with_rule};
 ghost use Rattle.clap.specs.declared.Command.TheViews.{out-Command as fields_of};
-ghost use Rattle.deals_cli.specs.CommandLine.{deals, flag_rule, make_app, option_rule, required};
-ghost use Rattle.deals_cli.specs.CommandLine.{stream_app};
-ghost use Rattle.deals_cli.specs.internal.Commands.{with_boards, with_candidates, with_flags};
-ghost use Rattle.deals_cli.specs.internal.Commands.{with_form, with_labels, with_notation};
+ghost use Rattle.deals_cli.specs.CommandLine.{conditions_app, deals, find_app, flag_rule, make_app};
+ghost use Rattle.deals_cli.specs.CommandLine.{option_rule, required, stream_app};
+ghost use Rattle.deals_cli.specs.internal.Commands.{with_boards, with_candidates, with_counts};
+ghost use Rattle.deals_cli.specs.internal.Commands.{with_first_board, with_form, with_heading};
+ghost use Rattle.deals_cli.specs.internal.Commands.{with_labels, with_makers, with_notation, with_rotate};
 ghost use Rattle.deals_cli.specs.internal.Commands.{with_search};
 
 use crate::choices::Unknown;
@@ -20,6 +21,27 @@ const MAX_VALUES: i64 = 1099511627776;
 
 const ABOUT: &str = "Bridge deals that can be dealt again, by the sequence of POSIX drand48 and \
     Knuth's Algorithm P";
+
+const LANGUAGE_AND_STATUSES: &str =
+    "Conditions, as in --where 'hcp(north) in 15-17 and balanced(north)':
+  hcp(north), hcp(north,hearts), controls(north), losers(north)     values
+  cards(north,akq), len(north,spades), longest(north), shortest(north)
+  ==  !=  <  <=  >  >=  in 15-17, and sums as hcp(north)+hcp(south)
+  balanced(north), shape(north,5-3-3-2), pattern(north,5-x-x-3)     shapes
+  and, or, not, brackets; seats north, east, south, west
+  suits spades, hearts, diamonds, clubs; # begins a comment
+  deals conditions prints it all, with ten examples.
+
+Exit status: 0 done; 2 the words, the plan or a label is refused; 3 the condition is refused;
+  4 the output failed; 5 out of memory; 6 a thread or a worker failed.";
+
+const FIND_EXAMPLES: &str = "Example:
+  Where the slam hands are among a thousand million candidates:
+    deals find --seed 2024 --candidates 1000000000 --workers 3 --lane 4096 \
+    --where 'hcp(north)+hcp(south)>=33'
+
+The lines of shards, as of --first 0 and of --first 500000000, stand one behind another as \
+    those of one run.";
 
 const STREAM_EXAMPLES: &str = "Example:
   deals stream --seed 0 --count 3";
@@ -83,6 +105,9 @@ const VULNERABLE: &str = "The vulnerability of every board [default: by its numb
 const ROTATE: &str = "Turns each deal, so that the hand which the condition calls north is the \
     dealer's, east's the next one's, and so on";
 
+const PROGRESS: &str = "When counts are shown while it lasts: on a terminal, also where there is \
+    none, or never [default: auto] [possible values: auto, always, never]";
+
 const REPORT: &str = "Says afterwards how many boards there are, from which candidates, and where \
     to go on";
 
@@ -140,20 +165,6 @@ fn with_option<'a>(command: Command<'a>, arg: Arg<'a>) -> Result<Command<'a>, Al
     command.arg(arg)
 }
 
-fn stream_command<'a>(alloc: Global) -> Result<Command<'a>, AllocError>
-    ensures app { IfOk result (λ c. app_of c ≡ stream_app) }
-    ensures local { IfOk result (λ c. (fields_of c).has_globals ≡ false) }
-{
-    let command = Command::new(alloc, "stream")
-        .about("Prints the nrand48 values of a seed, one per line")
-        .after_help(STREAM_EXAMPLES);
-    let values = value_parser!(u64).range(..=MAX_VALUES);
-    let seed = required(alloc, "seed", value_parser!(u32), "S", SEED);
-    let count = required(alloc, "count", values, "N", COUNT);
-    let command = with_option(command, seed)?;
-    with_option(command, count)
-}
-
 /// The command with the options of which candidates are tried at most.
 fn with_candidates<'a>(alloc: Global, command: Command<'a>) -> Result<Command<'a>, AllocError>
     ensures app { IfOk result (λ c. app_of c ≡ with_candidates (app_of command.entry)) }
@@ -180,7 +191,7 @@ fn with_search<'a>(alloc: Global, command: Command<'a>) -> Result<Command<'a>, A
     with_option(command, lane)
 }
 
-/// The command with the options of which boards are written.
+/// The command with the options of which deals are kept.
 fn with_boards<'a>(alloc: Global, command: Command<'a>) -> Result<Command<'a>, AllocError>
     ensures app { IfOk result (λ c. app_of c ≡ with_boards (app_of command.entry)) }
     ensures local { IfOk result (λ c. (fields_of c).has_globals
@@ -189,9 +200,7 @@ fn with_boards<'a>(alloc: Global, command: Command<'a>) -> Result<Command<'a>, A
     let where_text = option(alloc, "where", ValueParser::String, "TEXT", WHERE);
     let command = with_option(command, where_text)?;
     let boards = option(alloc, "boards", value_parser!(u32), "M", BOARDS);
-    let command = with_option(command, boards)?;
-    let first_board = option(alloc, "first-board", value_parser!(u64), "B", FIRST_BOARD);
-    with_option(command, first_board)
+    with_option(command, boards)
 }
 
 /// The command with the options of the labels.
@@ -228,25 +237,55 @@ fn with_notation<'a>(alloc: Global, command: Command<'a>) -> Result<Command<'a>,
     with_option(command, sides)
 }
 
-/// The command with its flags.
-fn with_flags<'a>(alloc: Global, command: Command<'a>) -> Result<Command<'a>, AllocError>
-    ensures app { IfOk result (λ c. app_of c ≡ with_flags (app_of command.entry)) }
+/// The command with the option of the boards' numbers.
+fn with_first_board<'a>(alloc: Global, command: Command<'a>) -> Result<Command<'a>, AllocError>
+    ensures app { IfOk result (λ c. app_of c ≡ with_first_board (app_of command.entry)) }
     ensures local { IfOk result (λ c. (fields_of c).has_globals
         ≡ (fields_of command.entry).has_globals) }
 {
-    let command = with_option(command, flag(alloc, "rotate", ROTATE))?;
-    with_option(command, flag(alloc, "report", REPORT))
+    let first_board = option(alloc, "first-board", value_parser!(u64), "B", FIRST_BOARD);
+    with_option(command, first_board)
 }
 
-/// The command with the options of how boards are written, and its flags.
+/// The command with the options of the boards' numbers and labels.
+fn with_heading<'a>(alloc: Global, command: Command<'a>) -> Result<Command<'a>, AllocError>
+    ensures app { IfOk result (λ c. app_of c ≡ with_heading (app_of command.entry)) }
+    ensures local { IfOk result (λ c. (fields_of c).has_globals
+        ≡ (fields_of command.entry).has_globals) }
+{
+    let command = with_first_board(alloc, command)?;
+    with_labels(alloc, command)
+}
+
+/// The command with the option of whether deals are turned.
+fn with_rotate<'a>(alloc: Global, command: Command<'a>) -> Result<Command<'a>, AllocError>
+    ensures app { IfOk result (λ c. app_of c ≡ with_rotate (app_of command.entry)) }
+    ensures local { IfOk result (λ c. (fields_of c).has_globals
+        ≡ (fields_of command.entry).has_globals) }
+{
+    with_option(command, flag(alloc, "rotate", ROTATE))
+}
+
+/// The command with the options of how boards are numbered and written.
 fn with_form<'a>(alloc: Global, command: Command<'a>) -> Result<Command<'a>, AllocError>
     ensures app { IfOk result (λ c. app_of c ≡ with_form (app_of command.entry)) }
     ensures local { IfOk result (λ c. (fields_of c).has_globals
         ≡ (fields_of command.entry).has_globals) }
 {
-    let command = with_labels(alloc, command)?;
+    let command = with_heading(alloc, command)?;
     let command = with_notation(alloc, command)?;
-    with_flags(alloc, command)
+    with_rotate(alloc, command)
+}
+
+/// The command with the options of what is said of the run.
+fn with_counts<'a>(alloc: Global, command: Command<'a>) -> Result<Command<'a>, AllocError>
+    ensures app { IfOk result (λ c. app_of c ≡ with_counts (app_of command.entry)) }
+    ensures local { IfOk result (λ c. (fields_of c).has_globals
+        ≡ (fields_of command.entry).has_globals) }
+{
+    let command = with_option(command, flag(alloc, "report", REPORT))?;
+    let progress = option(alloc, "progress", ValueParser::String, "WHEN", PROGRESS);
+    with_option(command, progress)
 }
 
 fn make_command<'a>(alloc: Global) -> Result<Command<'a>, AllocError>
@@ -259,19 +298,64 @@ fn make_command<'a>(alloc: Global) -> Result<Command<'a>, AllocError>
     let command = with_candidates(alloc, command)?;
     let command = with_search(alloc, command)?;
     let command = with_boards(alloc, command)?;
-    with_form(alloc, command)
+    let command = with_form(alloc, command)?;
+    with_counts(alloc, command)
 }
 
-/// clap's refusal of a `make` whose end is not given.
-pub fn missing_end(alloc: Global) -> Result<Error, AllocError>
+fn find_command<'a>(alloc: Global) -> Result<Command<'a>, AllocError>
+    ensures app { IfOk result (λ c. app_of c ≡ find_app) }
+    ensures local { IfOk result (λ c. (fields_of c).has_globals ≡ false) }
+{
+    let command = Command::new(alloc, "find")
+        .about("Prints the numbers of the deals that make would write, one per line")
+        .after_help(FIND_EXAMPLES);
+    let command = with_candidates(alloc, command)?;
+    let command = with_search(alloc, command)?;
+    let command = with_boards(alloc, command)?;
+    with_counts(alloc, command)
+}
+
+fn conditions_command<'a>(alloc: Global) -> Command<'a>
+    ensures app { app_of result ≡ conditions_app }
+    ensures local { (fields_of result).has_globals ≡ false }
+{
+    Command::new(alloc, "conditions").about(
+        "Prints all that --where understands, with ten examples",
+    )
+}
+
+fn stream_command<'a>(alloc: Global) -> Result<Command<'a>, AllocError>
+    ensures app { IfOk result (λ c. app_of c ≡ stream_app) }
+    ensures local { IfOk result (λ c. (fields_of c).has_globals ≡ false) }
+{
+    let command = Command::new(alloc, "stream")
+        .about("Prints the nrand48 values of a seed, one per line")
+        .after_help(STREAM_EXAMPLES);
+    let values = value_parser!(u64).range(..=MAX_VALUES);
+    let seed = required(alloc, "seed", value_parser!(u32), "S", SEED);
+    let count = required(alloc, "count", values, "N", COUNT);
+    let command = with_option(command, seed)?;
+    with_option(command, count)
+}
+
+/// The command `make`, or `find` if it has that name, as clap names it in a refusal.
+fn named_command<'a>(alloc: Global, name: &str) -> Result<Command<'a>, AllocError> {
+    if name == "find" {
+        return find_command(alloc)?.bin_name("deals find");
+    }
+    make_command(alloc)?.bin_name("deals make")
+}
+
+/// clap's refusal of a `make` or a `find` whose end is not given.
+pub fn missing_end(alloc: Global, name: &str) -> Result<Error, AllocError>
     ensures { IfOk result (λ e. kind_of e ≡ ErrorKind.MissingRequiredArgument) }
 {
-    let mut make = make_command(alloc)?.bin_name("deals make")?;
-    make.error(ErrorKind::MissingRequiredArgument, NO_END)
+    let mut command = named_command(alloc, name)?;
+    command.error(ErrorKind::MissingRequiredArgument, NO_END)
 }
 
 /// clap's refusal of a word that is none of an option's values.
-pub fn invalid_value(alloc: Global, unknown: &Unknown<'_>) -> Result<Error, AllocError>
+pub fn invalid_value(alloc: Global, name: &str, unknown: &Unknown<'_>) -> Result<Error, AllocError>
     ensures { IfOk result (λ e. kind_of e ≡ ErrorKind.InvalidValue) }
 {
     let word = unknown.word;
@@ -280,18 +364,29 @@ pub fn invalid_value(alloc: Global, unknown: &Unknown<'_>) -> Result<Error, Allo
     let message = format!(in alloc;
         "invalid value '{word}' for '{option}'\n  [possible values: {values}]"
     )?;
-    let mut make = make_command(alloc)?.bin_name("deals make")?;
-    make.error(ErrorKind::InvalidValue, message.as_str())
+    let mut command = named_command(alloc, name)?;
+    command.error(ErrorKind::InvalidValue, message.as_str())
+}
+
+/// The program's name with the subcommands that try candidates.
+fn with_makers<'a>(alloc: Global) -> Result<Command<'a>, AllocError>
+    ensures app { IfOk result (λ c. app_of c ≡ with_makers) }
+    ensures local { IfOk result (λ c. (fields_of c).has_globals ≡ false) }
+{
+    Command::new(alloc, "deals")
+        .version("0.1.0")
+        .about(ABOUT)
+        .after_help(LANGUAGE_AND_STATUSES)
+        .subcommand_required(true)
+        .subcommand(make_command(alloc)?)?
+        .subcommand(find_command(alloc)?)
 }
 
 /// The program's whole command line.
 pub fn command<'a>(alloc: Global) -> Result<Command<'a>, AllocError>
     ensures { IfOk result (λ c. app_of c ≡ deals) }
 {
-    Command::new(alloc, "deals")
-        .version("0.1.0")
-        .about(ABOUT)
-        .subcommand_required(true)
-        .subcommand(stream_command(alloc)?)?
-        .subcommand(make_command(alloc)?)
+    with_makers(alloc)?
+        .subcommand(conditions_command(alloc))?
+        .subcommand(stream_command(alloc)?)
 }

@@ -3,10 +3,11 @@
 ghost use Rattle.std.specs.Prelude.{◌≡◌, ◌∷◌, [], None, Some, codes, false, true};
 ghost use Rattle.boards.specs.declared.law2.Vul.TheVariants.{NorthSouth};
 ghost use Rattle.cards.specs.declared.seat.Seat.TheVariants.{South};
-ghost use Rattle.clap.specs.declared.error.kind.ErrorKind.TheVariants.{InvalidValue};
+ghost use Rattle.clap.specs.declared.error.kind.ErrorKind.TheVariants.{InvalidValue, UnknownArgument};
 ghost use Rattle.deals_cli.specs.CommandLine.{asked, kinds_for};
-ghost use Rattle.requests.specs.Requests.{make, stream};
-ghost use Rattle.requests.specs.declared.format.Format.TheVariants.{Hands, Pbn};
+ghost use Rattle.requests.specs.Requests.{conditions, make, stream};
+ghost use Rattle.requests.specs.declared.format.Format.TheVariants.{Hands, Numbers, Pbn};
+ghost use Rattle.requests.specs.declared.progress.Progress.TheVariants.{Auto, Never};
 
 /// `deals stream --seed 0 --count 3` asks for the first three values of seed 0.
 pub fn example_of_stream()
@@ -41,6 +42,7 @@ pub fn example_of_make()
           vulnerable = None;
           rotate = false;
           report = false;
+          progress = Auto;
         }) }
 {}
 
@@ -70,9 +72,48 @@ pub fn example_of_formats()
           vulnerable = Some NorthSouth;
           rotate = true;
           report = false;
+          progress = Auto;
         }) }
     ensures refused { kinds_for
         (codes "deals" ∷ codes "make" ∷ codes "--seed" ∷ codes "0"
         ∷ codes "--boards" ∷ codes "12" ∷ codes "--format" ∷ codes "PBN" ∷ [])
         ≡ InvalidValue ∷ [] }
+{}
+
+/// `deals find --seed 7 --candidates 1000 --first 5 --where 'hcp(north)>=15' --progress never` asks
+/// for the numbers of those of a thousand candidates, from number 5 on, that meet the condition. A
+/// board of `find` has no number of its own.
+pub fn example_of_find()
+    ensures asked { asked
+        (codes "deals" ∷ codes "find" ∷ codes "--seed" ∷ codes "7"
+        ∷ codes "--candidates" ∷ codes "1000" ∷ codes "--first" ∷ codes "5"
+        ∷ codes "--where" ∷ codes "hcp(north)>=15" ∷ codes "--progress" ∷ codes "never" ∷ [])
+        ≡ Some (make record {
+          seed = 7;
+          candidates = Some 1000;
+          first = 5;
+          workers = 1;
+          lane = 64;
+          where_text = Some (codes "hcp(north)>=15");
+          boards = None;
+          first_board = None;
+          event = None;
+          site = None;
+          date = None;
+          format = Numbers;
+          dealer = None;
+          vulnerable = None;
+          rotate = false;
+          report = false;
+          progress = Never;
+        }) }
+    ensures refused { kinds_for
+        (codes "deals" ∷ codes "find" ∷ codes "--seed" ∷ codes "7"
+        ∷ codes "--candidates" ∷ codes "1000" ∷ codes "--first-board" ∷ codes "5" ∷ [])
+        ≡ UnknownArgument ∷ [] }
+{}
+
+/// `deals conditions` asks for the page of the language.
+pub fn example_of_conditions()
+    ensures { asked (codes "deals" ∷ codes "conditions" ∷ []) ≡ Some conditions }
 {}

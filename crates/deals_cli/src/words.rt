@@ -3,16 +3,16 @@
 ghost use Rattle.std.specs.Prelude.{◌≡◌, ◌≤◌, ◌^◌, Some, codes, IfErr, IfOk, IsSome, map};
 ghost use Rattle.std.specs.Prelude.{option_map, string_bytes};
 ghost use Rattle.clap.specs.Words.{HasKind, first_of, found_of, kind_of, rows_of};
-ghost use Rattle.deals_cli.specs.CommandLine.{asked, has_no_end, is_set, kinds_for, making_in};
-ghost use Rattle.deals_cli.specs.CommandLine.{number_in, number_or};
+ghost use Rattle.deals_cli.specs.CommandLine.{asked, format_in, has_no_end, is_set, kinds_for};
+ghost use Rattle.deals_cli.specs.CommandLine.{making_in, number_in, number_or};
 ghost use Rattle.requests.specs.Options.{IsInRange, making_of, wish_of};
 ghost use Rattle.deals_cli.specs.internal.Readings.{MakeValues, MayGive32, MayGive64, StreamValues};
 
-use crate::choices::{dealer_in, format_in, sides_in, unknown_in};
+use crate::choices::{dealer_in, format_in, progress_in, sides_in, unknown_in};
 use crate::command::{command, invalid_value, missing_end};
 use clap::error::ErrorKind;
 use clap::{ArgMatches, Error};
-use requests::{Format, MakeRequest, Request, StreamRequest};
+use requests::{Format, MakeRequest, Progress, Request, StreamRequest};
 use std::alloc::Global;
 
 /// What an option of 32 bits was given.
@@ -61,10 +61,21 @@ fn is_set(matches: &ArgMatches, id: &str) -> bool
     }
 }
 
-/// What the options of `make` were given, or their defaults.
-fn make_request<'a>(matches: &ArgMatches<'a>) -> MakeRequest<'a>
+/// The format of the subcommand of this name: that of `find` is its own.
+fn format_by(name: &str, matches: &ArgMatches) -> Format
+    ensures { result ≡ format_in name.now (rows_of (found_of matches.now)) }
+{
+    if name == "find" {
+        return Format::Numbers;
+    }
+    format_in(matches).unwrap_or(Format::Pbn)
+}
+
+/// What the options of `make` or `find` were given, or their defaults. `find` has some of those of
+/// `make`.
+fn make_request<'a>(name: &str, matches: &ArgMatches<'a>) -> MakeRequest<'a>
     requires { MakeValues (rows_of (found_of matches.now)) }
-    ensures { making_of result ≡ making_in (rows_of (found_of matches.now)) }
+    ensures { making_of result ≡ making_in name.now (rows_of (found_of matches.now)) }
 {
     MakeRequest {
         seed: u32_in(matches, "seed").unwrap(),
@@ -78,11 +89,12 @@ fn make_request<'a>(matches: &ArgMatches<'a>) -> MakeRequest<'a>
         event: text_in(matches, "event"),
         site: text_in(matches, "site"),
         date: text_in(matches, "date"),
-        format: format_in(matches).unwrap_or(Format::Pbn),
+        format: format_by(name, matches),
         dealer: dealer_in(matches),
         vulnerable: sides_in(matches),
         rotate: is_set(matches, "rotate"),
         report: is_set(matches, "report"),
+        progress: progress_in(matches).unwrap_or(Progress::Auto),
     }
 }
 
@@ -109,12 +121,15 @@ pub fn read_words<'a>(alloc: Global, words: &'a [String]) -> Result<Request<'a>,
     if name == "stream" {
         return Ok(Request::Stream(stream_request(inner)));
     }
-    if let Some(unknown) = unknown_in(inner) {
-        return Err(invalid_value(alloc, &unknown)?);
+    if name == "conditions" {
+        return Ok(Request::Conditions);
     }
-    let request = make_request(inner);
+    if let Some(unknown) = unknown_in(inner) {
+        return Err(invalid_value(alloc, name, &unknown)?);
+    }
+    let request = make_request(name, inner);
     if has_no_end(&request) {
-        return Err(missing_end(alloc)?);
+        return Err(missing_end(alloc, name)?);
     }
     Ok(Request::Make(request))
 }

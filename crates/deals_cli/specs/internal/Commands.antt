@@ -1,8 +1,9 @@
--- How the options of `make` are added to its command, some at a time. No public clause cites it.
+-- How the options of `make` and `find` are added to their commands, some at a time. No public clause cites it.
 use Rattle.std.specs.Prelude.{codes}
-use Rattle.clap.specs.Words.{App, with_rule}
+use Rattle.clap.specs.Words.{App, with_rule, with_subcommand}
 use Rattle.clap.specs.declared.builder.value_parser.ValueParser.TheVariants.{String}
-use Rattle.deals_cli.specs.CommandLine.{flag_rule, option_rule, required, u32_parser, u64_parser}
+use Rattle.deals_cli.specs.CommandLine.{deals_top, find_app, flag_rule, make_app, option_rule}
+use Rattle.deals_cli.specs.CommandLine.{required, u32_parser, u64_parser}
 
 abbrev pub with_candidates : App → App
 with_candidates a = with_rule (with_rule a
@@ -16,10 +17,9 @@ with_search a = with_rule (with_rule (with_rule a
     (option_rule (codes "lane") u32_parser)
 
 abbrev pub with_boards : App → App
-with_boards a = with_rule (with_rule (with_rule a
+with_boards a = with_rule (with_rule a
     (option_rule (codes "where") String))
-    (option_rule (codes "boards") u32_parser))
-    (option_rule (codes "first-board") u64_parser)
+    (option_rule (codes "boards") u32_parser)
 
 abbrev pub with_labels : App → App
 with_labels a = with_rule (with_rule (with_rule a
@@ -33,9 +33,25 @@ with_notation a = with_rule (with_rule (with_rule a
     (option_rule (codes "dealer") String))
     (option_rule (codes "vulnerable") String)
 
-abbrev pub with_flags : App → App
-with_flags a = with_rule (with_rule a (flag_rule (codes "rotate"))) (flag_rule (codes "report"))
+abbrev pub with_first_board : App → App
+with_first_board a = with_rule a (option_rule (codes "first-board") u64_parser)
 
--- how the boards are written
+abbrev pub with_heading : App → App
+with_heading a = with_labels (with_first_board a)
+
+abbrev pub with_rotate : App → App
+with_rotate a = with_rule a (flag_rule (codes "rotate"))
+
+-- how the boards are numbered and written
 abbrev pub with_form : App → App
-with_form a = with_flags (with_notation (with_labels a))
+with_form a = with_rotate (with_notation (with_heading a))
+
+-- what is said of the run
+abbrev pub with_counts : App → App
+with_counts a = with_rule (with_rule a
+    (flag_rule (codes "report")))
+    (option_rule (codes "progress") String)
+
+-- the program's name with the subcommands that try candidates
+abbrev pub with_makers : App
+with_makers = with_subcommand (with_subcommand deals_top make_app.top) find_app.top

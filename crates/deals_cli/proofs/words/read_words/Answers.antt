@@ -28,17 +28,23 @@ returns-then-eq-clause-ok c =
     c.in_ok-matches.ensures.kinds c.subcommand.ensures.name c.subcommand.ensures.rows c.unwrap.ensures in
     (at.stream (sym c.if-eq.ensures)).1 ∙ ap₂ (λ x y. Some (stream x y)) (sym c.stream_request.ensures.seed) (sym c.stream_request.ensures.count)
 
+pub returns-then-eq-2-clause-ok : goal.returns-then-eq-2-clause-ok
+returns-then-eq-2-clause-ok c =
+    let at = chosen _ (map string_bytes c.args.words.now) c.in_ok-matches.matches c.subcommand.result c.unwrap.result c.in_ok-command.ensures c.in_ok-matches.ensures.matches
+    c.in_ok-matches.ensures.kinds c.subcommand.ensures.name c.subcommand.ensures.rows c.unwrap.ensures in
+    at.conditions_too (sym c.if-eq-2.ensures)
+
 pub make_request-request-requires : goal.make_request-request-requires
 make_request-request-requires c =
     let at = chosen _ (map string_bytes c.args.words.now) c.in_ok-matches.matches c.subcommand.result c.unwrap.result c.in_ok-command.ensures c.in_ok-matches.ensures.matches
     c.in_ok-matches.ensures.kinds c.subcommand.ensures.name c.subcommand.ensures.rows c.unwrap.ensures in
-    (at.make (sym c.if-eq.ensures)).0
+    (at.make (sym c.if-eq.ensures) (sym c.if-eq-2.ensures)).0
 
 pub returns-in-Some-clause-err : goal.returns-in-Some-clause-err
 returns-in-Some-clause-err c some =
     let at = chosen _ (map string_bytes c.args.words.now) c.in_ok-matches.matches c.subcommand.result c.unwrap.result c.in_ok-command.ensures c.in_ok-matches.ensures.matches
     c.in_ok-matches.ensures.kinds c.subcommand.ensures.name c.subcommand.ensures.rows c.unwrap.ensures in
-    let asks = (at.make (sym c.if-eq.ensures)).1 in
+    let asks = (at.make (sym c.if-eq.ensures) (sym c.if-eq-2.ensures)).1 in
     let unknown = sym c.unknown_in.ensures ∙ ap is_some c.in-Some.is in
     refused_asked (map string_bytes c.args.words.now) InvalidValue (asks.unknown unknown) some
 
@@ -46,7 +52,7 @@ pub returns-in-Some-clause-kinds : goal.returns-in-Some-clause-kinds
 returns-in-Some-clause-kinds c =
     let at = chosen _ (map string_bytes c.args.words.now) c.in_ok-matches.matches c.subcommand.result c.unwrap.result c.in_ok-command.ensures c.in_ok-matches.ensures.matches
     c.in_ok-matches.ensures.kinds c.subcommand.ensures.name c.subcommand.ensures.rows c.unwrap.ensures in
-    let asks = (at.make (sym c.if-eq.ensures)).1 in
+    let asks = (at.make (sym c.if-eq.ensures) (sym c.if-eq-2.ensures)).1 in
     let unknown = sym c.unknown_in.ensures ∙ ap is_some c.in-Some.is in
     refused_kind (map string_bytes c.args.words.now) InvalidValue c.in_ok-invalid_value.field-0 (asks.unknown unknown) c.in_ok-invalid_value.ensures
 
@@ -54,7 +60,7 @@ pub returns-then-has_no_end-clause-err : goal.returns-then-has_no_end-clause-err
 returns-then-has_no_end-clause-err c some =
     let at = chosen _ (map string_bytes c.args.words.now) c.in_ok-matches.matches c.subcommand.result c.unwrap.result c.in_ok-command.ensures c.in_ok-matches.ensures.matches
     c.in_ok-matches.ensures.kinds c.subcommand.ensures.name c.subcommand.ensures.rows c.unwrap.ensures in
-    let asks = (at.make (sym c.if-eq.ensures)).1 in
+    let asks = (at.make (sym c.if-eq.ensures) (sym c.if-eq-2.ensures)).1 in
     let known = sym c.unknown_in.ensures ∙ ap is_some c.in_default.is in
     let end = ap has_no_end (sym c.make_request-request.ensures) ∙ sym c.if-has_no_end.ensures in
     refused_asked (map string_bytes c.args.words.now) MissingRequiredArgument (asks.no_end known end) some
@@ -63,7 +69,7 @@ pub returns-then-has_no_end-clause-kinds : goal.returns-then-has_no_end-clause-k
 returns-then-has_no_end-clause-kinds c =
     let at = chosen _ (map string_bytes c.args.words.now) c.in_ok-matches.matches c.subcommand.result c.unwrap.result c.in_ok-command.ensures c.in_ok-matches.ensures.matches
     c.in_ok-matches.ensures.kinds c.subcommand.ensures.name c.subcommand.ensures.rows c.unwrap.ensures in
-    let asks = (at.make (sym c.if-eq.ensures)).1 in
+    let asks = (at.make (sym c.if-eq.ensures) (sym c.if-eq-2.ensures)).1 in
     let known = sym c.unknown_in.ensures ∙ ap is_some c.in_default.is in
     let end = ap has_no_end (sym c.make_request-request.ensures) ∙ sym c.if-has_no_end.ensures in
     refused_kind (map string_bytes c.args.words.now) MissingRequiredArgument c.in_ok-missing_end.field-0 (asks.no_end known end) c.in_ok-missing_end.ensures
@@ -72,7 +78,7 @@ pub returns-clause-ok : goal.returns-clause-ok
 returns-clause-ok c =
     let at = chosen _ (map string_bytes c.args.words.now) c.in_ok-matches.matches c.subcommand.result c.unwrap.result c.in_ok-command.ensures c.in_ok-matches.ensures.matches
     c.in_ok-matches.ensures.kinds c.subcommand.ensures.name c.subcommand.ensures.rows c.unwrap.ensures in
-    let asks = (at.make (sym c.if-eq.ensures)).1 in
+    let asks = (at.make (sym c.if-eq.ensures) (sym c.if-eq-2.ensures)).1 in
     let known = sym c.unknown_in.ensures ∙ ap is_some c.in_default.is in
     let end = ap has_no_end (sym c.make_request-request.ensures) ∙ sym c.if-has_no_end.ensures in
     asks.ends known end ∙ ap (λ m. Some (make m)) (sym c.make_request-request.ensures)
