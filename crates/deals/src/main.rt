@@ -1,57 +1,123 @@
 //! The program `deals`: its words and standard streams, and its status.
 //!
-//! What `program` says on standard error is one line, for programs to read. For a person a refused
-//! condition is explained below it.
+//! What `program` says on standard error is one line, for programs to read. For a person it is
+//! explained below that line what is wrong with a condition, and why the output failed; while a run
+//! lasts, its boards are passed on as they are found, and its counts are shown.
 #![tactic(auto)]
 
+ghost use Rattle.std.specs.Prelude.{◌≡◌, IfOk};
+
 use cond_lang::parse;
+use console::{Counts, Drawn, OverLine, Prompt, Style, millis};
 use deals_cli::{program, read_words};
 use hints::explain;
-use requests::Request;
-use sinks::{Piped, put_all};
+use requests::{MakeRequest, Progress, Request};
+use sinks::{Piped, Sink, put_all};
 use std::alloc::Global;
-use std::io::{BufWriter, ErrorKind, Result};
+use std::io::{BufWriter, ErrorKind, IsTerminal, Result};
 use std::process::ExitCode;
 use std::{env, io};
 
-/// How much output is gathered before it is passed on.
+/// How much output is gathered before it is passed on, unless a fifth of a second passes first.
 const BUFFER: usize = 64 * 1024;
 
 /// The status of a condition that is refused.
 const REFUSED_CONDITION: u8 = 3;
 
-/// The words that the program was called with, and its buffered output.
-fn start(rt: &HostRuntime) -> Result<(Vec<String>, BufWriter<io::Stdout>)> {
-    let words = env::args(rt)?.collect(rt.alloc())?;
-    let out = BufWriter::with_capacity(rt.alloc(), BUFFER, rt.stdout())?;
-    Ok((words, out))
+/// The status of an output that failed.
+const FAILED_OUTPUT: u8 = 4;
+
+/// Standard output, as `program` writes it.
+type Output = Prompt<BufWriter<io::Stdout>, HostRuntime, io::Stderr>;
+
+/// Standard error, over the line of counts.
+type Said = Piped<OverLine<io::Stderr>>;
+
+/// The run that the words ask for, if they ask for one.
+fn run_of(alloc: Global, words: &[String]) -> Option<MakeRequest<'_>> {
+    match read_words(alloc, words) {
+        Ok(Request::Make(request)) => Some(request),
+        _ => None,
+    }
+}
+
+/// How the counts of a run are shown.
+fn style_of(rt: &HostRuntime, request: Option<MakeRequest<'_>>) -> Style {
+    let Some(request) = request else {
+        return Style::Never;
+    };
+    match (request.progress, rt.stderr().is_terminal()) {
+        (Progress::Auto, true) | (Progress::Always, true) => Style::Redrawn,
+        (Progress::Always, false) => Style::Lines,
+        (Progress::Auto, false) | (Progress::Never, _) => Style::Never,
+    }
+}
+
+/// The buffered output, and the error output.
+fn open(rt: &HostRuntime, request: Option<MakeRequest<'_>>) -> Result<(Output, Said)>
+    ensures out { IfOk result (λ r. ⟦<Output as Sink>⟧.faults r.0 ≡ 0) }
+    ensures err { IfOk result (λ r. ⟦<Said as Sink>⟧.faults r.1 ≡ 0) }
+{
+    let drawn = Drawn::new(rt.alloc())?;
+    let err = Piped::new(OverLine::new(rt.stderr(), drawn.try_clone()?));
+    let (style, all) = match (style_of(rt, request), request) {
+        (style, Some(request)) => (style, request.candidates),
+        (style, None) => (style, None),
+    };
+    let now = millis(rt).unwrap_or(0);
+    let counts = Counts::new(rt.alloc(), rt.stderr(), drawn, style, all, now);
+    let writer = BufWriter::with_capacity(rt.alloc(), BUFFER, rt.stdout())?;
+    Ok((Prompt::new(writer, *rt, counts), err))
+}
+
+/// The words that the program was called with, and its outputs.
+fn start(rt: &HostRuntime) -> Result<(Vec<String>, Output, Said)>
+    ensures out { IfOk result (λ r. ⟦<Output as Sink>⟧.faults r.1 ≡ 0) }
+    ensures err { IfOk result (λ r. ⟦<Said as Sink>⟧.faults r.2 ≡ 0) }
+{
+    let words: Vec<String> = env::args(rt)?.collect(rt.alloc())?;
+    let (out, err) = open(rt, run_of(rt.alloc(), words.as_slice()))?;
+    Ok((words, out, err))
 }
 
 /// What helps with the refused condition of these words; none where memory runs out.
 fn explanation(alloc: Global, words: &[String]) -> Option<String> {
-    let Ok(Request::Make(request)) = read_words(alloc, words) else {
-        return None;
-    };
-    let text = request.where_text?.as_bytes();
+    let text = run_of(alloc, words)?.where_text?.as_bytes();
     let refusal = parse(alloc, text).err()?;
     explain(alloc, text, refusal).ok()
 }
 
+/// Why the output failed, if the system said so.
+fn reason(alloc: Global, out: &Output) -> Option<String> {
+    let reason = out.reason()?;
+    format!(in alloc; "  {reason}\n").ok()
+}
+
+/// Says for a person what helps, below the line that says what went wrong.
+fn say_more(alloc: Global, words: &[String], status: u8, out: &Output, err: &mut Said) {
+    if err.fault_count() > 0 {
+        return;
+    }
+    let more = match status {
+        REFUSED_CONDITION => explanation(alloc, words),
+        FAILED_OUTPUT => reason(alloc, out),
+        _ => None,
+    };
+    if let Some(text) = more {
+        let _ = put_all(err, text.as_bytes());
+    }
+}
+
 fn main(rt: HostRuntime) -> ExitCode {
-    let mut err = Piped::new(rt.stderr());
     match start(&rt) {
-        Ok((words, writer)) => {
-            let mut out = Piped::new(writer);
-            let status = program(&rt, rt.alloc(), words.as_slice(), &mut out, &mut err);
-            if status == REFUSED_CONDITION && err.fault_count() == 0 {
-                if let Some(text) = explanation(rt.alloc(), words.as_slice()) {
-                    let _ = put_all(&mut err, text.as_bytes());
-                }
-            }
+        Ok((words, mut out, mut err)) => {
+            let words = words.as_slice();
+            let status = program(&rt, rt.alloc(), words, &mut out, &mut err);
+            say_more(rt.alloc(), words, status, &out, &mut err);
             ExitCode::from(status)
         }
         Err(error) if error.kind() == ErrorKind::OutOfMemory => {
-            let _ = put_all(&mut err, b"out of memory\n");
+            let _ = put_all(&mut Piped::new(rt.stderr()), b"out of memory\n");
             ExitCode::from(5)
         }
         Err(_) => ExitCode::from(2),
