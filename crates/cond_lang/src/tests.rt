@@ -3,6 +3,7 @@
 mod another_parser;
 mod comments;
 mod expected;
+mod kinds;
 mod later_words;
 mod meaning;
 mod measures;

@@ -151,7 +151,7 @@ fn is_owed(code: u8, kind: Kind) -> bool {
 fn word_of(token: Token) -> &'static [u8] {
     for (word, meant) in WORDS.iter() {
         if *meant == token {
-            return word;
+            return word.as_bytes();
         }
     }
     b""
