@@ -1,5 +1,5 @@
 -- All kinds of tokens, and the end.
-use Rattle.std.specs.Prelude.{◌≡◌, ℕ, ◌+◌, List, [], ◌∷◌, ◌++◌, Option, Some, length, map, slice_get}
+use Rattle.std.specs.Prelude.{◌≡◌, ℕ, ◌+◌, List, [], ◌∷◌, ◌++◌, Some, length, map, slice_get}
 use Rattle.cards.specs.Measures.{measure_number, measures}
 use Rattle.cond_lang.specs.declared.words.Kind.{Kind}
 use Rattle.cond_lang.specs.declared.words.Kind.TheVariants as kind
