@@ -144,9 +144,9 @@ const CONDITIONS: [(&str, [bool; 6]); 24] = [
 
 #[test]
 fn values_of_six_deals(rt: HostRuntime) -> Result<(), Fail> {
-    for (text, numbers) in VALUES {
-        for (hands, number) in DEALS.iter().zip(numbers) {
-            expect_value(&rt, text, number, &deal(hands)?)?;
+    for (text, numbers) in VALUES.iter() {
+        for (hands, number) in DEALS.iter().zip(numbers.iter()) {
+            expect_value(&rt, text, *number, &deal(hands)?)?;
         }
     }
     Ok(())
@@ -167,9 +167,9 @@ fn expect_value(
 
 #[test]
 fn conditions_of_six_deals(rt: HostRuntime) -> Result<(), Fail> {
-    for (text, truths) in CONDITIONS {
-        for (hands, truth) in DEALS.iter().zip(truths) {
-            expect_truth(&rt, text.as_bytes(), truth, &deal(hands)?)?;
+    for (text, truths) in CONDITIONS.iter() {
+        for (hands, truth) in DEALS.iter().zip(truths.iter()) {
+            expect_truth(&rt, text.as_bytes(), *truth, &deal(hands)?)?;
         }
     }
     Ok(())
@@ -216,8 +216,8 @@ const SYNTAX: [(&str, usize); 35] = [
 
 #[test]
 fn places_of_syntax(rt: HostRuntime) {
-    for (text, at) in SYNTAX {
-        expect_refusal(&rt, text.as_bytes(), CondError::Syntax { at });
+    for (text, at) in SYNTAX.iter() {
+        expect_refusal(&rt, text.as_bytes(), CondError::Syntax { at: *at });
     }
 }
 

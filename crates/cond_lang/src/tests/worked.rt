@@ -153,9 +153,9 @@ const CONDITIONS: [(&str, [bool; 6]); 26] = [
 
 #[test]
 fn worked_conditions(rt: HostRuntime) -> Result<(), Fail> {
-    for (text, truths) in CONDITIONS {
-        for (hands, truth) in DEALS.iter().zip(truths) {
-            expect_truth(&rt, text.as_bytes(), truth, &deal(hands)?)?;
+    for (text, truths) in CONDITIONS.iter() {
+        for (hands, truth) in DEALS.iter().zip(truths.iter()) {
+            expect_truth(&rt, text.as_bytes(), *truth, &deal(hands)?)?;
         }
     }
     Ok(())
