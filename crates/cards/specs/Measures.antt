@@ -1,5 +1,5 @@
 -- The measures of a hand: the table of what each counts.
-use Rattle.std.specs.Prelude.{◌≡◌, ℕ, zero, suc, List, [], ◌∷◌, Option, Some, None, refl}
+use Rattle.std.specs.Prelude.{◌≡◌, ℕ, List, [], ◌∷◌, Option, Some, None, refl, slice_get, unwrap_or}
 use Rattle.cards.specs.declared.measure.Measure.{Measure}
 use Rattle.cards.specs.declared.measure.Measure.TheVariants.{Hcp, Controls, Losers}
 
@@ -9,18 +9,23 @@ weights_of Hcp = Some (4 ∷ 3 ∷ 2 ∷ 1 ∷ [])
 weights_of Controls = Some (2 ∷ 1 ∷ 0 ∷ 0 ∷ [])
 weights_of Losers = None
 
--- the measures by number, and back
+-- all measures
+abbrev pub measures : List Measure
+measures = Hcp ∷ Controls ∷ Losers ∷ []
+
+-- a measure's place among all, and back
 abbrev pub measure_number : Measure → ℕ
 measure_number Hcp = 0
 measure_number Controls = 1
 measure_number Losers = 2
 
 abbrev pub measure_of_number : ℕ → Measure
-measure_of_number zero = Hcp
-measure_of_number (suc zero) = Controls
-measure_of_number _ = Losers
+measure_of_number n = unwrap_or (slice_get measures n) Hcp
+
+pub measure_listed : (m : Measure) → slice_get measures (measure_number m) ≡ Some m
+measure_listed Hcp = refl
+measure_listed Controls = refl
+measure_listed Losers = refl
 
 pub measure_back : (m : Measure) → measure_of_number (measure_number m) ≡ m
-measure_back Hcp = refl
-measure_back Controls = refl
-measure_back Losers = refl
+measure_back m = rw (measure_listed m) refl

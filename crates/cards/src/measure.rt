@@ -1,7 +1,7 @@
 //! What is counted in a hand.
 
-ghost use Rattle.std.specs.Prelude.{◌≡◌, ◌≤◌, IfSome, sum};
-ghost use Rattle.cards.specs.Measures.{weights_of};
+ghost use Rattle.std.specs.Prelude.{◌≡◌, ◌<◌, ◌≤◌, IfSome, length, sum};
+ghost use Rattle.cards.specs.Measures.{measure_number, measures, weights_of};
 
 /// A way to count a hand.
 #[derive(Clone, Copy, PartialEq, Eq, Debug)]
@@ -15,6 +15,17 @@ pub enum Measure {
 }
 
 impl Measure {
+    /// How many measures there are.
+    pub const COUNT: usize = 3;
+
+    /// The place of the measure among all, from 0 on.
+    pub fn place(self) -> usize
+        ensures value { result ≡ measure_number self }
+        ensures within { result < length measures }
+    {
+        self as usize
+    }
+
     /// What an ace, a king, a queen and a jack count, at most 10 together. Losers have none: ranks
     /// alone don't count them.
     #[inline(always)]

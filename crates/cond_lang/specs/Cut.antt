@@ -1,8 +1,10 @@
 -- A text is cut into pieces, each the longest that fits at its place: words and ranks, numbers,
 -- symbols, separators, comments, and bytes that begin none of these.
-use Rattle.std.specs.Prelude.{◌≡◌, ℕ, ◌+◌, ◌*◌, ◌-◌, ◌<◌, ◌≤◌, Bool, true, false, not, ◌||◌, ◌&&◌, ◌==◌, List, [], ◌∷◌, ◌++◌, length, codes, fold, count_by, Option, Some, None, All, Contains}
+use Rattle.std.specs.Prelude.{◌≡◌, ℕ, ◌+◌, ◌*◌, ◌-◌, ◌<◌, ◌≤◌, Bool, true, false, not, ◌||◌, ◌&&◌, ◌==◌, List, [], ◌∷◌, ◌++◌, length, codes, fold, count_by, map, Option, Some, None, All, Contains}
 use Rattle.std.specs.List.{AllByRecursion, filter_map, list_all, list_any}
 use Rattle.std.specs.Char.{is_ascii_lowercase, is_ascii_digit}
+use Rattle.cards.specs.Measures.{measures}
+use Rattle.cards.specs.declared.measure.Measure.{Measure as AMeasure}
 use Rattle.cards.specs.declared.measure.Measure.TheVariants.{Hcp, Controls, Losers}
 use Rattle.cards.specs.declared.honours.Honours.{Honours}
 use Rattle.cards.specs.declared.seat.Seat.TheVariants.{North, East, South, West}
@@ -16,6 +18,12 @@ use Rattle.cond_lang.specs.declared.token.Piece.TheVariants.{Separator, Token as
 use Rattle.cond_lang.specs.declared.error.CondError.{CondError}
 use Rattle.cond_lang.specs.declared.error.CondError.TheVariants.{Byte, Word, Number as NumberFault}
 
+-- the word of a measure
+abbrev pub measure_word : AMeasure → List ℕ
+measure_word Hcp = codes "hcp"
+measure_word Controls = codes "controls"
+measure_word Losers = codes "losers"
+
 -- the known words, each with its token
 abbrev pub words : List (List ℕ × Token)
 words =
@@ -25,10 +33,8 @@ words =
     ∷ (codes "balanced", Balanced)
     ∷ (codes "shape", Shape)
     ∷ (codes "pattern", Pattern)
-    ∷ (codes "hcp", Measure Hcp)
-    ∷ (codes "controls", Measure Controls)
-    ∷ (codes "losers", Measure Losers)
-    ∷ (codes "cards", Cards)
+    ∷ map (λ m. (measure_word m, Measure m)) measures
+    ++ (codes "cards", Cards)
     ∷ (codes "len", Len)
     ∷ (codes "longest", Longest)
     ∷ (codes "shortest", Shortest)

@@ -20,8 +20,9 @@ mod words;
 pub use beginning::Beginning;
 pub use condition::{Cond, parse};
 pub use error::CondError;
+pub use token::Token;
 pub use tree::{Item, Op, Tree, Value};
-pub use words::Kind;
+pub use words::{Kind, MEASURE_LINES, WORDS, measure_word};
 
 #[cfg(test)]
 mod tests;

@@ -211,11 +211,11 @@ fn word(text: &[u8]) -> Option<Token>
 }
 
 /// The token beside this text in a table.
-fn look_up(mut table: &[(&[u8], Token)], text: &[u8]) -> Option<Token>
+fn look_up(mut table: &[(&str, Token)], text: &[u8]) -> Option<Token>
     ensures { result ≡ token_of (map (λ e. (e.0.now, e.1)) table.entry.now) text.now }
 {
     while let [entry, rest @ ..] = table {
-        if text == entry.0 {
+        if text == entry.0.as_bytes() {
             return Some(entry.1);
         }
         table = rest;

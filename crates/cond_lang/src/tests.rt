@@ -3,6 +3,7 @@
 mod another_parser;
 mod comments;
 mod expected;
+mod kinds;
 mod later_words;
 mod meaning;
 mod measures;
@@ -11,7 +12,7 @@ mod refusals;
 mod trees;
 mod worked;
 
-use crate::{Cond, parse};
+use crate::{Cond, CondError, parse};
 use cards::{Deal, Seat};
 use std::alloc::Global;
 use std::process::Abort;
@@ -71,6 +72,39 @@ fn condition(alloc: Global, text: &str) -> Result<Cond, Fail> {
 /// Whether a text's condition holds of a deal.
 fn holds(alloc: Global, text: &str, deal: &Deal) -> Result<bool, Fail> {
     Ok(condition(alloc, text)?.holds(deal))
+}
+
+/// Whether a text's condition holds of a deal, and whether a clone of it does.
+fn both_hold(alloc: Global, text: &[u8], deal: &Deal) -> Result<[bool; 2], Fail> {
+    let cond = parse(alloc, text)?;
+    Ok([cond.holds(deal), clone_holds(&cond, deal)?])
+}
+
+fn clone_holds(cond: &Cond, deal: &Deal) -> Result<bool, Fail> {
+    Ok(cond.try_clone()?.holds(deal))
+}
+
+/// A text's condition and a clone of it say this of the deal.
+fn expect_truth(
+    rt: &(impl Abort + AllocGlobal),
+    text: &[u8],
+    truth: bool,
+    deal: &Deal,
+) -> Result<(), Fail> {
+    let said = both_hold(rt.alloc(), text, deal)?;
+    assert_eq!(rt; said, [truth; 2], "{}", text.escape_ascii());
+    Ok(())
+}
+
+/// A text is refused so.
+fn expect_refusal(rt: &(impl Abort + AllocGlobal), text: &[u8], wanted: CondError) {
+    let refused = refusal(rt.alloc(), text);
+    assert_eq!(rt; refused, Some(wanted), "{}", text.escape_ascii());
+}
+
+/// Why a text is refused, if it is.
+fn refusal(alloc: Global, text: &[u8]) -> Option<CondError> {
+    parse(alloc, text).err()
 }
 
 /// The same text many times over, and then an end.

@@ -1,38 +1,62 @@
 //! The words of the language, and the kinds of its tokens, which a person is told.
 
-ghost use Rattle.std.specs.Prelude.{◌≡◌, None, IfSome};
+ghost use Rattle.std.specs.Prelude.{◌≡◌, ◌<◌, None, IfSome, length};
 ghost use Rattle.cond_lang.specs.Continuations.{kind_of};
+ghost use Rattle.cond_lang.specs.Cut.{measure_word};
+ghost use Rattle.cond_lang.specs.Kinds.{all_kinds, place_of};
 
 use crate::token::Token;
 use crate::tree::Op;
 use cards::{Honours, Measure, Seat, Suit};
 
-/// The known words, each with its token: the table `words` of the definition.
-pub(crate) const WORDS: [(&[u8], Token); 23] = [
-    (b"or", Token::Or),
-    (b"and", Token::And),
-    (b"not", Token::Not),
-    (b"balanced", Token::Balanced),
-    (b"shape", Token::Shape),
-    (b"pattern", Token::Pattern),
-    (b"hcp", Token::Measure(Measure::Hcp)),
-    (b"controls", Token::Measure(Measure::Controls)),
-    (b"losers", Token::Measure(Measure::Losers)),
-    (b"cards", Token::Cards),
-    (b"len", Token::Len),
-    (b"longest", Token::Longest),
-    (b"shortest", Token::Shortest),
-    (b"in", Token::In),
-    (b"x", Token::X),
-    (b"north", Token::Seat(Seat::North)),
-    (b"east", Token::Seat(Seat::East)),
-    (b"south", Token::Seat(Seat::South)),
-    (b"west", Token::Seat(Seat::West)),
-    (b"spades", Token::Suit(Suit::Spades)),
-    (b"hearts", Token::Suit(Suit::Hearts)),
-    (b"diamonds", Token::Suit(Suit::Diamonds)),
-    (b"clubs", Token::Suit(Suit::Clubs)),
+/// The words of the language, each with its token: the table `words` of the definition.
+pub const WORDS: [(&str, Token); 20 + Measure::COUNT] = [
+    ("or", Token::Or),
+    ("and", Token::And),
+    ("not", Token::Not),
+    ("balanced", Token::Balanced),
+    ("shape", Token::Shape),
+    ("pattern", Token::Pattern),
+    ("hcp", Token::Measure(Measure::Hcp)),
+    ("controls", Token::Measure(Measure::Controls)),
+    ("losers", Token::Measure(Measure::Losers)),
+    ("cards", Token::Cards),
+    ("len", Token::Len),
+    ("longest", Token::Longest),
+    ("shortest", Token::Shortest),
+    ("in", Token::In),
+    ("x", Token::X),
+    ("north", Token::Seat(Seat::North)),
+    ("east", Token::Seat(Seat::East)),
+    ("south", Token::Seat(Seat::South)),
+    ("west", Token::Seat(Seat::West)),
+    ("spades", Token::Suit(Suit::Spades)),
+    ("hearts", Token::Suit(Suit::Hearts)),
+    ("diamonds", Token::Suit(Suit::Diamonds)),
+    ("clubs", Token::Suit(Suit::Clubs)),
 ];
+
+/// The word of the measure.
+pub fn measure_word(measure: Measure) -> &'static str
+    ensures { result.now ≡ measure_word measure }
+{
+    match measure {
+        Measure::Hcp => "hcp",
+        Measure::Controls => "controls",
+        Measure::Losers => "losers",
+    }
+}
+
+/// What the measures count, a line or more for each: a part of the page of the language, in plain
+/// text of 80 columns at most.
+pub const MEASURE_LINES: &str =
+    "  hcp(north)                  high card points: ace 4, king 3, queen 2, jack 1
+  hcp(north,spades)           those of the spades alone
+  controls(north)             2 for each ace, 1 for each king; also with a suit
+  losers(north)               of each suit's ace, king and queen, as many as the
+                              suit has cards, those that are not in the hand;
+                              also with a suit
+";
 
 /// What can stand at a place of a condition: a kind of token, or the end. Each word of its own, the
 /// six comparisons, the four seats, the four suits, all ranks and all numbers are one kind each.
@@ -74,8 +98,11 @@ const ACE: Honours = Honours {
 };
 
 impl Kind {
+    /// How many kinds there are.
+    pub const COUNT: usize = 23 + Measure::COUNT;
+
     /// All kinds, in the order in which a person is told them.
-    pub const ALL: [Kind; 26] = [
+    pub const ALL: [Kind; Kind::COUNT] = [
         Kind::Not,
         Kind::Open,
         Kind::Balanced,
@@ -103,6 +130,41 @@ impl Kind {
         Kind::Or,
         Kind::End,
     ];
+
+    /// The place of the kind in [`ALL`].
+    ///
+    /// [`ALL`]: Kind::ALL
+    pub fn place(self) -> usize
+        ensures value { result ≡ place_of self }
+        ensures within { result < length all_kinds }
+    {
+        match self {
+            Kind::Not => 0,
+            Kind::Open => 1,
+            Kind::Balanced => 2,
+            Kind::Shape => 3,
+            Kind::Pattern => 4,
+            Kind::Number => 5,
+            Kind::Measure(measure) => 6 + measure.place(),
+            Kind::Cards => 6 + Measure::COUNT,
+            Kind::Len => 7 + Measure::COUNT,
+            Kind::Longest => 8 + Measure::COUNT,
+            Kind::Shortest => 9 + Measure::COUNT,
+            Kind::Plus => 10 + Measure::COUNT,
+            Kind::Relation => 11 + Measure::COUNT,
+            Kind::In => 12 + Measure::COUNT,
+            Kind::Dash => 13 + Measure::COUNT,
+            Kind::X => 14 + Measure::COUNT,
+            Kind::Comma => 15 + Measure::COUNT,
+            Kind::Seat => 16 + Measure::COUNT,
+            Kind::Suit => 17 + Measure::COUNT,
+            Kind::Ranks => 18 + Measure::COUNT,
+            Kind::Close => 19 + Measure::COUNT,
+            Kind::And => 20 + Measure::COUNT,
+            Kind::Or => 21 + Measure::COUNT,
+            Kind::End => 22 + Measure::COUNT,
+        }
+    }
 
     /// A token of the kind. The end has none.
     pub(crate) fn token(self) -> Option<Token>

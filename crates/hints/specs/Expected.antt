@@ -1,85 +1,109 @@
 -- What is said of the kinds that could stand at a fault.
-use Rattle.std.specs.Prelude.{ℕ, zero, suc, Bool, ◌&&◌, List, [], ◌∷◌, ◌++◌, codes, if◌then◌else◌}
-use Rattle.std.specs.Prelude.{length, map}
+use Rattle.std.specs.Prelude.{ℕ, zero, suc, Bool, true, false, not, ◌&&◌, ◌||◌, List, [], ◌∷◌, ◌++◌}
+use Rattle.std.specs.Prelude.{codes, length, map, if◌then◌else◌}
 use Rattle.std.specs.List.{filter, list_all}
+use Rattle.cond_lang.specs.Cut.{measure_word}
+use Rattle.cond_lang.specs.Kinds.{all_kinds}
 use Rattle.cond_lang.specs.declared.words.Kind.{Kind}
-use Rattle.cards.specs.declared.measure.Measure.TheVariants as measure
 use Rattle.cond_lang.specs.declared.words.Kind.TheVariants as kind
+use Rattle.hints.specs.declared.expected.Part.{Part}
+use Rattle.hints.specs.declared.expected.Part.TheVariants as part
 use Rattle.hints.specs.declared.expected.Term.{Term}
 use Rattle.hints.specs.declared.expected.Term.TheVariants as term
 
 -- ---- which terms
 
 -- the kinds that begin a condition and no value
-abbrev pub test_kinds : List Kind
-test_kinds = kind.Not ∷ kind.Open ∷ kind.Balanced ∷ kind.Shape ∷ kind.Pattern ∷ []
+abbrev pub begins_test : Kind → Bool
+begins_test kind.Not = true
+begins_test kind.Open = true
+begins_test kind.Balanced = true
+begins_test kind.Shape = true
+begins_test kind.Pattern = true
+begins_test _ = false
 
 -- the kinds that begin a value
-abbrev pub value_kinds : List Kind
-value_kinds =
-    kind.Number
-    ∷ kind.Measure measure.Hcp
-    ∷ kind.Measure measure.Controls
-    ∷ kind.Measure measure.Losers
-    ∷ kind.Cards
-    ∷ kind.Len
-    ∷ kind.Longest
-    ∷ kind.Shortest
-    ∷ []
+abbrev pub begins_value : Kind → Bool
+begins_value kind.Number = true
+begins_value (kind.Measure m) = true
+begins_value kind.Cards = true
+begins_value kind.Len = true
+begins_value kind.Longest = true
+begins_value kind.Shortest = true
+begins_value _ = false
 
--- the kinds that begin neither
-abbrev pub other_kinds : List Kind
-other_kinds =
-    kind.Plus ∷ kind.Relation ∷ kind.In ∷ kind.Dash ∷ kind.X ∷ kind.Comma ∷ kind.Seat ∷ kind.Suit
-    ∷ kind.Ranks ∷ kind.Close ∷ kind.And ∷ kind.Or ∷ kind.End ∷ []
+-- the kinds in three parts
+abbrev pub is_in : Part → Kind → Bool
+is_in part.Test k = begins_test k
+is_in part.Value k = begins_value k
+is_in part.Other k = not (begins_test k) && not (begins_value k)
 
--- the kinds of the list that are in the set, each by itself
-abbrev pub each : (Kind → Bool) → List Kind → List Term
-each can kinds = map term.One (filter can kinds)
+-- all kinds of the list that are in the part can stand there
+abbrev pub has_all : (Kind → Bool) → Part → List Kind → Bool
+has_all can part kinds = list_all (λ k. not (is_in part k) || can k) kinds
+
+-- the kinds of the list that are in the part and can stand there, each by itself
+abbrev pub each : (Kind → Bool) → Part → List Kind → List Term
+each can part kinds = map term.One (filter (λ k. is_in part k && can k) kinds)
 
 -- the kinds that begin a value, as one term if all of them can stand there
 abbrev pub value_terms : (Kind → Bool) → List Term
-value_terms can = if list_all can value_kinds then term.Value ∷ [] else each can value_kinds
+value_terms can =
+    if has_all can part.Value all_kinds then term.Value ∷ [] else each can part.Value all_kinds
 
 -- the kinds that begin a condition, as one term if all of them can stand there
 abbrev pub first_terms : (Kind → Bool) → List Term
 first_terms can =
-    if list_all can test_kinds && list_all can value_kinds then term.Condition ∷ []
-    else each can test_kinds ++ value_terms can
+    if has_all can part.Test all_kinds && has_all can part.Value all_kinds then term.Condition ∷ []
+    else each can part.Test all_kinds ++ value_terms can
 
 -- the terms for the kinds that can stand there
 unfoldable pub terms : (Kind → Bool) → List Term
-terms can = first_terms can ++ each can other_kinds
+terms can = first_terms can ++ each can part.Other all_kinds
 
 -- ---- how they are written
 
+-- the text of a kind, or what describes it
+abbrev pub kind_name : Kind → List ℕ
+kind_name kind.Not = codes "not"
+kind_name kind.Open = codes "("
+kind_name kind.Balanced = codes "balanced"
+kind_name kind.Shape = codes "shape"
+kind_name kind.Pattern = codes "pattern"
+kind_name kind.Number = codes "a number"
+kind_name (kind.Measure m) = measure_word m
+kind_name kind.Cards = codes "cards"
+kind_name kind.Len = codes "len"
+kind_name kind.Longest = codes "longest"
+kind_name kind.Shortest = codes "shortest"
+kind_name kind.Plus = codes "+"
+kind_name kind.Relation = codes "a comparison such as >="
+kind_name kind.In = codes "in"
+kind_name kind.Dash = codes "-"
+kind_name kind.X = codes "x"
+kind_name kind.Comma = codes ","
+kind_name kind.Seat = codes "a seat"
+kind_name kind.Suit = codes "a suit"
+kind_name kind.Ranks = codes "ranks such as akq"
+kind_name kind.Close = codes ")"
+kind_name kind.And = codes "and"
+kind_name kind.Or = codes "or"
+kind_name kind.End = codes "the end"
+
+-- a kind is described if several texts are of it, or none
+abbrev pub is_described : Kind → Bool
+is_described kind.Number = true
+is_described kind.Relation = true
+is_described kind.Seat = true
+is_described kind.Suit = true
+is_described kind.Ranks = true
+is_described kind.End = true
+is_described _ = false
+
+-- a text is named in quotes
 abbrev pub kind_text : Kind → List ℕ
-kind_text kind.Not = codes "\"not\""
-kind_text kind.Open = codes "\"(\""
-kind_text kind.Balanced = codes "\"balanced\""
-kind_text kind.Shape = codes "\"shape\""
-kind_text kind.Pattern = codes "\"pattern\""
-kind_text kind.Number = codes "a number"
-kind_text (kind.Measure measure.Hcp) = codes "\"hcp\""
-kind_text (kind.Measure measure.Controls) = codes "\"controls\""
-kind_text (kind.Measure measure.Losers) = codes "\"losers\""
-kind_text kind.Cards = codes "\"cards\""
-kind_text kind.Len = codes "\"len\""
-kind_text kind.Longest = codes "\"longest\""
-kind_text kind.Shortest = codes "\"shortest\""
-kind_text kind.Plus = codes "\"+\""
-kind_text kind.Relation = codes "a comparison such as >="
-kind_text kind.In = codes "\"in\""
-kind_text kind.Dash = codes "\"-\""
-kind_text kind.X = codes "\"x\""
-kind_text kind.Comma = codes "\",\""
-kind_text kind.Seat = codes "a seat"
-kind_text kind.Suit = codes "a suit"
-kind_text kind.Ranks = codes "ranks such as akq"
-kind_text kind.Close = codes "\")\""
-kind_text kind.And = codes "\"and\""
-kind_text kind.Or = codes "\"or\""
-kind_text kind.End = codes "the end"
+kind_text k =
+    if is_described k then kind_name k else codes "\"" ++ kind_name k ++ codes "\""
 
 abbrev pub term_text : Term → List ℕ
 term_text term.Condition = codes "a condition such as balanced(north)"

@@ -1,13 +1,13 @@
 //! What could stand at a fault, as a line of text.
 
 ghost use Rattle.std.specs.Prelude.{◌≡◌, ◌++◌, length, string_bytes, IfOk, OnOk};
-ghost use Rattle.hints.specs.Expected.{each, expected_line, joined, kind_text, separator};
-ghost use Rattle.hints.specs.Expected.{term_text, terms};
+ghost use Rattle.hints.specs.Expected.{begins_test, begins_value, each, expected_line, has_all};
+ghost use Rattle.hints.specs.Expected.{is_described, is_in, joined, kind_name, kind_text};
+ghost use Rattle.hints.specs.Expected.{separator, term_text, terms};
 ghost use Rattle.hints.specs.internal.Kinds.{in_set};
 
 use crate::kinds::KindSet;
-use cards::Measure;
-use cond_lang::Kind;
+use cond_lang::{Kind, measure_word};
 use std::alloc::{AllocError, Global};
 
 /// What a person is told could stand there: a kind, or all kinds that begin a value or a condition.
@@ -18,43 +18,48 @@ pub(crate) enum Term {
     One(Kind),
 }
 
-/// The kinds that begin a condition and no value.
-const TEST_KINDS: [Kind; 5] = [
-    Kind::Not,
-    Kind::Open,
-    Kind::Balanced,
-    Kind::Shape,
-    Kind::Pattern,
-];
+/// The kinds in three parts.
+#[derive(Clone, Copy)]
+pub(crate) enum Part {
+    /// Those that begin a condition and no value.
+    Test,
+    /// Those that begin a value.
+    Value,
+    /// All others.
+    Other,
+}
 
-/// The kinds that begin a value.
-const VALUE_KINDS: [Kind; 8] = [
-    Kind::Number,
-    Kind::Measure(Measure::Hcp),
-    Kind::Measure(Measure::Controls),
-    Kind::Measure(Measure::Losers),
-    Kind::Cards,
-    Kind::Len,
-    Kind::Longest,
-    Kind::Shortest,
-];
+/// Whether the kind begins a condition and no value.
+fn begins_test(kind: Kind) -> bool
+    ensures { result ≡ begins_test kind }
+{
+    match kind {
+        Kind::Not | Kind::Open | Kind::Balanced | Kind::Shape | Kind::Pattern => true,
+        _ => false,
+    }
+}
 
-/// The kinds that begin neither.
-const OTHER_KINDS: [Kind; 13] = [
-    Kind::Plus,
-    Kind::Relation,
-    Kind::In,
-    Kind::Dash,
-    Kind::X,
-    Kind::Comma,
-    Kind::Seat,
-    Kind::Suit,
-    Kind::Ranks,
-    Kind::Close,
-    Kind::And,
-    Kind::Or,
-    Kind::End,
-];
+/// Whether the kind begins a value.
+fn begins_value(kind: Kind) -> bool
+    ensures { result ≡ begins_value kind }
+{
+    match kind {
+        Kind::Number | Kind::Measure(_) | Kind::Cards => true,
+        Kind::Len | Kind::Longest | Kind::Shortest => true,
+        _ => false,
+    }
+}
+
+/// Whether the kind is in the part.
+fn is_in(part: Part, kind: Kind) -> bool
+    ensures { result ≡ is_in part kind }
+{
+    match part {
+        Part::Test => begins_test(kind),
+        Part::Value => begins_value(kind),
+        Part::Other => !begins_test(kind) && !begins_value(kind),
+    }
+}
 
 /// Appends the line that says what could stand there.
 pub(crate) fn put_expected(alloc: Global, out: &mut String, can: &KindSet) -> Result<(), AllocError>
@@ -73,27 +78,42 @@ fn terms(alloc: Global, can: &KindSet) -> Result<Vec<Term>, AllocError>
     ensures { IfOk result (λ ts. ts.items ≡ terms (in_set can.now)) }
 {
     let mut terms = Vec::new(alloc);
-    let value = can.has_all(&VALUE_KINDS);
-    if can.has_all(&TEST_KINDS) && value {
+    let value = has_all(can, Part::Value, &Kind::ALL);
+    if has_all(can, Part::Test, &Kind::ALL) && value {
         terms.push(Term::Condition)?;
     } else {
-        put_each(&mut terms, can, &TEST_KINDS)?;
+        put_each(&mut terms, can, Part::Test, &Kind::ALL)?;
         if value {
             terms.push(Term::Value)?;
         } else {
-            put_each(&mut terms, can, &VALUE_KINDS)?;
+            put_each(&mut terms, can, Part::Value, &Kind::ALL)?;
         }
     }
-    put_each(&mut terms, can, &OTHER_KINDS)?;
+    put_each(&mut terms, can, Part::Other, &Kind::ALL)?;
     Ok(terms)
 }
 
-/// Appends the kinds that are in the set, each by itself.
-fn put_each(terms: &mut Vec<Term>, can: &KindSet, kinds: &[Kind]) -> Result<(), AllocError>
-    ensures { OnOk result (terms.new.items ≡ terms.old.items ++ each (in_set can.now) kinds.now) }
+/// Whether all these kinds that are in the part are in the set.
+fn has_all(can: &KindSet, part: Part, kinds: &[Kind]) -> bool
+    ensures { result ≡ has_all (in_set can.now) part kinds.now }
+{
+    kinds
+        .iter()
+        .all(|kind| !is_in(part, *kind) || can.has(*kind))
+}
+
+/// Appends those of the kinds that are in the part and in the set, each by itself.
+fn put_each(
+    terms: &mut Vec<Term>,
+    can: &KindSet,
+    part: Part,
+    kinds: &[Kind],
+) -> Result<(), AllocError>
+    ensures { OnOk result (terms.new.items
+        ≡ terms.old.items ++ each (in_set can.now) part kinds.now) }
 {
     for kind in kinds {
-        if can.has(*kind) {
+        if is_in(part, *kind) && can.has(*kind) {
             terms.push(Term::One(*kind))?;
         }
     }
@@ -105,7 +125,7 @@ fn put_joined(out: &mut String, mut terms: &[Term]) -> Result<(), AllocError>
     ensures { OnOk result (string_bytes out.new ≡ string_bytes out.old ++ joined terms.entry.now) }
 {
     while let [term, more @ ..] = terms {
-        out.push_str(term_text(*term))?;
+        put_term(out, *term)?;
         out.push_str(separator(more.len()))?;
         terms = more;
     }
@@ -123,45 +143,68 @@ fn separator(more: usize) -> &'static str
     }
 }
 
-fn term_text(term: Term) -> &'static str
-    ensures { result.now ≡ term_text term }
+/// Appends what the term is called.
+fn put_term(out: &mut String, term: Term) -> Result<(), AllocError>
+    ensures { OnOk result (string_bytes out.new ≡ string_bytes out.old ++ term_text term) }
 {
     match term {
-        Term::Condition => "a condition such as balanced(north)",
-        Term::Value => "a value such as hcp(north)",
-        Term::One(kind) => kind_text(kind),
+        Term::Condition => out.push_str("a condition such as balanced(north)"),
+        Term::Value => out.push_str("a value such as hcp(north)"),
+        Term::One(kind) => put_kind(out, kind),
     }
 }
 
-fn kind_text(kind: Kind) -> &'static str
-    ensures { result.now ≡ kind_text kind }
+/// Appends what the kind is called, in quotes if it is written so.
+fn put_kind(out: &mut String, kind: Kind) -> Result<(), AllocError>
+    ensures { OnOk result (string_bytes out.new ≡ string_bytes out.old ++ kind_text kind) }
+{
+    if is_described(kind) {
+        return out.push_str(kind_name(kind));
+    }
+    out.push_str("\"")?;
+    out.push_str(kind_name(kind))?;
+    out.push_str("\"")
+}
+
+/// Whether the kind is described, since several texts are of it or none.
+fn is_described(kind: Kind) -> bool
+    ensures { result ≡ is_described kind }
 {
     match kind {
-        Kind::Not => "\"not\"",
-        Kind::Open => "\"(\"",
-        Kind::Balanced => "\"balanced\"",
-        Kind::Shape => "\"shape\"",
-        Kind::Pattern => "\"pattern\"",
+        Kind::Number | Kind::Relation | Kind::Seat => true,
+        Kind::Suit | Kind::Ranks | Kind::End => true,
+        _ => false,
+    }
+}
+
+/// The text of the kind, or what describes it.
+fn kind_name(kind: Kind) -> &'static str
+    ensures { result.now ≡ kind_name kind }
+{
+    match kind {
+        Kind::Not => "not",
+        Kind::Open => "(",
+        Kind::Balanced => "balanced",
+        Kind::Shape => "shape",
+        Kind::Pattern => "pattern",
         Kind::Number => "a number",
-        Kind::Measure(Measure::Hcp) => "\"hcp\"",
-        Kind::Measure(Measure::Controls) => "\"controls\"",
-        Kind::Measure(Measure::Losers) => "\"losers\"",
-        Kind::Cards => "\"cards\"",
-        Kind::Len => "\"len\"",
-        Kind::Longest => "\"longest\"",
-        Kind::Shortest => "\"shortest\"",
-        Kind::Plus => "\"+\"",
+        Kind::Measure(measure) => measure_word(measure),
+        Kind::Cards => "cards",
+        Kind::Len => "len",
+        Kind::Longest => "longest",
+        Kind::Shortest => "shortest",
+        Kind::Plus => "+",
         Kind::Relation => "a comparison such as >=",
-        Kind::In => "\"in\"",
-        Kind::Dash => "\"-\"",
-        Kind::X => "\"x\"",
-        Kind::Comma => "\",\"",
+        Kind::In => "in",
+        Kind::Dash => "-",
+        Kind::X => "x",
+        Kind::Comma => ",",
         Kind::Seat => "a seat",
         Kind::Suit => "a suit",
         Kind::Ranks => "ranks such as akq",
-        Kind::Close => "\")\"",
-        Kind::And => "\"and\"",
-        Kind::Or => "\"or\"",
+        Kind::Close => ")",
+        Kind::And => "and",
+        Kind::Or => "or",
         Kind::End => "the end",
     }
 }

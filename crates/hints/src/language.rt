@@ -1,18 +1,20 @@
 //! The page of the language, for a terminal.
 
-/// The language of conditions on one page: plain text of ASCII, 80 columns at most, with ten
-/// examples, each on a line of its own that begins with four spaces. The last line is ended too.
-pub const LANGUAGE: &str = "\
+use cond_lang::MEASURE_LINES;
+
+/// The language of conditions on one page, in parts that stand one behind another, each of whole
+/// lines: plain text of ASCII, 80 columns at most, with ten examples, each on a line of its own that
+/// begins with four spaces.
+pub const LANGUAGE: [&str; 3] = [BEFORE_MEASURES, MEASURE_LINES, BEHIND_MEASURES];
+
+const BEFORE_MEASURES: &str = "\
 A condition says which deals you want. It is one text, behind --where.
 
 What you can ask of a hand:
-  hcp(north)                  high card points: ace 4, king 3, queen 2, jack 1
-  hcp(north,spades)           those of the spades alone
-  controls(north)             2 for each ace, 1 for each king; also with a suit
-  losers(north)               of each suit's ace, king and queen, as many as the
-                              suit has cards, those that are not in the hand;
-                              also with a suit
-  cards(north,akq)            how many aces, kings and queens; the ranks are a,
+";
+
+const BEHIND_MEASURES: &str =
+    "  cards(north,akq)            how many aces, kings and queens; the ranks are a,
                               k, q, j and t
   cards(north,spades,akq)     how many of them in spades
   len(north,spades)           how many spades

@@ -2,6 +2,7 @@
 
 ghost use Rattle.std.specs.Prelude.{◌<◌, ◌≤◌, length};
 
+use cond_lang::{Token, WORDS};
 use std::alloc::{AllocError, Global};
 
 /// What a byte belongs to.
@@ -231,43 +232,40 @@ fn is_in_value(bytes: &[u8]) -> bool {
 
 /// Whether the word begins a value.
 pub(crate) fn is_measure(bytes: &[u8]) -> bool {
-    const MEASURES: [&[u8]; 7] = [
-        b"hcp",
-        b"controls",
-        b"losers",
-        b"cards",
-        b"len",
-        b"longest",
-        b"shortest",
-    ];
-    is_among(bytes, &MEASURES)
+    matches!(token_of(bytes), Some(token) if begins_a_value(token))
+}
+
+/// Whether the token begins a value, and is a word.
+pub(crate) fn begins_a_value(token: Token) -> bool {
+    matches!(
+        token,
+        Token::Measure(_) | Token::Cards | Token::Len | Token::Longest | Token::Shortest
+    )
 }
 
 /// Whether the part is a seat.
 pub(crate) fn is_seat(bytes: &[u8]) -> bool {
-    const SEATS: [&[u8]; 4] = [b"north", b"east", b"south", b"west"];
-    is_among(bytes, &SEATS)
+    matches!(token_of(bytes), Some(Token::Seat(_)))
 }
 
 /// Whether the part is a suit.
 pub(crate) fn is_suit(bytes: &[u8]) -> bool {
-    const SUITS: [&[u8]; 4] = [b"spades", b"hearts", b"diamonds", b"clubs"];
-    is_among(bytes, &SUITS)
+    matches!(token_of(bytes), Some(Token::Suit(_)))
+}
+
+/// The token of a word of the language.
+pub(crate) fn token_of(bytes: &[u8]) -> Option<Token> {
+    for (word, token) in WORDS.iter() {
+        if bytes == word.as_bytes() {
+            return Some(*token);
+        }
+    }
+    None
 }
 
 /// Whether the part is a comparison.
 pub(crate) fn is_relation(bytes: &[u8]) -> bool {
-    const RELATIONS: [&[u8]; 6] = [b"==", b"!=", b"<", b"<=", b">", b">="];
-    is_among(bytes, &RELATIONS)
-}
-
-fn is_among(bytes: &[u8], words: &[&[u8]]) -> bool {
-    for word in words {
-        if bytes == *word {
-            return true;
-        }
-    }
-    false
+    matches!(bytes, b"==" | b"!=" | b"<" | b"<=" | b">" | b">=")
 }
 
 /// Whether the part is a number.

@@ -151,7 +151,7 @@ fn is_owed(code: u8, kind: Kind) -> bool {
 fn word_of(token: Token) -> &'static [u8] {
     for (word, meant) in WORDS.iter() {
         if *meant == token {
-            return word;
+            return word.as_bytes();
         }
     }
     b""
@@ -240,12 +240,17 @@ fn expect_the_same(rt: &(impl Abort + AllocGlobal), seed: u64) -> Result<(), Fai
     let mut dice = Dice::new(seed);
     for _ in 0..25_000 {
         let (text, fault, machine) = some_text(rt.alloc(), &mut dice)?;
-        let refused = parse(rt.alloc(), &text).err();
+        let refused = refusal(rt.alloc(), &text);
         assert_eq!(rt; refused, fault.map(|at| CondError::Syntax { at }));
-        let beginning = Beginning::of(rt.alloc(), &text)?;
-        for kind in Kind::ALL {
-            assert_eq!(rt; beginning.allows(kind)?, machine.allows(kind));
-        }
+        expect_kinds(rt, &Beginning::of(rt.alloc(), &text)?, &machine)?;
+    }
+    Ok(())
+}
+
+/// The beginning allows what the machine allows.
+fn expect_kinds(rt: &impl Abort, beginning: &Beginning, machine: &Machine) -> Result<(), Fail> {
+    for kind in Kind::ALL {
+        assert_eq!(rt; beginning.allows(kind)?, machine.allows(kind));
     }
     Ok(())
 }

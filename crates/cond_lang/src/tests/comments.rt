@@ -39,7 +39,7 @@ fn carriage_returns_separate(rt: HostRuntime) -> Result<(), Fail> {
 
 #[test]
 fn faults_around_comments(rt: HostRuntime) {
-    for (text, refusal) in [
+    for (text, wanted) in [
         (b"# all comment".as_slice(), CondError::Syntax { at: 13 }),
         (b"1==1 # 12345\n%", CondError::Byte { at: 13 }),
         (b"1=1 # =", CondError::Byte { at: 1 }),
@@ -48,7 +48,7 @@ fn faults_around_comments(rt: HostRuntime) {
         (b"1==1\x0c", CondError::Byte { at: 4 }),
         (b"1==1 # two\n2==2", CondError::Syntax { at: 11 }),
     ] {
-        assert_eq!(rt; parse(rt.alloc(), text).err(), Some(refusal));
+        expect_refusal(&rt, text, wanted);
     }
 }
 
@@ -56,8 +56,8 @@ fn faults_around_comments(rt: HostRuntime) {
 #[test]
 fn comments_count(rt: HostRuntime) -> Result<(), Fail> {
     let whole = repeated(rt.alloc(), b"0==1#", 1, &[b'-'; 1019])?;
-    assert!(rt; !parse(rt.alloc(), &whole)?.holds(&deal(SUIT_EACH)?));
+    expect_truth(&rt, &whole, false, &deal(SUIT_EACH)?)?;
     let longer = repeated(rt.alloc(), b"0==1#", 1, &[b'-'; 1020])?;
-    assert_eq!(rt; parse(rt.alloc(), &longer).err(), Some(CondError::TooLong));
+    expect_refusal(&rt, &longer, CondError::TooLong);
     Ok(())
 }

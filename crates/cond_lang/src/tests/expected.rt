@@ -86,15 +86,20 @@ const EXPECTED: [(&str, &[Kind]); 35] = [
 #[test]
 fn what_could_stand_there(rt: HostRuntime) -> Result<(), Fail> {
     for (text, expected) in EXPECTED.iter() {
-        let beginning = Beginning::of(rt.alloc(), text.as_bytes())?;
-        for kind in Kind::ALL {
-            let listed = match kind {
-                Kind::Measure(_) => MEASURE,
-                other => other,
-            };
-            let is_expected = expected.iter().any(|it| *it == listed);
-            assert_eq!(rt; beginning.allows(kind)?, is_expected);
-        }
+        expect_kinds(&rt, &Beginning::of(rt.alloc(), text.as_bytes())?, expected)?;
+    }
+    Ok(())
+}
+
+/// The beginning allows exactly these kinds.
+fn expect_kinds(rt: &impl Abort, beginning: &Beginning, expected: &[Kind]) -> Result<(), Fail> {
+    for kind in Kind::ALL {
+        let listed = match kind {
+            Kind::Measure(_) => MEASURE,
+            other => other,
+        };
+        let is_expected = expected.iter().any(|it| *it == listed);
+        assert_eq!(rt; beginning.allows(kind)?, is_expected);
     }
     Ok(())
 }

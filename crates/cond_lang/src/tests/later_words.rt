@@ -144,32 +144,32 @@ const CONDITIONS: [(&str, [bool; 6]); 24] = [
 
 #[test]
 fn values_of_six_deals(rt: HostRuntime) -> Result<(), Fail> {
-    for (text, numbers) in VALUES {
-        for (hands, number) in DEALS.iter().zip(numbers) {
-            let deal = deal(hands)?;
-            let is = format!(in rt.alloc(); "{text}=={number}")?;
-            assert!(rt; holds(rt.alloc(), is.as_str(), &deal)?, "{is}");
-            let is_in = format!(in rt.alloc(); "{text} in {number}-{number}")?;
-            assert!(rt;
-                condition(rt.alloc(), is_in.as_str())?
-                    .try_clone()?
-                    .holds(&deal),
-                "{is_in}"
-            );
+    for (text, numbers) in VALUES.iter() {
+        for (hands, number) in DEALS.iter().zip(numbers.iter()) {
+            expect_value(&rt, text, *number, &deal(hands)?)?;
         }
     }
     Ok(())
 }
 
+/// The value is this number, also as a range.
+fn expect_value(
+    rt: &(impl Abort + AllocGlobal),
+    value: &str,
+    number: u16,
+    deal: &Deal,
+) -> Result<(), Fail> {
+    let is = format!(in rt.alloc(); "{value}=={number}")?;
+    expect_truth(rt, is.as_bytes(), true, deal)?;
+    let is_in = format!(in rt.alloc(); "{value} in {number}-{number}")?;
+    expect_truth(rt, is_in.as_bytes(), true, deal)
+}
+
 #[test]
 fn conditions_of_six_deals(rt: HostRuntime) -> Result<(), Fail> {
-    for (text, truths) in CONDITIONS {
-        let cond = condition(rt.alloc(), text)?;
-        let clone = cond.try_clone()?;
-        for (hands, truth) in DEALS.iter().zip(truths) {
-            let deal = deal(hands)?;
-            assert_eq!(rt; cond.holds(&deal), truth, "{text}");
-            assert_eq!(rt; clone.holds(&deal), truth, "{text}");
+    for (text, truths) in CONDITIONS.iter() {
+        for (hands, truth) in DEALS.iter().zip(truths.iter()) {
+            expect_truth(&rt, text.as_bytes(), *truth, &deal(hands)?)?;
         }
     }
     Ok(())
@@ -216,15 +216,14 @@ const SYNTAX: [(&str, usize); 35] = [
 
 #[test]
 fn places_of_syntax(rt: HostRuntime) {
-    for (text, at) in SYNTAX {
-        let refusal = parse(rt.alloc(), text.as_bytes()).err();
-        assert_eq!(rt; refusal, Some(CondError::Syntax { at }), "{text}");
+    for (text, at) in SYNTAX.iter() {
+        expect_refusal(&rt, text.as_bytes(), CondError::Syntax { at: *at });
     }
 }
 
 #[test]
 fn faulty_pieces_of_the_later_words(rt: HostRuntime) {
-    for (text, refusal) in [
+    for (text, wanted) in [
         ("kk==1", CondError::Word { at: 0 }),
         ("ajx==1", CondError::Word { at: 0 }),
         ("xy", CondError::Word { at: 0 }),
@@ -237,11 +236,7 @@ fn faulty_pieces_of_the_later_words(rt: HostRuntime) {
         ("cards(east,AK)==1", CondError::Byte { at: 11 }),
         ("1=1 # =", CondError::Byte { at: 1 }),
     ] {
-        assert_eq!(rt;
-            parse(rt.alloc(), text.as_bytes()).err(),
-            Some(refusal),
-            "{text}"
-        );
+        expect_refusal(&rt, text.as_bytes(), wanted);
     }
 }
 

@@ -13,24 +13,18 @@ fn in_order() -> Result<Deal, Fail> {
     Ok(Deal::shuffled(&Places::new(places).ok_or("places")?))
 }
 
-/// The text's condition and a clone of it, each asked on the deal that is in order and on the
-/// worked one.
-fn asked(alloc: Global, text: &str) -> Result<[bool; 4], Fail> {
-    let cond = condition(alloc, text)?;
-    let clone = cond.try_clone()?;
-    let (first, second) = (in_order()?, deal(WORKED)?);
-    Ok([
-        cond.holds(&first),
-        cond.holds(&second),
-        clone.holds(&first),
-        clone.holds(&second),
-    ])
+/// What the text's condition and a clone of it say of the deal that is in order, and of the worked
+/// one.
+fn asked(alloc: Global, text: &str) -> Result<[[bool; 2]; 2], Fail> {
+    let of_first = both_hold(alloc, text.as_bytes(), &in_order()?)?;
+    let of_worked = both_hold(alloc, text.as_bytes(), &deal(WORKED)?)?;
+    Ok([of_first, of_worked])
 }
 
 #[test]
 fn or_binds_looser_than_and(rt: HostRuntime) -> Result<(), Fail> {
     let text = "not hcp(north)>=15 or balanced(north) and len(north,spades)==0";
-    assert_eq!(rt; asked(rt.alloc(), text)?, [true; 4]);
+    assert_eq!(rt; asked(rt.alloc(), text)?, [[true; 2]; 2]);
     assert!(rt; holds(rt.alloc(), text, &deal(SUIT_EACH)?)?);
     Ok(())
 }
@@ -38,9 +32,9 @@ fn or_binds_looser_than_and(rt: HostRuntime) -> Result<(), Fail> {
 #[test]
 fn not_binds_tighter_than_or(rt: HostRuntime) -> Result<(), Fail> {
     let text = "not len(north,spades)==13 or hcp(north)==10";
-    assert_eq!(rt; asked(rt.alloc(), text)?, [true; 4]);
+    assert_eq!(rt; asked(rt.alloc(), text)?, [[true; 2]; 2]);
     let text = "not (len(north,spades)==13 or hcp(north)==10)";
-    assert_eq!(rt; asked(rt.alloc(), text)?, [false, true, false, true]);
+    assert_eq!(rt; asked(rt.alloc(), text)?, [[false; 2], [true; 2]]);
     Ok(())
 }
 
@@ -94,28 +88,47 @@ fn relations(rt: HostRuntime) -> Result<(), Fail> {
 
 #[test]
 fn any_holds_of_all(rt: HostRuntime) -> Result<(), Fail> {
-    let any = Cond::any(rt.alloc());
     for hands in [SUIT_EACH, HANDED_ON, WORKED] {
-        assert!(rt; any.holds(&deal(hands)?));
+        assert!(rt; any_holds(rt.alloc(), &deal(hands)?));
     }
     Ok(())
 }
 
+fn any_holds(alloc: Global, deal: &Deal) -> bool {
+    Cond::any(alloc).holds(deal)
+}
+
 #[test]
 fn forty_points_in_a_thousand_deals(rt: HostRuntime) -> Result<(), Fail> {
-    let all = condition(rt.alloc(), "hcp(north)+hcp(east)+hcp(south)+hcp(west)==40")?;
-    let other = condition(rt.alloc(), "hcp(north)+hcp(east)+hcp(south)+hcp(west)!=40")?;
-    let mut dice = Dice::new(1);
-    for _ in 0..1000 {
-        let mut places = [0; 51];
-        for i in 0..51u8 {
-            places[usize::from(i)] = dice.below(52 - i);
-        }
-        let deal = Deal::shuffled(&Places::new(places).ok_or("places")?);
-        assert!(rt; all.holds(&deal));
-        assert!(rt; !other.holds(&deal));
-    }
+    let forty = "hcp(north)+hcp(east)+hcp(south)+hcp(west)==40";
+    assert_eq!(rt; of_a_thousand(rt.alloc(), forty)?, 1000);
+    let other = "hcp(north)+hcp(east)+hcp(south)+hcp(west)!=40";
+    assert_eq!(rt; of_a_thousand(rt.alloc(), other)?, 0);
     Ok(())
+}
+
+/// Of how many of a thousand deals the text's condition holds.
+fn of_a_thousand(alloc: Global, text: &str) -> Result<u16, Fail> {
+    count_true(&condition(alloc, text)?)
+}
+
+fn count_true(cond: &Cond) -> Result<u16, Fail> {
+    let mut dice = Dice::new(1);
+    let mut count: u16 = 0;
+    for _ in 0..1000 {
+        if cond.holds(&some_deal(&mut dice)?) {
+            count = count.saturating_add(1);
+        }
+    }
+    Ok(count)
+}
+
+fn some_deal(dice: &mut Dice) -> Result<Deal, Fail> {
+    let mut places = [0; 51];
+    for i in 0..51u8 {
+        places[usize::from(i)] = dice.below(52 - i);
+    }
+    Ok(Deal::shuffled(&Places::new(places).ok_or("places")?))
 }
 
 fn result_of_sent<C: FnOnce() -> bool + Send>(ask: C) -> bool

@@ -33,9 +33,7 @@ fn controls_of_the_worked_deal(rt: HostRuntime) -> Result<(), Fail> {
         "controls(west,spades)==1 and controls(west,hearts)==2 and controls(south,clubs)==1",
         "controls(north)+controls(east)+controls(south)+controls(west)==12",
     ] {
-        assert!(rt; holds(rt.alloc(), text, &deal)?, "{text}");
-        let cond = condition(rt.alloc(), text)?.try_clone()?;
-        assert!(rt; cond.holds(&deal), "{text}");
+        expect_truth(&rt, text.as_bytes(), true, &deal)?;
     }
     assert!(rt; !holds(rt.alloc(), "controls(north)==13", &deal)?);
     Ok(())
@@ -52,9 +50,7 @@ fn refusals_of_controls(rt: HostRuntime) {
         ("controls(north,spades>=1", 21),
         ("balanced(controls)", 9),
     ] {
-        let refusal = parse(rt.alloc(), text.as_bytes()).err();
-        assert_eq!(rt; refusal, Some(CondError::Syntax { at }), "{text}");
+        expect_refusal(&rt, text.as_bytes(), CondError::Syntax { at });
     }
-    let refusal = parse(rt.alloc(), b"control(north)>=1").err();
-    assert_eq!(rt; refusal, Some(CondError::Word { at: 0 }));
+    expect_refusal(&rt, b"control(north)>=1", CondError::Word { at: 0 });
 }

@@ -94,15 +94,14 @@ const TOKENS: [&[u8]; 56] = [
 /// What must hold of a result: if a text is refused as syntax, the part before the fault is refused
 /// nowhere but at its own end.
 fn expect_sound(rt: &(impl Abort + AllocGlobal), text: &[u8]) {
-    let Err(CondError::Syntax { at }) = parse(rt.alloc(), text) else {
+    let Some(CondError::Syntax { at }) = refusal(rt.alloc(), text) else {
         return;
     };
     let before = text.get(..at);
     assert!(rt; before.is_some());
     if let Some(before) = before {
-        match parse(rt.alloc(), before) {
-            Ok(_) => {}
-            Err(refusal) => assert_eq!(rt; refusal, CondError::Syntax { at }),
+        if let Some(refused) = refusal(rt.alloc(), before) {
+            assert_eq!(rt; refused, CondError::Syntax { at });
         }
     }
 }

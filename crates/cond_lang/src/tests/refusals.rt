@@ -3,10 +3,6 @@
 use super::*;
 use crate::CondError;
 
-fn expect_refusal(rt: &(impl Abort + AllocGlobal), text: &[u8], refusal: CondError) {
-    assert_eq!(rt; parse(rt.alloc(), text).err(), Some(refusal));
-}
-
 fn expect_syntax(rt: &(impl Abort + AllocGlobal), text: &[u8], at: usize) {
     expect_refusal(rt, text, CondError::Syntax { at });
 }
@@ -66,7 +62,7 @@ fn too_long(rt: HostRuntime) {
 #[test]
 fn as_long_as_may_be(rt: HostRuntime) -> Result<(), Fail> {
     let whole = repeated(rt.alloc(), b" ", 1020, b"0==0")?;
-    assert!(rt; parse(rt.alloc(), &whole)?.holds(&deal(SUIT_EACH)?));
+    expect_truth(&rt, &whole, true, &deal(SUIT_EACH)?)?;
     let longer = repeated(rt.alloc(), b" ", 1021, b"0==0")?;
     expect_refusal(&rt, &longer, CondError::TooLong);
     Ok(())
@@ -79,10 +75,7 @@ fn deep_brackets(rt: HostRuntime) -> Result<(), Fail> {
     expect_syntax(&rt, &closed, 1023);
     let mut whole = repeated(rt.alloc(), b"(", 510, b"0==0")?;
     whole.extend_from_slice(&[b')'; 510])?;
-    let cond = parse(rt.alloc(), &whole)?;
-    assert!(rt; cond.holds(&deal(SUIT_EACH)?));
-    assert!(rt; cond.try_clone()?.holds(&deal(SUIT_EACH)?));
-    Ok(())
+    expect_truth(&rt, &whole, true, &deal(SUIT_EACH)?)
 }
 
 #[test]
@@ -90,23 +83,19 @@ fn many_negations(rt: HostRuntime) -> Result<(), Fail> {
     let open = repeated(rt.alloc(), b"not ", 256, b"")?;
     expect_syntax(&rt, &open, 1024);
     let whole = repeated(rt.alloc(), b"not ", 255, b"0==0")?;
-    let cond = parse(rt.alloc(), &whole)?;
-    assert!(rt; !cond.holds(&deal(SUIT_EACH)?));
-    assert!(rt; !cond.try_clone()?.holds(&deal(SUIT_EACH)?));
-    Ok(())
+    expect_truth(&rt, &whole, false, &deal(SUIT_EACH)?)
 }
 
 #[test]
 fn long_chains(rt: HostRuntime) -> Result<(), Fail> {
     let whole = repeated(rt.alloc(), b"0==0or", 170, b"0==0")?;
-    let cond = parse(rt.alloc(), &whole)?;
-    assert!(rt; cond.holds(&deal(SUIT_EACH)?));
-    assert!(rt; cond.try_clone()?.holds(&deal(SUIT_EACH)?));
+    expect_truth(&rt, &whole, true, &deal(SUIT_EACH)?)
+}
+
+#[test]
+fn long_sums(rt: HostRuntime) -> Result<(), Fail> {
     let sum = repeated(rt.alloc(), b"9999+", 200, b"0!=1999800")?;
     expect_refusal(&rt, &sum, CondError::Number { at: 1003 });
     let sum = repeated(rt.alloc(), b"9+", 500, b"0==4500")?;
-    let cond = parse(rt.alloc(), &sum)?;
-    assert!(rt; cond.holds(&deal(SUIT_EACH)?));
-    assert!(rt; cond.try_clone()?.holds(&deal(SUIT_EACH)?));
-    Ok(())
+    expect_truth(&rt, &sum, true, &deal(SUIT_EACH)?)
 }

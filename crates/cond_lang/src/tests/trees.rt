@@ -7,9 +7,19 @@ pub(super) fn expect_tree(
     text: &str,
     tree: &str,
 ) -> Result<(), Fail> {
-    let spelled = format!(in rt.alloc(); "{:?}", condition(rt.alloc(), text)?.tree())?;
+    let spelled = tree_of(rt.alloc(), text)?;
     assert_eq!(rt; spelled.as_str(), tree);
     Ok(())
+}
+
+/// The tree of a text's condition, as text.
+fn tree_of(alloc: Global, text: &str) -> Result<String, Fail> {
+    spelled(alloc, &condition(alloc, text)?)
+}
+
+/// The condition's tree, as text.
+fn spelled(alloc: Global, cond: &Cond) -> Result<String, Fail> {
+    Ok(format!(in alloc; "{:?}", cond.tree())?)
 }
 
 #[test]
@@ -119,23 +129,26 @@ fn every_word_and_symbol(rt: HostRuntime) -> Result<(), Fail> {
 
 #[test]
 fn any_is_the_tree_of_zero_is_zero(rt: HostRuntime) -> Result<(), Fail> {
-    let any = Cond::any(rt.alloc());
-    let spelled = format!(in rt.alloc(); "{:?}", any.tree())?;
-    assert_eq!(rt;
-        spelled.as_str(),
-        "Compare { left: Number(0), op: Equal, right: Number(0) }"
-    );
-    Ok(())
+    let any = tree_of_any(rt.alloc())?;
+    expect_tree(&rt, "0==0", any.as_str())
 }
 
 #[test]
 fn a_clone_has_an_equal_tree(rt: HostRuntime) -> Result<(), Fail> {
     let text =
         "not (hcp(north)+len(south,clubs)+3>=15 or shape(east,4-4-3-2)) and pattern(west,4-3-3-3)";
-    let first = condition(rt.alloc(), text)?;
-    let second = first.try_clone()?;
-    let spelled = format!(in rt.alloc(); "{:?}", first.tree())?;
-    let again = format!(in rt.alloc(); "{:?}", second.tree())?;
-    assert_eq!(rt; spelled.as_str(), again.as_str());
-    Ok(())
+    let clone = tree_of_clone(rt.alloc(), text)?;
+    expect_tree(&rt, text, clone.as_str())
+}
+
+fn tree_of_any(alloc: Global) -> Result<String, Fail> {
+    spelled(alloc, &Cond::any(alloc))
+}
+
+fn tree_of_clone(alloc: Global, text: &str) -> Result<String, Fail> {
+    spelled_clone(alloc, &condition(alloc, text)?)
+}
+
+fn spelled_clone(alloc: Global, cond: &Cond) -> Result<String, Fail> {
+    spelled(alloc, &cond.try_clone()?)
 }

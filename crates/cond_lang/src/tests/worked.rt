@@ -153,10 +153,9 @@ const CONDITIONS: [(&str, [bool; 6]); 26] = [
 
 #[test]
 fn worked_conditions(rt: HostRuntime) -> Result<(), Fail> {
-    for (text, truths) in CONDITIONS {
-        let cond = condition(rt.alloc(), text)?;
-        for (hands, truth) in DEALS.iter().zip(truths) {
-            assert_eq!(rt; cond.holds(&deal(hands)?), truth, "{text}");
+    for (text, truths) in CONDITIONS.iter() {
+        for (hands, truth) in DEALS.iter().zip(truths.iter()) {
+            expect_truth(&rt, text.as_bytes(), *truth, &deal(hands)?)?;
         }
     }
     Ok(())

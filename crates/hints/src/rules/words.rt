@@ -1,23 +1,13 @@
 //! Words that aren't in the language.
 
-use crate::parts::{Parts, are_ranks, is, is_measure, is_number, is_word};
+use crate::parts::{Parts, are_ranks, is, is_measure, is_number, is_word, token_of};
 use crate::said::{Said, first_of, say};
+use cond_lang::{Token, WORDS};
 use std::alloc::{AllocError, Global};
 use strsim::jaro;
 
 /// How alike two words are at least, of which the one may be meant by the other.
 const ALIKE: f64 = 0.7;
-
-const SEATS: [&str; 4] = ["north", "east", "south", "west"];
-
-const SUITS: [&str; 4] = ["spades", "hearts", "diamonds", "clubs"];
-
-/// All words of the language.
-const WORDS: [&str; 23] = [
-    "or", "and", "not", "balanced", "shape", "pattern", "hcp", "controls", "losers", "cards",
-    "len", "longest", "shortest", "in", "x", "north", "east", "south", "west", "spades", "hearts",
-    "diamonds", "clubs",
-];
 
 /// What stands where the word is.
 #[derive(Clone, Copy, PartialEq, Eq)]
@@ -79,8 +69,7 @@ fn small(alloc: Global, written: &[u8], word: &[u8], place: Place) -> Said {
     if written == word {
         return Ok(None);
     }
-    let is_known = WORDS.iter().any(|known| known.as_bytes() == word);
-    if is_known || place == Place::Ranks && are_ranks(word) {
+    if token_of(word).is_some() || place == Place::Ranks && are_ranks(word) {
         return say(alloc, &[b"in small letters write \"", word, b"\""]);
     }
     Ok(None)
@@ -190,26 +179,21 @@ fn alike(alloc: Global, word: &[u8], place: Place) -> Said {
     if text.len() < 2 {
         return Ok(None);
     }
-    let found = match place {
-        Place::Seat => nearest(alloc, text, &SEATS)?,
-        Place::Suit | Place::Ranks => nearest(alloc, text, &SUITS)?,
-        Place::Lengths | Place::Other => nearest(alloc, text, &WORDS)?,
-    };
+    let found = nearest(alloc, text, place)?;
     match found {
         Some(name) => say(alloc, &[b"did you mean \"", name.as_bytes(), b"\"?"]),
         None => Ok(None),
     }
 }
 
-/// The first of the words that are most like the text, if they are alike at all.
-fn nearest(
-    alloc: Global,
-    text: &str,
-    words: &[&'static str],
-) -> Result<Option<&'static str>, AllocError> {
+/// The first of the words at the place that are most like the text, if they are alike at all.
+fn nearest(alloc: Global, text: &str, place: Place) -> Result<Option<&'static str>, AllocError> {
     let mut found = None;
     let mut most = ALIKE;
-    for word in words {
+    for (word, token) in WORDS.iter() {
+        if !is_at_home(*token, place) {
+            continue;
+        }
         let score = jaro(alloc, text, word)?;
         if score > most {
             most = score;
@@ -217,4 +201,13 @@ fn nearest(
         }
     }
     Ok(found)
+}
+
+/// Whether a word may be meant at the place: in the place of ranks a suit may stand too.
+fn is_at_home(token: Token, place: Place) -> bool {
+    match place {
+        Place::Seat => matches!(token, Token::Seat(_)),
+        Place::Suit | Place::Ranks => matches!(token, Token::Suit(_)),
+        Place::Lengths | Place::Other => true,
+    }
 }

@@ -96,10 +96,10 @@ const WORDS: [Mistake; 32] = [
 ",
     ),
     (
-        b"aces(north)>=2",
-        "  aces(north)>=2
-  ^^^^
-  hint: write \"cards(north,a)\"
+        b"kings(north)>=2",
+        "  kings(north)>=2
+  ^^^^^
+  hint: write \"cards(north,k)\"
 ",
     ),
     (

@@ -5,4 +5,4 @@ use Rattle.hints.proofs.expected.put_each.Given as goal
 
 abbrev pub invariant-loop-kind : goal.invariant-loop-kind
 invariant-loop-kind l =
-    l.terms.items ≡ l.initial.terms.items ++ each (in_set l.can) (take l.kind-index l.kinds)
+    l.terms.items ≡ l.initial.terms.items ++ each (in_set l.can) l.part (take l.kind-index l.kinds)

@@ -1,10 +1,12 @@
-use Rattle.std.proofs.Common.{◌↔◌, ◌<◌, IsTrue, arith, false, slice_index_or, subst}
+use Rattle.std.proofs.lemmas.Option.{get_or_from_slice_get, slice_get_within}
+use Rattle.std.proofs.Common.{◌≡◌, length, ◌↔◌, ◌<◌, IsTrue, arith, false, slice_index_or, subst}
 use Rattle.std.proofs.lemmas.Grind.{common_steps}
 use Rattle.cond_lang.specs.declared.words.Kind.{Kind}
 use Rattle.cond_lang.specs.declared.words.Kind.TheVariants as kind
 use Rattle.cond_lang.specs.Continuations.{CanFollow}
-use Rattle.hints.specs.internal.Kinds.{all_kinds, number_of}
-use Rattle.hints.proofs.KindLemmas.{all_at, number_of_small, one_answer_more}
+use Rattle.cond_lang.specs.Kinds.{all_kinds, place_of}
+use Rattle.cond_lang.proofs.EachKind.{kind_listed}
+use Rattle.hints.proofs.KindLemmas.{one_answer_more}
 use Rattle.hints.proofs.kinds.KindSet.of.Goals as goal
 
 pub loop-i-preserved : goal.loop-i-preserved
@@ -17,6 +19,7 @@ loop-i-preserved c = (
 
 pub returns-clause-allowed : goal.returns-clause-allowed
 returns-clause-allowed c =
-    λ k. let within : number_of k < 26 = number_of_small k in
-    let P : Kind → Type 0 = λ q. IsTrue (slice_index_or c.loop-i.holds (number_of k) false) ↔ CanFollow c.args.beginning.now q in
-    subst P (all_at k) (c.loop-i.invariant.1 (number_of k) (omega arith))
+    λ k. let within : place_of k < length all_kinds = slice_get_within all_kinds (place_of k) k (kind_listed k) in
+    let there : slice_index_or all_kinds (place_of k) kind.Not ≡ k = get_or_from_slice_get all_kinds (place_of k) k kind.Not (kind_listed k) in
+    let P : Kind → Type 0 = λ q. IsTrue (slice_index_or c.loop-i.holds (place_of k) false) ↔ CanFollow c.args.beginning.now q in
+    subst P there (c.loop-i.invariant.1 (place_of k) (omega arith))

@@ -1,0 +1,66 @@
+-- Each kind stands in the list of all, once.
+use Rattle.std.proofs.Common.{◌≡◌, ◌∙◌, ℕ, zero, suc, ◌+◌, ◌&&◌, ◌==◌, Bool, true, List, [], ◌∷◌, ◌++◌, Some, refl, map, slice_get, arith, drop, length}
+use Rattle.std.proofs.lemmas.Grind.{common_steps}
+use Rattle.std.proofs.lemmas.Option.{slice_get-map}
+use Rattle.cards.specs.Measures.{measures, measure_number, measure_listed}
+use Rattle.cards.specs.declared.measure.Measure.{Measure}
+use Rattle.cond_lang.specs.declared.words.Kind.{Kind}
+use Rattle.cond_lang.specs.declared.words.Kind.TheVariants as kind
+use Rattle.cond_lang.specs.Kinds.{IsListedOnce, all_kinds, place_of}
+
+-- what stands at a place still does with more behind it
+with_more : {X : Type 0} (xs ys : List X) (i : ℕ) (x : X) → slice_get xs i ≡ Some x → slice_get (xs ++ ys) i ≡ Some x
+with_more [] ys i x e = absurd (cc)
+with_more (y ∷ xs) ys zero x e = e
+with_more (y ∷ xs) ys (suc i) x e = with_more xs ys i x e
+
+behind_six : {X : Type 0} (a b c d e f : X) (xs : List X) (i : ℕ) → slice_get (a ∷ b ∷ c ∷ d ∷ e ∷ f ∷ xs) (6 + i) ≡ slice_get xs i
+behind_six a b c d e f xs i = let six : 6 + i ≡ suc (suc (suc (suc (suc (suc i))))) = omega arith in rw six refl
+
+measure_at : (m : Measure) → slice_get (map kind.Measure measures) (measure_number m) ≡ Some (kind.Measure m)
+measure_at m = rw (slice_get-map kind.Measure measures (measure_number m), measure_listed m) refl
+
+abbrev behind_measures : List Kind
+behind_measures = drop (6 + length measures) all_kinds
+
+pub kind_listed : (k : Kind) → slice_get all_kinds (place_of k) ≡ Some k
+kind_listed kind.Not = refl
+kind_listed kind.Open = refl
+kind_listed kind.Balanced = refl
+kind_listed kind.Shape = refl
+kind_listed kind.Pattern = refl
+kind_listed kind.Number = refl
+kind_listed (kind.Measure m) =
+    behind_six kind.Not kind.Open kind.Balanced kind.Shape kind.Pattern kind.Number
+    (map kind.Measure measures ++ behind_measures) (measure_number m)
+    ∙ with_more (map kind.Measure measures) behind_measures (measure_number m) (kind.Measure m) (measure_at m)
+kind_listed kind.Cards = refl
+kind_listed kind.Len = refl
+kind_listed kind.Longest = refl
+kind_listed kind.Shortest = refl
+kind_listed kind.Plus = refl
+kind_listed kind.Relation = refl
+kind_listed kind.In = refl
+kind_listed kind.Dash = refl
+kind_listed kind.X = refl
+kind_listed kind.Comma = refl
+kind_listed kind.Seat = refl
+kind_listed kind.Suit = refl
+kind_listed kind.Ranks = refl
+kind_listed kind.Close = refl
+kind_listed kind.And = refl
+kind_listed kind.Or = refl
+kind_listed kind.End = refl
+
+-- these kinds have the places from n on, as a test, which computes for the list of all
+abbrev are_from : ℕ → List Kind → Bool
+are_from n [] = true
+are_from n (k ∷ ks) = (place_of k == n) && are_from (suc n) ks
+
+place_in : (n : ℕ) (ks : List Kind) (i : ℕ) (k : Kind) → are_from n ks ≡ true → slice_get ks i ≡ Some k → i + n ≡ place_of k
+place_in n [] i k h e = absurd (cc)
+place_in n (x ∷ ks) zero k h e = grind (arith, common_steps)
+place_in n (x ∷ ks) (suc i) k h e = let more : are_from (suc n) ks ≡ true = grind (arith, common_steps) in let there = place_in (suc n) ks i k more e in omega (arith, there)
+
+pub kind_once : (k : Kind) → IsListedOnce k
+kind_once k = (kind_listed k, λ i e. (let h = place_in 0 all_kinds i k refl e in omega (arith, h)))
