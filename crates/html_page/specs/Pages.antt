@@ -56,20 +56,20 @@ escaped text = flat_map escaped_byte text
 -- ---- the header and the footer
 
 -- up to the title
-abbrev pub opening : List ℕ
+unfoldable pub opening : List ℕ
 opening =
     codes "<!DOCTYPE html>\n<html lang=\"en\">\n<head>\n<meta charset=\"utf-8\">\n"
     ++ codes "<meta name=\"viewport\" content=\"width=device-width, initial-scale=1\">\n"
 
 -- the title, the style, and the title again as the heading
-abbrev pub header_text : HeadingView → List ℕ
+unfoldable pub header_text : HeadingView → List ℕ
 header_text heading =
     opening
     ++ codes "<title>" ++ escaped (title_of heading) ++ codes "</title>\n<style>\n"
     ++ style ++ codes "</style>\n</head>\n<body>\n<main>\n<h1>"
     ++ escaped (title_of heading) ++ codes "</h1>\n"
 
-abbrev pub footer_text : List ℕ
+unfoldable pub footer_text : List ℕ
 footer_text = codes "</main>\n</body>\n</html>\n"
 
 -- ---- a board

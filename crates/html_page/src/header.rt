@@ -27,6 +27,7 @@ pub(crate) fn put_header(text: &mut TextBuffer, heading: &Heading)
 }
 
 /// Writes what comes before the title into the empty buffer.
+#[tactic(auto, unfolding(crate::specs::Pages::opening))]
 fn put_opening(text: &mut TextBuffer)
     requires { text.old ≡ [] }
     ensures text { text.new ≡ opening }

@@ -75,6 +75,7 @@ impl Notation for HtmlPrinter {
         self.text.as_bytes()
     }
 
+    #[tactic(auto, unfolding(crate::specs::Pages::footer_text))]
     fn footer(&self) -> &[u8] {
         b"</main>\n</body>\n</html>\n"
     }

@@ -1,9 +1,10 @@
 use Rattle.std.proofs.Common.{ℕ, List, ◌++◌, ◌∙◌, codes, ap}
-use Rattle.html_page.specs.Pages.{escaped, title_of}
+use Rattle.html_page.specs.Pages.{escaped, header_text, title_of}
 use Rattle.html_page.specs.Style.{style}
 use Rattle.html_page.proofs.header.put_header.Goals as goal
 
 pub returns : goal.returns
+unfolding header_text
 returns c =
     let title : List ℕ = title_of c.args.heading.now in
     let between : List ℕ = codes "</title>\n<style>\n" in
