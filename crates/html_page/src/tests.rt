@@ -1,5 +1,5 @@
-//! Sections and headers written down by a second program, of the pack in order, of a worked deal and
-//! of two candidates.
+//! Sections and headers that a second program wrote, of the pack in order, of a worked deal and of
+//! two candidates.
 
 use super::*;
 use boards::{Board, Notation, Vul};

@@ -4,17 +4,19 @@ use Rattle.boards.specs.Layouts.{Layout}
 use Rattle.cond_lang.specs.Form.{Form}
 use Rattle.dealrun.specs.Text.{text_in}
 use Rattle.hand_records.specs.Records.{hands}
+use Rattle.html_page.specs.Pages.{html}
 use Rattle.lin_text.specs.Lin.{lin}
 use Rattle.pbn_text.specs.Games.{HeadingView, pbn}
 use Rattle.plans.specs.Plans.{Planned}
 use Rattle.requests.specs.declared.format.Format.{Format}
-use Rattle.requests.specs.declared.format.Format.TheVariants.{Pbn, Hands, Lin}
+use Rattle.requests.specs.declared.format.Format.TheVariants.{Pbn, Hands, Lin, Html}
 
 -- the layout of a format, under a heading; LIN has no labels
 abbrev pub layout_of : Format → HeadingView → Layout
 layout_of Pbn heading = pbn heading
 layout_of Hands heading = hands heading
 layout_of Lin heading = lin
+layout_of Html heading = html heading
 
 -- the whole text of a plan under a condition
 abbrev pub text_as : Format → Planned → Form → List ℕ

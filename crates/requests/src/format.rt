@@ -9,4 +9,6 @@ pub enum Format {
     Hands,
     /// The notation of Bridge Base Online.
     Lin,
+    /// One page of HTML, to look at and to print.
+    Html,
 }
