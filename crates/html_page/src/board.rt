@@ -69,6 +69,7 @@ fn put_hand(text: &mut TextBuffer, letters: &SuitLetters, deal: &Deal, seat: Sea
 }
 
 /// Appends the seat of a hand, and its points.
+#[inline(always)]
 #[tactic(auto, unfolding(crate::specs::Pages::seat_text))]
 fn put_seat(text: &mut TextBuffer, seat: Seat, points: u8)
     requires { length text.old + 90 ≤ CAPACITY }

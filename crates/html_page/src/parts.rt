@@ -65,6 +65,7 @@ fn sign(suit: Suit) -> [u8; 10]
 }
 
 /// The name of the seat.
+#[inline(always)]
 pub(crate) fn seat_name(seat: Seat) -> &'static [u8]
     ensures value { result.now ≡ seat_name seat }
     ensures most { length result.now ≤ 5 }
