@@ -144,7 +144,7 @@ board_text board =
     ++ hand_text West (hand_of board.deal West)
     ++ codes "</section>\n"
 
--- ---- the notation
+-- ---- the notation: the header, a section for each board, and the footer
 
 abbrev pub html : HeadingView → Layout
 html heading =
