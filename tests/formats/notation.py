@@ -1,7 +1,13 @@
-"""What `make` writes in each format, worked out from the pages that define them (docs/HANDS.md, docs/LIN.md, PBN 2.1)
-and from the deals of tests/faults/model.py. Nothing here is taken from the program."""
+"""What `make` writes in each format, worked out from the pages that define them (docs/HANDS.md, docs/LIN.md,
+docs/PAGE.md, PBN 2.1) and from the deals of tests/faults/model.py. Nothing here is taken from the program."""
+
+import html
+import pathlib
+import re
 
 import model
+
+DOCS = pathlib.Path(__file__).resolve().parent.parent.parent / "docs"
 
 SEATS = ["North", "East", "South", "West"]
 SIGNS = "♠♥♦♣"
@@ -46,12 +52,30 @@ def game(number, dealer, sides, hands, labels):
     return "".join(f'[{name} "{value}"]\n' for name, value in tags) + "\n"
 
 
+def section(number, dealer, sides, hands):
+    """A section of a page."""
+    signs = ["<i>♠</i>", "<b>♥</b>", "<b>♦</b>", "<i>♣</i>"]
+    lines = ['<section class="board">', f'<h2 class="{sides}">Board {number}</h2>']
+    lines.append(f"<p>Dealer {SEATS[dealer]}<br>Vul {sides}</p>")
+    for seat, hand in zip(SEATS, hands):
+        held = "<br>".join(sign + (suit or "–") for sign, suit in zip(signs, model.spelled(hand).split(".")))
+        lines.append(f'<div class="{seat}"><h3>{seat} <small>{model.points(hand)} HCP</small></h3>{held}</div>')
+    return "".join(line + "\n" for line in [*lines, "</section>"])
+
+
+def frame(part, labels):
+    """The header of a page, part 0, or its footer, part 1: as docs/PAGE.md has it, under these labels."""
+    text = re.findall(r"^```html\n(.*?)^```$", (DOCS / "PAGE.md").read_text(), re.M | re.S)[part]
+    title = ", ".join(value for _, value in labels if value.strip(" ")) or "Boards"
+    return text.replace("Boards", html.escape(title, quote=False))
+
+
 def header(form, labels):
     if form == "pbn":
         return "% PBN 2.1\n"
     if form == "hands" and labels:
         return "".join(value + "\n" for _, value in labels) + "\n"
-    return ""
+    return frame(0, labels) if form == "html" else ""
 
 
 def text(seed, count, form="pbn", dealer=None, sides=None, rotate=False, accepts=None, first=0, first_board=1,
@@ -71,6 +95,8 @@ def text(seed, count, form="pbn", dealer=None, sides=None, rotate=False, accepts
         if form == "pbn":
             parts.append(game(number, by, vulnerable, dealt, labels))
         else:
-            parts.append({"hands": record, "lin": line}[form](number, by, vulnerable, dealt))
+            parts.append({"hands": record, "lin": line, "html": section}[form](number, by, vulnerable, dealt))
         number += 1
+    if form == "html":
+        parts.append(frame(1, ()))
     return "".join(parts).encode()

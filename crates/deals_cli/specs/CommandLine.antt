@@ -17,7 +17,8 @@ use Rattle.cards.specs.declared.seat.Seat.{Seat}
 use Rattle.cards.specs.declared.seat.Seat.TheVariants.{North, East, South, West}
 use Rattle.requests.specs.Requests.{Making, Wish, conditions, stream, make}
 use Rattle.requests.specs.declared.format.Format.{Format}
-use Rattle.requests.specs.declared.format.Format.TheVariants.{Pbn, Hands, Lin, Numbers}
+use Rattle.requests.specs.declared.format.Format.TheVariants.{Pbn, Hands, Lin, Html}
+use Rattle.requests.specs.declared.format.Format.TheVariants.{Numbers}
 use Rattle.requests.specs.declared.progress.Progress.{Progress}
 use Rattle.requests.specs.declared.progress.Progress.TheVariants.{Auto, Always, Never}
 
@@ -120,7 +121,8 @@ is_set id rows = option_map_or (λ t. bytes_eq t (codes "true")) (first_of id ro
 
 -- the options that have one of a few words, and what each word stands for, in just this case
 abbrev pub formats : List (Text × Format)
-formats = (codes "pbn", Pbn) ∷ (codes "hands", Hands) ∷ (codes "lin", Lin) ∷ []
+formats =
+    (codes "pbn", Pbn) ∷ (codes "hands", Hands) ∷ (codes "lin", Lin) ∷ (codes "html", Html) ∷ []
 
 abbrev pub dealers : List (Text × Seat)
 dealers =

@@ -32,6 +32,7 @@ fn format_of(word: &str) -> Option<Format>
         "pbn" => Some(Format::Pbn),
         "hands" => Some(Format::Hands),
         "lin" => Some(Format::Lin),
+        "html" => Some(Format::Html),
         _ => None,
     }
 }
@@ -167,7 +168,7 @@ pub fn unknown_in<'a>(matches: &ArgMatches<'a>) -> Option<Unknown<'a>>
         return Some(Unknown {
             word,
             option: "--format <FORMAT>",
-            values: "pbn, hands, lin",
+            values: "pbn, hands, lin, html",
         });
     }
     if let Some(word) = unknown_dealer(matches) {

@@ -93,8 +93,8 @@ const SITE: &str = "The place, like the event [default: no line]";
 
 const DATE: &str = "The date, as 2024.05.01 [default: no line]";
 
-const FORMAT: &str = "The notation: Portable Bridge Notation, hand records for print, or LIN \
-    [default: pbn] [possible values: pbn, hands, lin]";
+const FORMAT: &str = "The notation: Portable Bridge Notation, hand records for print, LIN, or a \
+    page of HTML [default: pbn] [possible values: pbn, hands, lin, html]";
 
 const DEALER: &str = "The dealer of every board [default: by its number, as Law 2 says] \
     [possible values: N, E, S, W]";

@@ -4,18 +4,20 @@ use Rattle.boards.specs.Layouts.{Layout}
 use Rattle.cond_lang.specs.Form.{Form}
 use Rattle.dealrun.specs.Text.{text_in}
 use Rattle.hand_records.specs.Records.{hands}
+use Rattle.html_page.specs.Pages.{html}
 use Rattle.lin_text.specs.Lin.{lin}
 use Rattle.number_lines.specs.Numbers.{numbers}
 use Rattle.pbn_text.specs.Games.{HeadingView, pbn}
 use Rattle.plans.specs.Plans.{Planned}
 use Rattle.requests.specs.declared.format.Format.{Format}
-use Rattle.requests.specs.declared.format.Format.TheVariants.{Pbn, Hands, Lin, Numbers}
+use Rattle.requests.specs.declared.format.Format.TheVariants.{Pbn, Hands, Lin, Html, Numbers}
 
 -- the layout of a format, under a heading; LIN and the numbers of candidates have no labels
 abbrev pub layout_of : Format → HeadingView → Layout
 layout_of Pbn heading = pbn heading
 layout_of Hands heading = hands heading
 layout_of Lin heading = lin
+layout_of Html heading = html heading
 layout_of Numbers heading = numbers
 
 -- the boards of all but one have numbers of their own

@@ -12,6 +12,8 @@ pub enum Format {
     Hands,
     /// The notation of Bridge Base Online.
     Lin,
+    /// One page of HTML, to look at and to print.
+    Html,
     /// The numbers of the candidates, which is what `find` prints.
     Numbers,
 }
@@ -22,7 +24,7 @@ impl Format {
         ensures { result ≡ numbers_boards self }
     {
         match self {
-            Format::Pbn | Format::Hands | Format::Lin => true,
+            Format::Pbn | Format::Hands | Format::Lin | Format::Html => true,
             Format::Numbers => false,
         }
     }

@@ -15,6 +15,7 @@ use boards::Notation;
 use cond_lang::Cond;
 use dealrun::{Cause, run_and_count};
 use hand_records::HandsPrinter;
+use html_page::HtmlPrinter;
 use lanes::OpenGate;
 use lin_text::LinPrinter;
 use number_lines::NumberPrinter;
@@ -88,6 +89,10 @@ pub fn write_as<R: Threads + Wait + Clone + Send + 'static, O: Sink>(
             Err(_) => Err(Cause::Memory),
         },
         Format::Lin => match LinPrinter::new(alloc) {
+            Ok(mut printer) => write_in(rt, alloc, plan, condition, format, &mut printer, out),
+            Err(_) => Err(Cause::Memory),
+        },
+        Format::Html => match HtmlPrinter::new(alloc, plan.heading()) {
             Ok(mut printer) => write_in(rt, alloc, plan, condition, format, &mut printer, out),
             Err(_) => Err(Cause::Memory),
         },

@@ -73,6 +73,25 @@ const TURNED: &str = "% PBN 2.1
 
 ";
 
+/// The end of the page of the first board of seed 0, from its heading on.
+const PAGE_END: &str = "\
+    <h1>A &amp; B</h1>\n\
+    <section class=\"board\">\n\
+    <h2 class=\"None\">Board 1</h2>\n\
+    <p>Dealer North<br>Vul None</p>\n\
+    <div class=\"North\"><h3>North <small>8 HCP</small></h3><i>♠</i>72<br><b>♥</b>AT64\
+    <br><b>♦</b>75<br><i>♣</i>AT872</div>\n\
+    <div class=\"East\"><h3>East <small>13 HCP</small></h3><i>♠</i>AK985<br><b>♥</b>85\
+    <br><b>♦</b>A6<br><i>♣</i>Q654</div>\n\
+    <div class=\"South\"><h3>South <small>10 HCP</small></h3><i>♠</i>QJ43<br><b>♥</b>Q732\
+    <br><b>♦</b>QT3<br><i>♣</i>K9</div>\n\
+    <div class=\"West\"><h3>West <small>9 HCP</small></h3><i>♠</i>T6<br><b>♥</b>KJ9<br>\
+    <b>♦</b>KJ9842<br><i>♣</i>J3</div>\n\
+    </section>\n\
+    </main>\n\
+    </body>\n\
+    </html>\n";
+
 /// `make --seed 0` with these options writes this.
 fn writes<R: Abort + Threads + Wait + Clone + Send + 'static>(
     rt: &R,
@@ -113,6 +132,17 @@ fn lines_of_lin(rt: HostRuntime) -> Result<(), Fail> {
         "Club night",
     ];
     writes(&rt, rt.alloc(), with_event.as_slice(), LINES)
+}
+
+#[test]
+fn a_page(rt: HostRuntime) -> Result<(), Fail> {
+    let options = ["--candidates", "1", "--format", "html", "--event", "A & B"];
+    let outcome = make_of(&rt, rt.alloc(), options.as_slice())?;
+    assert_eq!(rt; outcome.status, 0);
+    assert!(rt; outcome.out.bytes().starts_with(b"<!DOCTYPE html>\n"));
+    assert!(rt; outcome.out.bytes().ends_with(PAGE_END.as_bytes()));
+    assert!(rt; outcome.err.bytes().is_empty());
+    Ok(())
 }
 
 #[test]
@@ -170,7 +200,7 @@ fn words_that_are_no_values(rt: HostRuntime) -> Result<(), Fail> {
             "--format",
             "text",
             "error: invalid value 'text' for '--format <FORMAT>'\n  \
-             [possible values: pbn, hands, lin]\n",
+             [possible values: pbn, hands, lin, html]\n",
         ),
         (
             "--format",

@@ -1,0 +1,3 @@
+pub mod Style
+pub mod Pages
+pub mod internal
