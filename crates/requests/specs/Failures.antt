@@ -37,7 +37,6 @@ faults_in _ = 0
 -- nothing was written before this failure
 abbrev pub is_untouched : Failure → Bool
 is_untouched (Interrupted cause.Output) = false
-is_untouched (Interrupted cause.Spawn) = false
 is_untouched (Interrupted (cause.Stopped worker)) = false
 is_untouched (Interrupted (cause.Unclosed worker)) = false
 is_untouched _ = true

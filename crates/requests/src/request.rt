@@ -42,7 +42,7 @@ pub fn serve<R: Threads + Wait + Clone + Send + 'static, O: Sink>(
     ensures report { IfOk result (ReportsFor (wish_of request.now)) }
     // The status says what of it was accepted, and what refused.
     ensures status { IsStatusOf (wish_of request.now) (status_in result) }
-    // Nothing was written if something is refused or memory ran out.
+    // Nothing was written if something is refused, memory ran out or a thread wasn't started.
     ensures untouched { IfErr result (λ e. is_untouched e ≡ true
         → O.bytes out.new ≡ O.bytes out.old) }
     // The output failed once if the failure says so, and else not.

@@ -1,3 +1,4 @@
 pub mod Appended
 pub mod Sinks
 pub mod Fuses
+pub mod Writers
