@@ -1,13 +1,18 @@
 """The program over standard streams that are full, closed, or read no further."""
 
 import dataclasses
+import errno
 import os
 import subprocess
 
 import harness
 import model
 
-FAILED = b"output failed\n"
+
+def failed(reason):
+    """What is said of an output that failed, with the system's reason."""
+    return f"output failed\n  {os.strerror(reason)} (os error {reason})\n".encode()
+
 
 
 @dataclasses.dataclass
@@ -31,11 +36,11 @@ REFUSED = b"plan refused: lane capacity\n"
 
 def of_output():
     for words in (VALUES, BOARDS, BOARDS + " --workers 16", "--version", "--help", "help make"):
-        yield Check(f"a full disk, {words}", f"$DEALS {words} >/dev/full", 4, err=FAILED)
-        yield Check(f"a closed output, {words}", f"$DEALS {words} >&-", 4, err=FAILED)
-        yield Check(f"an output that can only be read, {words}", f"$DEALS {words} 1</dev/null", 4, err=FAILED)
-        yield Check(f"nobody reads, {words}", f"exec $DEALS {words}", 4, err=FAILED, output="broken")
-        yield Check(f"nothing more fits, {words}", f"exec $DEALS {words}", 4, err=FAILED, output="stuck")
+        yield Check(f"a full disk, {words}", f"$DEALS {words} >/dev/full", 4, err=failed(errno.ENOSPC))
+        yield Check(f"a closed output, {words}", f"$DEALS {words} >&-", 4, err=failed(errno.EBADF))
+        yield Check(f"an output that can only be read, {words}", f"$DEALS {words} 1</dev/null", 4, err=failed(errno.EBADF))
+        yield Check(f"nobody reads, {words}", f"exec $DEALS {words}", 4, err=failed(errno.EPIPE), output="broken")
+        yield Check(f"nothing more fits, {words}", f"exec $DEALS {words}", 4, err=failed(errno.EAGAIN), output="stuck")
     for words in (WORDS, "make --seed 7 --candidates 1 --where y"):
         status, text = (2, REFUSED) if words == WORDS else (3, b"condition refused at byte 0: unknown word\n  y\n  ^\n")
         yield Check(f"refused to a full disk, {words}", f"$DEALS {words} >/dev/full", status, err=text)
@@ -47,14 +52,14 @@ def of_readers():
     for workers in (1, 3, 16):
         words = f"make --seed 7 --candidates 1000000000 --workers {workers}"
         command = f"$DEALS {words} | head -n 1; exit ${{PIPESTATUS[0]}}"
-        yield Check(f"one line is read, {workers} workers", command, 4, HEADER, FAILED)
+        yield Check(f"one line is read, {workers} workers", command, 4, HEADER, failed(errno.EPIPE))
         words += " --where '0==0 and hcp(north)>=0' --lane 4096"
         command = f"$DEALS {words} | head -n 1; exit ${{PIPESTATUS[0]}}"
-        yield Check(f"one line is read, {workers} workers and a condition", command, 4, HEADER, FAILED)
+        yield Check(f"one line is read, {workers} workers and a condition", command, 4, HEADER, failed(errno.EPIPE))
         words = f"make --seed 7 --candidates 2000 --workers {workers}"
         yield Check(f"a reader that waits, {workers} workers", f"$DEALS {words} | (sleep 0.3; cat)", 0, model.games(7, 2000))
     command = "$DEALS stream --seed 0 --count 1000000000 | head -n 1; exit ${PIPESTATUS[0]}"
-    yield Check("one value is read", command, 4, b"366850414\n", FAILED)
+    yield Check("one value is read", command, 4, b"366850414\n", failed(errno.EPIPE))
 
 
 def of_errors():

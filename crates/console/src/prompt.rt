@@ -1,12 +1,14 @@
 //! The output, with its boards passed on as they are found.
 
-ghost use Rattle.std.specs.Prelude.{◌≡◌, ◌+◌, ◌-◌, ◌^◌, ◌<◌, None};
+ghost use Rattle.std.specs.Prelude.{◌≡◌, ◌+◌, ◌-◌, ◌^◌, ◌<◌, IsSome};
 ghost use Rattle.sinks.specs.Sinks.{CountsFault};
+ghost use Rattle.sinks.specs.Writers.{told};
 
 use crate::counts::Counts;
 use sinks::{Sink, SinkFault};
 use std::io;
 use std::io::{Error, Write};
+use std::snapshot::Snapshot;
 use std::time::Clock;
 
 /// For how many milliseconds a board may be gathered, before it is passed on.
@@ -17,7 +19,8 @@ pub fn millis(clock: &impl Clock) -> Option<u64> {
     u64::try_from(clock.monotonic().ok()?.as_millis()).ok()
 }
 
-/// A sink over a writer that gathers, for a person who may watch. It doesn't tell its bytes.
+/// A sink over a writer that gathers, for a person who may watch. It tells the bytes that the writer
+/// tells, as a `Piped` does.
 ///
 /// Whatever it has gathered is passed on after a fifth of a second, when the run says how far it
 /// is, and then the counts are shown. They are wiped when the sink is flushed or fails.
@@ -25,8 +28,10 @@ pub fn millis(clock: &impl Clock) -> Option<u64> {
 /// Any error of the writer is a fault, and so is a count of 0 for a piece that isn't empty. If
 /// passing on fails, the next `write` or `flush` is a fault.
 #[derive(Drop)]
-pub struct Prompt<W, C, E> {
+pub struct Prompt<W: Write, C, E> {
     writer: W,
+    // The writer as it was handed in, for proofs alone: it takes no memory.
+    first: Snapshot<W>,
     clock: C,
     counts: Counts<E>,
     /// Whether bytes were gathered since the last ones were passed on, and when that was.
@@ -37,16 +42,19 @@ pub struct Prompt<W, C, E> {
     /// Why the writer failed last.
     reason: Option<Error>,
     faults: u64,
+    ghost tells: { IsSome (W.contents first.value) → IsSome (W.contents writer) },
 }
 
 impl<W: Write, C: Clock, E: Write> Prompt<W, C, E> {
     /// A sink over `writer`, with no fault so far.
     pub fn new(writer: W, clock: C, counts: Counts<E>) -> Prompt<W, C, E>
-        ensures bytes { ⟦<Prompt<W, C, E> as Sink>⟧.bytes result ≡ None }
+        ensures bytes { ⟦<Prompt<W, C, E> as Sink>⟧.bytes result ≡ W.contents writer }
         ensures faults { ⟦<Prompt<W, C, E> as Sink>⟧.faults result ≡ 0 }
     {
+        let first = Snapshot::of(&writer);
         Prompt {
             writer,
+            first,
             clock,
             counts,
             gathers: false,
@@ -71,7 +79,9 @@ impl<W: Write, C: Clock, E: Write> Prompt<W, C, E> {
 
     /// Passes on what was gathered, if that is due.
     fn pass_on(&mut self, now: u64)
-        ensures { self.new.faults ≡ self.old.faults }
+        ensures bytes { told W.contents self.new.first.value self.new.writer
+            ≡ told W.contents self.old.first.value self.old.writer }
+        ensures faults { self.new.faults ≡ self.old.faults }
     {
         if !self.gathers || now.saturating_sub(self.passed_on) < GATHERED_MILLIS {
             return;
@@ -89,7 +99,8 @@ impl<W: Write, C: Clock, E: Write> Prompt<W, C, E> {
     /// Counts a fault, and says nothing more of the counts.
     fn fault(&mut self) -> SinkFault
         requires { self.old.faults < 2 ^ 64 - 1 }
-        ensures { self.new.faults ≡ self.old.faults + 1 }
+        ensures same { (self.new.first ≡ self.old.first) × (self.new.writer ≡ self.old.writer) }
+        ensures faults { self.new.faults ≡ self.old.faults + 1 }
     {
         self.counts.wipe();
         self.faults += 1;
@@ -99,7 +110,8 @@ impl<W: Write, C: Clock, E: Write> Prompt<W, C, E> {
     /// Tells that passing on failed, if no call told it so far.
     fn tell(&mut self) -> Result<(), SinkFault>
         requires { self.old.faults < 2 ^ 64 - 1 }
-        ensures { CountsFault self.old.faults self.new.faults result }
+        ensures same { (self.new.first ≡ self.old.first) × (self.new.writer ≡ self.old.writer) }
+        ensures faults { CountsFault self.old.faults self.new.faults result }
     {
         if !self.fails {
             return Ok(());
@@ -110,7 +122,9 @@ impl<W: Write, C: Clock, E: Write> Prompt<W, C, E> {
 }
 
 impl<W: Write, C: Clock, E: Write> Sink for Prompt<W, C, E> {
-    ghost bytes = { λ _. None };
+    ghost use Rattle.sinks.specs.Writers.{told};
+
+    ghost bytes = { λ s. told W.contents s.first.value s.writer };
 
     ghost faults = { λ s. s.faults };
 
