@@ -22,17 +22,22 @@ type Mistake = (&'static [u8], &'static str);
 /// Compares what is said of each text, and reads again what is suggested.
 fn check(rt: &impl Abort, alloc: Global, mistakes: &[Mistake]) -> Result<(), Fail> {
     for (text, wanted) in mistakes {
-        let Err(error) = parse(alloc, text) else {
-            assert!(rt; false, "it is no mistake: {wanted}");
-            return Ok(());
-        };
-        let told = explain(alloc, text, error)?;
+        let told = told_of(alloc, text)?;
         assert_eq!(rt; told.as_str(), *wanted);
         if let Some((_, suggestion)) = told.as_str().split_once("write: ") {
             let suggested = suggestion.strip_suffix("\n").ok_or("no line")?;
-            let parsed = parse(alloc, suggested.as_bytes()).is_ok();
-            assert!(rt; parsed, "{suggested}");
+            assert!(rt; is_condition(alloc, suggested), "{suggested}");
         }
     }
     Ok(())
+}
+
+/// All that is said of a text that is refused.
+fn told_of(alloc: Global, text: &[u8]) -> Result<String, Fail> {
+    let error = parse(alloc, text).err().ok_or("it is no mistake")?;
+    Ok(explain(alloc, text, error)?)
+}
+
+fn is_condition(alloc: Global, text: &str) -> bool {
+    parse(alloc, text.as_bytes()).is_ok()
 }

@@ -11,17 +11,25 @@ fn width_and_examples(rt: HostRuntime) -> Result<(), Fail> {
     for part in LANGUAGE {
         for line in part.lines() {
             assert!(rt; line.len() <= 80 && line.is_ascii(), "{line}");
-            if let Some(example) = line.strip_prefix("    ") {
-                if !example.starts_with(" ") {
-                    assert!(rt; parse(rt.alloc(), example.as_bytes()).is_ok(), "{example}");
-                    examples = examples.saturating_add(1);
-                }
+            if let Some(example) = example_in(line) {
+                assert!(rt; is_condition(rt.alloc(), example), "{example}");
+                examples = examples.saturating_add(1);
             }
         }
         assert!(rt; part.ends_with("\n"));
     }
     assert_eq!(rt; examples, 10);
     Ok(())
+}
+
+/// The example that the line has, if it has one: behind four spaces and no more.
+fn example_in(line: &str) -> Option<&str> {
+    let rest = line.strip_prefix("    ")?;
+    if rest.starts_with(" ") {
+        None
+    } else {
+        Some(rest)
+    }
 }
 
 /// A word of the language stands on its page: behind two spaces and before a bracket if it asks of a
