@@ -3,8 +3,8 @@
 use cond_lang::MEASURE_LINES;
 
 /// The language of conditions on one page, in parts that stand one behind another, each of whole
-/// lines: plain text of ASCII, 80 columns at most, with ten examples, each on a line of its own that
-/// begins with four spaces.
+/// lines: plain text of ASCII, 80 columns at most, with ten examples, each on a line of its own
+/// that begins with four spaces.
 pub const LANGUAGE: [&str; 3] = [BEFORE_MEASURES, MEASURE_LINES, BEHIND_MEASURES];
 
 const BEFORE_MEASURES: &str = "\

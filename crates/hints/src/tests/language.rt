@@ -1,4 +1,5 @@
-//! The page of the language: its width, that its examples are conditions, and that it has each word.
+//! The page of the language: its width, that its examples are conditions, and that it has each
+//! word.
 
 use super::*;
 use crate::LANGUAGE;
@@ -32,8 +33,8 @@ fn example_in(line: &str) -> Option<&str> {
     }
 }
 
-/// A word of the language stands on its page: behind two spaces and before a bracket if it asks of a
-/// hand, and else anywhere.
+/// A word of the language stands on its page: behind two spaces and before a bracket if it asks of
+/// a hand, and else anywhere.
 #[test]
 fn each_word(rt: HostRuntime) -> Result<(), Fail> {
     for (word, token) in WORDS.iter() {
