@@ -19,8 +19,8 @@ pub fn millis(clock: &impl Clock) -> Option<u64> {
     u64::try_from(clock.monotonic().ok()?.as_millis()).ok()
 }
 
-/// A sink over a writer that gathers, for a person who may watch. It tells the bytes that the writer
-/// tells, as a `Piped` does.
+/// A sink over a writer that gathers, for a person who may watch. It tells the bytes that the
+/// writer tells, as a `Piped` does.
 ///
 /// Whatever it has gathered is passed on after a fifth of a second, when the run says how far it
 /// is, and then the counts are shown. They are wiped when the sink is flushed or fails.

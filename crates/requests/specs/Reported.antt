@@ -38,4 +38,5 @@ wants_report _ = false
 -- the report of a `make` was appended
 abbrev pub Reports : Making → Option (List ℕ) → Option (List ℕ) → Type 0
 Reports m old new =
-    (form : Form) × Means m.where_text form × AppendsAll old new (report_of m.format (plan_of m) form)
+    (form : Form) × Means m.where_text form
+    × AppendsAll old new (report_of m.format (plan_of m) form)

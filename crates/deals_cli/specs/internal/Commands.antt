@@ -1,4 +1,4 @@
--- How the options of `make` and `find` are added to their commands, some at a time. No public clause cites it.
+-- How the options of `make` and `find` are added to their commands, some at a time.
 use Rattle.std.specs.Prelude.{codes}
 use Rattle.clap.specs.Words.{App, with_rule, with_subcommand}
 use Rattle.clap.specs.declared.builder.value_parser.ValueParser.TheVariants.{String}
