@@ -143,6 +143,15 @@ def of_more():
         yield made("more workers", 60, workers, "shapes")
 
 
+def of_find():
+    text, accepts = CONDITIONS["simple"]
+    for workers in (1, 3):
+        words = ["find", "--seed", "7", "--candidates", "300", "--where", text, "--workers", str(workers)]
+        words += ["--progress", "always"]
+        yield Case(f"find, {workers} workers", words, out=model.numbers(7, 300, accepts), workers=workers)
+    yield Case("conditions", ["conditions"], out=None)
+
+
 def every(is_all):
-    chosen = [*of_texts(), *of_make(), *of_refusals()]
+    chosen = [*of_texts(), *of_make(), *of_find(), *of_refusals()]
     return [*chosen, *of_more()] if is_all else chosen

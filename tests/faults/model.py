@@ -63,6 +63,16 @@ def game(board, labels, dealt):
     return "".join(line + "\n" for line in lines) + "\n"
 
 
+def numbers(seed, count, accepts):
+    """The text of `find`."""
+    state, found = start(seed), []
+    for number in range(count):
+        dealt, state = hands(state)
+        if accepts(dealt):
+            found.append(f"{number}\n")
+    return "".join(found).encode()
+
+
 def games(seed, count, accepts=lambda dealt: True, first=0, boards=None, first_board=1, labels=()):
     """The text of `make`."""
     state, text, written = start(seed), ["% PBN 2.1\n"], 0
