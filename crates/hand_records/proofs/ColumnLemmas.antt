@@ -8,10 +8,10 @@ use Rattle.std.proofs.lemmas.List.Elements.{All-head, All-tail}
 use Rattle.std.proofs.lemmas.List.Sums.{sum_by-cons, sum_by-append}
 use Rattle.cards.specs.declared.suit.Suit.{Suit}
 use Rattle.cards.specs.declared.suit.Suit.TheVariants.{Spades, Hearts, Diamonds, Clubs}
-use Rattle.printing.specs.Letters.{suit_letters}
+use Rattle.printing.specs.Letters.{or_dash, suit_letters}
 use Rattle.printing.proofs.Letters.{suit_letters-ascii}
 use Rattle.hand_records.specs.Columns.{begins_character, columns}
-use Rattle.hand_records.specs.Records.{or_dash, sign_and_space, suit_text}
+use Rattle.hand_records.specs.Records.{sign_and_space, suit_text}
 
 -- what a byte adds
 abbrev counted : ℕ → ℕ
@@ -35,7 +35,7 @@ pub columns-number : (number : ℕ) → number < 2 ^ 64 → columns (codes "Boar
 columns-number number fits =
     columns-append (codes "Board ") (decimal number) ∙ ap (λ n. 6 + n) (columns-ascii (decimal number) (All-from_ascii (decimal number) (IsAscii-decimal number fits)))
 
-dashed : (letters : List ℕ) → columns letters ≡ length letters → columns (or_dash letters) ≡ length (or_dash letters)
+dashed : (letters : List ℕ) → columns letters ≡ length letters → columns (or_dash (codes "-") letters) ≡ length (or_dash (codes "-") letters)
 dashed [] plain = refl
 dashed (x ∷ xs) plain = plain
 
@@ -46,7 +46,7 @@ signed Diamonds = refl
 signed Clubs = refl
 
 -- a suit takes two columns less than bytes
-pub columns-suit_text : (hand : List Bool) (suit : Suit) → columns (suit_text hand suit) ≡ 2 + length (or_dash (suit_letters hand suit))
+pub columns-suit_text : (hand : List Bool) (suit : Suit) → columns (suit_text hand suit) ≡ 2 + length (or_dash (codes "-") (suit_letters hand suit))
 columns-suit_text hand suit =
     let letters : List ℕ = suit_letters hand suit in
-    columns-append (sign_and_space suit) (or_dash letters) ∙ omega (arith, signed suit, dashed letters (columns-ascii letters (suit_letters-ascii hand suit)))
+    columns-append (sign_and_space suit) (or_dash (codes "-") letters) ∙ omega (arith, signed suit, dashed letters (columns-ascii letters (suit_letters-ascii hand suit)))

@@ -9,7 +9,7 @@ use Rattle.boards.specs.declared.board.Board.{Board}
 use Rattle.boards.specs.declared.law2.Vul.{Vul}
 use Rattle.boards.specs.declared.law2.Vul.TheVariants.{Neither, NorthSouth, EastWest, Both}
 use Rattle.boards.specs.Layouts.{Layout}
-use Rattle.printing.specs.Letters.{suit_letters}
+use Rattle.printing.specs.Letters.{or_dash, suit_letters}
 use Rattle.pbn_text.specs.Games.{HeadingView}
 use Rattle.hand_records.specs.Columns.{beside, line, spaces, two_columns}
 
@@ -32,14 +32,9 @@ sign_and_space Hearts = 0xE2 ∷ 0x99 ∷ 0xA5 ∷ codes " "
 sign_and_space Diamonds = 0xE2 ∷ 0x99 ∷ 0xA6 ∷ codes " "
 sign_and_space Clubs = 0xE2 ∷ 0x99 ∷ 0xA3 ∷ codes " "
 
--- a dash in place of nothing
-abbrev pub or_dash : List ℕ → List ℕ
-or_dash [] = codes "-"
-or_dash letters = letters
-
 -- a suit of a hand: its sign, a space, and its ranks from the ace down or a dash
 abbrev pub suit_text : List Bool → Suit → List ℕ
-suit_text hand suit = sign_and_space suit ++ or_dash (suit_letters hand suit)
+suit_text hand suit = sign_and_space suit ++ or_dash (codes "-") (suit_letters hand suit)
 
 -- the points of one hand, whose last digit stands at column 7
 abbrev pub one_count : List Bool → List ℕ

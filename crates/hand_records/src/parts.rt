@@ -2,10 +2,9 @@
 
 ghost use Rattle.std.specs.Prelude.{◌≡◌, ◌<◌, ◌≤◌, ◌+◌, ◌-◌, ◌++◌, length, max};
 ghost use Rattle.cards.specs.Hands.{points_of};
-ghost use Rattle.printing.specs.Letters.{suit_letters};
 ghost use Rattle.printing.specs.declared.buffer.TheConstants.{CAPACITY};
 ghost use Rattle.hand_records.specs.Columns.{columns, spaces, two_columns};
-ghost use Rattle.hand_records.specs.Records.{one_count, or_dash, sign_and_space, suit_text, two_counts};
+ghost use Rattle.hand_records.specs.Records.{one_count, sign_and_space, suit_text, two_counts};
 
 use cards::{Hand, Suit};
 use printing::{SuitLetters, TextBuffer};
@@ -35,21 +34,7 @@ pub(crate) fn put_suit(text: &mut TextBuffer, letters: &SuitLetters, hand: &Hand
     ensures most { length text.new ≤ length text.old + 17 }
 {
     text.put(&sign_and_space(suit));
-    put_letters(text, letters, hand, suit);
-}
-
-/// Appends the letters of the hand's ranks in the suit, or a dash.
-#[inline(always)]
-fn put_letters(text: &mut TextBuffer, letters: &SuitLetters, hand: &Hand, suit: Suit)
-    requires { length text.old + 16 ≤ CAPACITY }
-    ensures text { text.new ≡ text.old ++ or_dash (suit_letters hand.now suit) }
-    ensures most { length text.new ≤ length text.old + 13 }
-{
-    let start = text.len();
-    letters.put(text, hand, suit);
-    if text.len() == start {
-        text.put(b"-");
-    }
+    letters.put_or_dash(text, hand, suit, b"-");
 }
 
 /// The sign of the suit and a space. The signs differ in their last byte.

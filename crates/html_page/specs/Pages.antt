@@ -12,7 +12,7 @@ use Rattle.boards.specs.declared.board.Board.{Board}
 use Rattle.boards.specs.declared.law2.Vul.{Vul}
 use Rattle.boards.specs.declared.law2.Vul.TheVariants.{Neither, NorthSouth, EastWest, Both}
 use Rattle.boards.specs.Layouts.{Layout}
-use Rattle.printing.specs.Letters.{suit_letters}
+use Rattle.printing.specs.Letters.{or_dash, suit_letters}
 use Rattle.pbn_text.specs.Games.{HeadingView}
 use Rattle.html_page.specs.Style.{style}
 
@@ -93,14 +93,13 @@ sign Hearts = codes "<b>" ++ 0xE2 ∷ 0x99 ∷ 0xA5 ∷ codes "</b>"
 sign Diamonds = codes "<b>" ++ 0xE2 ∷ 0x99 ∷ 0xA6 ∷ codes "</b>"
 sign Clubs = codes "<i>" ++ 0xE2 ∷ 0x99 ∷ 0xA3 ∷ codes "</i>"
 
--- a dash, –, which is a character of three bytes, in place of nothing
-abbrev pub or_dash : List ℕ → List ℕ
-or_dash [] = 0xE2 ∷ 0x80 ∷ 0x93 ∷ []
-or_dash (x ∷ letters) = x ∷ letters
+-- the dash –, a character of three bytes
+abbrev pub dash : List ℕ
+dash = 0xE2 ∷ 0x80 ∷ 0x93 ∷ []
 
 -- a suit of a hand: its sign, and its ranks from the ace down or a dash
 abbrev pub suit_text : List Bool → Suit → List ℕ
-suit_text hand suit = sign suit ++ or_dash (suit_letters hand suit)
+suit_text hand suit = sign suit ++ or_dash dash (suit_letters hand suit)
 
 -- its four suits, each on a line of its own
 abbrev pub suits_text : List Bool → List ℕ

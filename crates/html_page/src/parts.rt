@@ -1,9 +1,8 @@
 //! The parts of a board: names, and the suits of a hand.
 
 ghost use Rattle.std.specs.Prelude.{◌≡◌, ◌≤◌, ◌+◌, ◌++◌, length};
-ghost use Rattle.printing.specs.Letters.{suit_letters};
 ghost use Rattle.printing.specs.declared.buffer.TheConstants.{CAPACITY};
-ghost use Rattle.html_page.specs.Pages.{or_dash, seat_name, sign, suit_text, suits_text};
+ghost use Rattle.html_page.specs.Pages.{seat_name, sign, suit_text, suits_text};
 ghost use Rattle.html_page.specs.Pages.{vulnerable_name};
 
 use boards::Vul;
@@ -34,21 +33,7 @@ fn put_suit(text: &mut TextBuffer, letters: &SuitLetters, hand: &Hand, suit: Sui
     ensures most { length text.new ≤ length text.old + 23 }
 {
     text.put(&sign(suit));
-    put_letters(text, letters, hand, suit);
-}
-
-/// Appends the letters of the hand's ranks in the suit, or a dash.
-#[inline(always)]
-fn put_letters(text: &mut TextBuffer, letters: &SuitLetters, hand: &Hand, suit: Suit)
-    requires { length text.old + 16 ≤ CAPACITY }
-    ensures text { text.new ≡ text.old ++ or_dash (suit_letters hand.now suit) }
-    ensures most { length text.new ≤ length text.old + 13 }
-{
-    let start = text.len();
-    letters.put(text, hand, suit);
-    if text.len() == start {
-        text.put(b"\xE2\x80\x93");
-    }
+    letters.put_or_dash(text, hand, suit, b"\xE2\x80\x93");
 }
 
 /// The sign of the suit.

@@ -3,7 +3,7 @@
 ghost use Rattle.std.specs.Prelude.{◌≡◌, ◌<◌, ◌≤◌, ◌+◌, ◌^◌, ◌++◌, length, take};
 ghost use Rattle.std.specs.Prelude.{codes, slice_index, vec_len};
 ghost use Rattle.printing.specs.declared.buffer.TheConstants.{CAPACITY};
-ghost use Rattle.printing.specs.Letters.{suit_letters};
+ghost use Rattle.printing.specs.Letters.{or_dash, suit_letters};
 ghost use Rattle.printing.specs.internal.Sets.{IsEntry, IsTable};
 
 use crate::TextBuffer;
@@ -51,6 +51,22 @@ impl SuitLetters {
     {
         let entry = self.with_dot(hand, suit);
         text.put_first(&entry, usize::from(entry[15]));
+    }
+
+    /// Appends the letters of the ranks that the hand has in the suit, the ace first, or the dash
+    /// if it is void. There is room for sixteen bytes; a dash has thirteen at most.
+    #[inline(always)]
+    pub fn put_or_dash(&self, text: &mut TextBuffer, hand: &Hand, suit: Suit, dash: &[u8])
+        requires room { length text.old + 16 ≤ CAPACITY }
+        requires dash { length dash.now ≤ 13 }
+        ensures text { text.new ≡ text.old ++ or_dash dash.now (suit_letters hand.now suit) }
+        ensures most { length text.new ≤ length text.old + 13 }
+    {
+        let start = text.len();
+        self.put(text, hand, suit);
+        if text.len() == start {
+            text.put(dash);
+        }
     }
 
     /// Returns the letters of the ranks that the hand has in the suit, the ace first, and then a

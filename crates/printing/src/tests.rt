@@ -34,6 +34,10 @@ fn letters_of_suits(rt: HostRuntime) -> Result<(), Fail> {
     letters.put(&mut text, &hand, Suit::Hearts);
     letters.put(&mut text, &hand, Suit::Clubs);
     assert_eq!(rt; text.as_bytes(), b"AQ764KQQJT643".as_slice());
+    text.clear();
+    letters.put_or_dash(&mut text, &hand, Suit::Diamonds, b"void");
+    letters.put_or_dash(&mut text, &hand, Suit::Hearts, b"void");
+    assert_eq!(rt; text.as_bytes(), b"voidKQ".as_slice());
     let spades = letters.with_dot(&hand, Suit::Spades);
     assert_eq!(rt; &spades[..6], b"AQ764.".as_slice());
     assert_eq!(rt; spades[15], 5);
