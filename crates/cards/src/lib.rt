@@ -18,6 +18,7 @@ mod reference;
 mod seat;
 mod shuffle;
 mod suit;
+pub mod testing;
 
 pub use candidates::{Candidates, MAX_CANDIDATES};
 pub use card::Card;

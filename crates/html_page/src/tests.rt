@@ -3,7 +3,8 @@
 
 use super::*;
 use boards::{Board, Notation, Vul};
-use cards::{Candidates, Deal, Places, Seat};
+use cards::testing::{IN_ORDER, WORKED, deal};
+use cards::{Candidates, Seat};
 use pbn_text::{Date, Heading, Label};
 use std::alloc::Global;
 use std::process::Abort;
@@ -89,7 +90,7 @@ const SECOND: &str = "\
     </section>\n";
 
 /// The pack in order as board 4.
-const IN_ORDER: &str = "\
+const IN_ORDER_TEXT: &str = "\
     <section class=\"board\">\n\
     <h2 class=\"All\">Board 4</h2>\n\
     <p>Dealer West<br>Vul All</p>\n\
@@ -104,7 +105,7 @@ const IN_ORDER: &str = "\
     </section>\n";
 
 /// The worked deal behind the number of its board.
-const WORKED: &str = "\
+const WORKED_TEXT: &str = "\
     </h2>\n\
     <p>Dealer South<br>Vul EW</p>\n\
     <div class=\"North\"><h3>North <small>13 HCP</small></h3><i>♠</i>–<br><b>♥</b>63<br><b>♦\
@@ -117,25 +118,6 @@ const WORKED: &str = "\
     </b>J6542<br><i>♣</i>85</div>\n\
     </section>\n";
 
-/// The deal of a pack in order, whose first thirteen cards are North's.
-fn pack_in_order() -> Result<Deal, Fail> {
-    let mut places = [0; 51];
-    for i in 0..51u8 {
-        places[usize::from(i)] = 51 - i;
-    }
-    Ok(Deal::shuffled(&Places::new(places).ok_or("places")?))
-}
-
-/// The worked deal by the seats of the cards, from the ace of spades to the two of clubs.
-fn worked_deal() -> Result<Deal, Fail> {
-    let (n, e, s, w) = (Seat::North, Seat::East, Seat::South, Seat::West);
-    let seats = [
-        e, w, w, s, w, s, e, s, e, e, e, s, w, w, e, e, s, w, s, s, s, n, e, s, n, s, n, n, n, w,
-        e, n, n, n, w, w, w, s, w, n, s, e, e, e, n, w, n, e, w, s, n, n,
-    ];
-    Ok(Deal::from_seats(&seats).ok_or("thirteen each")?)
-}
-
 #[test]
 fn sections_of_deals(rt: HostRuntime) -> Result<(), Fail> {
     let mut candidates = Candidates::new(0, 0, 1);
@@ -145,8 +127,8 @@ fn sections_of_deals(rt: HostRuntime) -> Result<(), Fail> {
     assert_eq!(rt; printer.text(), FIRST.as_bytes());
     printer.print(&Board::by_law(2, 1, candidates.next()));
     assert_eq!(rt; printer.text(), SECOND.as_bytes());
-    printer.print(&Board::by_law(4, 0, pack_in_order()?));
-    assert_eq!(rt; printer.text(), IN_ORDER.as_bytes());
+    printer.print(&Board::by_law(4, 0, deal(IN_ORDER)?));
+    assert_eq!(rt; printer.text(), IN_ORDER_TEXT.as_bytes());
     Ok(())
 }
 
@@ -161,10 +143,10 @@ fn numbers_of_boards(rt: HostRuntime) -> Result<(), Fail> {
             candidate: 7,
             dealer: Seat::South,
             vulnerable: Vul::EastWest,
-            deal: worked_deal()?,
+            deal: deal(WORKED)?,
         });
         let front = "<section class=\"board\">\n<h2 class=\"EW\">Board ";
-        let text = [front, digits, WORKED].concat(rt.alloc())?;
+        let text = [front, digits, WORKED_TEXT].concat(rt.alloc())?;
         assert_eq!(rt; printer.text(), text.as_bytes());
     }
     Ok(())

@@ -2,28 +2,10 @@
 
 use super::*;
 use boards::{Board, Notation, Vul};
-use cards::{Candidates, Deal, Places, Seat};
+use cards::testing::{IN_ORDER, WORKED, deal};
+use cards::{Candidates, Seat};
 use std::process::Abort;
 use std::test::Fail;
-
-/// The deal of a pack in order, whose first thirteen cards are North's.
-fn pack_in_order() -> Result<Deal, Fail> {
-    let mut places = [0; 51];
-    for i in 0..51u8 {
-        places[usize::from(i)] = 51 - i;
-    }
-    Ok(Deal::shuffled(&Places::new(places).ok_or("places")?))
-}
-
-/// The worked deal by the seats of the cards, from the ace of spades to the two of clubs.
-fn worked_deal() -> Result<Deal, Fail> {
-    let (n, e, s, w) = (Seat::North, Seat::East, Seat::South, Seat::West);
-    let seats = [
-        e, w, w, s, w, s, e, s, e, e, e, s, w, w, e, e, s, w, s, s, s, n, e, s, n, s, n, n, n, w,
-        e, n, n, n, w, w, w, s, w, n, s, e, e, e, n, w, n, e, w, s, n, n,
-    ];
-    Ok(Deal::from_seats(&seats).ok_or("thirteen each")?)
-}
 
 #[test]
 fn two_candidates(rt: HostRuntime) -> Result<(), Fail> {
@@ -44,7 +26,7 @@ fn two_candidates(rt: HostRuntime) -> Result<(), Fail> {
 #[test]
 fn the_pack_in_order(rt: HostRuntime) -> Result<(), Fail> {
     let mut printer = LinPrinter::new(rt.alloc())?;
-    printer.print(&Board::by_law(4, 0, pack_in_order()?));
+    printer.print(&Board::by_law(4, 0, deal(IN_ORDER)?));
     let line = b"qx|o4|md|2SHDAKQJT98765432C,SHDCAKQJT98765432,SAKQJT98765432HDC,\
         SHAKQJT98765432DC|sv|b|ah|Board 4|pg||\n";
     assert_eq!(rt; printer.text(), line.as_slice());
@@ -98,7 +80,7 @@ fn dealers_vulnerabilities_and_numbers(rt: HostRuntime) -> Result<(), Fail> {
             candidate: 7,
             dealer,
             vulnerable,
-            deal: worked_deal()?,
+            deal: deal(WORKED)?,
         });
         let mut line = Vec::from_slice(rt.alloc(), front.as_bytes())?;
         line.extend_from_slice(hands)?;

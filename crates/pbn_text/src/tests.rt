@@ -3,6 +3,7 @@
 
 use super::*;
 use boards::{Board, Notation};
+use cards::testing::{IN_ORDER, WORKED, deal};
 use cards::{Deal, Places, Seat};
 use std::alloc::Global;
 use std::process::Abort;
@@ -16,25 +17,6 @@ const FIRST: &[u8] = b"[Board \"1\"]\n[Dealer \"N\"]\n[Vulnerable \"None\"]\n\
 const SECOND: &[u8] = b"[Board \"2\"]\n[Dealer \"E\"]\n[Vulnerable \"NS\"]\n\
     [Deal \"N:.63.AKQ987.A9732 A8654.KQ5.T.QJT6 J973.J98742.3.K4 KQT2.AT.J6542.85\"]\n\n";
 
-/// The deal of a pack in order, whose first thirteen cards are North's.
-fn pack_in_order() -> Result<Deal, Fail> {
-    let mut places = [0; 51];
-    for i in 0..51u8 {
-        places[usize::from(i)] = 51 - i;
-    }
-    Ok(Deal::shuffled(&Places::new(places).ok_or("places")?))
-}
-
-/// The worked deal by the seats of the cards, from the ace of spades to the two of clubs.
-fn worked_deal() -> Result<Deal, Fail> {
-    let (n, e, s, w) = (Seat::North, Seat::East, Seat::South, Seat::West);
-    let seats = [
-        e, w, w, s, w, s, e, s, e, e, e, s, w, w, e, e, s, w, s, s, s, n, e, s, n, s, n, n, n, w,
-        e, n, n, n, w, w, w, s, w, n, s, e, e, e, n, w, n, e, w, s, n, n,
-    ];
-    Ok(Deal::from_seats(&seats).ok_or("thirteen each")?)
-}
-
 #[test]
 fn header_is_ten_bytes(rt: HostRuntime) {
     assert_eq!(rt; HEADER.as_slice(), b"% PBN 2.1\n".as_slice());
@@ -42,7 +24,7 @@ fn header_is_ten_bytes(rt: HostRuntime) {
 
 #[test]
 fn game_of_the_pack_in_order(rt: HostRuntime) -> Result<(), Fail> {
-    let text = game(1, &Heading::none(), &pack_in_order()?);
+    let text = game(1, &Heading::none(), &deal(IN_ORDER)?);
     assert_eq!(rt; text.as_slice(), FIRST);
     assert_eq!(rt; text.len(), 125);
     Ok(())
@@ -50,7 +32,7 @@ fn game_of_the_pack_in_order(rt: HostRuntime) -> Result<(), Fail> {
 
 #[test]
 fn game_of_the_worked_deal(rt: HostRuntime) -> Result<(), Fail> {
-    let text = game(2, &Heading::none(), &worked_deal()?);
+    let text = game(2, &Heading::none(), &deal(WORKED)?);
     assert_eq!(rt; text.as_slice(), SECOND);
     assert_eq!(rt; text.len(), 123);
     Ok(())
@@ -59,10 +41,10 @@ fn game_of_the_worked_deal(rt: HostRuntime) -> Result<(), Fail> {
 /// The two deals as the games above have them.
 #[test]
 fn texts_of_deals(rt: HostRuntime) -> Result<(), Fail> {
-    let text = deal_text(&pack_in_order()?);
+    let text = deal_text(&deal(IN_ORDER)?);
     let first = b"N:AKQJT98765432... .AKQJT98765432.. ..AKQJT98765432. ...AKQJT98765432";
     assert_eq!(rt; text.as_slice(), first.as_slice());
-    let text = deal_text(&worked_deal()?);
+    let text = deal_text(&deal(WORKED)?);
     let second = b"N:.63.AKQ987.A9732 A8654.KQ5.T.QJT6 J973.J98742.3.K4 KQT2.AT.J6542.85";
     assert_eq!(rt; text.as_slice(), second.as_slice());
     Ok(())
@@ -72,11 +54,11 @@ fn texts_of_deals(rt: HostRuntime) -> Result<(), Fail> {
 fn printer_of_the_worked_games(rt: HostRuntime) -> Result<(), Fail> {
     let mut printer = Printer::new(rt.alloc(), &Heading::none())?;
     assert_eq!(rt; printer.text(), b"".as_slice());
-    printer.print(&Board::by_law(1, 7, pack_in_order()?));
+    printer.print(&Board::by_law(1, 7, deal(IN_ORDER)?));
     assert_eq!(rt; printer.text(), FIRST);
-    printer.print(&Board::by_law(2, 8, worked_deal()?));
+    printer.print(&Board::by_law(2, 8, deal(WORKED)?));
     assert_eq!(rt; printer.text(), SECOND);
-    printer.print(&Board::by_law(1, 7, pack_in_order()?));
+    printer.print(&Board::by_law(1, 7, deal(IN_ORDER)?));
     assert_eq!(rt; printer.text(), FIRST);
     Ok(())
 }
@@ -111,14 +93,14 @@ fn boards_by_hand() -> Result<[Board; 2], Fail> {
             candidate: 3,
             dealer: Seat::West,
             vulnerable: Vul::Both,
-            deal: pack_in_order()?,
+            deal: deal(IN_ORDER)?,
         },
         Board {
             number: 10,
             candidate: 2,
             dealer: Seat::South,
             vulnerable: Vul::EastWest,
-            deal: worked_deal()?,
+            deal: deal(WORKED)?,
         },
     ])
 }
@@ -147,7 +129,7 @@ fn reference_under_a_heading(rt: HostRuntime) -> Result<(), Fail> {
     let mut heading = Heading::none();
     heading.site = Label::new(b"Room 3");
     let mut reference = Reference::new(&heading);
-    reference.print(&Board::by_law(2, 8, worked_deal()?));
+    reference.print(&Board::by_law(2, 8, deal(WORKED)?));
     let label = b"[Site \"Room 3\"]\n".as_slice();
     assert_eq!(rt; reference.text().get(..16), Some(label));
     assert_eq!(rt; reference.text().get(16..), Some(SECOND));
@@ -201,7 +183,7 @@ const LARGEST: u64 = 18_446_744_073_709_551_614;
 
 #[test]
 fn longest_games(rt: HostRuntime) -> Result<(), Fail> {
-    let deal = pack_in_order()?;
+    let deal = deal(IN_ORDER)?;
     let plain = game(LARGEST, &Heading::none(), &deal);
     assert_eq!(rt; plain.len(), 144);
     assert_eq!(rt; dealer(LARGEST), Seat::East);
@@ -224,7 +206,7 @@ fn longest_games(rt: HostRuntime) -> Result<(), Fail> {
 
 /// The lines of a game's heading and board.
 fn check_front(rt: &impl Abort, heading: &Heading, front: &[u8]) -> Result<(), Fail> {
-    let text = game(16, heading, &pack_in_order()?);
+    let text = game(16, heading, &deal(IN_ORDER)?);
     let front_of_text = text.as_slice().get(..front.len());
     assert_eq!(rt; front_of_text, Some(front));
     Ok(())

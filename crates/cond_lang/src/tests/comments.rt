@@ -56,7 +56,7 @@ fn faults_around_comments(rt: HostRuntime) {
 #[test]
 fn comments_count(rt: HostRuntime) -> Result<(), Fail> {
     let whole = repeated(rt.alloc(), b"0==1#", 1, &[b'-'; 1019])?;
-    expect_truth(&rt, &whole, false, &deal(SUIT_EACH)?)?;
+    expect_truth(&rt, &whole, false, &deal(IN_ORDER)?)?;
     let longer = repeated(rt.alloc(), b"0==1#", 1, &[b'-'; 1020])?;
     expect_refusal(&rt, &longer, CondError::TooLong);
     Ok(())

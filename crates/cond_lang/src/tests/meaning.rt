@@ -25,7 +25,7 @@ fn asked(alloc: Global, text: &str) -> Result<[[bool; 2]; 2], Fail> {
 fn or_binds_looser_than_and(rt: HostRuntime) -> Result<(), Fail> {
     let text = "not hcp(north)>=15 or balanced(north) and len(north,spades)==0";
     assert_eq!(rt; asked(rt.alloc(), text)?, [[true; 2]; 2]);
-    assert!(rt; holds(rt.alloc(), text, &deal(SUIT_EACH)?)?);
+    assert!(rt; holds(rt.alloc(), text, &deal(IN_ORDER)?)?);
     Ok(())
 }
 
@@ -88,7 +88,7 @@ fn relations(rt: HostRuntime) -> Result<(), Fail> {
 
 #[test]
 fn any_holds_of_all(rt: HostRuntime) -> Result<(), Fail> {
-    for hands in [SUIT_EACH, HANDED_ON, WORKED] {
+    for hands in [IN_ORDER, HANDED_ON, WORKED] {
         assert!(rt; any_holds(rt.alloc(), &deal(hands)?));
     }
     Ok(())

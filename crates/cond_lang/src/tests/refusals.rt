@@ -62,7 +62,7 @@ fn too_long(rt: HostRuntime) {
 #[test]
 fn as_long_as_may_be(rt: HostRuntime) -> Result<(), Fail> {
     let whole = repeated(rt.alloc(), b" ", 1020, b"0==0")?;
-    expect_truth(&rt, &whole, true, &deal(SUIT_EACH)?)?;
+    expect_truth(&rt, &whole, true, &deal(IN_ORDER)?)?;
     let longer = repeated(rt.alloc(), b" ", 1021, b"0==0")?;
     expect_refusal(&rt, &longer, CondError::TooLong);
     Ok(())
@@ -75,7 +75,7 @@ fn deep_brackets(rt: HostRuntime) -> Result<(), Fail> {
     expect_syntax(&rt, &closed, 1023);
     let mut whole = repeated(rt.alloc(), b"(", 510, b"0==0")?;
     whole.extend_from_slice(&[b')'; 510])?;
-    expect_truth(&rt, &whole, true, &deal(SUIT_EACH)?)
+    expect_truth(&rt, &whole, true, &deal(IN_ORDER)?)
 }
 
 #[test]
@@ -83,13 +83,13 @@ fn many_negations(rt: HostRuntime) -> Result<(), Fail> {
     let open = repeated(rt.alloc(), b"not ", 256, b"")?;
     expect_syntax(&rt, &open, 1024);
     let whole = repeated(rt.alloc(), b"not ", 255, b"0==0")?;
-    expect_truth(&rt, &whole, false, &deal(SUIT_EACH)?)
+    expect_truth(&rt, &whole, false, &deal(IN_ORDER)?)
 }
 
 #[test]
 fn long_chains(rt: HostRuntime) -> Result<(), Fail> {
     let whole = repeated(rt.alloc(), b"0==0or", 170, b"0==0")?;
-    expect_truth(&rt, &whole, true, &deal(SUIT_EACH)?)
+    expect_truth(&rt, &whole, true, &deal(IN_ORDER)?)
 }
 
 #[test]
@@ -97,5 +97,5 @@ fn long_sums(rt: HostRuntime) -> Result<(), Fail> {
     let sum = repeated(rt.alloc(), b"9999+", 200, b"0!=1999800")?;
     expect_refusal(&rt, &sum, CondError::Number { at: 1003 });
     let sum = repeated(rt.alloc(), b"9+", 500, b"0==4500")?;
-    expect_truth(&rt, &sum, true, &deal(SUIT_EACH)?)
+    expect_truth(&rt, &sum, true, &deal(IN_ORDER)?)
 }
