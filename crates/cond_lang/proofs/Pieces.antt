@@ -10,7 +10,8 @@ use Rattle.cond_lang.specs.declared.token.Token.TheVariants.{Ranks, Number, Rela
 use Rattle.cond_lang.specs.declared.token.Piece.{Piece}
 use Rattle.cond_lang.specs.declared.token.Piece.TheVariants.{Separator, Token as TokenPiece, StrayByte, UnknownWord, LongNumber}
 use Rattle.cond_lang.specs.Cut.{words, symbols, is_separator, is_comment_sign, is_in_comment, IsRun, decimal, BeginsWithSymbol, IsPiece, are_ranks, named_by, blank, comment, word, ranks, no_word, number, long, symbol, stray}
-use Rattle.cond_lang.specs.internal.Scanning.{token_of, run, begins_with, symbol_after, token_or, word_piece, ranks_piece, number_piece, symbol_piece, piece_at}
+use Rattle.cond_lang.specs.Runs.{run}
+use Rattle.cond_lang.specs.internal.Scanning.{token_of, begins_with, symbol_after, token_or, word_piece, ranks_piece, number_piece, symbol_piece, piece_at}
 use Rattle.cond_lang.proofs.Tables.{pick, words_apart, no_ranks_word, token_of-entry, entry_of, at_entry}
 use Rattle.cond_lang.proofs.Runs.{run-append, run_all, run_ends, run_split, lowercase_no_separator, digit_no_separator, digit_no_lowercase, sign_no_separator, lowercase_no_sign, digit_no_sign, sign_in_comment}
 use Rattle.cond_lang.proofs.Symbols.{IsAtLeast, goes_on, IsSymbolOf, symbol_is, fits}

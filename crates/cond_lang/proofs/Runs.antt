@@ -4,7 +4,7 @@ use Rattle.std.proofs.lemmas.Bool.Decides.{nat_tests}
 use Rattle.std.specs.List.{AllByRecursion}
 use Rattle.std.specs.Char.{is_ascii_lowercase, is_ascii_digit}
 use Rattle.cond_lang.specs.Cut.{is_separator, is_comment_sign, is_in_comment, EndsRun, IsRun}
-use Rattle.cond_lang.specs.internal.Scanning.{run}
+use Rattle.cond_lang.specs.Runs.{run}
 use Rattle.cond_lang.proofs.Tables.{pick}
 
 pub run-append : (f : ℕ → Bool) (p rest : List ℕ) → AllByRecursion (λ c. f c ≡ true) p → EndsRun f rest → run f (p ++ rest) ≡ length p

@@ -7,9 +7,11 @@ ghost use Rattle.std.specs.Char.{is_ascii_lowercase, is_ascii_digit};
 ghost use Rattle.cond_lang.specs.Cut.{HasTokens, words, decimal, is_separator, is_in_comment};
 ghost use Rattle.cond_lang.specs.Cut.{is_rank, are_ranks, has_letter, named_by};
 ghost use Rattle.cond_lang.specs.Faults.{HasFault};
-ghost use Rattle.cond_lang.specs.internal.Scanning.{token_of, run, begins_with, symbol_at, word_piece, ranks_piece, number_piece, piece_at};
+ghost use Rattle.cond_lang.specs.Runs.{run};
+ghost use Rattle.cond_lang.specs.internal.Scanning.{token_of, begins_with, symbol_at, word_piece, ranks_piece, number_piece, piece_at};
 
 use crate::error::CondError;
+use crate::run_lengths::{digit_run_len, letter_run_len};
 use crate::token::{Piece, Placed, Token};
 use crate::tree::Op;
 use crate::words::WORDS;
@@ -83,32 +85,6 @@ fn comment_len(text: &[u8]) -> usize
 {
     for (i, byte) in text.iter().enumerate() {
         if *byte == b'\n' {
-            return i;
-        }
-    }
-    text.len()
-}
-
-/// How many small letters a text begins with.
-fn letter_run_len(text: &[u8]) -> usize
-    ensures value { result ≡ run is_ascii_lowercase text.now }
-    ensures within { result ≤ length text.now }
-{
-    for (i, byte) in text.iter().enumerate() {
-        if !byte.is_ascii_lowercase() {
-            return i;
-        }
-    }
-    text.len()
-}
-
-/// How many digits a text begins with.
-fn digit_run_len(text: &[u8]) -> usize
-    ensures value { result ≡ run is_ascii_digit text.now }
-    ensures within { result ≤ length text.now }
-{
-    for (i, byte) in text.iter().enumerate() {
-        if !byte.is_ascii_digit() {
             return i;
         }
     }

@@ -9,6 +9,7 @@ mod meaning;
 mod measures;
 mod random;
 mod refusals;
+mod runs;
 mod trees;
 mod worked;
 

@@ -4,6 +4,7 @@ use Rattle.std.specs.Prelude.{Bool, true, false, ◌==◌, ◌&&◌, ◌||◌, n
 use Rattle.std.specs.Prelude.{List, [], ◌∷◌, ◌++◌, codes, drop, length, map, replicate}
 use Rattle.std.specs.Prelude.{slice_index, slice_range, take}
 use Rattle.std.specs.Char.{is_ascii_lowercase, is_ascii_digit}
+use Rattle.cond_lang.specs.Runs.{run}
 
 -- ---- bytes on a terminal
 
@@ -44,11 +45,6 @@ without_return line =
     if slice_index line (length line - 1) == 13 then take (length line - 1) line else line
 
 -- ---- how wide the fault is
-
--- how many such bytes a text begins with
-abbrev pub run : (ℕ → Bool) → List ℕ → ℕ
-run f [] = 0
-run f (c ∷ s) = if f c then suc (run f s) else 0
 
 -- an equals sign stands first
 abbrev pub begins_with_equals : List ℕ → Bool

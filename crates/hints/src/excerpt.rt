@@ -2,14 +2,14 @@
 
 ghost use Rattle.std.specs.Prelude.{◌≡◌, ◌≢◌, ℕ, ◌+◌, ◌-◌, ◌<◌, ◌≤◌, ◌++◌, drop, length};
 ghost use Rattle.std.specs.Prelude.{slice_index, string_bytes, OnOk};
-ghost use Rattle.std.specs.Char.{is_ascii_lowercase, is_ascii_digit};
 ghost use Rattle.hints.specs.Excerpt.{IsExcerpt, IsPlace, IsWithoutEnds, begins_with_equals};
 ghost use Rattle.hints.specs.Excerpt.{caret_line};
-ghost use Rattle.hints.specs.Excerpt.{count_shown, excerpt, first_shown, run, shown_line};
+ghost use Rattle.hints.specs.Excerpt.{count_shown, excerpt, first_shown, shown_line};
 ghost use Rattle.hints.specs.Excerpt.{token_len, where_cut, without_return};
 ghost use Rattle.hints.specs.internal.Appends.{Appends};
 
 use crate::shown::{put_repeated, put_shown};
+use cond_lang::{digit_run_len, letter_run_len};
 use std::alloc::AllocError;
 
 /// The longest line that is shown whole.
@@ -133,28 +133,6 @@ fn begins_with_equals(text: &[u8]) -> bool
         [] => false,
         [first, ..] => *first == b'=',
     }
-}
-
-fn letter_run_len(text: &[u8]) -> usize
-    ensures { result ≡ run is_ascii_lowercase text.now }
-{
-    for (i, byte) in text.iter().enumerate() {
-        if !byte.is_ascii_lowercase() {
-            return i;
-        }
-    }
-    text.len()
-}
-
-fn digit_run_len(text: &[u8]) -> usize
-    ensures { result ≡ run is_ascii_digit text.now }
-{
-    for (i, byte) in text.iter().enumerate() {
-        if !byte.is_ascii_digit() {
-            return i;
-        }
-    }
-    text.len()
 }
 
 /// Appends the line, cut around the column if it is long, and the carets below it.

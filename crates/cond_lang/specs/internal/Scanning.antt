@@ -8,16 +8,12 @@ use Rattle.cond_lang.specs.declared.token.Token.TheVariants.{Ranks, Number, Open
 use Rattle.cond_lang.specs.declared.token.Piece.{Piece}
 use Rattle.cond_lang.specs.declared.token.Piece.TheVariants.{Separator, Token as TokenPiece, StrayByte, UnknownWord, LongNumber}
 use Rattle.cond_lang.specs.Cut.{words, is_separator, is_comment_sign, is_in_comment, are_ranks, named_by, decimal}
+use Rattle.cond_lang.specs.Runs.{run}
 
 -- the token of the table's entry with this text
 abbrev pub token_of : List (List ℕ × Token) → List ℕ → Option Token
 token_of [] p = None
 token_of (entry ∷ table) p = if bytes_eq p entry.0 then Some entry.1 else token_of table p
-
--- how many such bytes the text begins with
-abbrev pub run : (ℕ → Bool) → List ℕ → ℕ
-run f [] = 0
-run f (c ∷ s) = if f c then suc (run f s) else 0
 
 abbrev pub begins_with : ℕ → List ℕ → Bool
 begins_with c [] = false

@@ -1,6 +1,6 @@
 use Rattle.std.proofs.Common.{◌≡◌, ◌+◌, drop}
 use Rattle.cond_lang.specs.Cut.{is_in_comment}
-use Rattle.cond_lang.specs.internal.Scanning.{run}
+use Rattle.cond_lang.specs.Runs.{run}
 use Rattle.cond_lang.proofs.scanner.comment_len.Given as goal
 
 abbrev pub invariant-loop-i : goal.invariant-loop-i
