@@ -25,6 +25,3 @@ pub use run_lengths::{digit_run_len, letter_run_len};
 pub use token::Token;
 pub use tree::{Item, Op, Tree, Value};
 pub use words::{Kind, MEASURE_LINES, WORDS, measure_word};
-
-#[cfg(test)]
-mod tests;

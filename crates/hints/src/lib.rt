@@ -15,6 +15,3 @@ mod shown;
 
 pub use language::LANGUAGE;
 pub use refusal::explain;
-
-#[cfg(test)]
-mod tests;

@@ -236,7 +236,7 @@ pub(crate) fn is_measure(bytes: &[u8]) -> bool {
 }
 
 /// Whether the token begins a value, and is a word.
-pub(crate) fn begins_a_value(token: Token) -> bool {
+fn begins_a_value(token: Token) -> bool {
     matches!(
         token,
         Token::Measure(_) | Token::Cards | Token::Len | Token::Longest | Token::Shortest

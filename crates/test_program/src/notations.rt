@@ -7,8 +7,11 @@ use boards::{Board, Notation};
 use cond_lang::Cond;
 use dealrun::{Cause, Fuse, MemSink, PlainFault, Plan, run_in, run_plain_in};
 use lanes::OpenGate;
-use std::sync::Arc;
+use std::alloc::Global;
+use std::process::Abort;
+use std::sync::{Arc, Wait};
 use std::test::Fail;
+use std::thread::Threads;
 
 /// A line a board: the last digit of its number, a space, and the last digit of its candidate.
 #[derive(Drop)]
@@ -65,21 +68,35 @@ fn writes_header_boards_and_footer(rt: HostRuntime) -> Result<(), Fail> {
                     .numbered(98)?
                     .limited(5)?,
             ] {
-                let cond = Cond::any(rt.alloc());
-                let mut plain = MemSink::new(rt.alloc());
-                let boards = run_plain_in(&plan, &cond, &mut Digits::new(), &mut plain);
-                assert_eq!(rt; boards, Ok(5));
-                assert_eq!(rt; plain.bytes(), TEXT);
-                let mut sink = MemSink::new(rt.alloc());
-                let gate = Arc::new(rt.alloc(), OpenGate)?;
-                let alloc = rt.alloc();
-                let mut digits = Digits::new();
-                let report = run_in(&rt, alloc, &plan, cond, &mut digits, &mut sink, gate);
-                assert_eq!(rt; report.ok().map(|report| report.boards), Some(5));
-                assert_eq!(rt; sink.bytes(), TEXT);
+                plain_writes_all(&rt, rt.alloc(), &plan);
+                lanes_write_all(&rt, rt.alloc(), &plan)?;
             }
         }
     }
+    Ok(())
+}
+
+/// The plain run writes the five boards.
+fn plain_writes_all(rt: &impl Abort, alloc: Global, plan: &Plan) {
+    let mut sink = MemSink::new(alloc);
+    let boards = run_plain_in(plan, &Cond::any(alloc), &mut Digits::new(), &mut sink);
+    assert_eq!(rt; boards, Ok(5));
+    assert_eq!(rt; sink.bytes(), TEXT);
+}
+
+/// The run over lanes writes the five boards.
+fn lanes_write_all<R: Abort + Threads + Wait + Clone + Send + 'static>(
+    rt: &R,
+    alloc: Global,
+    plan: &Plan,
+) -> Result<(), Fail> {
+    let mut sink = MemSink::new(alloc);
+    let gate = Arc::new(alloc, OpenGate)?;
+    let cond = Cond::any(alloc);
+    let mut digits = Digits::new();
+    let report = run_in(rt, alloc, plan, cond, &mut digits, &mut sink, gate);
+    assert_eq!(rt; report.ok().map(|report| report.boards), Some(5));
+    assert_eq!(rt; sink.bytes(), TEXT);
     Ok(())
 }
 
@@ -88,23 +105,47 @@ fn writes_header_boards_and_footer(rt: HostRuntime) -> Result<(), Fail> {
 fn breaks_off_in_the_footer(rt: HostRuntime) -> Result<(), Fail> {
     let plan = Plan::new(0, 7, 5, 3, 64)?.numbered(98)?;
     for (fails_at, most, bytes) in [(7, 64, 26), (29, 1, 28), (30, 1, 29)] {
-        let cond = Cond::any(rt.alloc());
-        let mut plain = Fuse::new(MemSink::new(rt.alloc()), fails_at, most, true);
-        let boards = run_plain_in(&plan, &cond, &mut Digits::new(), &mut plain);
-        assert_eq!(rt; boards, Err(PlainFault { boards: 5 }));
-        assert_eq!(rt; plain.bytes(), &TEXT[..bytes]);
-        let mut sink = Fuse::new(MemSink::new(rt.alloc()), fails_at, most, true);
-        let gate = Arc::new(rt.alloc(), OpenGate)?;
-        let alloc = rt.alloc();
-        let mut digits = Digits::new();
-        match run_in(&rt, alloc, &plan, cond, &mut digits, &mut sink, gate) {
-            Ok(_) => assert!(rt; false),
-            Err(fault) => {
-                assert_eq!(rt; (fault.cause, fault.boards), (Cause::Output, 5));
-                assert!(rt; fault.lanes.iter().all(|lane| lane.is_settled()));
-            }
-        }
-        assert_eq!(rt; sink.bytes(), &TEXT[..bytes]);
+        plain_breaks_off(&rt, rt.alloc(), &plan, fails_at, most, &TEXT[..bytes]);
+        lanes_break_off(&rt, rt.alloc(), &plan, fails_at, most, &TEXT[..bytes])?;
     }
+    Ok(())
+}
+
+/// The plain run has written these bytes, and five boards, when its sink fails.
+fn plain_breaks_off(
+    rt: &impl Abort,
+    alloc: Global,
+    plan: &Plan,
+    fails_at: u64,
+    most: usize,
+    bytes: &[u8],
+) {
+    let mut sink = Fuse::new(MemSink::new(alloc), fails_at, most, true);
+    let boards = run_plain_in(plan, &Cond::any(alloc), &mut Digits::new(), &mut sink);
+    assert_eq!(rt; boards, Err(PlainFault { boards: 5 }));
+    assert_eq!(rt; sink.bytes(), bytes);
+}
+
+/// The run over lanes has written these bytes, and five boards, when its sink fails.
+fn lanes_break_off<R: Abort + Threads + Wait + Clone + Send + 'static>(
+    rt: &R,
+    alloc: Global,
+    plan: &Plan,
+    fails_at: u64,
+    most: usize,
+    bytes: &[u8],
+) -> Result<(), Fail> {
+    let mut sink = Fuse::new(MemSink::new(alloc), fails_at, most, true);
+    let gate = Arc::new(alloc, OpenGate)?;
+    let cond = Cond::any(alloc);
+    let mut digits = Digits::new();
+    match run_in(rt, alloc, plan, cond, &mut digits, &mut sink, gate) {
+        Ok(_) => assert!(rt; false),
+        Err(fault) => {
+            assert_eq!(rt; (fault.cause, fault.boards), (Cause::Output, 5));
+            assert!(rt; fault.lanes.iter().all(|lane| lane.is_settled()));
+        }
+    }
+    assert_eq!(rt; sink.bytes(), bytes);
     Ok(())
 }

@@ -4,8 +4,10 @@
 use cond_lang::{Cond, parse};
 use dealrun::{Fuse, MemSink, Plan, run, run_plain};
 use lanes::OpenGate;
-use std::sync::Arc;
+use std::alloc::Global;
+use std::sync::{Arc, Wait};
 use std::test::Fail;
+use std::thread::Threads;
 
 #[test]
 fn writes_the_plain_text(rt: HostRuntime) -> Result<(), Fail> {
@@ -17,22 +19,26 @@ fn writes_the_plain_text(rt: HostRuntime) -> Result<(), Fail> {
         for workers in [1, 3, 16] {
             for capacity in [1, 64] {
                 let plan = Plan::new(0, 0, 200, workers, capacity)?;
-                let mut sink = MemSink::new(rt.alloc());
-                let gate = Arc::new(rt.alloc(), OpenGate)?;
-                let report = run(
-                    &rt,
-                    rt.alloc(),
-                    &plan,
-                    condition.try_clone()?,
-                    &mut sink,
-                    gate,
-                );
-                assert_eq!(rt; report.ok().map(|report| report.boards), boards.ok());
+                let (made, sink) = run_in_memory(&rt, rt.alloc(), &plan, condition.try_clone()?)?;
+                assert_eq!(rt; made, boards.ok());
                 assert!(rt; sink.bytes() == plain.bytes());
             }
         }
     }
     Ok(())
+}
+
+/// The boards of a run that ends well, and what it wrote.
+fn run_in_memory<R: Threads + Wait + Clone + Send + 'static>(
+    rt: &R,
+    alloc: Global,
+    plan: &Plan,
+    condition: Cond,
+) -> Result<(Option<u64>, MemSink), Fail> {
+    let mut sink = MemSink::new(alloc);
+    let gate = Arc::new(alloc, OpenGate)?;
+    let report = run(rt, alloc, plan, condition, &mut sink, gate);
+    Ok((report.ok().map(|report| report.boards), sink))
 }
 
 /// A sink that takes one byte a write gets the same bytes, as do more workers than candidates, and
@@ -42,23 +48,10 @@ fn writes_the_plain_text_byte_by_byte(rt: HostRuntime) -> Result<(), Fail> {
     for (count, workers, boards, bytes) in [(200, 3, 200, 25_052), (3, 16, 3, 381), (0, 1, 0, 10)] {
         let plan = Plan::new(0, 0, count, workers, 64)?;
         let mut plain = MemSink::new(rt.alloc());
-        assert_eq!(rt;
-            run_plain(&plan, &Cond::any(rt.alloc()), &mut plain),
-            Ok(boards)
-        );
-        let mut sink = Fuse::new(MemSink::new(rt.alloc()), 0, 1, true);
-        let gate = Arc::new(rt.alloc(), OpenGate)?;
-        match run(
-            &rt,
-            rt.alloc(),
-            &plan,
-            Cond::any(rt.alloc()),
-            &mut sink,
-            gate,
-        ) {
-            Ok(report) => assert_eq!(rt; report.boards, boards),
-            Err(_) => assert!(rt; false),
-        }
+        let made = run_plain(&plan, &Cond::any(rt.alloc()), &mut plain);
+        assert_eq!(rt; made, Ok(boards));
+        let (made, sink) = run_byte_by_byte(&rt, rt.alloc(), &plan)?;
+        assert_eq!(rt; made, Some(boards));
         assert_eq!(rt; sink.bytes().len(), bytes);
         assert!(rt; sink.bytes() == plain.bytes());
     }
@@ -67,6 +60,18 @@ fn writes_the_plain_text_byte_by_byte(rt: HostRuntime) -> Result<(), Fail> {
     assert_eq!(rt; run_plain(&empty, &Cond::any(rt.alloc()), &mut none), Ok(0));
     assert_eq!(rt; none.bytes(), b"% PBN 2.1\n".as_slice());
     Ok(())
+}
+
+/// The boards of a run over all deals that ends well, and what it wrote, a byte at a time.
+fn run_byte_by_byte<R: Threads + Wait + Clone + Send + 'static>(
+    rt: &R,
+    alloc: Global,
+    plan: &Plan,
+) -> Result<(Option<u64>, Fuse), Fail> {
+    let mut sink = Fuse::new(MemSink::new(alloc), 0, 1, true);
+    let gate = Arc::new(alloc, OpenGate)?;
+    let report = run(rt, alloc, plan, Cond::any(alloc), &mut sink, gate);
+    Ok((report.ok().map(|report| report.boards), sink))
 }
 
 /// With a limit no candidate is taken after it is met, and what is left of a lane comes next.

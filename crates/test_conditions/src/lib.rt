@@ -1,0 +1,5 @@
+//! Tests of the language of conditions, with outside values.
+#![tactic(auto)]
+
+#[cfg(test)]
+mod tests;

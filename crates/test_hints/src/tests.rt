@@ -1,0 +1,43 @@
+//! Mistakes, with all that is said of each.
+
+mod bytes;
+mod calls;
+mod expected;
+mod joins;
+mod language;
+mod lines;
+mod ranges;
+mod shapes;
+mod words;
+
+use cond_lang::{CondError, parse};
+use hints::explain;
+use std::alloc::Global;
+use std::process::Abort;
+use std::test::Fail;
+
+/// A text, and all that is said of it.
+type Mistake = (&'static [u8], &'static str);
+
+/// Compares what is said of each text, and reads again what is suggested.
+fn check(rt: &impl Abort, alloc: Global, mistakes: &[Mistake]) -> Result<(), Fail> {
+    for (text, wanted) in mistakes {
+        let told = told_of(alloc, text)?;
+        assert_eq!(rt; told.as_str(), *wanted);
+        if let Some((_, suggestion)) = told.as_str().split_once("write: ") {
+            let suggested = suggestion.strip_suffix("\n").ok_or("no line")?;
+            assert!(rt; is_condition(alloc, suggested), "{suggested}");
+        }
+    }
+    Ok(())
+}
+
+/// All that is said of a text that is refused.
+fn told_of(alloc: Global, text: &[u8]) -> Result<String, Fail> {
+    let error = parse(alloc, text).err().ok_or("it is no mistake")?;
+    Ok(explain(alloc, text, error)?)
+}
+
+fn is_condition(alloc: Global, text: &str) -> bool {
+    parse(alloc, text.as_bytes()).is_ok()
+}
