@@ -145,9 +145,19 @@ const CONDITIONS: [(&str, [bool; 6]); 24] = [
 #[test]
 fn values_of_six_deals(rt: HostRuntime) -> Result<(), Fail> {
     for (text, numbers) in VALUES.iter() {
-        for (hands, number) in DEALS.iter().zip(numbers.iter()) {
-            expect_value(&rt, text, *number, &deal(hands)?)?;
-        }
+        expect_values(&rt, text, numbers)?;
+    }
+    Ok(())
+}
+
+/// The value of each of the six deals.
+fn expect_values(
+    rt: &(impl Abort + AllocGlobal),
+    text: &str,
+    numbers: &[u16; 6],
+) -> Result<(), Fail> {
+    for (hands, number) in DEALS.iter().zip(numbers.iter()) {
+        expect_value(rt, text, *number, &deal(hands)?)?;
     }
     Ok(())
 }
@@ -168,9 +178,19 @@ fn expect_value(
 #[test]
 fn conditions_of_six_deals(rt: HostRuntime) -> Result<(), Fail> {
     for (text, truths) in CONDITIONS.iter() {
-        for (hands, truth) in DEALS.iter().zip(truths.iter()) {
-            expect_truth(&rt, text.as_bytes(), *truth, &deal(hands)?)?;
-        }
+        expect_of_deals(&rt, text, truths)?;
+    }
+    Ok(())
+}
+
+/// The condition is true of each of the six deals, or not.
+fn expect_of_deals(
+    rt: &(impl Abort + AllocGlobal),
+    text: &str,
+    truths: &[bool; 6],
+) -> Result<(), Fail> {
+    for (hands, truth) in DEALS.iter().zip(truths.iter()) {
+        expect_truth(rt, text.as_bytes(), *truth, &deal(hands)?)?;
     }
     Ok(())
 }

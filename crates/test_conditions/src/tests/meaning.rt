@@ -4,19 +4,9 @@ use super::random::Dice;
 use super::*;
 use cards::Places;
 
-/// The deal of all places `j - 1`, which leaves the pack in order.
-fn in_order() -> Result<Deal, Fail> {
-    let mut places = [0; 51];
-    for i in 0..51u8 {
-        places[usize::from(i)] = 51 - i;
-    }
-    Ok(Deal::shuffled(&Places::new(places).ok_or("places")?))
-}
-
-/// What the text's condition and a clone of it say of the deal that is in order, and of the worked
-/// one.
+/// What the text's condition and a clone of it say of the pack in order, and of the worked deal.
 fn asked(alloc: Global, text: &str) -> Result<[[bool; 2]; 2], Fail> {
-    let of_first = both_hold(alloc, text.as_bytes(), &in_order()?)?;
+    let of_first = both_hold(alloc, text.as_bytes(), &deal(IN_ORDER)?)?;
     let of_worked = both_hold(alloc, text.as_bytes(), &deal(WORKED)?)?;
     Ok([of_first, of_worked])
 }
@@ -25,7 +15,6 @@ fn asked(alloc: Global, text: &str) -> Result<[[bool; 2]; 2], Fail> {
 fn or_binds_looser_than_and(rt: HostRuntime) -> Result<(), Fail> {
     let text = "not hcp(north)>=15 or balanced(north) and len(north,spades)==0";
     assert_eq!(rt; asked(rt.alloc(), text)?, [[true; 2]; 2]);
-    assert!(rt; holds(rt.alloc(), text, &deal(IN_ORDER)?)?);
     Ok(())
 }
 
@@ -38,52 +27,76 @@ fn not_binds_tighter_than_or(rt: HostRuntime) -> Result<(), Fail> {
     Ok(())
 }
 
+/// Conditions, and whether they are true of the worked deal.
+type Truths = &'static [(&'static str, bool)];
+
+const SHAPES: Truths = &[
+    ("shape(east,5-3-1-4)", true),
+    ("pattern(east,5-4-3-1)", true),
+    ("shape(east,5-4-3-1)", false),
+    ("pattern(east,5-5-3-1)", false),
+    ("pattern(east,5-4-4-1)", false),
+    ("shape(north,9-9-9-9)", false),
+];
+
+const POINTS_AND_LENGTHS: Truths = &[
+    (
+        "hcp(north)==13 and hcp(east)==12 and hcp(south)==5 and hcp(west)==10",
+        true,
+    ),
+    (
+        "hcp(north,diamonds)==9 and hcp(north,clubs)==4 and shape(north,0-2-6-5)",
+        true,
+    ),
+    (
+        "balanced(north) or balanced(east) or balanced(south) or balanced(west)",
+        false,
+    ),
+    ("hcp(north)+hcp(south)==18", true),
+    ("len(north,diamonds)+len(south,diamonds)==7", true),
+];
+
+const RELATIONS: Truths = &[
+    ("12<13", true),
+    ("13<13", false),
+    ("13<12", false),
+    ("13>12", true),
+    ("13>13", false),
+    ("12>13", false),
+    ("12<=13", true),
+    ("13<=13", true),
+    ("13<=12", false),
+    ("13>=12", true),
+    ("13>=13", true),
+    ("12>=13", false),
+    ("12!=13", true),
+    ("13!=13", false),
+    ("013==13", true),
+    ("12==13", false),
+];
+
+/// The conditions are true of the worked deal, or not, as it is said.
+fn expect_truths(rt: &(impl Abort + AllocGlobal), truths: Truths) -> Result<(), Fail> {
+    let deal = deal(WORKED)?;
+    for (text, truth) in truths.iter() {
+        expect_truth(rt, text.as_bytes(), *truth, &deal)?;
+    }
+    Ok(())
+}
+
 #[test]
 fn shapes_and_patterns(rt: HostRuntime) -> Result<(), Fail> {
-    let deal = deal(WORKED)?;
-    assert!(rt; holds(rt.alloc(), "shape(east,5-3-1-4)", &deal)?);
-    assert!(rt; holds(rt.alloc(), "pattern(east,5-4-3-1)", &deal)?);
-    assert!(rt; !holds(rt.alloc(), "shape(east,5-4-3-1)", &deal)?);
-    assert!(rt; !holds(rt.alloc(), "pattern(east,5-5-3-1)", &deal)?);
-    assert!(rt; !holds(rt.alloc(), "pattern(east,5-4-4-1)", &deal)?);
-    assert!(rt; !holds(rt.alloc(), "shape(north,9-9-9-9)", &deal)?);
-    Ok(())
+    expect_truths(&rt, SHAPES)
 }
 
 #[test]
 fn points_and_lengths(rt: HostRuntime) -> Result<(), Fail> {
-    let deal = deal(WORKED)?;
-    let text = "hcp(north)==13 and hcp(east)==12 and hcp(south)==5 and hcp(west)==10";
-    assert!(rt; holds(rt.alloc(), text, &deal)?);
-    let text = "hcp(north,diamonds)==9 and hcp(north,clubs)==4 and shape(north,0-2-6-5)";
-    assert!(rt; holds(rt.alloc(), text, &deal)?);
-    let text = "balanced(north) or balanced(east) or balanced(south) or balanced(west)";
-    assert!(rt; !holds(rt.alloc(), text, &deal)?);
-    assert!(rt; holds(rt.alloc(), "hcp(north)+hcp(south)==18", &deal)?);
-    assert!(rt;
-        holds(
-            rt.alloc(),
-            "len(north,diamonds)+len(south,diamonds)==7",
-            &deal
-        )?
-    );
-    Ok(())
+    expect_truths(&rt, POINTS_AND_LENGTHS)
 }
 
 #[test]
 fn relations(rt: HostRuntime) -> Result<(), Fail> {
-    let deal = deal(WORKED)?;
-    for text in [
-        "12<13", "13>12", "13<=13", "13>=13", "12<=13", "13>=12", "12!=13", "013==13",
-    ] {
-        assert!(rt; holds(rt.alloc(), text, &deal)?, "{text}");
-    }
-    for text in [
-        "13<13", "13>13", "13<=12", "12>=13", "13!=13", "12==13", "13<12", "12>13",
-    ] {
-        assert!(rt; !holds(rt.alloc(), text, &deal)?, "{text}");
-    }
-    Ok(())
+    expect_truths(&rt, RELATIONS)
 }
 
 #[test]
