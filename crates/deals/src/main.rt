@@ -1,8 +1,9 @@
 //! The program `deals`: its words and standard streams, and its status.
 //!
 //! What `program` says on standard error is one line, for programs to read. For a person it is
-//! explained below that line what is wrong with a condition, and why the output failed; while a run
-//! lasts, its boards are passed on as they are found, and its counts are shown.
+//! explained below that line what a refused option takes, what is wrong with a condition, and why
+//! the output failed; while a run lasts, its boards are passed on as they are found, and its counts
+//! are shown.
 #![tactic(auto)]
 
 ghost use Rattle.std.specs.Prelude.{◌≡◌, IfOk};
@@ -11,7 +12,7 @@ use cond_lang::parse;
 use console::{Counts, Drawn, OverLine, Prompt, Style, millis};
 use deals_cli::{program, read_words};
 use hints::explain;
-use requests::{MakeRequest, Progress, Request};
+use requests::{MakeRequest, Progress, Request, advise};
 use sinks::{Piped, Sink, put_all};
 use std::alloc::Global;
 use std::io::{BufWriter, ErrorKind, IsTerminal, Result};
@@ -20,6 +21,9 @@ use std::{env, io};
 
 /// How much output is gathered before it is passed on, unless a fifth of a second passes first.
 const BUFFER: usize = 64 * 1024;
+
+/// The status of words, a plan or a label that are refused.
+const REFUSED_PLAN: u8 = 2;
 
 /// The status of a condition that is refused.
 const REFUSED_CONDITION: u8 = 3;
@@ -80,6 +84,11 @@ fn start(rt: &HostRuntime) -> Result<(Vec<String>, Output, Said)>
     Ok((words, out, err))
 }
 
+/// What helps with the refused plan or label of these words; none where memory runs out.
+fn advice(alloc: Global, words: &[String]) -> Option<String> {
+    advise(alloc, &run_of(alloc, words)?).unwrap_or(None)
+}
+
 /// What helps with the refused condition of these words; none where memory runs out.
 fn explanation(alloc: Global, words: &[String]) -> Option<String> {
     let text = run_of(alloc, words)?.where_text?.as_bytes();
@@ -99,6 +108,7 @@ fn say_more(alloc: Global, words: &[String], status: u8, out: &Output, err: &mut
         return;
     }
     let more = match status {
+        REFUSED_PLAN => advice(alloc, words),
         REFUSED_CONDITION => explanation(alloc, words),
         FAILED_OUTPUT => reason(alloc, out),
         _ => None,

@@ -15,6 +15,7 @@ mod shown;
 
 pub use language::LANGUAGE;
 pub use refusal::explain;
+pub use shown::put_shown;
 
 #[cfg(test)]
 mod tests;
