@@ -7,6 +7,7 @@ mod expected;
 mod hint;
 mod kinds;
 mod language;
+mod never;
 mod parts;
 mod refusal;
 mod rules;
@@ -14,6 +15,7 @@ mod said;
 mod shown;
 
 pub use language::LANGUAGE;
+pub use never::is_never;
 pub use refusal::explain;
 pub use shown::put_shown;
 
