@@ -17,8 +17,9 @@ class Case:
 
 
 NORTH, EAST, SOUTH, WEST = range(4)
-# What a label may be, and the first 70 characters of one that may not.
+# What a label and a date may be, and the first 70 characters of a label that may not.
 LABEL = 'at most 100 characters of ASCII, from space to ~, without " and \\'
+DATE = "a date is written YYYY.MM.DD, as 2024.05.01"
 SHOWN = "a\\bca\\bca\\bca\\bca\\bca\\bca\\bca\\bca\\bca\\bca\\bca\\bca\\bca\\bca\\bca\\bca\\bca\\"
 
 # A condition, and whether it accepts four hands.
@@ -117,10 +118,11 @@ def of_refusals():
         (["--first-board", "0"], "plan refused: first board", "--first-board 0: 1 to 1099511627776"),
         (["--event", 'a"b'], "label refused: event", f'--event "a"b": {LABEL}'),
         (["--site", "a\\bc" * 30], "label refused: site", f'--site "{SHOWN}..": {LABEL}'),
-        (["--date", "2024-05-01"], "label refused: date", '--date "2024-05-01": a date is written YYYY.MM.DD, as 2024.05.01'),
+        (["--date", "2024-05-01"], "label refused: date", f'--date "2024-05-01": {DATE}'),
     ):
         line += "\n"
-        yield Case(f"{line.strip()}, {more[0]}", asked(*more), 2, err=f"{line}  {advice}\n".encode(), line=line.encode())
+        said = f"{line}  {advice}\n".encode()
+        yield Case(f"{line.strip()}, {more[0]}", asked(*more), 2, err=said, line=line.encode())
     at = "condition refused at byte "
     for text, line in (
         (" " * 1025, "condition refused: longer than 1024 bytes"),

@@ -54,8 +54,8 @@ def build():
 
 
 def run(command, shim, fault, at, stderr=subprocess.PIPE):
-    """Runs a command whose call number `at` of the fault's kind fails; 0: none fails. What it writes to another standard
-    error than a pipe isn't told."""
+    """Runs a command whose call number `at` of the fault's kind fails; 0: none fails. What it writes to a standard error
+    that is given isn't told."""
     report = os.memfd_create("report")
     os.truncate(report, REPORT.size)
     settings = {

@@ -1,5 +1,6 @@
 -- Conditions that no deal meets, by their numbers alone.
-use Rattle.std.specs.Prelude.{ℕ, ◌+◌, ◌*◌, ◌==◌, not, ◌&&◌, ◌||◌, nat_lt, nat_le, Bool, false, cond, sum}
+use Rattle.std.specs.Prelude.{ℕ, ◌+◌, ◌*◌, ◌==◌, not, ◌&&◌, ◌||◌, nat_lt, nat_le, Bool, false}
+use Rattle.std.specs.Prelude.{cond, sum}
 use Rattle.cards.specs.declared.honours.Honours.{Honours}
 use Rattle.cards.specs.declared.measure.Measure.{Measure}
 use Rattle.cards.specs.declared.measure.Measure.TheVariants.{Hcp, Controls, Losers}
@@ -9,11 +10,13 @@ use Rattle.cond_lang.specs.Form.{points, shape, shortest, suit_cards_held, suit_
 use Rattle.cond_lang.specs.Form.{suit_total, total, within}
 use Rattle.cond_lang.specs.Form.{sum as plus}
 use Rattle.cond_lang.specs.declared.tree.Op.{Op}
-use Rattle.cond_lang.specs.declared.tree.Op.TheVariants.{AtLeast, AtMost, Equal, Less, More, NotEqual}
+use Rattle.cond_lang.specs.declared.tree.Op.TheVariants.{AtLeast, AtMost, Equal, Less, More}
+use Rattle.cond_lang.specs.declared.tree.Op.TheVariants.{NotEqual}
 
 -- how many ranks these are
 abbrev pub rank_count : Honours → ℕ
-rank_count h = cond h.ace 1 0 + cond h.king 1 0 + cond h.queen 1 0 + cond h.jack 1 0 + cond h.ten 1 0
+rank_count h =
+    cond h.ace 1 0 + cond h.king 1 0 + cond h.queen 1 0 + cond h.jack 1 0 + cond h.ten 1 0
 
 -- the most that a hand counts by a measure, and that its cards of one suit count
 abbrev pub most_of : Measure → ℕ
@@ -55,8 +58,8 @@ is_never_related AtMost a b c d = nat_lt d a
 is_never_related More a b c d = nat_le b c
 is_never_related AtLeast a b c d = nat_lt b c
 
--- whether no deal meets the tree, as far as the least and the greatest of its values and the sums of
--- its lengths say: of a condition that is negated nothing is said
+-- whether no deal meets the tree, as far as the least and the greatest of its values and the sums
+-- of its lengths say: of a condition that is negated nothing is said
 abbrev pub is_never : Form → Bool
 is_never (any_of a b) = is_never a && is_never b
 is_never (all_of a b) = is_never a || is_never b

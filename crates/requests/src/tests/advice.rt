@@ -130,20 +130,24 @@ fn labels_that_can_not_be_written(rt: HostRuntime) -> Result<(), Fail> {
     let cases = [
         (
             event("a\"b"),
-            "  --event \"a\"b\": at most 100 characters of ASCII, from space to ~, without \" and \\\n",
+            "  --event \"a\"b\": at most 100 characters of ASCII, \
+            from space to ~, without \" and \\\n",
         ),
         (
             event("Cl\u{e9}s"),
-            "  --event \"Cl??s\": at most 100 characters of ASCII, from space to ~, without \" and \\\n",
+            "  --event \"Cl??s\": at most 100 characters of ASCII, \
+            from space to ~, without \" and \\\n",
         ),
         (
             site,
-            "  --site \"a\\b ?\": at most 100 characters of ASCII, from space to ~, without \" and \\\n",
+            "  --site \"a\\b ?\": at most 100 characters of ASCII, \
+            from space to ~, without \" and \\\n",
         ),
         (
             event(long),
             "  --event \"0123456789012345678901234567890123456789012345678901234567890123456789..\": \
-            at most 100 characters of ASCII, from space to ~, without \" and \\\n",
+            at most 100 characters of ASCII, \
+            from space to ~, without \" and \\\n",
         ),
     ];
     check(&rt, rt.alloc(), cases.as_slice())
