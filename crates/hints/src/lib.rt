@@ -1,5 +1,5 @@
-//! What a person is told beside the line of a refusal: where a condition goes wrong, what could
-//! stand there, and what was perhaps meant.
+//! What a person is told of a condition beside the line of a refusal: where it goes wrong, what
+//! could stand there, and what was perhaps meant; and whether no deal meets it.
 #![tactic(auto)]
 
 mod excerpt;
