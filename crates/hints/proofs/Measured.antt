@@ -1,6 +1,6 @@
 -- What a hand counts at the most, however many cards it has.
-use Rattle.std.proofs.Common.{◌≡◌, ◌≤◌, ◌+◌, ◌*◌, ◌%◌, ◌/◌, ◌&&◌, ◌==◌, ◌∙◌, ℕ, min, not, Bool, true, false, cond, List, [], ◌∷◌, ap, arith, get_or, refl, sym}
-use Rattle.std.specs.List.{count_by, range_with_len, sum_by}
+use Rattle.std.proofs.Common.{◌≡◌, ◌≤◌, ◌+◌, ◌*◌, ◌%◌, ◌&&◌, ℕ, min, not, Bool, true, false, cond, List, [], ◌∷◌, arith, get_or, refl}
+use Rattle.std.specs.List.{range_with_len, sum_by}
 use Rattle.std.proofs.lemmas.List.FromFn.{length-range_with_len}
 use Rattle.std.proofs.lemmas.List.Sums.{count_by-le-length}
 use Rattle.cards.specs.declared.honours.Honours.{Honours}

@@ -1,5 +1,5 @@
 -- What is never met by its numbers alone is met by no deal.
-use Rattle.std.proofs.Common.{◌≡◌, ◌≤◌, ◌+◌, ◌*◌, ◌&&◌, ◌||◌, ◌==◌, ◌∙◌, ◌⊎◌, ℕ, not, Bool, true, false, List, [], ◌∷◌, ap, arith, inl, inr, nat_le, nat_lt, refl, sum, sym}
+use Rattle.std.proofs.Common.{◌≡◌, ◌≤◌, ◌+◌, ◌&&◌, ◌||◌, ◌==◌, ◌∙◌, ◌⊎◌, ℕ, not, Bool, true, false, List, [], ◌∷◌, ap, arith, inl, inr, nat_le, nat_lt, refl, sum, sym}
 use Rattle.std.specs.Prelude.{IsTrue}
 use Rattle.std.specs.List.Sorted.{IsPermutation}
 use Rattle.std.proofs.lemmas.Bool.{cases_lt}
@@ -10,7 +10,7 @@ use Rattle.cards.specs.declared.measure.Measure.TheVariants.{Hcp, Controls, Lose
 use Rattle.cards.specs.declared.seat.Seat.{Seat}
 use Rattle.cards.specs.declared.suit.Suit.TheVariants.{Spades, Hearts, Diamonds, Clubs}
 use Rattle.cards.specs.Deals.{IsPartition}
-use Rattle.cards.specs.Hands.{hand_of, is_rearrangement, is_same, length_of, shape_of}
+use Rattle.cards.specs.Hands.{hand_of, is_rearrangement, is_same, shape_of}
 use Rattle.cards.proofs.MaskCounts.{length_of-le}
 use Rattle.cards.proofs.Rearranging.{rearrangement_is_permutation}
 use Rattle.cards.proofs.WeightedCounts.{weight_in-most}

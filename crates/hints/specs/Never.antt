@@ -4,8 +4,8 @@ use Rattle.std.specs.Prelude.{cond, sum}
 use Rattle.cards.specs.declared.honours.Honours.{Honours}
 use Rattle.cards.specs.declared.measure.Measure.{Measure}
 use Rattle.cards.specs.declared.measure.Measure.TheVariants.{Hcp, Controls, Losers}
-use Rattle.cond_lang.specs.Form.{Amount, Form, all_of, any_of, balanced, cards_held, compare}
-use Rattle.cond_lang.specs.Form.{longest, loose_pattern, loose_shape, negation, number, pattern}
+use Rattle.cond_lang.specs.Form.{Amount, Form, all_of, any_of, cards_held, compare}
+use Rattle.cond_lang.specs.Form.{longest, number, pattern}
 use Rattle.cond_lang.specs.Form.{points, shape, shortest, suit_cards_held, suit_length, suit_points}
 use Rattle.cond_lang.specs.Form.{suit_total, total, within}
 use Rattle.cond_lang.specs.Form.{sum as plus}

@@ -1,4 +1,4 @@
-use Rattle.std.proofs.Common.{◌≡◌, ◌∙◌, Bool, ap, sym}
+use Rattle.std.proofs.Common.{◌∙◌, ap, sym}
 use Rattle.hints.specs.Never.{is_never}
 use Rattle.hints.proofs.Soundness.{sound}
 use Rattle.hints.proofs.never.is_never.Goals as goal
