@@ -1,5 +1,5 @@
 -- What helps a person with a plan or a label that is refused: a line below that of the refusal.
-use Rattle.std.specs.Prelude.{◌≡◌, ◌+◌, ◌-◌, ◌^◌, ℕ, List, [], ◌++◌, codes, decimal, length}
+use Rattle.std.specs.Prelude.{◌≡◌, ◌-◌, ◌^◌, ℕ, List, [], ◌++◌, codes, decimal, length}
 use Rattle.std.specs.Prelude.{map, nat_le, nat_lt, take, if◌then◌else◌}
 use Rattle.std.specs.Prelude.{Option, None, Some, unwrap_or}
 use Rattle.hints.specs.Excerpt.{shown}
