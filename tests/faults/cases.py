@@ -12,11 +12,15 @@ class Case:
     status: int = 0
     out: bytes | None = b""  # None: whatever it writes undisturbed, as help
     err: bytes | None = b""
-    line: bytes = b""  # what err begins with: below it a refused condition is explained, where memory allows
+    line: bytes = b""  # what err begins with: below it what is refused is explained, where memory allows
     workers: int = 0  # how many threads it starts
 
 
 NORTH, EAST, SOUTH, WEST = range(4)
+# What a label and a date may be, and the first 70 characters of a label that may not.
+LABEL = 'at most 100 characters of ASCII, from space to ~, without " and \\'
+DATE = "a date is written YYYY.MM.DD, as 2024.05.01"
+SHOWN = "a\\bca\\bca\\bca\\bca\\bca\\bca\\bca\\bca\\bca\\bca\\bca\\bca\\bca\\bca\\bca\\bca\\bca\\"
 
 # A condition, and whether it accepts four hands.
 CONDITIONS = {
@@ -105,17 +109,20 @@ def of_refusals():
     ):
         yield Case("words: " + " ".join(words), words, 2, err=None)
     yield Case("words: no text", ["make", b"\xff"], 2, err=b"")
-    for more, line in (
-        (["--first", "1099511627776"], "plan refused: range"),
-        (["--workers", "17"], "plan refused: workers"),
-        (["--lane", "0"], "plan refused: lane capacity"),
-        (["--boards", "0"], "plan refused: boards"),
-        (["--first-board", "0"], "plan refused: first board"),
-        (["--event", 'a"b'], "label refused: event"),
-        (["--site", "a\\b"], "label refused: site"),
-        (["--date", "2024-05-01"], "label refused: date"),
+    for more, line, advice in (
+        (["--first", "1099511627776"], "plan refused: range", "--candidates 1: 0 to 0 from this --first on"),
+        (["--first", "1099511627777"], "plan refused: range", "--first 1099511627777: 0 to 1099511627776"),
+        (["--workers", "17"], "plan refused: workers", "--workers 17: 1 to 16 workers"),
+        (["--lane", "0"], "plan refused: lane capacity", "--lane 0: 1 to 4096 verdicts"),
+        (["--boards", "0"], "plan refused: boards", "--boards 0: 1 to 4294967295 boards"),
+        (["--first-board", "0"], "plan refused: first board", "--first-board 0: 1 to 1099511627776"),
+        (["--event", 'a"b'], "label refused: event", f'--event "a"b": {LABEL}'),
+        (["--site", "a\\bc" * 30], "label refused: site", f'--site "{SHOWN}..": {LABEL}'),
+        (["--date", "2024-05-01"], "label refused: date", f'--date "2024-05-01": {DATE}'),
     ):
-        yield Case(line, asked(*more), 2, err=line.encode() + b"\n")
+        line += "\n"
+        said = f"{line}  {advice}\n".encode()
+        yield Case(f"{line.strip()}, {more[0]}", asked(*more), 2, err=said, line=line.encode())
     at = "condition refused at byte "
     for text, line in (
         (" " * 1025, "condition refused: longer than 1024 bytes"),

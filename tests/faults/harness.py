@@ -53,8 +53,9 @@ def build():
     subprocess.run([TOP / "deals", "--version"], check=True, stdout=subprocess.DEVNULL)
 
 
-def run(command, shim, fault, at):
-    """Runs a command whose call number `at` of the fault's kind fails; 0: none fails."""
+def run(command, shim, fault, at, stderr=subprocess.PIPE):
+    """Runs a command whose call number `at` of the fault's kind fails; 0: none fails. What it writes to a standard error
+    that is given isn't told."""
     report = os.memfd_create("report")
     os.truncate(report, REPORT.size)
     settings = {
@@ -68,7 +69,7 @@ def run(command, shim, fault, at):
         "FAULT_REPORT": str(report),
     }
     process = subprocess.Popen(
-        command, env=settings, pass_fds=[report], stdout=subprocess.PIPE, stderr=subprocess.PIPE, stdin=subprocess.DEVNULL
+        command, env=settings, pass_fds=[report], stdout=subprocess.PIPE, stderr=stderr, stdin=subprocess.DEVNULL
     )
     try:
         out, err = process.communicate(timeout=SECONDS)
@@ -79,7 +80,7 @@ def run(command, shim, fault, at):
         status = None
     calls, failed, live = REPORT.unpack(os.pread(report, REPORT.size, 0))
     os.close(report)
-    return End(status, out, err, calls, failed, live)
+    return End(status, out, err or b"", calls, failed, live)
 
 
 def scratch():

@@ -31,7 +31,7 @@ VALUES = "stream --seed 0 --count 3"
 BOARDS = "make --seed 7 --candidates 3"
 HEADER = b"% PBN 2.1\n"
 WORDS = "make --seed 7 --candidates 1 --lane 0"
-REFUSED = b"plan refused: lane capacity\n"
+REFUSED = b"plan refused: lane capacity\n  --lane 0: 1 to 4096 verdicts\n"
 
 
 def of_output():

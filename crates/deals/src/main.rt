@@ -1,8 +1,9 @@
 //! The program `deals`: its words and standard streams, and its status.
 //!
 //! What `program` says on standard error is one line, for programs to read. For a person it is
-//! explained below that line what is wrong with a condition, and why the output failed; while a run
-//! lasts, its boards are passed on as they are found, and its counts are shown.
+//! explained below that line what a refused option takes, what is wrong with a condition, and why
+//! the output failed; while a run lasts, its boards are passed on as they are found, and its counts
+//! are shown.
 #![tactic(auto)]
 
 ghost use Rattle.std.specs.Prelude.{◌≡◌, IfOk};
@@ -10,8 +11,8 @@ ghost use Rattle.std.specs.Prelude.{◌≡◌, IfOk};
 use cond_lang::parse;
 use console::{Counts, Drawn, OverLine, Prompt, Style, millis};
 use deals_cli::{program, read_words};
-use hints::explain;
-use requests::{MakeRequest, Progress, Request};
+use hints::{explain, is_never};
+use requests::{MakeRequest, Progress, Request, advise};
 use sinks::{Piped, Sink, put_all};
 use std::alloc::Global;
 use std::io::{BufWriter, ErrorKind, IsTerminal, Result};
@@ -20,6 +21,12 @@ use std::{env, io};
 
 /// How much output is gathered before it is passed on, unless a fifth of a second passes first.
 const BUFFER: usize = 64 * 1024;
+
+/// The status of a run that did all.
+const DONE: u8 = 0;
+
+/// The status of words, a plan or a label that are refused.
+const REFUSED_PLAN: u8 = 2;
 
 /// The status of a condition that is refused.
 const REFUSED_CONDITION: u8 = 3;
@@ -80,11 +87,33 @@ fn start(rt: &HostRuntime) -> Result<(Vec<String>, Output, Said)>
     Ok((words, out, err))
 }
 
+/// What helps with the refused plan or label of these words; none where memory runs out.
+fn advice(alloc: Global, words: &[String]) -> Option<String> {
+    advise(alloc, &run_of(alloc, words)?).unwrap_or(None)
+}
+
 /// What helps with the refused condition of these words; none where memory runs out.
 fn explanation(alloc: Global, words: &[String]) -> Option<String> {
     let text = run_of(alloc, words)?.where_text?.as_bytes();
     let refusal = parse(alloc, text).err()?;
     explain(alloc, text, refusal).ok()
+}
+
+/// The note on a condition that no deal meets, for a person at a terminal.
+const NEVER_MET: &str = "note: no deal meets this condition, by its numbers alone\n";
+
+/// Whether no deal meets the condition of these words, by its numbers alone.
+fn is_unmet(alloc: Global, words: &[String]) -> Option<bool> {
+    let text = run_of(alloc, words)?.where_text?.as_bytes();
+    Some(is_never(&parse(alloc, text).ok()?))
+}
+
+/// What there is to note of a run that did all.
+fn note(rt: &HostRuntime, words: &[String]) -> Option<String> {
+    if rt.stderr().is_terminal() && is_unmet(rt.alloc(), words)? {
+        return String::from_str(rt.alloc(), NEVER_MET).ok();
+    }
+    None
 }
 
 /// Why the output failed, if the system said so.
@@ -94,11 +123,14 @@ fn reason(alloc: Global, out: &Output) -> Option<String> {
 }
 
 /// Says for a person what helps, below the line that says what went wrong.
-fn say_more(alloc: Global, words: &[String], status: u8, out: &Output, err: &mut Said) {
+fn say_more(rt: &HostRuntime, words: &[String], status: u8, out: &Output, err: &mut Said) {
     if err.fault_count() > 0 {
         return;
     }
+    let alloc = rt.alloc();
     let more = match status {
+        DONE => note(rt, words),
+        REFUSED_PLAN => advice(alloc, words),
         REFUSED_CONDITION => explanation(alloc, words),
         FAILED_OUTPUT => reason(alloc, out),
         _ => None,
@@ -113,7 +145,7 @@ fn main(rt: HostRuntime) -> ExitCode {
         Ok((words, mut out, mut err)) => {
             let words = words.as_slice();
             let status = program(&rt, rt.alloc(), words, &mut out, &mut err);
-            say_more(rt.alloc(), words, status, &out, &mut err);
+            say_more(&rt, words, status, &out, &mut err);
             ExitCode::from(status)
         }
         Err(error) if error.kind() == ErrorKind::OutOfMemory => {

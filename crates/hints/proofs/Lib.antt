@@ -1,2 +1,5 @@
 pub mod KindLemmas
 pub mod Appending
+pub mod Bounds
+pub mod Measured
+pub mod Soundness

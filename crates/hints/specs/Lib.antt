@@ -2,3 +2,4 @@ pub mod Excerpt
 pub mod Expected
 pub mod Explanation
 pub mod internal
+pub mod Never

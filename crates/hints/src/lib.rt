@@ -1,5 +1,5 @@
-//! What a person is told beside the line of a refusal: where a condition goes wrong, what could
-//! stand there, and what was perhaps meant.
+//! What a person is told of a condition beside the line of a refusal: where it goes wrong, what
+//! could stand there, and what was perhaps meant; and whether no deal meets it.
 #![tactic(auto)]
 
 mod excerpt;
@@ -7,6 +7,7 @@ mod expected;
 mod hint;
 mod kinds;
 mod language;
+mod never;
 mod parts;
 mod refusal;
 mod rules;
@@ -14,4 +15,6 @@ mod said;
 mod shown;
 
 pub use language::LANGUAGE;
+pub use never::is_never;
 pub use refusal::explain;
+pub use shown::put_shown;

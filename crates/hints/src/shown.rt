@@ -19,8 +19,12 @@ fn shown(byte: u8) -> u8
     }
 }
 
-/// Appends the bytes as they are shown.
-pub(crate) fn put_shown(out: &mut String, bytes: &[u8]) -> Result<(), AllocError>
+/// Appends the bytes as they are shown on a terminal: a tab as a space, and what would disturb the
+/// terminal, or isn't ASCII, as `?`.
+///
+/// # Errors
+/// `AllocError` if an allocation failed.
+pub fn put_shown(out: &mut String, bytes: &[u8]) -> Result<(), AllocError>
     ensures { OnOk result (string_bytes out.new ≡ string_bytes out.old ++ map shown bytes.now) }
 {
     for byte in bytes {

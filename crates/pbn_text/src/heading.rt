@@ -7,7 +7,7 @@ ghost use Rattle.pbn_text.specs.internal.LabelBytes.{FitsDate};
 use std::marker::Model;
 
 /// The greatest length of a label, in bytes.
-const MAX_LABEL_LEN: usize = 100;
+pub const MAX_LABEL_LEN: usize = 100;
 
 /// The text of an event or a site, which contracts see as its bytes.
 ///

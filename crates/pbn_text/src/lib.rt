@@ -19,7 +19,7 @@ mod printer;
 mod reference;
 
 pub use boards::{Vul, dealer, vulnerable};
-pub use heading::{Date, Heading, Label};
+pub use heading::{Date, Heading, Label, MAX_LABEL_LEN};
 pub use lines::HEADER;
 pub use printer::Printer;
 pub use reference::{Reference, deal_text, game};

@@ -10,7 +10,7 @@ use Rattle.dealrun.specs.declared.cause.Cause.TheVariants as cause
 use Rattle.plans.specs.Refusals.{refusal_of}
 use Rattle.plans.specs.declared.plan.PlanError.{PlanError}
 use Rattle.plans.specs.declared.plan.PlanError.TheVariants.{Range, Workers, Capacity, Boards, FirstBoard}
-use Rattle.requests.specs.Failures.{failure_of}
+use Rattle.requests.specs.Failures.{failure_of, status_of}
 use Rattle.requests.specs.FirstRefusal.{IsConditionDue, IsDueFor, IsDueOf, IsFirstOf, Meets, of_labels, of_numbers}
 use Rattle.requests.specs.Makings.{HasNumbers, IsPlanned, candidates_of}
 use Rattle.requests.specs.Requests.{Making, Wish, conditions, make, stream}
@@ -123,6 +123,14 @@ pub output_due : (w : Wish) → IsStatusOf w 0 → IsDueFor w (Interrupted cause
 output_due (stream seed count) status = refl
 output_due conditions status = refl
 output_due (make m) status = status.accepted (inl refl)
+
+-- a run that is interrupted hasn't the status of a refused plan
+pub not_interrupted : (c : Cause) → status_of (Interrupted c) ≡ 2 → ⊥
+not_interrupted cause.Memory is = cc
+not_interrupted cause.Output is = cc
+not_interrupted cause.Spawn is = cc
+not_interrupted (cause.Stopped worker) is = cc
+not_interrupted (cause.Unclosed worker) is = cc
 
 -- each way to fail
 pub ruleset failures = (numbers_due, labels_due, condition_due, run_due)

@@ -7,5 +7,6 @@ pub mod FirstRefusal
 pub mod Failures
 pub mod Lines
 pub mod Reports
+pub mod Advice
 pub mod Reported
 pub mod internal

@@ -2,10 +2,11 @@
 //!
 //! A subcommand is a file: its request, with the values of its options, and the function that
 //! serves it (`make.rt`, `conditions.rt`, `stream.rt`). `request.rt` has one variant for each.
-//! `run.rt` runs a plan in the format that is asked for. How the words of a command line become a
-//! request is no business of this crate.
+//! `run.rt` runs a plan in the format that is asked for. `advice.rt` tells a person what a refused
+//! option takes. How the words of a command line become a request is no business of this crate.
 #![tactic(auto)]
 
+mod advice;
 mod conditions;
 mod failure;
 mod format;
@@ -18,6 +19,7 @@ mod request;
 mod run;
 mod stream;
 
+pub use advice::advise;
 pub use failure::{Failure, LabelName};
 pub use format::Format;
 pub use make::MakeRequest;

@@ -113,7 +113,7 @@ fn heading_of(request: &MakeRequest<'_>) -> Result<Heading, Failure>
 }
 
 /// How many candidates are tried.
-fn candidates_of(request: &MakeRequest<'_>) -> u64
+pub(crate) fn candidates_of(request: &MakeRequest<'_>) -> u64
     ensures { result ≡ candidates_of (making_of request.now) }
 {
     let all = MAX_CANDIDATES.saturating_sub(request.first);
@@ -162,7 +162,7 @@ fn setting_of(request: &MakeRequest<'_>) -> Setting
 
 /// The plan of the options, with its labels and its setting.
 #[tactic(auto, using(crate::proofs::FirstDue::failures))]
-fn planned(request: &MakeRequest<'_>) -> Result<Plan, Failure>
+pub(crate) fn planned(request: &MakeRequest<'_>) -> Result<Plan, Failure>
     ensures made { IfOk result (λ p. p ≡ plan_of (making_of request.now)) }
     ensures sound { IfOk result (λ _. IsPlanned (making_of request.now)) }
     ensures refused { IfErr result (λ e.

@@ -1,3 +1,5 @@
+mod advice;
+
 use crate::{Failure, Format, MakeRequest, Progress, Request, StreamRequest, serve};
 use dealrun::Cause;
 use sinks::MemSink;

@@ -6,6 +6,7 @@ mod expected;
 mod joins;
 mod language;
 mod lines;
+mod never;
 mod ranges;
 mod shapes;
 mod words;

@@ -1,0 +1,184 @@
+//! What helps a person with a plan or a label that is refused: the option, what it was given, and
+//! what it takes.
+
+ghost use Rattle.std.specs.Prelude.{◌≡◌, ◌++◌, map, option_map, string_bytes, IfOk, IfSome, OnOk};
+ghost use Rattle.requests.specs.Advice.{Advises, advice_of, label_advice, plan_advice, range_line};
+ghost use Rattle.requests.specs.Advice.{shown_text, text_line};
+ghost use Rattle.requests.specs.Makings.{candidates_of};
+ghost use Rattle.requests.specs.Options.{making_of};
+
+use crate::failure::{Failure, LabelName};
+use crate::make::{MakeRequest, candidates_of, planned};
+use cards::MAX_CANDIDATES;
+use hints::put_shown;
+use itoa::Buffer;
+use lanes::{MAX_CAPACITY, MAX_WORKERS};
+use pbn_text::MAX_LABEL_LEN;
+use plans::PlanError;
+use std::alloc::{AllocError, Global};
+
+/// The longest text that is shown whole, and how much of a longer one is shown.
+const WHOLE: usize = 72;
+
+const PART: usize = 70;
+
+/// Returns what helps a person with a refused request, to stand below the line that names the
+/// refusal: a line with the first option that is refused, what it was given, and what it takes.
+/// Without a refused plan or label there is none.
+///
+/// What a label was given is shown as on a terminal, cut to 72 columns.
+///
+/// # Errors
+/// `AllocError` if an allocation failed.
+#[tactic(auto, using(crate::proofs::FirstDue::not_interrupted))]
+pub fn advise(alloc: Global, request: &MakeRequest<'_>) -> Result<Option<String>, AllocError>
+    ensures { IfOk result (λ line. Advises (making_of request.now) (option_map string_bytes line)) }
+{
+    match planned(request) {
+        Ok(_) => Ok(None),
+        Err(Failure::Plan(error)) => Ok(Some(of_plan(alloc, request, error)?)),
+        Err(Failure::Label(name)) => Ok(Some(of_label(alloc, request, name)?)),
+        Err(Failure::CommandLine(_) | Failure::Condition(_) | Failure::Interrupted(_)) => Ok(None),
+    }
+}
+
+/// The line for the number of a plan.
+fn of_plan(alloc: Global, request: &MakeRequest<'_>, error: PlanError) -> Result<String, AllocError>
+    ensures { IfOk result (λ line.
+        string_bytes line ≡ plan_advice (making_of request.now) error) }
+{
+    match error {
+        PlanError::Range => of_candidates(alloc, request),
+        PlanError::Workers => {
+            let workers = u64::from(MAX_WORKERS);
+            of_number(
+                alloc,
+                "workers",
+                u64::from(request.workers),
+                1,
+                workers,
+                " workers",
+            )
+        }
+        PlanError::Capacity => {
+            let verdicts = u64::from(MAX_CAPACITY);
+            of_number(
+                alloc,
+                "lane",
+                u64::from(request.lane),
+                1,
+                verdicts,
+                " verdicts",
+            )
+        }
+        PlanError::Boards => {
+            let boards = u64::from(request.boards.unwrap_or(0));
+            of_number(alloc, "boards", boards, 1, u64::from(u32::MAX), " boards")
+        }
+        PlanError::FirstBoard => {
+            let first = request.first_board.unwrap_or(1);
+            of_number(alloc, "first-board", first, 1, MAX_CANDIDATES, "")
+        }
+    }
+}
+
+/// The line for candidates that there aren't: for the first, if there isn't even that.
+fn of_candidates(alloc: Global, request: &MakeRequest<'_>) -> Result<String, AllocError>
+    ensures { IfOk result (λ line.
+        string_bytes line ≡ plan_advice (making_of request.now) PlanError.Range) }
+{
+    let first = request.first;
+    if first > MAX_CANDIDATES {
+        return of_number(alloc, "first", first, 0, MAX_CANDIDATES, "");
+    }
+    let candidates = candidates_of(request);
+    let most = MAX_CANDIDATES - first;
+    of_number(
+        alloc,
+        "candidates",
+        candidates,
+        0,
+        most,
+        " from this --first on",
+    )
+}
+
+/// The line for a number that is out of range.
+fn of_number(
+    alloc: Global,
+    option: &str,
+    value: u64,
+    least: u64,
+    most: u64,
+    unit: &str,
+) -> Result<String, AllocError>
+    ensures { IfOk result (λ line.
+        string_bytes line ≡ range_line option.now value least most unit.now) }
+{
+    let mut line = String::new(alloc);
+    line.push_str("  --")?;
+    line.push_str(option)?;
+    line.push_str(" ")?;
+    line.push_str(Buffer::new().format(value))?;
+    line.push_str(": ")?;
+    line.push_str(Buffer::new().format(least))?;
+    line.push_str(" to ")?;
+    line.push_str(Buffer::new().format(most))?;
+    line.push_str(unit)?;
+    line.push_str("\n")?;
+    Ok(line)
+}
+
+/// The line for a label that can't be written.
+fn of_label(alloc: Global, request: &MakeRequest<'_>, name: LabelName) -> Result<String, AllocError>
+    ensures { IfOk result (λ line.
+        string_bytes line ≡ label_advice (making_of request.now) name) }
+{
+    match name {
+        LabelName::Event => of_text(alloc, "event", request.event, LABEL_RULE),
+        LabelName::Site => of_text(alloc, "site", request.site, LABEL_RULE),
+        LabelName::Date => of_text(alloc, "date", request.date, DATE_RULE),
+    }
+}
+
+// The rule names the length.
+const _: () = prove!(MAX_LABEL_LEN == 100);
+
+/// What an event and a site may be.
+const LABEL_RULE: &str = "at most 100 characters of ASCII, from space to ~, without \" and \\";
+
+/// What a date may be.
+const DATE_RULE: &str = "a date is written YYYY.MM.DD, as 2024.05.01";
+
+/// The line for a text that an option doesn't take.
+fn of_text(
+    alloc: Global,
+    option: &str,
+    text: Option<&str>,
+    rule: &str,
+) -> Result<String, AllocError>
+    ensures { IfOk result (λ line. string_bytes line
+        ≡ text_line option.now (option_map (λ s. s.now) text.entry) rule.now) }
+{
+    let mut line = String::new(alloc);
+    line.push_str("  --")?;
+    line.push_str(option)?;
+    line.push_str(" \"")?;
+    put_text(&mut line, text.unwrap_or("").as_bytes())?;
+    line.push_str("\": ")?;
+    line.push_str(rule)?;
+    line.push_str("\n")?;
+    Ok(line)
+}
+
+/// Appends a text as it is shown, cut if it is long.
+fn put_text(line: &mut String, text: &[u8]) -> Result<(), AllocError>
+    ensures { OnOk result (string_bytes line.new ≡ string_bytes line.old ++ shown_text text.now) }
+{
+    if text.len() <= WHOLE {
+        return put_shown(line, text);
+    }
+    let part = &text[..PART];
+    put_shown(line, part)?;
+    line.push_str("..")
+}
