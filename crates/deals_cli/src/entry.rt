@@ -6,11 +6,12 @@ ghost use Rattle.std.specs.Prelude.{None, Some, true, false, IfErr, IfOk, IsErrO
 ghost use Rattle.std.specs.Prelude.{string_bytes};
 ghost use Rattle.clap.specs.Words.{kind_of};
 ghost use Rattle.requests.specs.Failures.{faults_in, is_untouched, status_in};
+ghost use Rattle.requests.specs.Interruptions.{Leaves};
 ghost use Rattle.requests.specs.Reported.{Reports, ReportsFor, wants_report};
 ghost use Rattle.requests.specs.Requests.{Making, Wish, make};
 ghost use Rattle.requests.specs.Wishes.{Appends, IsStatus, IsStatusOf};
 ghost use Rattle.deals_cli.specs.CommandLine.{asked};
-ghost use Rattle.deals_cli.specs.Program.{IsStatusOfNone, MayFail, TellsWhy};
+ghost use Rattle.deals_cli.specs.Program.{IsStatusOfNone, LeavesBy, MayFail, MayLeave, TellsWhy};
 ghost use Rattle.deals_cli.specs.internal.Kinds.{IsStatusOfKind};
 
 use crate::words::read_words;
@@ -63,6 +64,8 @@ fn serve_words<R: Threads + Wait + Clone + Send + 'static, O: Sink>(
         → IsStatusOf w (status_in result) }
     ensures due { (w : Wish) → asked (map string_bytes words.now) ≡ Some w
         → IfErr result (MayFail w) }
+    ensures stands { (w : Wish) → asked (map string_bytes words.now) ≡ Some w
+        → IfErr result (λ e. Leaves w e (O.bytes out.old) (O.bytes out.new)) }
     ensures unasked { asked (map string_bytes words.now) ≡ None
         → IsStatusOfNone (map string_bytes words.now) (status_in result) }
     ensures untouched { IfErr result (λ e. is_untouched e ≡ true
@@ -97,6 +100,8 @@ fn serve_and_flush<R: Threads + Wait + Clone + Send + 'static, O: Sink>(
         → IsStatusOf w (status_in result) }
     ensures due { (w : Wish) → asked (map string_bytes words.now) ≡ Some w
         → IfErr result (MayFail w) }
+    ensures stands { (w : Wish) → asked (map string_bytes words.now) ≡ Some w
+        → IfErr result (λ e. MayLeave w e (O.bytes out.old) (O.bytes out.new)) }
     ensures unasked { asked (map string_bytes words.now) ≡ None
         → IsStatusOfNone (map string_bytes words.now) (status_in result) }
     ensures untouched { IfErr result (λ e. is_untouched e ≡ true
@@ -144,6 +149,9 @@ pub fn program<R: Threads + Wait + Clone + Send + 'static, O: Sink, E: Sink>(
     // Nothing was written if something is refused or memory ran out.
     ensures untouched { (result ≡ 2) ⊎ (result ≡ 3) ⊎ (result ≡ 5)
         → O.bytes out.new ≡ O.bytes out.old }
+    // After a failure the output has what the wish leaves that fails so.
+    ensures stands { (w : Wish) → asked (map string_bytes words.now) ≡ Some w → result ≢ 0
+        → LeavesBy w result (O.bytes out.old) (O.bytes out.new) }
     // The status is 4 if and only if the output failed, once.
     ensures output { O.faults out.new ≡ O.faults out.old + (if result == 4 then 1 else 0) }
     // With status 0 a report that was asked for is on the error output, unless that failed itself,
