@@ -50,20 +50,17 @@ pub record IsStatusOfNone (words : List Text) (status : ℕ) : Type 0 where
 abbrev pub MayFail : Wish → Failure → Type 0
 MayFail w failure = (failure ≡ Interrupted Memory) ⊎ IsDueFor w failure
 
--- the error output has the line of why a wish failed with this status
-pub record TellsWhy (w : Wish) (status : ℕ) (old new : Option (List ℕ)) : Type 0 where
-  pub failure : Failure
-  pub due : MayFail w failure
-  pub status_is : status ≡ status_of failure
-  pub line : AppendsAll old new (line_of failure)
-
 -- what a wish leaves that fails so; if it was the flush that failed, all of it
 abbrev pub MayLeave : Wish → Failure → Option (List ℕ) → Option (List ℕ) → Type 0
 MayLeave w failure old new =
     Leaves w failure old new ⊎ ((failure ≡ Interrupted Output) × Appends w old new)
 
--- what a wish leaves that fails with this status
-pub record LeavesBy (w : Wish) (status : ℕ) (old new : Option (List ℕ)) : Type 0 where
+-- why a wish failed with this status: a failure that may be, of which the output has what it leaves
+-- and the error output, if it took all, the line
+pub record TellsWhy (w : Wish) (status : ℕ) (out_old out_new : Option (List ℕ))
+    (took_all : Type 0) (err_old err_new : Option (List ℕ)) : Type 0 where
   pub failure : Failure
+  pub due : MayFail w failure
   pub status_is : status ≡ status_of failure
-  pub stands : MayLeave w failure old new
+  pub stands : MayLeave w failure out_old out_new
+  pub line : took_all → AppendsAll err_old err_new (line_of failure)

@@ -11,7 +11,7 @@ ghost use Rattle.requests.specs.Reported.{Reports, ReportsFor, wants_report};
 ghost use Rattle.requests.specs.Requests.{Making, Wish, make};
 ghost use Rattle.requests.specs.Wishes.{Appends, IsStatus, IsStatusOf};
 ghost use Rattle.deals_cli.specs.CommandLine.{asked};
-ghost use Rattle.deals_cli.specs.Program.{IsStatusOfNone, LeavesBy, MayFail, MayLeave, TellsWhy};
+ghost use Rattle.deals_cli.specs.Program.{IsStatusOfNone, MayFail, MayLeave, TellsWhy};
 ghost use Rattle.deals_cli.specs.internal.Kinds.{IsStatusOfKind};
 
 use crate::words::read_words;
@@ -136,11 +136,11 @@ pub fn program<R: Threads + Wait + Clone + Send + 'static, O: Sink, E: Sink>(
     // The status says what of it was accepted, and what refused.
     ensures wished { (w : Wish) → asked (map string_bytes words.now) ≡ Some w
         → IsStatusOf w result }
-    // If it isn't 0, the error output has the line of the first failure that is due, unless it
-    // failed itself.
+    // If it isn't 0, it is the status of the first failure that is due: the output has what that
+    // leaves, and the error output its line, unless it failed itself.
     ensures told { (w : Wish) → asked (map string_bytes words.now) ≡ Some w → result ≢ 0
-        → E.faults err.new ≡ E.faults err.old
-        → TellsWhy w result (E.bytes err.old) (E.bytes err.new) }
+        → TellsWhy w result (O.bytes out.old) (O.bytes out.new)
+        (E.faults err.new ≡ E.faults err.old) (E.bytes err.old) (E.bytes err.new) }
     // For words that ask for nothing it says whether they ask for help, or are refused.
     ensures unasked { asked (map string_bytes words.now) ≡ None
         → IsStatusOfNone (map string_bytes words.now) result }
@@ -149,9 +149,6 @@ pub fn program<R: Threads + Wait + Clone + Send + 'static, O: Sink, E: Sink>(
     // Nothing was written if something is refused or memory ran out.
     ensures untouched { (result ≡ 2) ⊎ (result ≡ 3) ⊎ (result ≡ 5)
         → O.bytes out.new ≡ O.bytes out.old }
-    // After a failure the output has what the wish leaves that fails so.
-    ensures stands { (w : Wish) → asked (map string_bytes words.now) ≡ Some w → result ≢ 0
-        → LeavesBy w result (O.bytes out.old) (O.bytes out.new) }
     // The status is 4 if and only if the output failed, once.
     ensures output { O.faults out.new ≡ O.faults out.old + (if result == 4 then 1 else 0) }
     // With status 0 a report that was asked for is on the error output, unless that failed itself,
