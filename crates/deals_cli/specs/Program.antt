@@ -55,8 +55,8 @@ abbrev pub MayLeave : Wish → Failure → Option (List ℕ) → Option (List �
 MayLeave w failure old new =
     Leaves w failure old new ⊎ ((failure ≡ Interrupted Output) × Appends w old new)
 
--- why a wish failed with this status: a failure that may be, of which the output has what it leaves
--- and the error output, if it took all, the line
+-- why a wish failed with this status: the failure is due, the output has what it leaves, and the
+-- error output, if it took all that it was given, its line
 pub record TellsWhy (w : Wish) (status : ℕ) (out_old out_new : Option (List ℕ))
     (took_all : Type 0) (err_old err_new : Option (List ℕ)) : Type 0 where
   pub failure : Failure

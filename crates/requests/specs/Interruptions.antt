@@ -16,8 +16,8 @@ use Rattle.requests.specs.Wishes.{language_page}
 use Rattle.requests.specs.declared.failure.Failure.{Failure}
 use Rattle.requests.specs.declared.failure.Failure.TheVariants.{Interrupted}
 
--- a run was interrupted for this cause, and there are lanes as it left them: what is written is
--- what was taken from them prints
+-- a run was interrupted for this cause: there are lanes as it left them, and the bytes are those
+-- that the verdicts taken from them print
 pub record InterruptsRun (layout : Layout) (plan : Planned) (form : Form) (cause : Cause)
     (old new : Option (List ℕ)) : Type 0 where
   pub lanes : List OutView
