@@ -1,5 +1,5 @@
 -- What the statuses say of words.
-use Rattle.std.proofs.Common.{◌≡◌, ◌⊎◌, ℕ, true, false, List, refl, inl, inr, arith}
+use Rattle.std.proofs.Common.{◌≡◌, ◌⊎◌, ℕ, true, false, List, Option, refl, inl, inr, arith}
 use Rattle.clap.specs.Kinds.{HasKind}
 use Rattle.clap.specs.Values.{kind_of}
 use Rattle.clap.specs.Walk.{Text}
@@ -7,13 +7,13 @@ use Rattle.clap.specs.declared.error.Error.{Error}
 use Rattle.clap.specs.declared.error.kind.ErrorKind.{ErrorKind}
 use Rattle.clap.specs.declared.error.kind.ErrorKind.TheVariants.{InvalidValue, UnknownArgument, InvalidSubcommand, NoEquals, ValueValidation, TooManyValues, TooFewValues, WrongNumberOfValues, ArgumentConflict, MissingRequiredArgument, MissingSubcommand, DisplayHelp, DisplayHelpOnMissingArgumentOrSubcommand, DisplayVersion, Io, Format, OutOfMemory}
 use Rattle.requests.specs.Requests.{Wish}
-use Rattle.requests.specs.Wishes.{IsStatusOf}
+use Rattle.requests.specs.Wishes.{Appends, IsStatusOf}
 use Rattle.requests.proofs.Statuses.{served}
 use Rattle.deals_cli.specs.CommandLine.{kinds_for}
 use Rattle.requests.proofs.FirstDue.{output_due}
 use Rattle.requests.specs.declared.failure.Failure.TheVariants.{Interrupted}
 use Rattle.dealrun.specs.declared.cause.Cause.TheVariants.{Output}
-use Rattle.deals_cli.specs.Program.{IsStatusOfNone, MayFail, is_shown}
+use Rattle.deals_cli.specs.Program.{IsStatusOfNone, MayFail, MayLeave, is_shown}
 use Rattle.deals_cli.specs.internal.Kinds.{IsStatusOfKind}
 
 -- ---- of words that ask for something
@@ -24,6 +24,9 @@ flush_failed w h = let both = h.accepted (inl refl) in served w 4 (inr refl) bot
 
 pub flush_may_fail : (w : Wish) → IsStatusOf w 0 → MayFail w (Interrupted Output)
 flush_may_fail w h = inr (output_due w h)
+
+pub flush_leaves : (w : Wish) (old new : Option (List ℕ)) → Appends w old new → MayLeave w (Interrupted Output) old new
+flush_leaves w old new all = inr (refl, all)
 
 -- ---- of an error of clap
 
@@ -119,4 +122,4 @@ none_flush_failed words h = let may = h.shown (inl refl) in record {
 }
 
 -- a flush that fails, after words of either kind
-pub ruleset flushes = (flush_failed, flush_may_fail, none_flush_failed)
+pub ruleset flushes = (flush_failed, flush_may_fail, flush_leaves, none_flush_failed)

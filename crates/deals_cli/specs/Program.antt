@@ -1,14 +1,15 @@
 -- How the program ends for words that ask for nothing, for others `Wishes` of `requests` says it;
--- and what it says of a failure.
+-- and what it says and leaves of a failure.
 use Rattle.std.specs.Prelude.{◌≡◌, ◌⊎◌, ℕ, Bool, true, false, List, Option}
 use Rattle.clap.specs.Kinds.{IsAmong}
 use Rattle.clap.specs.Walk.{Text}
 use Rattle.clap.specs.declared.error.kind.ErrorKind.{ErrorKind}
 use Rattle.clap.specs.declared.error.kind.ErrorKind.TheVariants as kind
-use Rattle.dealrun.specs.declared.cause.Cause.TheVariants.{Memory}
+use Rattle.dealrun.specs.declared.cause.Cause.TheVariants.{Memory, Output}
 use Rattle.sinks.specs.Appended.{AppendsAll}
 use Rattle.requests.specs.Failures.{status_of}
 use Rattle.requests.specs.FirstRefusal.{IsDueFor}
+use Rattle.requests.specs.Interruptions.{Leaves}
 use Rattle.requests.specs.Lines.{line_of}
 use Rattle.requests.specs.Requests.{Wish}
 use Rattle.requests.specs.declared.failure.Failure.{Failure}
@@ -49,9 +50,17 @@ pub record IsStatusOfNone (words : List Text) (status : ℕ) : Type 0 where
 abbrev pub MayFail : Wish → Failure → Type 0
 MayFail w failure = (failure ≡ Interrupted Memory) ⊎ IsDueFor w failure
 
--- the error output has the line of why a wish failed with this status
-pub record TellsWhy (w : Wish) (status : ℕ) (old new : Option (List ℕ)) : Type 0 where
+-- what a wish leaves that fails so; if it was the flush that failed, all of it
+abbrev pub MayLeave : Wish → Failure → Option (List ℕ) → Option (List ℕ) → Type 0
+MayLeave w failure old new =
+    Leaves w failure old new ⊎ ((failure ≡ Interrupted Output) × Appends w old new)
+
+-- why a wish failed with this status: the failure is due, the output has what it leaves, and the
+-- error output, if it took all that it was given, its line
+pub record TellsWhy (w : Wish) (status : ℕ) (out_old out_new : Option (List ℕ))
+    (took_all : Type 0) (err_old err_new : Option (List ℕ)) : Type 0 where
   pub failure : Failure
   pub due : MayFail w failure
   pub status_is : status ≡ status_of failure
-  pub line : AppendsAll old new (line_of failure)
+  pub stands : MayLeave w failure out_old out_new
+  pub line : took_all → AppendsAll err_old err_new (line_of failure)

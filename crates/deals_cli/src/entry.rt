@@ -6,11 +6,12 @@ ghost use Rattle.std.specs.Prelude.{None, Some, true, false, IfErr, IfOk, IsErrO
 ghost use Rattle.std.specs.Prelude.{string_bytes};
 ghost use Rattle.clap.specs.Words.{kind_of};
 ghost use Rattle.requests.specs.Failures.{faults_in, is_untouched, status_in};
+ghost use Rattle.requests.specs.Interruptions.{Leaves};
 ghost use Rattle.requests.specs.Reported.{Reports, ReportsFor, wants_report};
 ghost use Rattle.requests.specs.Requests.{Making, Wish, make};
 ghost use Rattle.requests.specs.Wishes.{Appends, IsStatus, IsStatusOf};
 ghost use Rattle.deals_cli.specs.CommandLine.{asked};
-ghost use Rattle.deals_cli.specs.Program.{IsStatusOfNone, MayFail, TellsWhy};
+ghost use Rattle.deals_cli.specs.Program.{IsStatusOfNone, MayFail, MayLeave, TellsWhy};
 ghost use Rattle.deals_cli.specs.internal.Kinds.{IsStatusOfKind};
 
 use crate::words::read_words;
@@ -63,6 +64,8 @@ fn serve_words<R: Threads + Wait + Clone + Send + 'static, O: Sink>(
         → IsStatusOf w (status_in result) }
     ensures due { (w : Wish) → asked (map string_bytes words.now) ≡ Some w
         → IfErr result (MayFail w) }
+    ensures stands { (w : Wish) → asked (map string_bytes words.now) ≡ Some w
+        → IfErr result (λ e. Leaves w e (O.bytes out.old) (O.bytes out.new)) }
     ensures unasked { asked (map string_bytes words.now) ≡ None
         → IsStatusOfNone (map string_bytes words.now) (status_in result) }
     ensures untouched { IfErr result (λ e. is_untouched e ≡ true
@@ -97,6 +100,8 @@ fn serve_and_flush<R: Threads + Wait + Clone + Send + 'static, O: Sink>(
         → IsStatusOf w (status_in result) }
     ensures due { (w : Wish) → asked (map string_bytes words.now) ≡ Some w
         → IfErr result (MayFail w) }
+    ensures stands { (w : Wish) → asked (map string_bytes words.now) ≡ Some w
+        → IfErr result (λ e. MayLeave w e (O.bytes out.old) (O.bytes out.new)) }
     ensures unasked { asked (map string_bytes words.now) ≡ None
         → IsStatusOfNone (map string_bytes words.now) (status_in result) }
     ensures untouched { IfErr result (λ e. is_untouched e ≡ true
@@ -131,11 +136,11 @@ pub fn program<R: Threads + Wait + Clone + Send + 'static, O: Sink, E: Sink>(
     // The status says what of it was accepted, and what refused.
     ensures wished { (w : Wish) → asked (map string_bytes words.now) ≡ Some w
         → IsStatusOf w result }
-    // If it isn't 0, the error output has the line of the first failure that is due, unless it
-    // failed itself.
+    // If it isn't 0, it is the status of the first failure that is due: the output has what that
+    // leaves, and the error output its line, unless it failed itself.
     ensures told { (w : Wish) → asked (map string_bytes words.now) ≡ Some w → result ≢ 0
-        → E.faults err.new ≡ E.faults err.old
-        → TellsWhy w result (E.bytes err.old) (E.bytes err.new) }
+        → TellsWhy w result (O.bytes out.old) (O.bytes out.new)
+        (E.faults err.new ≡ E.faults err.old) (E.bytes err.old) (E.bytes err.new) }
     // For words that ask for nothing it says whether they ask for help, or are refused.
     ensures unasked { asked (map string_bytes words.now) ≡ None
         → IsStatusOfNone (map string_bytes words.now) result }

@@ -1,10 +1,10 @@
 -- Texts that are said in parts.
-use Rattle.std.proofs.Common.{◌≡◌, ◌<◌, ◌≤◌, ◌+◌, ◌-◌, ◌^◌, ◌||◌, ◌++◌, ◌∙◌, ℕ, Bool, true, false, List, [], Option, Some, Result, Ok, Err, OnOk, refl, sym, ap, ap₂, append_assoc, codes, decimal, if◌then◌else◌}
+use Rattle.std.proofs.Common.{◌≡◌, ◌<◌, ◌≤◌, ◌+◌, ◌-◌, ◌^◌, ◌||◌, ◌++◌, ◌∙◌, ℕ, Bool, true, false, List, [], Option, Some, Result, Ok, Err, OnOk, refl, sym, subst, ap, ap₂, append_assoc, codes, decimal, if◌then◌else◌}
 use Rattle.std.proofs.lemmas.Bool.{le-ltb, lt-ltb, ne_eqb}
 use Rattle.std.proofs.lemmas.List.{append-nil}
-use Rattle.sinks.specs.Appended.{append_known, AppendsAll}
+use Rattle.sinks.specs.Appended.{append_known, AppendsAll, AppendsPart}
 use Rattle.sinks.specs.Sinks.{AppendsOrBreaksOff}
-use Rattle.sinks.proofs.SinkLemmas.{append_known-append}
+use Rattle.sinks.proofs.SinkLemmas.{append_known-append, append_known-nil, whole_then_part}
 use Rattle.requests.specs.Reports.{candidates_text, goes_on_at, goes_on_from, next_line, shortfall}
 use Rattle.requests.specs.Formats.{numbers_boards}
 use Rattle.requests.specs.declared.format.Format.{Format}
@@ -69,3 +69,19 @@ goes_on first board other within =
     sym (ap₂ (λ (x y : Bool). if x || y then []
     else codes "next: --first " ++ decimal first ++ codes " --first-board " ++ decimal board ++ codes "\n")
     (ne_eqb first (2 ^ 40) other) (le-ltb (2 ^ 40) board within))
+
+-- of several parts the first was broken off, or the second; or the third of three
+pub first_broken : (b0 b1 : Option (List ℕ)) (x u more : List ℕ) → x ≡ u → AppendsPart b0 b1 x → AppendsPart b0 b1 (u ++ more)
+first_broken b0 b1 x u more xu broken =
+    whole_then_part [] u more (sym (append_known-nil b0)) (subst (AppendsPart b0 b1) xu broken)
+
+pub second_broken : (b0 b1 b2 : Option (List ℕ)) (x y u v more : List ℕ) → x ≡ u → y ≡ v
+    → AppendsAll b0 b1 x → AppendsPart b1 b2 y → AppendsPart b0 b2 (u ++ (v ++ more))
+second_broken b0 b1 b2 x y u v more xu yv one broken =
+    subst (AppendsPart b0 b2) (append_assoc u v more) (whole_then_part u v more (as_text b0 b1 x u xu one) (subst (AppendsPart b1 b2) yv broken))
+
+pub third_broken : (b0 b1 b2 b3 : Option (List ℕ)) (x y z u v w : List ℕ) → x ≡ u → y ≡ v → z ≡ w
+    → AppendsAll b0 b1 x → AppendsAll b1 b2 y → AppendsPart b2 b3 z → AppendsPart b0 b3 (u ++ (v ++ (w ++ [])))
+third_broken b0 b1 b2 b3 x y z u v w xu yv zw one more broken =
+    let two = part b0 b1 b2 u v (u ++ v) refl (as_text b0 b1 x u xu one) (as_text b1 b2 y v yv more) in
+    subst (AppendsPart b0 b3) (append_assoc (u ++ v) w [] ∙ append_assoc u v (w ++ [])) (whole_then_part (u ++ v) w [] two (subst (AppendsPart b2 b3) zw broken))

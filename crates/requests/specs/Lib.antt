@@ -4,6 +4,7 @@ pub mod Makings
 pub mod Formats
 pub mod Wishes
 pub mod FirstRefusal
+pub mod Interruptions
 pub mod Failures
 pub mod Lines
 pub mod Reports

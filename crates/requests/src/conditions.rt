@@ -3,6 +3,7 @@
 ghost use Rattle.std.specs.Prelude.{◌≡◌, ◌-◌, ◌+◌, ◌^◌, ◌<◌, true, IfErr, OnOk};
 ghost use Rattle.requests.specs.Failures.{faults_in, is_untouched, status_in};
 ghost use Rattle.requests.specs.FirstRefusal.{IsDueFor};
+ghost use Rattle.requests.specs.Interruptions.{Leaves};
 ghost use Rattle.requests.specs.Requests.{conditions as wish};
 ghost use Rattle.requests.specs.Wishes.{Appends, IsStatusOf};
 
@@ -18,6 +19,8 @@ pub fn conditions<O: Sink>(out: &mut O) -> Result<(), Failure>
     ensures status { IsStatusOf wish (status_in result) }
     ensures untouched { IfErr result (λ e. is_untouched e ≡ true
         → O.bytes out.new ≡ O.bytes out.old) }
+    ensures stands { IfErr result (λ e. Leaves wish e
+        (O.bytes out.old) (O.bytes out.new)) }
     ensures faults { O.faults out.new ≡ O.faults out.old + faults_in result }
     ensures due { IfErr result (IsDueFor wish) }
 {

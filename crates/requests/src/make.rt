@@ -7,6 +7,7 @@ ghost use Rattle.cond_lang.specs.Form.{Form};
 ghost use Rattle.pbn_text.specs.Games.{no_heading};
 ghost use Rattle.requests.specs.Failures.{faults_in, is_untouched, status_in, status_of};
 ghost use Rattle.requests.specs.FirstRefusal.{IsDueOf, IsFirstOf, of_labels, of_numbers};
+ghost use Rattle.requests.specs.Interruptions.{Leaves};
 ghost use Rattle.requests.specs.internal.Conditions.{IsConditionFailure};
 ghost use Rattle.requests.specs.Makings.{CanDate, CanLabel, HasLabels, HasNumbers, IsPlanned};
 ghost use Rattle.requests.specs.Makings.{Means, candidates_of, plan_of};
@@ -208,6 +209,8 @@ pub fn make<R: Threads + Wait + Clone + Send + 'static, O: Sink>(
     ensures status { IsStatusOf (wish (making_of request.now)) (status_in result) }
     ensures untouched { IfErr result (λ e. is_untouched e ≡ true
         → O.bytes out.new ≡ O.bytes out.old) }
+    ensures stands { IfErr result (λ e. Leaves (wish (making_of request.now)) e
+        (O.bytes out.old) (O.bytes out.new)) }
     ensures faults { O.faults out.new ≡ O.faults out.old + faults_in result }
     ensures due { IfErr result (λ e. IsDueOf (making_of request.now) e) }
 {

@@ -3,6 +3,7 @@
 ghost use Rattle.std.specs.Prelude.{◌≡◌, ◌-◌, ◌+◌, ◌^◌, ◌<◌, true, IfErr, IfOk, OnOk};
 ghost use Rattle.requests.specs.Failures.{faults_in, is_untouched, status_in};
 ghost use Rattle.requests.specs.FirstRefusal.{IsDueFor};
+ghost use Rattle.requests.specs.Interruptions.{Leaves};
 ghost use Rattle.requests.specs.Options.{IsInRange, wish_of};
 ghost use Rattle.requests.specs.Reported.{ReportsFor};
 ghost use Rattle.requests.specs.Wishes.{Appends, IsStatusOf};
@@ -45,6 +46,9 @@ pub fn serve<R: Threads + Wait + Clone + Send + 'static, O: Sink>(
     // Nothing was written if something is refused, memory ran out or a thread wasn't started.
     ensures untouched { IfErr result (λ e. is_untouched e ≡ true
         → O.bytes out.new ≡ O.bytes out.old) }
+    // What a failure leaves: of a text without a run a proper prefix, of a run what it took.
+    ensures stands { IfErr result (λ e. Leaves (wish_of request.now) e
+        (O.bytes out.old) (O.bytes out.new)) }
     // The output failed once if the failure says so, and else not.
     ensures faults { O.faults out.new ≡ O.faults out.old + faults_in result }
     // The failure that is told is the first that is due.

@@ -1,12 +1,11 @@
 //! The run of a plan in the format that is asked for.
 
-ghost use Rattle.std.specs.Prelude.{◌≡◌, ◌-◌, ◌^◌, ◌<◌, true, IfErr, IfOk, MatchResult, OnOk};
+ghost use Rattle.std.specs.Prelude.{◌≡◌, ◌-◌, ◌^◌, ◌<◌, IfErr, IfOk, MatchResult, OnOk};
 ghost use Rattle.dealrun.specs.Outcomes.{FaultsAfter};
 ghost use Rattle.dealrun.specs.Text.{text_in};
-ghost use Rattle.requests.specs.Failures.{is_untouched};
-ghost use Rattle.requests.specs.Formats.{text_as};
+ghost use Rattle.requests.specs.Formats.{layout_of, text_as};
+ghost use Rattle.requests.specs.Interruptions.{InterruptsRun};
 ghost use Rattle.requests.specs.Reported.{Counts};
-ghost use Rattle.requests.specs.declared.failure.Failure.TheVariants.{Interrupted};
 ghost use Rattle.sinks.specs.Appended.{AppendsAll};
 
 use crate::format::Format;
@@ -40,8 +39,8 @@ fn write_in<R: Threads + Wait + Clone + Send + 'static, N: Notation, O: Sink>(
     ensures text { OnOk result (AppendsAll (O.bytes out.old) (O.bytes out.new)
         (text_in (N.layout notation.old) plan.now condition)) }
     ensures report { IfOk result (λ r. Counts format plan.now condition r) }
-    ensures untouched { IfErr result (λ cause. is_untouched (Interrupted cause) ≡ true
-        → O.bytes out.new ≡ O.bytes out.old) }
+    ensures stands { IfErr result (λ cause. InterruptsRun (N.layout notation.old) plan.now condition
+        cause (O.bytes out.old) (O.bytes out.new)) }
     ensures faults { MatchResult result
         (λ _. O.faults out.new ≡ O.faults out.old)
         (λ cause. FaultsAfter cause (O.faults out.old) (O.faults out.new)) }
@@ -73,8 +72,8 @@ pub fn write_as<R: Threads + Wait + Clone + Send + 'static, O: Sink>(
     ensures text { OnOk result (AppendsAll (O.bytes out.old) (O.bytes out.new)
         (text_as format plan.now condition)) }
     ensures report { IfOk result (λ r. Counts format plan.now condition r) }
-    ensures untouched { IfErr result (λ cause. is_untouched (Interrupted cause) ≡ true
-        → O.bytes out.new ≡ O.bytes out.old) }
+    ensures stands { IfErr result (λ cause. InterruptsRun (layout_of format plan.now.heading)
+        plan.now condition cause (O.bytes out.old) (O.bytes out.new)) }
     ensures faults { MatchResult result
         (λ _. O.faults out.new ≡ O.faults out.old)
         (λ cause. FaultsAfter cause (O.faults out.old) (O.faults out.new)) }

@@ -3,6 +3,7 @@
 ghost use Rattle.std.specs.Prelude.{◌≡◌, ◌-◌, ◌+◌, ◌^◌, ◌<◌, ◌≤◌, true, IfErr, OnOk};
 ghost use Rattle.requests.specs.Failures.{faults_in, is_untouched, status_in};
 ghost use Rattle.requests.specs.FirstRefusal.{IsDueFor};
+ghost use Rattle.requests.specs.Interruptions.{Leaves};
 ghost use Rattle.requests.specs.Requests.{stream as wish};
 ghost use Rattle.requests.specs.Wishes.{Appends, IsStatusOf};
 
@@ -27,6 +28,8 @@ pub fn stream<O: Sink>(request: &StreamRequest, out: &mut O) -> Result<(), Failu
     ensures status { IsStatusOf (wish request.now.seed request.now.count) (status_in result) }
     ensures untouched { IfErr result (λ e. is_untouched e ≡ true
         → O.bytes out.new ≡ O.bytes out.old) }
+    ensures stands { IfErr result (λ e. Leaves (wish request.now.seed request.now.count) e
+        (O.bytes out.old) (O.bytes out.new)) }
     ensures faults { O.faults out.new ≡ O.faults out.old + faults_in result }
     ensures due { IfErr result (IsDueFor (wish request.now.seed request.now.count)) }
 {
