@@ -1,12 +1,11 @@
 -- A CR that no LF follows, and the end of a text.
-use Rattle.std.proofs.Common.{◌≡◌, ◌∙◌, ℕ, ◌+◌, ◌==◌, true, false, List, [], ◌∷◌, ◌++◌, length, Option, None, Some, Result, Ok, Err, IfOk, IfErr, refl, sym, ap, append_assoc}
+use Rattle.std.proofs.Common.{◌≡◌, ◌∙◌, ℕ, ◌+◌, ◌==◌, true, false, List, [], ◌∷◌, ◌++◌, length, Option, None, Some, Result, Ok, Err, IfOk, IfErr, refl, sym, ap}
 use Rattle.std.proofs.lemmas.List.{append-nil}
-use Rattle.number_input.specs.NumberTexts.{Said, first_line, later_lines, line_says, lines_say, number_of, refused_after, said, unless_blank, with_lf, with_line, without_last_blanks}
-use Rattle.number_input.specs.Scans.{HasScanned, LineView, ScannerView, after, digits_and, goes_on, line_from, list_of, number_and, said_from}
+use Rattle.number_input.specs.NumberTexts.{Said, first_line, later_lines, lines_say, number_of, refused_after, said, unless_blank, with_lf, with_line, without_last_blanks}
+use Rattle.number_input.specs.Scans.{HasScanned, ScannerView, after, digits_and, goes_on, line_from, list_of, number_and, said_from}
 use Rattle.number_input.specs.internal.Lines.{start_of_line}
 use Rattle.number_input.specs.declared.line.Part.{Part}
 use Rattle.number_input.specs.declared.line.Part.TheVariants.{Blank, Digits, Over}
-use Rattle.number_input.specs.declared.refusal.LineFault.{LineFault}
 use Rattle.number_input.specs.declared.refusal.LineFault.TheVariants.{NotANumber}
 use Rattle.number_input.specs.declared.refusal.RefusedLine.{RefusedLine}
 use Rattle.number_input.proofs.Scanned.{scanned_line}

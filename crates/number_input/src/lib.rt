@@ -6,6 +6,7 @@
 //! digits, below 2^40, and there are at most 2^40 of them.
 #![tactic(auto)]
 
+pub mod laws;
 mod line;
 mod refusal;
 mod scanner;

@@ -1,5 +1,4 @@
 -- What stands before the first byte of a line.
-use Rattle.std.specs.Prelude.{ℕ}
 use Rattle.number_input.specs.Scans.{LineView}
 use Rattle.number_input.specs.declared.line.Part.TheVariants.{Blank}
 

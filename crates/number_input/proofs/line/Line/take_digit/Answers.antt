@@ -1,4 +1,4 @@
-use Rattle.std.proofs.Common.{◌<◌, ◌≤◌, arith, rules}
+use Rattle.std.proofs.Common.{◌≤◌, arith}
 use Rattle.number_input.proofs.Tens.{below_tens}
 use Rattle.number_input.proofs.line.Line.take_digit.Goals as goal
 

@@ -1,4 +1,4 @@
-use Rattle.std.proofs.Common.{ap, refl}
+use Rattle.std.proofs.Common.{refl}
 use Rattle.number_input.proofs.Scanned.{scanned_none}
 use Rattle.number_input.proofs.scanner.Scanner.new.Goals as goal
 

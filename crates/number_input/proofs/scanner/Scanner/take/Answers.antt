@@ -1,6 +1,5 @@
-use Rattle.std.proofs.Common.{◌≡◌, ◌++◌, ◌∷◌, [], ◌==◌, false, rules, subst, sym, List, ℕ, IfOk}
+use Rattle.std.proofs.Common.{◌≡◌, ◌==◌, false, rules}
 use Rattle.std.proofs.lemmas.List.{append-nil}
-use Rattle.number_input.specs.Scans.{HasScanned, list_of}
 use Rattle.number_input.proofs.Scanned.{scanned_byte}
 use Rattle.number_input.proofs.Stops.{lines_end}
 use Rattle.number_input.proofs.scanner.Scanner.take.Goals as goal
