@@ -3,7 +3,8 @@ use Rattle.std.specs.Prelude.{◌≡◌, ℕ, ◌+◌, ◌||◌, Bool, not, leng
 use Rattle.std.specs.Prelude.{List, [], ◌∷◌, ◌++◌, Option, None, Some, Result, Err}
 use Rattle.std.specs.Prelude.{if◌then◌else◌}
 use Rattle.std.specs.Str.Parse.{digits_value_after}
-use Rattle.number_input.specs.NumberTexts.{Said, are_digits, ended, first_line, later_lines, line_says}
+use Rattle.number_input.specs.NumberTexts.{Said, are_digits, ended, first_line}
+use Rattle.number_input.specs.NumberTexts.{later_lines, line_says}
 use Rattle.number_input.specs.NumberTexts.{lines_say, number_in, said, with_lf, with_line}
 use Rattle.number_input.specs.NumberTexts.{without_last_blanks}
 use Rattle.number_input.specs.declared.line.Part.{Part}
