@@ -1,11 +1,13 @@
 mod advice;
 
-use crate::{Failure, Format, MakeRequest, Progress, Request, StreamRequest, serve};
+use crate::{Failure, Format, MakeRequest, Progress, Request, StreamRequest, pick_as, serve};
 use dealrun::Cause;
+use plans::Plan;
 use sinks::MemSink;
 use std::alloc::Global;
 use std::process::Abort;
 use std::sync::Wait;
+use std::test::Fail;
 use std::thread::Threads;
 
 /// A failure is told by this line, and ends the program with this status.
@@ -100,4 +102,27 @@ fn a_plan_is_refused_before_its_condition(rt: HostRuntime) {
 fn a_condition_that_means_nothing(rt: HostRuntime) {
     let line = "condition refused at byte 4: syntax\n";
     expect_refusal(&rt, rt.alloc(), request_of(1, "hcp("), 3, line);
+}
+
+/// The line was worked out by hand.
+#[test]
+fn candidates_are_picked_in_a_format(rt: HostRuntime) -> Result<(), Fail> {
+    let plan = Plan::new(0, 0, 0, 1, 64)?;
+    let mut lin = MemSink::new(rt.alloc());
+    let input = b"0\n".as_slice();
+    assert_eq!(rt;
+        pick_as(rt.alloc(), &plan, Format::Lin, &mut { input }, &mut lin)?,
+        Ok(1)
+    );
+    let line = b"qx|o1|md|3SQJ43HQ732DQT3CK9,ST6HKJ9DKJ9842CJ3,S72HAT64D75CAT872,\
+        SAK985H85DA6CQ654|sv|o|ah|Board 1|pg||\n";
+    assert_eq!(rt; lin.bytes(), line.as_slice());
+    let mut pbn = MemSink::new(rt.alloc());
+    let nothing = b"".as_slice();
+    assert_eq!(rt;
+        pick_as(rt.alloc(), &plan, Format::Pbn, &mut { nothing }, &mut pbn)?,
+        Ok(0)
+    );
+    assert_eq!(rt; pbn.bytes(), b"% PBN 2.1\n".as_slice());
+    Ok(())
 }

@@ -1,0 +1,4 @@
+pub mod ReadBack
+pub mod Scanned
+pub mod Stops
+pub mod Tens

@@ -1,0 +1,3 @@
+pub mod NumberTexts
+pub mod Scans
+pub mod internal

@@ -1,0 +1,19 @@
+//! Lines that are refused.
+
+/// What is wrong with a line.
+#[derive(Clone, Copy, Debug, PartialEq, Eq)]
+pub enum LineFault {
+    /// It isn't 1 to 13 digits.
+    NotANumber,
+    /// Its number is 2^40 or more.
+    NotBelow,
+    /// Its number comes after 2^40 others.
+    TooMany,
+}
+
+/// A line that is refused, by its number: the first line is 1, and each line counts.
+#[derive(Clone, Copy, Debug, PartialEq, Eq)]
+pub struct RefusedLine {
+    pub line: u64,
+    pub fault: LineFault,
+}

@@ -1,0 +1,8 @@
+use Rattle.picking.proofs.Finding.{found_is_picked, found_is_read}
+use Rattle.picking.proofs.laws.picking_what_was_found_is_making.Goals as goal
+
+pub returns-clause-read : goal.returns-clause-read
+returns-clause-read c plan form few = found_is_read plan form few
+
+pub returns-clause-picked : goal.returns-clause-picked
+returns-clause-picked c layout plan form S B few = found_is_picked layout plan form S B few

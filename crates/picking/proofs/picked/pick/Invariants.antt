@@ -1,0 +1,13 @@
+use Rattle.std.proofs.Common.{◌≡◌, ◌≤◌, ◌*◌, length}
+use Rattle.picking.specs.internal.Picking.{PickedFrom}
+use Rattle.picking.proofs.picked.pick.Given as goal
+
+abbrev pub invariant-loop-turn : goal.invariant-loop-turn
+invariant-loop-turn g l = record {
+  layout : g.N.Notation.layout l.notation ≡ g.N.Notation.layout l.fn.notation;
+  len : length l.piece ≡ 8192;
+  lines : l.scanner.lines ≤ l.turn * 8192;
+  picked : PickedFrom (g.N.Notation.layout l.fn.notation) l.plan l.scanner
+      (g.I.Read.remaining l.fn.input) (g.I.Read.remaining l.input) (g.S.Sink.bytes l.fn.sink) (g.S.Sink.bytes l.sink);
+  faults : g.S.Sink.faults l.sink ≡ g.S.Sink.faults l.fn.sink;
+}

@@ -1,0 +1,241 @@
+//! Picking: numbers in, boards out.
+
+ghost use Rattle.std.specs.Prelude.{◌≡◌, ◌+◌, ◌-◌, ◌<◌, ◌≤◌, ◌^◌, ◌++◌, ◌∷◌};
+ghost use Rattle.std.specs.Prelude.{[], ℕ, List, Option, Err, take};
+ghost use Rattle.std.specs.Prelude.{length, IfErr, IfOk, MatchResult, OnErr, OnOk};
+ghost use Rattle.std.specs.Io.KnownBytes.{Consumes, IsAtEnd, Keeps};
+ghost use Rattle.cards.specs.Candidates.{candidate};
+ghost use Rattle.dealrun.specs.Text.{board_of};
+ghost use Rattle.picking.specs.Outcomes.{FaultsOf, Picks, PicksOf};
+ghost use Rattle.picking.specs.internal.Picking.{PickedAll, PickedSoFar};
+ghost use Rattle.sinks.specs.Sinks.{AppendsOrBreaksOff, CountsFault};
+
+use crate::fault::PickFault;
+use boards::Notation;
+use cards::Candidates;
+use number_input::Scanner;
+use plans::Plan;
+use sinks::{Sink, SinkFault, put_all};
+use std::io::{ErrorKind, Read};
+
+/// How many bytes are read at once.
+const PIECE: usize = 8192;
+
+/// After so many reads the input counts as failed: that is no end that a run lives to see.
+const MOST_READS: u64 = 1 << 50;
+
+/// Writes the board of the candidate of this number, after `boards` of them.
+fn put_board<N: Notation, S: Sink>(
+    plan: &Plan,
+    notation: &mut N,
+    boards: u64,
+    number: u64,
+    sink: &mut S,
+) -> Result<(), SinkFault>
+    requires faults { S.faults sink.old < 2 ^ 64 - 1 }
+    requires boards { boards ≤ 2 ^ 40 }
+    requires number { number < 2 ^ 40 }
+    ensures layout { N.layout notation.new ≡ N.layout notation.old }
+    ensures bytes { AppendsOrBreaksOff (S.bytes sink.old) (S.bytes sink.new) result
+        ((N.layout notation.old).board
+        (board_of plan.now boards number (candidate plan.now.seed number))) }
+    ensures faults { CountsFault (S.faults sink.old) (S.faults sink.new) result }
+{
+    let deal = Candidates::new(plan.seed(), number, 1).next();
+    let place = plan.first_board() + boards;
+    notation.print(&plan.setting().board(place, number, deal));
+    put_all(sink, notation.text())
+}
+
+/// Takes the next byte of the input, and writes the board of the line that it ends.
+fn take_byte<N: Notation, S: Sink>(
+    plan: &Plan,
+    notation: &mut N,
+    scanner: &mut Scanner,
+    byte: u8,
+    sink: &mut S,
+) -> Result<(), PickFault>
+    requires faults { S.faults sink.old < 2 ^ 64 - 1 }
+    requires lines { scanner.old.lines < 2 ^ 64 - 1 }
+    ensures layout { N.layout notation.new ≡ N.layout notation.old }
+    ensures lines { OnOk result (scanner.new.lines ≤ scanner.old.lines + 1) }
+    ensures picked { OnOk result ((given : List ℕ) (base : Option (List ℕ))
+        → PickedSoFar (N.layout notation.old) plan.now scanner.old given base (S.bytes sink.old)
+        → PickedSoFar (N.layout notation.old) plan.now scanner.new (given ++ byte ∷ []) base
+        (S.bytes sink.new)) }
+    ensures broken { IfErr result (λ fault. (given rest : List ℕ) (base : Option (List ℕ))
+        → PickedSoFar (N.layout notation.old) plan.now scanner.old given base (S.bytes sink.old)
+        → PicksOf (N.layout notation.old) plan.now (given ++ byte ∷ rest) (Err fault) base
+        (S.bytes sink.new)) }
+    ensures faults { MatchResult result
+        (λ _. S.faults sink.new ≡ S.faults sink.old)
+        (λ fault. FaultsOf fault (S.faults sink.old) (S.faults sink.new)) }
+{
+    let boards = scanner.numbers();
+    match scanner.take(byte) {
+        Ok(None) => Ok(()),
+        Ok(Some(number)) => match put_board(plan, notation, boards, number, sink) {
+            Ok(()) => Ok(()),
+            Err(_) => Err(PickFault::Output),
+        },
+        Err(line) => Err(PickFault::Refused(line)),
+    }
+}
+
+/// Takes a piece of the input, and writes the boards of the lines that it ends.
+fn take_piece<N: Notation, S: Sink>(
+    plan: &Plan,
+    notation: &mut N,
+    scanner: &mut Scanner,
+    piece: &[u8],
+    sink: &mut S,
+) -> Result<(), PickFault>
+    requires faults { S.faults sink.old < 2 ^ 64 - 1 }
+    requires lines { scanner.old.lines + length piece.now < 2 ^ 64 }
+    ensures layout { N.layout notation.new ≡ N.layout notation.old }
+    ensures lines { OnOk result (scanner.new.lines ≤ scanner.old.lines + length piece.now) }
+    ensures picked { OnOk result ((given : List ℕ) (base : Option (List ℕ))
+        → PickedSoFar (N.layout notation.old) plan.now scanner.old given base (S.bytes sink.old)
+        → PickedSoFar (N.layout notation.old) plan.now scanner.new (given ++ piece.now) base
+        (S.bytes sink.new)) }
+    ensures broken { IfErr result (λ fault. (given : List ℕ) (base : Option (List ℕ))
+        → PickedSoFar (N.layout notation.old) plan.now scanner.old given base (S.bytes sink.old)
+        → PicksOf (N.layout notation.old) plan.now (given ++ piece.now) (Err fault) base
+        (S.bytes sink.new)) }
+    ensures faults { MatchResult result
+        (λ _. S.faults sink.new ≡ S.faults sink.old)
+        (λ fault. FaultsOf fault (S.faults sink.old) (S.faults sink.new)) }
+{
+    for byte in piece {
+        match take_byte(plan, notation, scanner, *byte, sink) {
+            Ok(()) => {}
+            Err(fault) => return Err(fault),
+        }
+    }
+    Ok(())
+}
+
+/// Reads some bytes, again where a signal interrupts that.
+fn read_some<I: Read>(input: &mut I, piece: &mut [u8]) -> Result<usize, PickFault>
+    requires { 0 < length piece.old }
+    ensures range { IfOk result (λ n. n ≤ length piece.new) }
+    ensures len { length piece.new ≡ length piece.old }
+    ensures given { IfOk result (λ n.
+        Consumes (I.remaining input.old) (I.remaining input.new) (take n piece.new)) }
+    ensures end { IfOk result (λ n. n ≡ 0 → IsAtEnd (I.remaining input.new)) }
+    ensures failed { IfErr result (λ fault. (fault ≡ PickFault.Input)
+        × Keeps (I.remaining input.old) (I.remaining input.new)) }
+{
+    for _ in 0..u64::MAX {
+        match input.read(piece) {
+            Ok(count) => return Ok(count),
+            Err(error) if error.kind() == ErrorKind::Interrupted => {}
+            Err(_) => return Err(PickFault::Input),
+        }
+    }
+    Err(PickFault::Input)
+}
+
+/// Takes the end of the input, and writes the board of a last line without an end. Returns how
+/// many boards were written.
+fn end_input<N: Notation, S: Sink>(
+    plan: &Plan,
+    notation: &mut N,
+    scanner: &Scanner,
+    sink: &mut S,
+) -> Result<u64, PickFault>
+    requires faults { S.faults sink.old < 2 ^ 64 - 1 }
+    requires lines { scanner.now.lines < 2 ^ 64 - 1 }
+    ensures layout { N.layout notation.new ≡ N.layout notation.old }
+    ensures picked { IfOk result (λ boards. (given : List ℕ) (base : Option (List ℕ))
+        → PickedSoFar (N.layout notation.old) plan.now scanner.now given base (S.bytes sink.old)
+        → PickedAll (N.layout notation.old) plan.now boards given base (S.bytes sink.new)) }
+    ensures broken { IfErr result (λ fault. (given : List ℕ) (base : Option (List ℕ))
+        → PickedSoFar (N.layout notation.old) plan.now scanner.now given base (S.bytes sink.old)
+        → PicksOf (N.layout notation.old) plan.now given (Err fault) base (S.bytes sink.new)) }
+    ensures faults { MatchResult result
+        (λ _. S.faults sink.new ≡ S.faults sink.old)
+        (λ fault. FaultsOf fault (S.faults sink.old) (S.faults sink.new)) }
+{
+    let boards = scanner.numbers();
+    match scanner.finish() {
+        Ok(None) => Ok(boards),
+        Ok(Some(number)) => match put_board(plan, notation, boards, number, sink) {
+            Ok(()) => Ok(boards + 1),
+            Err(_) => Err(PickFault::Output),
+        },
+        Err(line) => Err(PickFault::Refused(line)),
+    }
+}
+
+/// Takes the end of the input: writes the board of a last line without an end, and the footer.
+fn finish<N: Notation, S: Sink>(
+    plan: &Plan,
+    notation: &mut N,
+    scanner: &Scanner,
+    sink: &mut S,
+) -> Result<u64, PickFault>
+    requires faults { S.faults sink.old < 2 ^ 64 - 1 }
+    requires lines { scanner.now.lines < 2 ^ 64 - 1 }
+    ensures layout { N.layout notation.new ≡ N.layout notation.old }
+    ensures picked { (given : List ℕ) (base : Option (List ℕ))
+        → PickedSoFar (N.layout notation.old) plan.now scanner.now given base (S.bytes sink.old)
+        → PicksOf (N.layout notation.old) plan.now given result base (S.bytes sink.new) }
+    ensures faults { MatchResult result
+        (λ _. S.faults sink.new ≡ S.faults sink.old)
+        (λ fault. FaultsOf fault (S.faults sink.old) (S.faults sink.new)) }
+{
+    match end_input(plan, notation, scanner, sink) {
+        Ok(boards) => match put_all(sink, notation.footer()) {
+            Ok(()) => Ok(boards),
+            Err(_) => Err(PickFault::Output),
+        },
+        Err(fault) => Err(fault),
+    }
+}
+
+/// Reads the numbers of candidates from the input, and writes the header, the board of each
+/// candidate in order, and the footer. Returns how many boards were written.
+///
+/// Of the plan its seed, its first board and its setting count: none of its own candidates is
+/// tried. The input is read by pieces, in constant memory, and a board is written as soon as its
+/// line was read; before each read the sink hears how many there are.
+///
+/// # Errors
+///
+/// `Refused`, with the first line that is refused: the boards of the lines before it were written,
+/// and no footer. `Input`: the input couldn't be read; the boards of the lines that were ended
+/// before were written. `Output`: the sink failed; a part of the text was written.
+pub fn pick<N: Notation, I: Read, S: Sink>(
+    plan: &Plan,
+    notation: &mut N,
+    input: &mut I,
+    sink: &mut S,
+) -> Result<u64, PickFault>
+    requires { S.faults sink.old < 2 ^ 64 - 1 }
+    ensures layout { N.layout notation.new ≡ N.layout notation.old }
+    ensures picked { Picks (N.layout notation.old) plan.now result
+        (I.remaining input.old) (I.remaining input.new) (S.bytes sink.old) (S.bytes sink.new) }
+    ensures faults { MatchResult result
+        (λ _. S.faults sink.new ≡ S.faults sink.old)
+        (λ fault. FaultsOf fault (S.faults sink.old) (S.faults sink.new)) }
+{
+    match put_all(sink, notation.header()) {
+        Ok(()) => {}
+        Err(_) => return Err(PickFault::Output),
+    }
+    let mut scanner = Scanner::new();
+    let mut piece = [0u8; PIECE];
+    for turn in 0..MOST_READS {
+        sink.watch(scanner.numbers(), scanner.numbers());
+        let count = read_some(input, &mut piece)?;
+        if count == 0 {
+            return finish(plan, notation, &scanner, sink);
+        }
+        match take_piece(plan, notation, &mut scanner, &piece[..count], sink) {
+            Ok(()) => {}
+            Err(fault) => return Err(fault),
+        }
+    }
+    Err(PickFault::Input)
+}

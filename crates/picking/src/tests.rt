@@ -1,0 +1,107 @@
+//! Lines of LIN that were worked out by hand, of two candidates of seed 0.
+
+use super::*;
+use lin_text::LinPrinter;
+use number_input::{LineFault, RefusedLine};
+use plans::Plan;
+use sinks::{Fuse, MemSink};
+use std::alloc::AllocGlobal;
+use std::io::{Error, ErrorKind, Read, Result};
+use std::process::Abort;
+use std::test::Fail;
+
+const FIRST: &[u8] = b"qx|o1|md|3SQJ43HQ732DQT3CK9,ST6HKJ9DKJ9842CJ3,S72HAT64D75CAT872,\
+    SAK985H85DA6CQ654|sv|o|ah|Board 1|pg||\n";
+
+const BOTH: &[u8] = b"qx|o1|md|3SQJ43HQ732DQT3CK9,ST6HKJ9DKJ9842CJ3,S72HAT64D75CAT872,\
+    SAK985H85DA6CQ654|sv|o|ah|Board 1|pg||\n\
+    qx|o2|md|4SJT2HAJTDT964CK95,S9H87632DAK872C87,SAQ764HKQDCQJT643,\
+    SK853H954DQJ53CA2|sv|n|ah|Board 2|pg||\n";
+
+/// An input that gives a byte at a time, is interrupted before each, and may fail at its end.
+#[derive(Drop)]
+struct Drops<'a> {
+    rest: &'a [u8],
+    interrupted: bool,
+    fails: bool,
+}
+
+impl Read for Drops<'_> {
+    fn read(&mut self, piece: &mut [u8]) -> Result<usize> {
+        self.interrupted = !self.interrupted;
+        if self.interrupted {
+            return Err(Error::from(ErrorKind::Interrupted));
+        }
+        if self.rest.is_empty() && self.fails {
+            return Err(Error::from(ErrorKind::IsADirectory));
+        }
+        if self.rest.is_empty() || piece.is_empty() {
+            return Ok(0);
+        }
+        piece[0] = self.rest[0];
+        self.rest = &self.rest[1..];
+        Ok(1)
+    }
+}
+
+/// Aborts unless picking from this input ends so and writes this text.
+fn check<I: Read>(
+    rt: &(impl Abort + AllocGlobal),
+    input: &mut I,
+    ends: std::result::Result<u64, PickFault>,
+    text: &[u8],
+) -> std::result::Result<(), Fail> {
+    let plan = Plan::new(0, 0, 0, 1, 64)?;
+    let mut printer = LinPrinter::new(rt.alloc())?;
+    let mut sink = MemSink::new(rt.alloc());
+    assert_eq!(rt; pick(&plan, &mut printer, input, &mut sink), ends);
+    assert_eq!(rt; sink.bytes(), text);
+    Ok(())
+}
+
+#[test]
+fn numbers_are_dealt_in_order(rt: HostRuntime) -> std::result::Result<(), Fail> {
+    check(&rt, &mut b"0\r\n\n 1".as_slice(), Ok(2), BOTH)?;
+    check(&rt, &mut b"".as_slice(), Ok(0), b"")
+}
+
+#[test]
+fn boards_before_a_refused_line_stay(rt: HostRuntime) -> std::result::Result<(), Fail> {
+    let line = RefusedLine {
+        line: 3,
+        fault: LineFault::NotANumber,
+    };
+    check(
+        &rt,
+        &mut b"0\n\none\n1\n".as_slice(),
+        Err(PickFault::Refused(line)),
+        FIRST,
+    )
+}
+
+#[test]
+fn pieces_of_the_input_are_joined(rt: HostRuntime) -> std::result::Result<(), Fail> {
+    let mut whole = Drops {
+        rest: b"0\n1",
+        interrupted: false,
+        fails: false,
+    };
+    check(&rt, &mut whole, Ok(2), BOTH)?;
+    let mut broken = Drops {
+        rest: b"0\n1",
+        interrupted: false,
+        fails: true,
+    };
+    check(&rt, &mut broken, Err(PickFault::Input), FIRST)
+}
+
+#[test]
+fn an_output_may_fail(rt: HostRuntime) -> std::result::Result<(), Fail> {
+    let plan = Plan::new(0, 0, 0, 1, 64)?;
+    let mut printer = LinPrinter::new(rt.alloc())?;
+    let mut sink = Fuse::new(MemSink::new(rt.alloc()), 2, 1000, true);
+    let ended = pick(&plan, &mut printer, &mut b"0\n1\n".as_slice(), &mut sink);
+    assert_eq!(rt; ended, Err(PickFault::Output));
+    assert_eq!(rt; sink.bytes(), FIRST);
+    Ok(())
+}
