@@ -17,8 +17,10 @@ use std::alloc::{AllocError, Global};
 use std::io::Read;
 
 /// Writes the boards of the candidates whose numbers the input gives, in a format, as `pick` does.
+/// The inner result is that of `pick`.
 ///
-/// Want of memory is told before anything is read or written.
+/// # Errors
+/// `AllocError` if the allocation of the printer's memory failed; nothing was read or written then.
 pub fn pick_as<I: Read, O: Sink>(
     alloc: Global,
     plan: &Plan,
