@@ -119,7 +119,9 @@ fn plain_breaks_off(
     fails_at: u64,
     most: usize,
     bytes: &[u8],
-) {
+)
+    requires { 0 < most }
+{
     let mut sink = Fuse::new(MemSink::new(alloc), fails_at, most, true);
     let boards = run_plain_in(plan, &Cond::any(alloc), &mut Digits::new(), &mut sink);
     assert_eq!(rt; boards, Err(PlainFault { boards: 5 }));
@@ -134,7 +136,9 @@ fn lanes_break_off<R: Abort + Threads + Wait + Clone + Send + 'static>(
     fails_at: u64,
     most: usize,
     bytes: &[u8],
-) -> Result<(), Fail> {
+) -> Result<(), Fail>
+    requires { 0 < most }
+{
     let mut sink = Fuse::new(MemSink::new(alloc), fails_at, most, true);
     let gate = Arc::new(alloc, OpenGate)?;
     let cond = Cond::any(alloc);
