@@ -10,9 +10,11 @@ pub mod laws;
 mod line;
 mod refusal;
 mod scanner;
+mod source;
 
 pub use refusal::{LineFault, RefusedLine};
 pub use scanner::Scanner;
+pub use source::{MOST_BYTES, NoBytes, Reader, Source, SourceFault};
 
 #[cfg(test)]
 mod tests;

@@ -2,6 +2,7 @@
 
 use super::*;
 use std::alloc::{AllocGlobal, Global};
+use std::io::{self, Error, ErrorKind, Read};
 use std::process::Abort;
 use std::test::Fail;
 
@@ -86,4 +87,46 @@ fn a_line_may_be_long(rt: HostRuntime) -> Result<(), Fail> {
     check(&rt, text.as_slice(), &[7], None)?;
     text.extend_from_slice(b"\n8\n\n99999999999999")?;
     check(&rt, text.as_slice(), &[7, 8], at(4, LineFault::NotANumber))
+}
+
+/// A reader that is interrupted once, gives a byte, and then fails.
+#[derive(Drop)]
+struct Broken {
+    calls: u8,
+}
+
+impl Read for Broken {
+    fn read(&mut self, piece: &mut [u8]) -> io::Result<usize> {
+        self.calls = self.calls.saturating_add(1);
+        if self.calls == 2 && !piece.is_empty() {
+            piece[0] = b'7';
+            return Ok(1);
+        }
+        if self.calls == 1 {
+            return Err(Error::from(ErrorKind::Interrupted));
+        }
+        Err(Error::from(ErrorKind::IsADirectory))
+    }
+}
+
+#[test]
+fn a_source_gives_what_its_reader_has(rt: HostRuntime) {
+    let mut source = Reader::new(b"12\n".as_slice());
+    let mut piece = [0u8; 2];
+    assert_eq!(rt; source.read(&mut piece), Ok(2));
+    assert_eq!(rt; piece, *b"12");
+    assert_eq!(rt; source.read(&mut piece), Ok(1));
+    assert_eq!(rt; piece[0], b'\n');
+    assert_eq!(rt; source.read(&mut piece), Ok(0));
+}
+
+#[test]
+fn a_source_tries_again_and_fails(rt: HostRuntime) {
+    let mut source = Reader::new(Broken { calls: 0 });
+    let mut piece = [0u8; 2];
+    assert_eq!(rt; source.read(&mut piece), Ok(1));
+    assert_eq!(rt; piece[0], b'7');
+    assert_eq!(rt; source.read(&mut piece), Err(SourceFault));
+    assert_eq!(rt; source.read(&mut piece), Err(SourceFault));
+    assert_eq!(rt; NoBytes.read(&mut piece), Ok(0));
 }

@@ -43,3 +43,8 @@ pub record Picks (layout : Layout) (plan : Planned) (result : Result ℕ PickFau
 abbrev pub FaultsOf : PickFault → ℕ → ℕ → Type 0
 FaultsOf Output old new = new ≡ old + 1
 FaultsOf _ old new = new ≡ old
+
+-- how often the input failed
+abbrev pub InputFaultsOf : PickFault → ℕ → ℕ → Type 0
+InputFaultsOf Input old new = new ≡ old + 1
+InputFaultsOf _ old new = new ≡ old

@@ -1,6 +1,9 @@
 //! Why picking ended early.
 
-use number_input::RefusedLine;
+ghost use Rattle.std.specs.Prelude.{◌≡◌};
+ghost use Rattle.picking.specs.declared.fault.PickFault.TheVariants.{Input};
+
+use number_input::{RefusedLine, SourceFault};
 
 /// Why picking ended before the end of the input, or of what it says.
 #[derive(Clone, Copy, Debug, PartialEq, Eq)]
@@ -11,4 +14,12 @@ pub enum PickFault {
     Input,
     /// The output failed.
     Output,
+}
+
+impl From<SourceFault> for PickFault {
+    ghost from_gives = { λ _ e. e ≡ Input };
+
+    fn from(_fault: SourceFault) -> PickFault {
+        PickFault::Input
+    }
 }

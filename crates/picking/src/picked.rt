@@ -3,26 +3,24 @@
 ghost use Rattle.std.specs.Prelude.{◌≡◌, ◌+◌, ◌-◌, ◌<◌, ◌≤◌, ◌^◌, ◌++◌, ◌∷◌};
 ghost use Rattle.std.specs.Prelude.{[], ℕ, List, Option, Err, take};
 ghost use Rattle.std.specs.Prelude.{length, IfErr, IfOk, MatchResult, OnErr, OnOk};
-ghost use Rattle.std.specs.Io.KnownBytes.{Consumes, IsAtEnd, Keeps};
 ghost use Rattle.cards.specs.Candidates.{candidate};
 ghost use Rattle.dealrun.specs.Text.{board_of};
-ghost use Rattle.picking.specs.Outcomes.{FaultsOf, Picks, PicksOf};
+ghost use Rattle.picking.specs.Outcomes.{FaultsOf, InputFaultsOf, Picks, PicksOf};
 ghost use Rattle.picking.specs.internal.Picking.{PickedAll, PickedSoFar};
 ghost use Rattle.sinks.specs.Sinks.{AppendsOrBreaksOff, CountsFault};
 
 use crate::fault::PickFault;
 use boards::Notation;
 use cards::Candidates;
-use number_input::Scanner;
+use number_input::{MOST_BYTES, Scanner, Source};
 use plans::Plan;
 use sinks::{Sink, SinkFault, put_all};
-use std::io::{ErrorKind, Read};
 
 /// How many bytes are read at once.
 const PIECE: usize = 8192;
 
-/// After so many reads the input counts as failed: that is no end that a run lives to see.
-const MOST_READS: u64 = 1 << 50;
+/// No input gives a byte so often.
+const MOST_READS: u64 = MOST_BYTES + 1;
 
 /// Writes the board of the candidate of this number, after `boards` of them.
 fn put_board<N: Notation, S: Sink>(
@@ -115,27 +113,6 @@ fn take_piece<N: Notation, S: Sink>(
     Ok(())
 }
 
-/// Reads some bytes, again where a signal interrupts that.
-fn read_some<I: Read>(input: &mut I, piece: &mut [u8]) -> Result<usize, PickFault>
-    requires { 0 < length piece.old }
-    ensures range { IfOk result (λ n. n ≤ length piece.new) }
-    ensures len { length piece.new ≡ length piece.old }
-    ensures given { IfOk result (λ n.
-        Consumes (I.remaining input.old) (I.remaining input.new) (take n piece.new)) }
-    ensures end { IfOk result (λ n. n ≡ 0 → IsAtEnd (I.remaining input.new)) }
-    ensures failed { IfErr result (λ fault. (fault ≡ PickFault.Input)
-        × Keeps (I.remaining input.old) (I.remaining input.new)) }
-{
-    for _ in 0..u64::MAX {
-        match input.read(piece) {
-            Ok(count) => return Ok(count),
-            Err(error) if error.kind() == ErrorKind::Interrupted => {}
-            Err(_) => return Err(PickFault::Input),
-        }
-    }
-    Err(PickFault::Input)
-}
-
 /// Takes the end of the input, and writes the board of a last line without an end. Returns how
 /// many boards were written.
 fn end_input<N: Notation, S: Sink>(
@@ -206,19 +183,24 @@ fn finish<N: Notation, S: Sink>(
 /// `Refused`, with the first line that is refused: the boards of the lines before it were written,
 /// and no footer. `Input`: the input couldn't be read; the boards of the lines that were ended
 /// before were written. `Output`: the sink failed; a part of the text was written.
-pub fn pick<N: Notation, I: Read, S: Sink>(
+pub fn pick<N: Notation, I: Source, S: Sink>(
     plan: &Plan,
     notation: &mut N,
     input: &mut I,
     sink: &mut S,
 ) -> Result<u64, PickFault>
-    requires { S.faults sink.old < 2 ^ 64 - 1 }
+    requires output { S.faults sink.old < 2 ^ 64 - 1 }
+    requires input { I.faults input.old < 2 ^ 64 - 1 }
     ensures layout { N.layout notation.new ≡ N.layout notation.old }
     ensures picked { Picks (N.layout notation.old) plan.now result
-        (I.remaining input.old) (I.remaining input.new) (S.bytes sink.old) (S.bytes sink.new) }
+        (I.rest input.old) (I.rest input.new) (S.bytes sink.old) (S.bytes sink.new) }
     ensures faults { MatchResult result
         (λ _. S.faults sink.new ≡ S.faults sink.old)
         (λ fault. FaultsOf fault (S.faults sink.old) (S.faults sink.new)) }
+    // The input failed if the result says so, and else not.
+    ensures input { MatchResult result
+        (λ _. I.faults input.new ≡ I.faults input.old)
+        (λ fault. InputFaultsOf fault (I.faults input.old) (I.faults input.new)) }
 {
     match put_all(sink, notation.header()) {
         Ok(()) => {}
@@ -228,7 +210,7 @@ pub fn pick<N: Notation, I: Read, S: Sink>(
     let mut piece = [0u8; PIECE];
     for turn in 0..MOST_READS {
         sink.watch(scanner.numbers(), scanner.numbers());
-        let count = read_some(input, &mut piece)?;
+        let count = input.read(&mut piece)?;
         if count == 0 {
             return finish(plan, notation, &scanner, sink);
         }
@@ -237,5 +219,5 @@ pub fn pick<N: Notation, I: Read, S: Sink>(
             Err(fault) => return Err(fault),
         }
     }
-    Err(PickFault::Input)
+    unreachable!()
 }

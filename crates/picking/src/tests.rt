@@ -2,7 +2,7 @@
 
 use super::*;
 use lin_text::LinPrinter;
-use number_input::{LineFault, RefusedLine};
+use number_input::{LineFault, NoBytes, Reader, RefusedLine};
 use plans::Plan;
 use sinks::{Fuse, MemSink};
 use std::alloc::AllocGlobal;
@@ -44,25 +44,26 @@ impl Read for Drops<'_> {
     }
 }
 
-/// Aborts unless picking from this input ends so and writes this text.
-fn check<I: Read>(
+/// Aborts unless picking from this reader ends so and writes this text.
+fn check<R: Read>(
     rt: &(impl Abort + AllocGlobal),
-    input: &mut I,
+    reader: R,
     ends: std::result::Result<u64, PickFault>,
     text: &[u8],
 ) -> std::result::Result<(), Fail> {
     let plan = Plan::new(0, 0, 0, 1, 64)?;
     let mut printer = LinPrinter::new(rt.alloc())?;
+    let mut input = Reader::new(reader);
     let mut sink = MemSink::new(rt.alloc());
-    assert_eq!(rt; pick(&plan, &mut printer, input, &mut sink), ends);
+    assert_eq!(rt; pick(&plan, &mut printer, &mut input, &mut sink), ends);
     assert_eq!(rt; sink.bytes(), text);
     Ok(())
 }
 
 #[test]
 fn numbers_are_dealt_in_order(rt: HostRuntime) -> std::result::Result<(), Fail> {
-    check(&rt, &mut b"0\r\n\n 1".as_slice(), Ok(2), BOTH)?;
-    check(&rt, &mut b"".as_slice(), Ok(0), b"")
+    check(&rt, b"0\r\n\n 1".as_slice(), Ok(2), BOTH)?;
+    check(&rt, b"".as_slice(), Ok(0), b"")
 }
 
 #[test]
@@ -73,7 +74,7 @@ fn boards_before_a_refused_line_stay(rt: HostRuntime) -> std::result::Result<(),
     };
     check(
         &rt,
-        &mut b"0\n\none\n1\n".as_slice(),
+        b"0\n\none\n1\n".as_slice(),
         Err(PickFault::Refused(line)),
         FIRST,
     )
@@ -81,18 +82,18 @@ fn boards_before_a_refused_line_stay(rt: HostRuntime) -> std::result::Result<(),
 
 #[test]
 fn pieces_of_the_input_are_joined(rt: HostRuntime) -> std::result::Result<(), Fail> {
-    let mut whole = Drops {
+    let whole = Drops {
         rest: b"0\n1",
         interrupted: false,
         fails: false,
     };
-    check(&rt, &mut whole, Ok(2), BOTH)?;
-    let mut broken = Drops {
+    check(&rt, whole, Ok(2), BOTH)?;
+    let broken = Drops {
         rest: b"0\n1",
         interrupted: false,
         fails: true,
     };
-    check(&rt, &mut broken, Err(PickFault::Input), FIRST)
+    check(&rt, broken, Err(PickFault::Input), FIRST)
 }
 
 #[test]
@@ -100,8 +101,19 @@ fn an_output_may_fail(rt: HostRuntime) -> std::result::Result<(), Fail> {
     let plan = Plan::new(0, 0, 0, 1, 64)?;
     let mut printer = LinPrinter::new(rt.alloc())?;
     let mut sink = Fuse::new(MemSink::new(rt.alloc()), 2, 1000, true);
-    let ended = pick(&plan, &mut printer, &mut b"0\n1\n".as_slice(), &mut sink);
+    let mut input = Reader::new(b"0\n1\n".as_slice());
+    let ended = pick(&plan, &mut printer, &mut input, &mut sink);
     assert_eq!(rt; ended, Err(PickFault::Output));
     assert_eq!(rt; sink.bytes(), FIRST);
+    Ok(())
+}
+
+#[test]
+fn without_an_input_there_is_no_board(rt: HostRuntime) -> std::result::Result<(), Fail> {
+    let plan = Plan::new(0, 0, 0, 1, 64)?;
+    let mut printer = LinPrinter::new(rt.alloc())?;
+    let mut sink = MemSink::new(rt.alloc());
+    assert_eq!(rt; pick(&plan, &mut printer, &mut NoBytes, &mut sink), Ok(0));
+    assert!(rt; sink.bytes().is_empty());
     Ok(())
 }

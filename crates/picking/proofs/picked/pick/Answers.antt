@@ -15,30 +15,36 @@ loop-turn-init g c =
       layout = refl;
       len = refl;
       lines = omega (arith, c.new-scanner.ensures.lines);
-      picked = from_nothing layout c.args.plan.now c.new-scanner.result (g.I.Read.remaining c.args.input.now) base now
+      picked = from_nothing layout c.args.plan.now c.new-scanner.result (g.I.Source.rest c.args.input.now) base now
           (picked_nothing layout layout c.args.plan.now c.new-scanner.result base now refl c.new-scanner.ensures.scanned written);
       faults = c.in-Ok.ensures.faults;
+      input = refl;
+      reads = omega arith;
+      few = omega arith;
     }
 
 pub returns-in-Err-take_piece-clause-picked : goal.returns-in-Err-take_piece-clause-picked
 returns-in-Err-take_piece-clause-picked g c =
-    let picked = subst (PickedFrom (g.N.Notation.layout c.args.notation.now) c.args.plan.now c.loop-turn.scanner (g.I.Read.remaining c.args.input.now) (g.I.Read.remaining c.loop-turn.input) (g.S.Sink.bytes c.args.sink.now)) (sym c.watch.ensures.bytes) c.loop-turn.invariant.picked in
+    let picked = subst (PickedFrom (g.N.Notation.layout c.args.notation.now) c.args.plan.now c.loop-turn.scanner (g.I.Source.rest c.args.input.now) (g.I.Source.rest c.loop-turn.input) (g.S.Sink.bytes c.args.sink.now)) (sym c.watch.ensures.bytes) c.loop-turn.invariant.picked in
     from_broken (g.N.Notation.layout c.args.notation.now) (g.N.Notation.layout c.loop-turn.notation) c.args.plan.now c.loop-turn.scanner c.in-Err-take_piece.fault _
-    (g.I.Read.remaining c.args.input.now) (g.I.Read.remaining c.loop-turn.input) (g.I.Read.remaining c.read_some.new.input)
+    (g.I.Source.rest c.args.input.now) (g.I.Source.rest c.loop-turn.input) (g.I.Source.rest c.read.new.input)
     (g.S.Sink.bytes c.args.sink.now) (g.S.Sink.bytes c.watch.new.self) (g.S.Sink.bytes c.take_piece.new.sink)
-    c.loop-turn.invariant.layout c.in_ok-count.ensures.given c.in-Err-take_piece.ensures.broken picked
+    c.loop-turn.invariant.layout c.in_ok-count.ensures.bytes c.in-Err-take_piece.ensures.broken picked
 
 pub loop-turn-preserved : goal.loop-turn-preserved
 loop-turn-preserved g c =
-    let picked = subst (PickedFrom (g.N.Notation.layout c.args.notation.now) c.args.plan.now c.loop-turn.scanner (g.I.Read.remaining c.args.input.now) (g.I.Read.remaining c.loop-turn.input) (g.S.Sink.bytes c.args.sink.now)) (sym c.watch.ensures.bytes) c.loop-turn.invariant.picked in
-    let whole : length c.read_some.new.piece ≡ 8192 = search rules in
+    let picked = subst (PickedFrom (g.N.Notation.layout c.args.notation.now) c.args.plan.now c.loop-turn.scanner (g.I.Source.rest c.args.input.now) (g.I.Source.rest c.loop-turn.input) (g.S.Sink.bytes c.args.sink.now)) (sym c.watch.ensures.bytes) c.loop-turn.invariant.picked in
+    let whole : length c.read.new.piece ≡ 8192 = search rules in
     record {
       layout = search rules;
       len = search rules;
-      lines = lines_in c.loop-turn.turn c.in_ok-count.count c.read_some.new.piece c.loop-turn.scanner.lines c.take_piece.new.scanner.lines whole c.loop-turn.invariant.lines c.in-Ok-take_piece.ensures.lines;
+      lines = lines_in c.loop-turn.turn c.in_ok-count.count c.read.new.piece c.loop-turn.scanner.lines c.take_piece.new.scanner.lines whole c.loop-turn.invariant.lines c.in-Ok-take_piece.ensures.lines;
       picked = from_more (g.N.Notation.layout c.args.notation.now) (g.N.Notation.layout c.loop-turn.notation) c.args.plan.now c.loop-turn.scanner c.take_piece.new.scanner _
-          (g.I.Read.remaining c.args.input.now) (g.I.Read.remaining c.loop-turn.input) (g.I.Read.remaining c.read_some.new.input)
+          (g.I.Source.rest c.args.input.now) (g.I.Source.rest c.loop-turn.input) (g.I.Source.rest c.read.new.input)
           (g.S.Sink.bytes c.args.sink.now) (g.S.Sink.bytes c.watch.new.self) (g.S.Sink.bytes c.take_piece.new.sink)
-          c.loop-turn.invariant.layout c.in_ok-count.ensures.given c.in-Ok-take_piece.ensures.picked picked;
+          c.loop-turn.invariant.layout c.in_ok-count.ensures.bytes c.in-Ok-take_piece.ensures.picked picked;
       faults = search rules;
+      input = search rules;
+      reads = search rules;
+      few = search rules;
     }

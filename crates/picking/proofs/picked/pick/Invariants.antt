@@ -1,4 +1,4 @@
-use Rattle.std.proofs.Common.{◌≡◌, ◌≤◌, ◌*◌, length}
+use Rattle.std.proofs.Common.{◌≡◌, ◌≤◌, ◌*◌, ◌^◌, length}
 use Rattle.picking.specs.internal.Picking.{PickedFrom}
 use Rattle.picking.proofs.picked.pick.Given as goal
 
@@ -8,6 +8,9 @@ invariant-loop-turn g l = record {
   len : length l.piece ≡ 8192;
   lines : l.scanner.lines ≤ l.turn * 8192;
   picked : PickedFrom (g.N.Notation.layout l.fn.notation) l.plan l.scanner
-      (g.I.Read.remaining l.fn.input) (g.I.Read.remaining l.input) (g.S.Sink.bytes l.fn.sink) (g.S.Sink.bytes l.sink);
+      (g.I.Source.rest l.fn.input) (g.I.Source.rest l.input) (g.S.Sink.bytes l.fn.sink) (g.S.Sink.bytes l.sink);
   faults : g.S.Sink.faults l.sink ≡ g.S.Sink.faults l.fn.sink;
+  input : g.I.Source.faults l.input ≡ g.I.Source.faults l.fn.input;
+  reads : l.turn ≤ g.I.Source.given l.input;
+  few : l.turn ≤ 2 ^ 50;
 }
