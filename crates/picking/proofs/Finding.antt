@@ -1,5 +1,5 @@
 -- What is found, and read back.
-use Rattle.std.proofs.Common.{◌≡◌, ◌∙◌, ◌<◌, ◌≤◌, ◌^◌, ℕ, suc, zero, ◌+◌, Bool, true, false, cond, List, [], ◌∷◌, ◌++◌, length, map, take, Option, None, Some, refl, sym, ap, arith, All, decimal, append_assoc, subst}
+use Rattle.std.proofs.Common.{◌≡◌, ◌∙◌, ◌<◌, ◌≤◌, ◌^◌, ℕ, suc, zero, ◌+◌, Bool, true, false, cond, List, [], ◌∷◌, ◌++◌, length, map, Option, None, Some, refl, sym, ap, arith, All, decimal}
 use Rattle.std.specs.Prelude.{filter}
 use Rattle.std.specs.List.{enumerate_from, flat_map, range_with_len}
 use Rattle.std.proofs.lemmas.Grind.{flat_map-append}
@@ -12,7 +12,7 @@ use Rattle.cards.specs.Candidates.{candidate}
 use Rattle.cond_lang.specs.Form.{Form}
 use Rattle.cond_lang.specs.Meaning.{holds}
 use Rattle.dealrun.specs.Text.{accepted, accepted_among, board_of, boards_of, limited, text_in}
-use Rattle.number_input.specs.NumberTexts.{Said, said}
+use Rattle.number_input.specs.NumberTexts.{said}
 use Rattle.number_input.proofs.ReadBack.{read_back}
 use Rattle.number_lines.specs.Numbers.{number_line, numbers}
 use Rattle.picking.specs.Picked.{picked_text}

@@ -68,6 +68,7 @@ fn take_byte<N: Notation, S: Sink>(
     ensures faults { MatchResult result
         (λ _. S.faults sink.new ≡ S.faults sink.old)
         (λ fault. FaultsOf fault (S.faults sink.old) (S.faults sink.new)) }
+    ensures input { IfErr result (λ fault. (n : ℕ) → InputFaultsOf fault n n) }
 {
     let boards = scanner.numbers();
     match scanner.take(byte) {
@@ -103,6 +104,7 @@ fn take_piece<N: Notation, S: Sink>(
     ensures faults { MatchResult result
         (λ _. S.faults sink.new ≡ S.faults sink.old)
         (λ fault. FaultsOf fault (S.faults sink.old) (S.faults sink.new)) }
+    ensures input { IfErr result (λ fault. (n : ℕ) → InputFaultsOf fault n n) }
 {
     for byte in piece {
         match take_byte(plan, notation, scanner, *byte, sink) {
@@ -133,6 +135,7 @@ fn end_input<N: Notation, S: Sink>(
     ensures faults { MatchResult result
         (λ _. S.faults sink.new ≡ S.faults sink.old)
         (λ fault. FaultsOf fault (S.faults sink.old) (S.faults sink.new)) }
+    ensures input { IfErr result (λ fault. (n : ℕ) → InputFaultsOf fault n n) }
 {
     let boards = scanner.numbers();
     match scanner.finish() {
@@ -161,6 +164,7 @@ fn finish<N: Notation, S: Sink>(
     ensures faults { MatchResult result
         (λ _. S.faults sink.new ≡ S.faults sink.old)
         (λ fault. FaultsOf fault (S.faults sink.old) (S.faults sink.new)) }
+    ensures input { IfErr result (λ fault. (n : ℕ) → InputFaultsOf fault n n) }
 {
     match end_input(plan, notation, scanner, sink) {
         Ok(boards) => match put_all(sink, notation.footer()) {

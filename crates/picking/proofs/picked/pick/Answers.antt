@@ -27,7 +27,7 @@ pub returns-in-Err-take_piece-clause-picked : goal.returns-in-Err-take_piece-cla
 returns-in-Err-take_piece-clause-picked g c =
     let picked = subst (PickedFrom (g.N.Notation.layout c.args.notation.now) c.args.plan.now c.loop-turn.scanner (g.I.Source.rest c.args.input.now) (g.I.Source.rest c.loop-turn.input) (g.S.Sink.bytes c.args.sink.now)) (sym c.watch.ensures.bytes) c.loop-turn.invariant.picked in
     from_broken (g.N.Notation.layout c.args.notation.now) (g.N.Notation.layout c.loop-turn.notation) c.args.plan.now c.loop-turn.scanner c.in-Err-take_piece.fault _
-    (g.I.Source.rest c.args.input.now) (g.I.Source.rest c.loop-turn.input) (g.I.Source.rest c.read.new.input)
+    (g.I.Source.rest c.args.input.now) (g.I.Source.rest c.loop-turn.input) (g.I.Source.rest c.read.new.self)
     (g.S.Sink.bytes c.args.sink.now) (g.S.Sink.bytes c.watch.new.self) (g.S.Sink.bytes c.take_piece.new.sink)
     c.loop-turn.invariant.layout c.in_ok-count.ensures.bytes c.in-Err-take_piece.ensures.broken picked
 
@@ -40,7 +40,7 @@ loop-turn-preserved g c =
       len = search rules;
       lines = lines_in c.loop-turn.turn c.in_ok-count.count c.read.new.piece c.loop-turn.scanner.lines c.take_piece.new.scanner.lines whole c.loop-turn.invariant.lines c.in-Ok-take_piece.ensures.lines;
       picked = from_more (g.N.Notation.layout c.args.notation.now) (g.N.Notation.layout c.loop-turn.notation) c.args.plan.now c.loop-turn.scanner c.take_piece.new.scanner _
-          (g.I.Source.rest c.args.input.now) (g.I.Source.rest c.loop-turn.input) (g.I.Source.rest c.read.new.input)
+          (g.I.Source.rest c.args.input.now) (g.I.Source.rest c.loop-turn.input) (g.I.Source.rest c.read.new.self)
           (g.S.Sink.bytes c.args.sink.now) (g.S.Sink.bytes c.watch.new.self) (g.S.Sink.bytes c.take_piece.new.sink)
           c.loop-turn.invariant.layout c.in_ok-count.ensures.bytes c.in-Ok-take_piece.ensures.picked picked;
       faults = search rules;
