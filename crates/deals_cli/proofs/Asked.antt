@@ -17,10 +17,10 @@ use Rattle.clap.specs.declared.error.kind.ErrorKind.TheVariants.{InvalidValue, M
 use Rattle.clap.specs.declared.parser.matches.ArgMatches.{ArgMatches}
 use Rattle.clap.specs.declared.parser.matches.ArgMatches.TheViews.{out-ArgMatches, out-SubCommand}
 use Rattle.clap.specs.declared.parser.matches.SubCommand.{SubCommand}
-use Rattle.deals_cli.specs.CommandLine.{asked, deals, end_kinds, further_kinds, has_no_end, has_unknown, kinds_by, kinds_for, making_in, stream_wish, unless_fault, wish_by, wish_in}
+use Rattle.deals_cli.specs.CommandLine.{asked, deals, end_kinds, further_kinds, has_no_end, has_unknown, kinds_by, kinds_for, made_by, making_in, stream_wish, unless_fault, wish_by, wish_in}
 use Rattle.deals_cli.specs.internal.Readings.{MakeValues, StreamValues}
-use Rattle.requests.specs.Requests.{Wish, conditions, make}
-use Rattle.deals_cli.proofs.Commands.{conditions_built, find_built, find_values, make_built, make_values, stream_built, stream_values}
+use Rattle.requests.specs.Requests.{Wish, conditions}
+use Rattle.deals_cli.proofs.Commands.{conditions_built, find_built, find_values, make_built, make_values, pick_built, pick_values, stream_built, stream_values}
 use Rattle.deals_cli.proofs.Entered.{enters}
 
 -- the words name `stream`, and its options have their values
@@ -52,7 +52,9 @@ no_help word answers other = go (bytes_eq (codes "help") word) refl
 
 -- the words name one of the subcommands
 abbrev pub Names : List Text → Type 0
-Names words = NamesMake words (codes "make") ⊎ NamesMake words (codes "find") ⊎ NamesConditions words ⊎ NamesStream words
+Names words =
+    NamesMake words (codes "make") ⊎ NamesMake words (codes "find") ⊎ NamesMake words (codes "pick")
+    ⊎ NamesConditions words ⊎ NamesStream words
 
 pub named : (words : List Text) → fault_of deals words ≡ [] → Names words
 named words f =
@@ -69,16 +71,21 @@ named words f =
         values = find_values e.rest (rw same at e.fault);
       }))
       | inr (inr (inl same)) ↦ inr (inr (inl (record {
+        rows = rows_after pick_built.rules [] e.rest;
+        named = rw same at e.entered_it;
+        values = pick_values e.rest (rw same at e.fault);
+      })))
+      | inr (inr (inr (inl same))) ↦ inr (inr (inr (inl (record {
         rows = rows_after conditions_built.rules [] e.rest;
         named = rw same at e.entered_it;
-      })))
-      | inr (inr (inr (inl same))) ↦ inr (inr (inr (record {
+      }))))
+      | inr (inr (inr (inr (inl same)))) ↦ inr (inr (inr (inr (record {
         rows = rows_after stream_built.rules [] e.rest;
         named = rw same at e.entered_it;
         values = stream_values e.rest (rw same at e.fault);
-      })))
-      | inr (inr (inr (inr (inl same)))) ↦ absurd (no_help e.word (rw same at e.answers) e.no_help)
-      | inr (inr (inr (inr (inr bad)))) ↦ absurd bad
+      }))))
+      | inr (inr (inr (inr (inr (inl same))))) ↦ absurd (no_help e.word (rw same at e.answers) e.no_help)
+      | inr (inr (inr (inr (inr (inr bad))))) ↦ absurd bad
     ]
 
 -- ---- a parse
@@ -152,11 +159,11 @@ pub record IsRefused (words : List Text) (kind : ErrorKind) : Type 0 where
   pub asked_is : asked words ≡ None
   pub kinds_are : kinds_for words ≡ kind ∷ []
 
--- words that name `make` ask for it if each word is one of its option's values and an end is given,
+-- words that name `make`, `find` or `pick` ask for it if each word is one of its option's values and an end is given,
 -- and else they are refused
 pub record AsksMake (words : List Text) (name : Text) (rows : List Row) : Type 0 where
-  pub ends : has_unknown rows ≡ false → has_no_end (making_in name rows) ≡ false → asked words ≡ Some (make (making_in name rows))
-  pub no_end : has_unknown rows ≡ false → has_no_end (making_in name rows) ≡ true → IsRefused words MissingRequiredArgument
+  pub ends : has_unknown rows ≡ false → has_no_end name (making_in name rows) ≡ false → asked words ≡ Some (made_by name (making_in name rows))
+  pub no_end : has_unknown rows ≡ false → has_no_end name (making_in name rows) ≡ true → IsRefused words MissingRequiredArgument
   pub unknown : has_unknown rows ≡ true → IsRefused words InvalidValue
 
 -- the subcommand isn't one of the others
@@ -180,15 +187,15 @@ asks_make words name makes f n = record {
     found = (name, n.rows)
 
     wish : Option Wish
-    wish = Some (make (making_in name n.rows))
+    wish = Some (made_by name (making_in name n.rows))
 
     wishes : unless_fault (kinds_by found) (Some (wish_by found)) ≡ unless_fault (kinds_by found) wish
     wishes = rw (makes.0, makes.1) refl
 
-    known : {b : Bool} → has_unknown n.rows ≡ b → kinds_by found ≡ (if b then InvalidValue ∷ [] else end_kinds (making_in name n.rows))
-    known {b} u = rw (makes.0, makes.1) (ap (λ (x : Bool). if x then InvalidValue ∷ [] else end_kinds (making_in name n.rows)) u)
+    known : {b : Bool} → has_unknown n.rows ≡ b → kinds_by found ≡ (if b then InvalidValue ∷ [] else end_kinds name (making_in name n.rows))
+    known {b} u = rw (makes.0, makes.1) (ap (λ (x : Bool). if x then InvalidValue ∷ [] else end_kinds name (making_in name n.rows)) u)
 
-    ending : {b : Bool} → has_no_end (making_in name n.rows) ≡ b → end_kinds (making_in name n.rows) ≡ (if b then MissingRequiredArgument ∷ [] else [])
+    ending : {b : Bool} → has_no_end name (making_in name n.rows) ≡ b → end_kinds name (making_in name n.rows) ≡ (if b then MissingRequiredArgument ∷ [] else [])
     ending {b} e = ap (λ (x : Bool). if x then MissingRequiredArgument ∷ [] else []) e
 
 -- what the words ask for, by the name of the subcommand that was met
@@ -231,8 +238,9 @@ chosen app words m sub p is has none names rows sub_is =
     elim (named words f) [
       | inl n ↦ from_met words sub p (codes "make") n.rows sub_is (met app words m sub (codes "make") n.rows is has names rows n.named) (chosen_make words (codes "make") (refl, refl) f n)
       | inr (inl n) ↦ from_met words sub p (codes "find") n.rows sub_is (met app words m sub (codes "find") n.rows is has names rows n.named) (chosen_make words (codes "find") (refl, refl) f n)
-      | inr (inr (inl n)) ↦ from_met words sub p (codes "conditions") n.rows sub_is (met app words m sub (codes "conditions") n.rows is has names rows n.named) (chosen_conditions words f n)
-      | inr (inr (inr n)) ↦ from_met words sub p (codes "stream") n.rows sub_is (met app words m sub (codes "stream") n.rows is has names rows n.named) (chosen_stream words f n)
+      | inr (inr (inl n)) ↦ from_met words sub p (codes "pick") n.rows sub_is (met app words m sub (codes "pick") n.rows is has names rows n.named) (chosen_make words (codes "pick") (refl, refl) f n)
+      | inr (inr (inr (inl n))) ↦ from_met words sub p (codes "conditions") n.rows sub_is (met app words m sub (codes "conditions") n.rows is has names rows n.named) (chosen_conditions words f n)
+      | inr (inr (inr (inr n))) ↦ from_met words sub p (codes "stream") n.rows sub_is (met app words m sub (codes "stream") n.rows is has names rows n.named) (chosen_stream words f n)
     ]
 
 -- the kind of an error is one of those that clap may give for the words

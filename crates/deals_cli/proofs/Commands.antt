@@ -25,11 +25,14 @@ make_built = first_shape (built deals).subs
 abbrev pub find_built : Shape
 find_built = first_shape (rest_of (built deals).subs)
 
+abbrev pub pick_built : Shape
+pick_built = first_shape (rest_of (rest_of (built deals).subs))
+
 abbrev pub conditions_built : Shape
-conditions_built = first_shape (rest_of (rest_of (built deals).subs))
+conditions_built = first_shape (rest_of (rest_of (rest_of (built deals).subs)))
 
 abbrev pub stream_built : Shape
-stream_built = first_shape (rest_of (rest_of (rest_of (built deals).subs)))
+stream_built = first_shape (rest_of (rest_of (rest_of (rest_of (built deals).subs))))
 
 plain_stream : PlainRules stream_built.rules
 plain_stream = record {
@@ -128,6 +131,36 @@ plain_find = record {
   ];
 }
 
+plain_pick : PlainRules pick_built.rules
+plain_pick = record {
+  own = λ a is. elim is [
+    | inl e ↦ rw e refl
+    | inr (inl e) ↦ rw e refl
+    | inr (inr (inl e)) ↦ rw e refl
+    | inr (inr (inr (inl e))) ↦ rw e refl
+    | inr (inr (inr (inr (inl e)))) ↦ rw e refl
+    | inr (inr (inr (inr (inr (inl e))))) ↦ rw e refl
+    | inr (inr (inr (inr (inr (inr (inl e)))))) ↦ rw e refl
+    | inr (inr (inr (inr (inr (inr (inr (inl e))))))) ↦ rw e refl
+    | inr (inr (inr (inr (inr (inr (inr (inr (inl e)))))))) ↦ rw e refl
+    | inr (inr (inr (inr (inr (inr (inr (inr (inr (inl e))))))))) ↦ rw e refl
+    | inr (inr (inr (inr (inr (inr (inr (inr (inr (inr bad))))))))) ↦ absurd bad
+  ];
+  acts = λ a is. elim is [
+    | inl e ↦ rw e (inl (refl, refl))
+    | inr (inl e) ↦ rw e (inl (refl, refl))
+    | inr (inr (inl e)) ↦ rw e (inl (refl, refl))
+    | inr (inr (inr (inl e))) ↦ rw e (inl (refl, refl))
+    | inr (inr (inr (inr (inl e)))) ↦ rw e (inl (refl, refl))
+    | inr (inr (inr (inr (inr (inl e))))) ↦ rw e (inl (refl, refl))
+    | inr (inr (inr (inr (inr (inr (inl e)))))) ↦ rw e (inl (refl, refl))
+    | inr (inr (inr (inr (inr (inr (inr (inl e))))))) ↦ rw e (inl (refl, refl))
+    | inr (inr (inr (inr (inr (inr (inr (inr (inl e)))))))) ↦ rw e (inr (inr (refl, flag_value (codes "rotate"))))
+    | inr (inr (inr (inr (inr (inr (inr (inr (inr (inl e))))))))) ↦ rw e (inr (inl refl))
+    | inr (inr (inr (inr (inr (inr (inr (inr (inr (inr bad))))))))) ↦ absurd bad
+  ];
+}
+
 -- ---- numbers
 
 -- the option as built
@@ -213,4 +246,22 @@ find_values words f =
       lane = may32 (codes "lane") rows (passed_value find_built.rules rows (rule32 (codes "lane")) refl pass);
       boards = may32 (codes "boards") rows (passed_value find_built.rules rows (rule32 (codes "boards")) refl pass);
       first_board = inl (absent_value find_built.rules rows (codes "first-board") refl pass);
+    }
+
+-- `pick` has no option of which candidates are tried, nor of how
+pub pick_values : (words : List Text) → level_fault pick_built [] nothing_held words false [] ≡ [] → MakeValues (rows_after pick_built.rules [] words)
+pick_values words f =
+    let rows = rows_after pick_built.rules [] words in
+    let pass = level_passing pick_built [] words false [] plain_pick f in
+    let checked = level_checked pick_built [] words false [] f in
+    record {
+      seed = gives32 (codes "seed") rows (optional u32_parser (codes "seed") rows
+          (given_value pick_built.rules rows (filled (required (option_rule (codes "seed") u32_parser))) refl pass
+          (required_given pick_built rows false _ (inl refl) refl refl checked)));
+      candidates = inl (absent_value pick_built.rules rows (codes "candidates") refl pass);
+      first = inl (absent_value pick_built.rules rows (codes "first") refl pass);
+      workers = inl (absent_value pick_built.rules rows (codes "workers") refl pass);
+      lane = inl (absent_value pick_built.rules rows (codes "lane") refl pass);
+      boards = inl (absent_value pick_built.rules rows (codes "boards") refl pass);
+      first_board = may64 (codes "first-board") rows (passed_value pick_built.rules rows (rule64 18446744073709551615 (codes "first-board")) refl pass);
     }

@@ -7,7 +7,7 @@ use Rattle.clap.specs.declared.error.Error.{Error}
 use Rattle.clap.specs.declared.error.kind.ErrorKind.{ErrorKind}
 use Rattle.clap.specs.declared.error.kind.ErrorKind.TheVariants.{InvalidValue, UnknownArgument, InvalidSubcommand, NoEquals, ValueValidation, TooManyValues, TooFewValues, WrongNumberOfValues, ArgumentConflict, MissingRequiredArgument, MissingSubcommand, DisplayHelp, DisplayHelpOnMissingArgumentOrSubcommand, DisplayVersion, Io, Format, OutOfMemory}
 use Rattle.requests.specs.Requests.{Wish}
-use Rattle.requests.specs.Wishes.{Appends, IsStatusOf}
+use Rattle.requests.specs.Wishes.{AppendsFrom, IsStatusOf}
 use Rattle.requests.proofs.Statuses.{served}
 use Rattle.deals_cli.specs.CommandLine.{kinds_for}
 use Rattle.requests.proofs.FirstDue.{output_due}
@@ -25,8 +25,8 @@ flush_failed w h = let both = h.accepted (inl refl) in served w 4 (inr refl) bot
 pub flush_may_fail : (w : Wish) → IsStatusOf w 0 → MayFail w (Interrupted Output)
 flush_may_fail w h = inr (output_due w h)
 
-pub flush_leaves : (w : Wish) (old new : Option (List ℕ)) → Appends w old new → MayLeave w (Interrupted Output) old new
-flush_leaves w old new all = inr (refl, all)
+pub flush_leaves : (w : Wish) (before behind old new : Option (List ℕ)) → AppendsFrom w before behind old new → MayLeave w (Interrupted Output) before behind old new
+flush_leaves w before behind old new all = inr (refl, all)
 
 -- ---- of an error of clap
 
@@ -72,26 +72,26 @@ pub kind_no_memory : (k : ErrorKind) (s : ℕ) → s ≡ 5 → IsStatusOfKind k 
 kind_no_memory k s is = record {
   shown = λ h. absurd (elim h [ inl a ↦ omega arith | inr a ↦ omega arith ]);
   refused = λ h. absurd (omega arith);
-  neither = λ h. elim h [ inl a ↦ omega arith | inr a ↦ omega arith ];
+  neither = λ h. elim h [ inl a ↦ omega arith | inr (inl a) ↦ omega arith | inr (inr a) ↦ omega arith ];
 }
 
 pub kind_refused : (k : ErrorKind) (s : ℕ) → s ≡ 2 → is_shown k ≡ false → IsStatusOfKind k s
 kind_refused k s is refused = record {
   shown = λ h. absurd (elim h [ inl a ↦ omega arith | inr a ↦ omega arith ]);
   refused = λ h. refused;
-  neither = λ h. elim h [ inl a ↦ omega arith | inr a ↦ omega arith ];
+  neither = λ h. elim h [ inl a ↦ omega arith | inr (inl a) ↦ omega arith | inr (inr a) ↦ omega arith ];
 }
 
 pub kind_shown : (k : ErrorKind) (s : ℕ) → (s ≡ 0) ⊎ (s ≡ 4) → is_shown k ≡ true → IsStatusOfKind k s
 kind_shown k s (inl is) shown = record {
   shown = λ h. shown;
   refused = λ h. absurd (omega arith);
-  neither = λ h. elim h [ inl a ↦ omega arith | inr a ↦ omega arith ];
+  neither = λ h. elim h [ inl a ↦ omega arith | inr (inl a) ↦ omega arith | inr (inr a) ↦ omega arith ];
 }
 kind_shown k s (inr is) shown = record {
   shown = λ h. shown;
   refused = λ h. absurd (omega arith);
-  neither = λ h. elim h [ inl a ↦ omega arith | inr a ↦ omega arith ];
+  neither = λ h. elim h [ inl a ↦ omega arith | inr (inl a) ↦ omega arith | inr (inr a) ↦ omega arith ];
 }
 
 -- each way that an error of clap ends the program
@@ -103,7 +103,7 @@ none_no_memory : (words : List Text) (s : ℕ) → s ≡ 5 → IsStatusOfNone wo
 none_no_memory words s is = record {
   shown = λ h. absurd (elim h [ inl a ↦ omega arith | inr a ↦ omega arith ]);
   refused = λ h. absurd (omega arith);
-  neither = λ h. elim h [ inl a ↦ omega arith | inr a ↦ omega arith ];
+  neither = λ h. elim h [ inl a ↦ omega arith | inr (inl a) ↦ omega arith | inr (inr a) ↦ omega arith ];
 }
 
 pub of_error : (words : List Text) (e : Error) (s : ℕ) → HasKind (kinds_for words) e → (kind_of e ≡ OutOfMemory → s ≡ 5) → IsStatusOfKind (kind_of e) s → IsStatusOfNone words s
@@ -118,7 +118,7 @@ pub none_flush_failed : (words : List Text) → IsStatusOfNone words 0 → IsSta
 none_flush_failed words h = let may = h.shown (inl refl) in record {
   shown = λ is. may;
   refused = λ is. absurd (omega arith);
-  neither = λ is. elim is [ inl a ↦ omega arith | inr a ↦ omega arith ];
+  neither = λ is. elim is [ inl a ↦ omega arith | inr (inl a) ↦ omega arith | inr (inr a) ↦ omega arith ];
 }
 
 -- a flush that fails, after words of either kind

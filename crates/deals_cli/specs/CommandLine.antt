@@ -15,7 +15,7 @@ use Rattle.boards.specs.declared.law2.Vul.{Vul}
 use Rattle.boards.specs.declared.law2.Vul.TheVariants.{Neither, NorthSouth, EastWest, Both}
 use Rattle.cards.specs.declared.seat.Seat.{Seat}
 use Rattle.cards.specs.declared.seat.Seat.TheVariants.{North, East, South, West}
-use Rattle.requests.specs.Requests.{Making, Wish, conditions, stream, make}
+use Rattle.requests.specs.Requests.{Making, Wish, conditions, stream, make, pick}
 use Rattle.requests.specs.declared.format.Format.{Format}
 use Rattle.requests.specs.declared.format.Format.TheVariants.{Pbn, Hands, Lin, Html}
 use Rattle.requests.specs.declared.format.Format.TheVariants.{Numbers}
@@ -86,6 +86,20 @@ find_app = command_with (codes "find") (
     ∷ option_rule (codes "progress") parsed.String
     ∷ [])
 
+-- `deals pick --seed S` and its further options
+abbrev pub pick_app : App
+pick_app = command_with (codes "pick") (
+    required (option_rule (codes "seed") u32_parser)
+    ∷ option_rule (codes "first-board") u64_parser
+    ∷ option_rule (codes "event") parsed.String
+    ∷ option_rule (codes "site") parsed.String
+    ∷ option_rule (codes "date") parsed.String
+    ∷ option_rule (codes "format") parsed.String
+    ∷ option_rule (codes "dealer") parsed.String
+    ∷ option_rule (codes "vulnerable") parsed.String
+    ∷ flag_rule (codes "rotate")
+    ∷ [])
+
 -- `deals conditions`, without options
 abbrev pub conditions_app : App
 conditions_app = new_app (codes "conditions")
@@ -103,8 +117,8 @@ deals_top = on_top (λ s. record s { has_version = true; subcommand_required = t
     (new_app (codes "deals"))
 
 abbrev pub deals : App
-deals = with_subcommand (with_subcommand (with_subcommand (with_subcommand deals_top
-    make_app.top) find_app.top) conditions_app.top) stream_app.top
+deals = with_subcommand (with_subcommand (with_subcommand (with_subcommand (with_subcommand
+    deals_top make_app.top) find_app.top) pick_app.top) conditions_app.top) stream_app.top
 
 -- ---- what the words ask for
 
@@ -188,27 +202,32 @@ making_in name rows = record {
   progress = unwrap_or (choice_in progresses (codes "progress") rows) Auto;
 }
 
+-- `pick` deals the candidates whose numbers it reads, and the others those that they try
+abbrev pub made_by : Text → Making → Wish
+made_by name m = if bytes_eq name (codes "pick") then pick m else make m
+
 -- by the subcommand's name and what its options were given
 abbrev pub wish_by : Text × List Row → Wish
 wish_by p =
     if bytes_eq p.0 (codes "stream") then stream_wish p.1
-    else (if bytes_eq p.0 (codes "conditions") then conditions else make (making_in p.0 p.1))
+    else (if bytes_eq p.0 (codes "conditions") then conditions else made_by p.0 (making_in p.0 p.1))
 
 -- the wish of the subcommand that the words name, by clap's function of the words
 abbrev pub wish_in : List Text → Option Wish
 wish_in words = option_map wish_by (subcommand_of deals words)
 
--- a `make` or a `find` needs a number of candidates, or a limit of boards
-abbrev pub has_no_end : Making → Bool
-has_no_end m = not (is_some m.candidates) && not (is_some m.boards)
+-- all but `pick` need a number of candidates, or a limit of boards
+abbrev pub has_no_end : Text → Making → Bool
+has_no_end name m =
+    not (bytes_eq name (codes "pick")) && (not (is_some m.candidates) && not (is_some m.boards))
 
-abbrev pub end_kinds : Making → Kinds
-end_kinds m = if has_no_end m then MissingRequiredArgument ∷ [] else []
+abbrev pub end_kinds : Text → Making → Kinds
+end_kinds name m = if has_no_end name m then MissingRequiredArgument ∷ [] else []
 
 -- clap reads those words as texts: one that stands for nothing is refused as clap refuses a value
 abbrev pub make_kinds : Text → List Row → Kinds
 make_kinds name rows =
-    if has_unknown rows then InvalidValue ∷ [] else end_kinds (making_in name rows)
+    if has_unknown rows then InvalidValue ∷ [] else end_kinds name (making_in name rows)
 
 -- by the subcommand's name and what its options were given
 abbrev pub kinds_by : Text × List Row → Kinds

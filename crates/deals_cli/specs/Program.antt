@@ -1,6 +1,6 @@
 -- How the program ends for words that ask for nothing, for others `Wishes` of `requests` says it;
 -- and what it says and leaves of a failure.
-use Rattle.std.specs.Prelude.{◌≡◌, ◌⊎◌, ℕ, Bool, true, false, List, Option}
+use Rattle.std.specs.Prelude.{◌≡◌, ◌⊎◌, ℕ, Bool, true, false, List, [], Option, Some}
 use Rattle.clap.specs.Kinds.{IsAmong}
 use Rattle.clap.specs.Walk.{Text}
 use Rattle.clap.specs.declared.error.kind.ErrorKind.{ErrorKind}
@@ -9,15 +9,16 @@ use Rattle.dealrun.specs.declared.cause.Cause.TheVariants.{Memory, Output}
 use Rattle.sinks.specs.Appended.{AppendsAll}
 use Rattle.requests.specs.Failures.{status_of}
 use Rattle.requests.specs.FirstRefusal.{IsDueFor}
-use Rattle.requests.specs.Interruptions.{Leaves}
+use Rattle.requests.specs.Interruptions.{LeavesFrom}
 use Rattle.requests.specs.Lines.{line_of}
 use Rattle.requests.specs.Requests.{Wish}
 use Rattle.requests.specs.declared.failure.Failure.{Failure}
-use Rattle.requests.specs.declared.failure.Failure.TheVariants.{Interrupted}
+use Rattle.requests.specs.declared.failure.Failure.TheVariants.{Interrupted, Input}
 use Rattle.deals_cli.specs.CommandLine.{kinds_for}
 pub use Rattle.requests.specs.Makings.{CanDate, CanLabel, HasLabels, HasNumbers, IsPlanned}
 pub use Rattle.requests.specs.Makings.{Means, plan_of}
-pub use Rattle.requests.specs.Wishes.{Appends, HasMeaning, HasPlan, HasRun, IsStatus, IsStatusOf}
+pub use Rattle.requests.specs.Wishes.{Appends, AppendsFrom, HasInput, HasMeaning, HasPlan, HasRun}
+pub use Rattle.requests.specs.Wishes.{IsStatus, IsStatusOf, IsStatusWithInput}
 
 -- clap shows its help and its version; any other kind is a mistake in the words
 abbrev pub is_shown : ErrorKind → Bool
@@ -43,24 +44,34 @@ pub record IsStatusOfNone (words : List Text) (status : ℕ) : Type 0 where
   pub shown : (status ≡ 0) ⊎ (status ≡ 4) → MayShow words
   -- the words are refused
   pub refused : status ≡ 2 → MayRefuse words
-  -- there is no condition, and no run
-  pub neither : (status ≡ 3) ⊎ (status ≡ 6) → ⊥
+  -- there is no condition, no run and no input
+  pub neither : (status ≡ 3) ⊎ (status ≡ 6) ⊎ (status ≡ 7) → ⊥
 
 -- a wish fails so: memory ran out, as it may while the words are read, or the failure is due
 abbrev pub MayFail : Wish → Failure → Type 0
 MayFail w failure = (failure ≡ Interrupted Memory) ⊎ IsDueFor w failure
 
 -- what a wish leaves that fails so; if it was the flush that failed, all of it
-abbrev pub MayLeave : Wish → Failure → Option (List ℕ) → Option (List ℕ) → Type 0
-MayLeave w failure old new =
-    Leaves w failure old new ⊎ ((failure ≡ Interrupted Output) × Appends w old new)
+abbrev pub MayLeave : Wish → Failure → (before behind old new : Option (List ℕ)) → Type 0
+MayLeave w failure before behind old new =
+    LeavesFrom w failure before behind old new
+    ⊎ ((failure ≡ Interrupted Output) × AppendsFrom w before behind old new)
 
--- why a wish failed with this status: the failure is due, the output has what it leaves, and the
--- error output, if it took all that it was given, its line
-pub record TellsWhy (w : Wish) (status : ℕ) (out_old out_new : Option (List ℕ))
+-- why a wish failed with this status: the failure is due, the output has what it leaves by what the
+-- input had to give before and behind it, the input failed if the failure says so, and the error
+-- output, if it took all that it was given, has its line
+pub record TellsWhyFrom (w : Wish) (status : ℕ) (before behind : Option (List ℕ))
+    (input_failed : Type 0) (out_old out_new : Option (List ℕ))
     (took_all : Type 0) (err_old err_new : Option (List ℕ)) : Type 0 where
   pub failure : Failure
   pub due : MayFail w failure
   pub status_is : status ≡ status_of failure
-  pub stands : MayLeave w failure out_old out_new
+  pub stands : MayLeave w failure before behind out_old out_new
+  pub input : failure ≡ Input → input_failed
   pub line : took_all → AppendsAll err_old err_new (line_of failure)
+
+-- the same without an input
+abbrev pub TellsWhy : Wish → ℕ → (out_old out_new : Option (List ℕ)) → Type 0
+    → (err_old err_new : Option (List ℕ)) → Type 0
+TellsWhy w status out_old out_new took_all err_old err_new =
+    TellsWhyFrom w status (Some []) (Some []) ⊥ out_old out_new took_all err_old err_new

@@ -4,7 +4,7 @@ ghost use Rattle.std.specs.Prelude.{◌≡◌, false, IfOk};
 ghost use Rattle.clap.specs.Words.{app_of, kind_of, rule_of, with_rule};
 ghost use Rattle.clap.specs.declared.Command.TheViews.{out-Command as fields_of};
 ghost use Rattle.deals_cli.specs.CommandLine.{conditions_app, deals, find_app, flag_rule, make_app};
-ghost use Rattle.deals_cli.specs.CommandLine.{option_rule, required, stream_app};
+ghost use Rattle.deals_cli.specs.CommandLine.{option_rule, pick_app, required, stream_app};
 ghost use Rattle.deals_cli.specs.internal.Commands.{with_boards, with_candidates, with_counts};
 ghost use Rattle.deals_cli.specs.internal.Commands.{with_first_board, with_form, with_heading};
 ghost use Rattle.deals_cli.specs.internal.Commands.{with_labels, with_makers, with_notation, with_rotate};
@@ -33,7 +33,8 @@ const LANGUAGE_AND_STATUSES: &str =
   deals conditions prints it all, with ten examples.
 
 Exit status: 0 done; 2 the words, the plan or a label is refused; 3 the condition is refused;
-  4 the output failed; 5 out of memory; 6 a thread or a worker failed.";
+  4 the output failed; 5 out of memory; 6 a thread or a worker failed; 7 a line of the input is
+  refused, or the input failed.";
 
 const FIND_EXAMPLES: &str = "Example:
   Where the slam hands are among a thousand million candidates:
@@ -42,6 +43,15 @@ const FIND_EXAMPLES: &str = "Example:
 
 The lines of shards, as of --first 0 and of --first 500000000, stand one behind another as \
     those of one run.";
+
+const PICK_EXAMPLES: &str = "Examples:
+  The boards that searches on two machines found, in order:
+    cat found.1 found.2 | deals pick --seed 2024
+  Three of the boards that a teacher looked through:
+    printf '17\n4\n203\n' | deals pick --seed 2024 --format hands
+
+Reads the numbers of candidates, as find prints them, from standard input, one per line; lines \
+    without any are skipped.";
 
 const STREAM_EXAMPLES: &str = "Example:
   deals stream --seed 0 --count 3";
@@ -315,6 +325,18 @@ fn find_command<'a>(alloc: Global) -> Result<Command<'a>, AllocError>
     with_counts(alloc, command)
 }
 
+fn pick_command<'a>(alloc: Global) -> Result<Command<'a>, AllocError>
+    ensures app { IfOk result (λ c. app_of c ≡ pick_app) }
+    ensures local { IfOk result (λ c. (fields_of c).has_globals ≡ false) }
+{
+    let command = Command::new(alloc, "pick")
+        .about("Writes the boards of the deals whose numbers standard input gives")
+        .after_help(PICK_EXAMPLES);
+    let seed = required(alloc, "seed", value_parser!(u32), "S", SEED);
+    let command = with_option(command, seed)?;
+    with_form(alloc, command)
+}
+
 fn conditions_command<'a>(alloc: Global) -> Command<'a>
     ensures app { app_of result ≡ conditions_app }
     ensures local { (fields_of result).has_globals ≡ false }
@@ -338,10 +360,13 @@ fn stream_command<'a>(alloc: Global) -> Result<Command<'a>, AllocError>
     with_option(command, count)
 }
 
-/// The command `make`, or `find` if it has that name, as clap names it in a refusal.
+/// The command `make`, or `find` or `pick` if it has that name, as clap names it in a refusal.
 fn named_command<'a>(alloc: Global, name: &str) -> Result<Command<'a>, AllocError> {
     if name == "find" {
         return find_command(alloc)?.bin_name("deals find");
+    }
+    if name == "pick" {
+        return pick_command(alloc)?.bin_name("deals pick");
     }
     make_command(alloc)?.bin_name("deals make")
 }
@@ -368,7 +393,7 @@ pub fn invalid_value(alloc: Global, name: &str, unknown: &Unknown<'_>) -> Result
     command.error(ErrorKind::InvalidValue, message.as_str())
 }
 
-/// The program's name with the subcommands that try candidates.
+/// The program's name with the subcommands that deal candidates.
 fn with_makers<'a>(alloc: Global) -> Result<Command<'a>, AllocError>
     ensures app { IfOk result (λ c. app_of c ≡ with_makers) }
     ensures local { IfOk result (λ c. (fields_of c).has_globals ≡ false) }
@@ -379,7 +404,8 @@ fn with_makers<'a>(alloc: Global) -> Result<Command<'a>, AllocError>
         .after_help(LANGUAGE_AND_STATUSES)
         .subcommand_required(true)
         .subcommand(make_command(alloc)?)?
-        .subcommand(find_command(alloc)?)
+        .subcommand(find_command(alloc)?)?
+        .subcommand(pick_command(alloc)?)
 }
 
 /// The program's whole command line.

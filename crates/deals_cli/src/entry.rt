@@ -5,19 +5,23 @@ ghost use Rattle.std.specs.Prelude.{if◌then◌else◌};
 ghost use Rattle.std.specs.Prelude.{None, Some, true, false, IfErr, IfOk, IsErrOf, OnOk, map};
 ghost use Rattle.std.specs.Prelude.{string_bytes};
 ghost use Rattle.clap.specs.Words.{kind_of};
-ghost use Rattle.requests.specs.Failures.{faults_in, is_untouched, status_in};
-ghost use Rattle.requests.specs.Interruptions.{Leaves};
+ghost use Rattle.requests.specs.Failures.{CountsInput, faults_in, is_untouched};
+ghost use Rattle.requests.specs.Failures.{status_in};
+ghost use Rattle.requests.specs.Interruptions.{LeavesFrom};
 ghost use Rattle.requests.specs.Reported.{Reports, ReportsFor, wants_report};
 ghost use Rattle.requests.specs.Requests.{Making, Wish, make};
-ghost use Rattle.requests.specs.Wishes.{Appends, IsStatus, IsStatusOf};
+ghost use Rattle.requests.specs.Wishes.{Appends, AppendsFrom, IsStatus, IsStatusOf};
+ghost use Rattle.requests.specs.Wishes.{IsStatusWithInput};
 ghost use Rattle.deals_cli.specs.CommandLine.{asked};
 ghost use Rattle.deals_cli.specs.Program.{IsStatusOfNone, MayFail, MayLeave, TellsWhy};
+ghost use Rattle.deals_cli.specs.Program.{TellsWhyFrom};
 ghost use Rattle.deals_cli.specs.internal.Kinds.{IsStatusOfKind};
 
 use crate::words::read_words;
 use clap::Error;
 use clap::error::ErrorKind;
 use dealrun::Cause;
+use number_input::{NoBytes, Source};
 use requests::{Failure, Report, serve};
 use sinks::{Sink, put_all};
 use std::alloc::Global;
@@ -47,15 +51,18 @@ fn show<O: Sink>(alloc: Global, error: &Error, out: &mut O) -> Result<(), Failur
 }
 
 /// Does what the words ask for.
-fn serve_words<R: Threads + Wait + Clone + Send + 'static, O: Sink>(
+fn serve_words<R: Threads + Wait + Clone + Send + 'static, I: Source, O: Sink>(
     rt: &R,
     alloc: Global,
     words: &[String],
+    input: &mut I,
     out: &mut O,
 ) -> Result<Option<Report>, Failure>
-    requires { O.faults out.old < 2 ^ 64 - 1 }
+    requires output { O.faults out.old < 2 ^ 64 - 1 }
+    requires input { I.faults input.old < 2 ^ 64 - 1 }
     ensures text { (w : Wish) → asked (map string_bytes words.now) ≡ Some w
-        → OnOk result (Appends w (O.bytes out.old) (O.bytes out.new)) }
+        → OnOk result (AppendsFrom w (I.rest input.old) (I.rest input.new)
+        (O.bytes out.old) (O.bytes out.new)) }
     ensures report { (w : Wish) → asked (map string_bytes words.now) ≡ Some w
         → IfOk result (ReportsFor w) }
     ensures no_report { asked (map string_bytes words.now) ≡ None
@@ -65,15 +72,17 @@ fn serve_words<R: Threads + Wait + Clone + Send + 'static, O: Sink>(
     ensures due { (w : Wish) → asked (map string_bytes words.now) ≡ Some w
         → IfErr result (MayFail w) }
     ensures stands { (w : Wish) → asked (map string_bytes words.now) ≡ Some w
-        → IfErr result (λ e. Leaves w e (O.bytes out.old) (O.bytes out.new)) }
+        → IfErr result (λ e. LeavesFrom w e (I.rest input.old) (I.rest input.new)
+        (O.bytes out.old) (O.bytes out.new)) }
     ensures unasked { asked (map string_bytes words.now) ≡ None
         → IsStatusOfNone (map string_bytes words.now) (status_in result) }
     ensures untouched { IfErr result (λ e. is_untouched e ≡ true
         → O.bytes out.new ≡ O.bytes out.old) }
     ensures faults { O.faults out.new ≡ O.faults out.old + faults_in result }
+    ensures input { CountsInput result (I.faults input.old) (I.faults input.new) }
 {
     match read_words(alloc, words) {
-        Ok(request) => serve(rt, alloc, &request, out),
+        Ok(request) => serve(rt, alloc, &request, input, out),
         Err(error) => {
             show(alloc, &error, out)?;
             Ok(None)
@@ -83,15 +92,18 @@ fn serve_words<R: Threads + Wait + Clone + Send + 'static, O: Sink>(
 
 /// Does what the words ask for, and flushes the output.
 #[tactic(auto, using(crate::proofs::Statuses::flushes))]
-fn serve_and_flush<R: Threads + Wait + Clone + Send + 'static, O: Sink>(
+fn serve_and_flush<R: Threads + Wait + Clone + Send + 'static, I: Source, O: Sink>(
     rt: &R,
     alloc: Global,
     words: &[String],
+    input: &mut I,
     out: &mut O,
 ) -> Result<Option<Report>, Failure>
-    requires { O.faults out.old < 2 ^ 64 - 1 }
+    requires output { O.faults out.old < 2 ^ 64 - 1 }
+    requires input { I.faults input.old < 2 ^ 64 - 1 }
     ensures text { (w : Wish) → asked (map string_bytes words.now) ≡ Some w
-        → OnOk result (Appends w (O.bytes out.old) (O.bytes out.new)) }
+        → OnOk result (AppendsFrom w (I.rest input.old) (I.rest input.new)
+        (O.bytes out.old) (O.bytes out.new)) }
     ensures report { (w : Wish) → asked (map string_bytes words.now) ≡ Some w
         → IfOk result (ReportsFor w) }
     ensures no_report { asked (map string_bytes words.now) ≡ None
@@ -101,16 +113,91 @@ fn serve_and_flush<R: Threads + Wait + Clone + Send + 'static, O: Sink>(
     ensures due { (w : Wish) → asked (map string_bytes words.now) ≡ Some w
         → IfErr result (MayFail w) }
     ensures stands { (w : Wish) → asked (map string_bytes words.now) ≡ Some w
-        → IfErr result (λ e. MayLeave w e (O.bytes out.old) (O.bytes out.new)) }
+        → IfErr result (λ e. MayLeave w e (I.rest input.old) (I.rest input.new)
+        (O.bytes out.old) (O.bytes out.new)) }
     ensures unasked { asked (map string_bytes words.now) ≡ None
         → IsStatusOfNone (map string_bytes words.now) (status_in result) }
     ensures untouched { IfErr result (λ e. is_untouched e ≡ true
         → O.bytes out.new ≡ O.bytes out.old) }
     ensures faults { O.faults out.new ≡ O.faults out.old + faults_in result }
+    ensures input { CountsInput result (I.faults input.old) (I.faults input.new) }
 {
-    let report = serve_words(rt, alloc, words, out)?;
+    let report = serve_words(rt, alloc, words, input, out)?;
     out.flush()?;
     Ok(report)
+}
+
+/// Runs the program over an input, and returns its exit status. Of the subcommands `pick` alone
+/// reads the input.
+///
+/// The statuses are those of `program`, and one more. 7: a line of the input is refused, or the
+/// input couldn't be read; what stands on `out` is flushed. It may wait for its workers and its
+/// input.
+#[tactic(auto, using(crate::proofs::Reporting::reporting))]
+pub fn program_with_input<
+    R: Threads + Wait + Clone + Send + 'static,
+    I: Source,
+    O: Sink,
+    E: Sink,
+>(
+    rt: &R,
+    alloc: Global,
+    words: &[String],
+    input: &mut I,
+    out: &mut O,
+    err: &mut E,
+) -> u8
+    requires input { I.faults input.old < 2 ^ 64 - 1 }
+    requires out { O.faults out.old < 2 ^ 64 - 1 }
+    requires err { E.faults err.old < 2 ^ 64 - 1 }
+    // What the words ask for was written, if the status is 0.
+    ensures text { (w : Wish) → asked (map string_bytes words.now) ≡ Some w → result ≡ 0
+        → AppendsFrom w (I.rest input.old) (I.rest input.new)
+        (O.bytes out.old) (O.bytes out.new) }
+    // The status says what of it was accepted, and what refused.
+    ensures wished { (w : Wish) → asked (map string_bytes words.now) ≡ Some w
+        → IsStatusOf w result }
+    // If it isn't 0, it is the status of the first failure that is due: the output has what that
+    // leaves, the input failed if that says so, and the error output has its line, unless it failed
+    // itself.
+    ensures told { (w : Wish) → asked (map string_bytes words.now) ≡ Some w → result ≢ 0
+        → TellsWhyFrom w result (I.rest input.old) (I.rest input.new)
+        (I.faults input.new ≡ I.faults input.old + 1) (O.bytes out.old) (O.bytes out.new)
+        (E.faults err.new ≡ E.faults err.old) (E.bytes err.old) (E.bytes err.new) }
+    // For words that ask for nothing it says whether they ask for help, or are refused.
+    ensures unasked { asked (map string_bytes words.now) ≡ None
+        → IsStatusOfNone (map string_bytes words.now) result }
+    // There are seven statuses.
+    ensures status { IsStatusWithInput result }
+    // Nothing was written if something is refused or memory ran out.
+    ensures untouched { (result ≡ 2) ⊎ (result ≡ 3) ⊎ (result ≡ 5)
+        → O.bytes out.new ≡ O.bytes out.old }
+    // The status is 4 if and only if the output failed, once.
+    ensures output { O.faults out.new ≡ O.faults out.old + (if result == 4 then 1 else 0) }
+    // The input failed with status 7 alone, or before the output did.
+    ensures input { result ≢ 4 → result ≢ 7 → I.faults input.new ≡ I.faults input.old }
+    // With status 0 a report that was asked for is on the error output, unless that failed itself,
+    ensures reported { (m : Making) → asked (map string_bytes words.now) ≡ Some (make m)
+        → m.report ≡ true → result ≡ 0 → E.faults err.new ≡ E.faults err.old
+        → Reports m (E.bytes err.old) (E.bytes err.new) }
+    // and else nothing.
+    ensures quiet { result ≡ 0 → wants_report (asked (map string_bytes words.now)) ≡ false
+        → E.bytes err.new ≡ E.bytes err.old }
+    // A fault of the error output is at most one, and ends nothing.
+    ensures said { (E.faults err.old ≤ E.faults err.new)
+        × (E.faults err.new ≤ E.faults err.old + 1) }
+{
+    match serve_and_flush(rt, alloc, words, input, out) {
+        Ok(None) => 0,
+        Ok(Some(report)) => {
+            let _ = report.say(err);
+            0
+        }
+        Err(failure) => {
+            let _ = failure.say(err);
+            failure.status()
+        }
+    }
 }
 
 /// Runs the program, and returns its exit status. The first word is the program's name.
@@ -120,7 +207,6 @@ fn serve_and_flush<R: Threads + Wait + Clone + Send + 'static, O: Sink>(
 /// memory; 6: a thread couldn't be started, or a worker stopped or wasn't closed. What went wrong
 /// is said on `err`, in one line but for clap's texts, and a report if that is asked for; faults of
 /// `err` are ignored. It may wait for its workers.
-#[tactic(auto, using(crate::proofs::Reporting::reporting))]
 pub fn program<R: Threads + Wait + Clone + Send + 'static, O: Sink, E: Sink>(
     rt: &R,
     alloc: Global,
@@ -162,15 +248,5 @@ pub fn program<R: Threads + Wait + Clone + Send + 'static, O: Sink, E: Sink>(
     ensures said { (E.faults err.old ≤ E.faults err.new)
         × (E.faults err.new ≤ E.faults err.old + 1) }
 {
-    match serve_and_flush(rt, alloc, words, out) {
-        Ok(None) => 0,
-        Ok(Some(report)) => {
-            let _ = report.say(err);
-            0
-        }
-        Err(failure) => {
-            let _ = failure.say(err);
-            failure.status()
-        }
-    }
+    program_with_input(rt, alloc, words, &mut NoBytes, out, err)
 }

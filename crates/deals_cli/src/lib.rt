@@ -7,5 +7,5 @@ mod entry;
 pub mod laws;
 mod words;
 
-pub use entry::program;
+pub use entry::{program, program_with_input};
 pub use words::read_words;

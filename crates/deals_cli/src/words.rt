@@ -4,7 +4,7 @@ ghost use Rattle.std.specs.Prelude.{◌≡◌, ◌≤◌, ◌^◌, Some, codes, 
 ghost use Rattle.std.specs.Prelude.{option_map, string_bytes};
 ghost use Rattle.clap.specs.Words.{HasKind, first_of, found_of, kind_of, rows_of};
 ghost use Rattle.deals_cli.specs.CommandLine.{asked, format_in, has_no_end, is_set, kinds_for};
-ghost use Rattle.deals_cli.specs.CommandLine.{making_in, number_in, number_or};
+ghost use Rattle.deals_cli.specs.CommandLine.{made_by, making_in, number_in, number_or};
 ghost use Rattle.requests.specs.Options.{IsInRange, making_of, wish_of};
 ghost use Rattle.deals_cli.specs.internal.Readings.{MakeValues, MayGive32, MayGive64, StreamValues};
 
@@ -71,8 +71,8 @@ fn format_by(name: &str, matches: &ArgMatches) -> Format
     format_in(matches).unwrap_or(Format::Pbn)
 }
 
-/// What the options of `make` or `find` were given, or their defaults. `find` has some of those of
-/// `make`.
+/// What the options of `make`, `find` or `pick` were given, or their defaults. The others have some
+/// of those of `make`.
 fn make_request<'a>(name: &str, matches: &ArgMatches<'a>) -> MakeRequest<'a>
     requires { MakeValues (rows_of (found_of matches.now)) }
     ensures { making_of result ≡ making_in name.now (rows_of (found_of matches.now)) }
@@ -98,11 +98,22 @@ fn make_request<'a>(name: &str, matches: &ArgMatches<'a>) -> MakeRequest<'a>
     }
 }
 
-/// Whether neither a number of candidates nor a limit of boards was given.
-fn has_no_end(request: &MakeRequest<'_>) -> bool
-    ensures { result ≡ has_no_end (making_of request.now) }
+/// Whether neither a number of candidates nor a limit of boards was given, where one is needed.
+fn has_no_end(name: &str, request: &MakeRequest<'_>) -> bool
+    ensures { result ≡ has_no_end name.now (making_of request.now) }
 {
-    request.candidates.is_none() && request.boards.is_none()
+    name != "pick" && request.candidates.is_none() && request.boards.is_none()
+}
+
+/// What the subcommand of this name asks for, one of those that deal candidates.
+fn request_by<'a>(name: &str, request: MakeRequest<'a>) -> Request<'a>
+    ensures wish { wish_of result ≡ made_by name.now (making_of request) }
+    ensures range { IsInRange result }
+{
+    if name == "pick" {
+        return Request::Pick(request);
+    }
+    Request::Make(request)
 }
 
 /// What the words ask for, the program's name first.
@@ -128,8 +139,8 @@ pub fn read_words<'a>(alloc: Global, words: &'a [String]) -> Result<Request<'a>,
         return Err(invalid_value(alloc, name, &unknown)?);
     }
     let request = make_request(name, inner);
-    if has_no_end(&request) {
+    if has_no_end(name, &request) {
         return Err(missing_end(alloc, name)?);
     }
-    Ok(Request::Make(request))
+    Ok(request_by(name, request))
 }

@@ -11,12 +11,12 @@ use Rattle.plans.specs.Refusals.{refusal_of}
 use Rattle.plans.specs.declared.plan.PlanError.{PlanError}
 use Rattle.plans.specs.declared.plan.PlanError.TheVariants.{Range, Workers, Capacity, Boards, FirstBoard}
 use Rattle.requests.specs.Failures.{failure_of, status_of}
-use Rattle.requests.specs.FirstRefusal.{IsConditionDue, IsDueFor, IsDueOf, IsFirstOf, Meets, of_labels, of_numbers}
+use Rattle.requests.specs.FirstRefusal.{IsConditionDue, IsDueFor, IsDueOf, IsFirstOf, IsPickDue, Meets, of_labels, of_numbers}
 use Rattle.requests.specs.Makings.{HasNumbers, IsPlanned, candidates_of}
-use Rattle.requests.specs.Requests.{Making, Wish, conditions, make, stream}
+use Rattle.requests.specs.Requests.{Making, Wish, conditions, make, pick, stream}
 use Rattle.requests.specs.Wishes.{HasMeaning, IsStatusOf}
 use Rattle.requests.specs.declared.failure.Failure.{Failure}
-use Rattle.requests.specs.declared.failure.Failure.TheVariants.{Plan, Label, Interrupted}
+use Rattle.requests.specs.declared.failure.Failure.TheVariants.{CommandLine, Plan, Label, Condition, Interrupted, Line, Input}
 use Rattle.requests.specs.declared.failure.LabelName.TheVariants.{Event, Site, Date}
 use Rattle.requests.specs.internal.Conditions.{IsConditionFailure}
 
@@ -123,6 +123,7 @@ pub output_due : (w : Wish) → IsStatusOf w 0 → IsDueFor w (Interrupted cause
 output_due (stream seed count) status = refl
 output_due conditions status = refl
 output_due (make m) status = status.accepted (inl refl)
+output_due (pick m) status = (status.accepted (inl refl)).0
 
 -- a run that is interrupted hasn't the status of a refused plan
 pub not_interrupted : (c : Cause) → status_of (Interrupted c) ≡ 2 → ⊥
@@ -131,6 +132,19 @@ not_interrupted cause.Output is = cc
 not_interrupted cause.Spawn is = cc
 not_interrupted (cause.Stopped worker) is = cc
 not_interrupted (cause.Unclosed worker) is = cc
+
+-- a `pick` whose plan or label is refused
+pub pick_refused : (m : Making) (f : Failure) → status_of f ≡ 2 → IsDueOf m f → IsPickDue m f
+pick_refused m (CommandLine text) is h = h
+pick_refused m (Plan error) is h = h
+pick_refused m (Label name) is h = h
+pick_refused m (Condition error) is h = absurd cc
+pick_refused m (Interrupted c) is h = absurd (not_interrupted c is)
+pick_refused m (Line line) is h = absurd h
+pick_refused m Input is h = absurd h
+
+-- each way that a `pick` fails
+pub ruleset picked = (pick_refused)
 
 -- each way to fail
 pub ruleset failures = (numbers_due, labels_due, condition_due, run_due)

@@ -7,10 +7,10 @@ use Rattle.cond_lang.specs.declared.error.CondError.{CondError}
 use Rattle.cond_lang.specs.declared.error.CondError.TheVariants.{TooLong, Byte, Word, Number, Syntax, Memory}
 use Rattle.requests.specs.Failures.{failure_of, status_of}
 use Rattle.requests.specs.Makings.{Means}
-use Rattle.requests.specs.Wishes.{IsStatus}
+use Rattle.requests.specs.Wishes.{IsStatusWithInput}
 use Rattle.requests.specs.declared.failure.Failure.{Failure}
 use Rattle.dealrun.specs.declared.cause.Cause.TheVariants as cause
-use Rattle.requests.specs.declared.failure.Failure.TheVariants.{CommandLine, Plan, Label, Condition, Interrupted}
+use Rattle.requests.specs.declared.failure.Failure.TheVariants.{CommandLine, Plan, Label, Condition, Interrupted, Line, Input}
 
 pub refused_status : (e : CondError) → (status_of (failure_of e) ≡ 5) ⊎ (status_of (failure_of e) ≡ 3)
 refused_status TooLong = inr refl
@@ -29,7 +29,7 @@ meant_status o text bytes e given same memory f means =
     ap (λ x. status_of (failure_of x)) (memory f at.0 at.1)
 
 -- a failure's status is one of the program's
-pub status_of-status : (f : Failure) → IsStatus (status_of f)
+pub status_of-status : (f : Failure) → IsStatusWithInput (status_of f)
 status_of-status (CommandLine text) = (1, omega arith, refl)
 status_of-status (Plan error) = (1, omega arith, refl)
 status_of-status (Label label) = (1, omega arith, refl)
@@ -39,3 +39,5 @@ status_of-status (Interrupted cause.Memory) = (4, omega arith, refl)
 status_of-status (Interrupted cause.Spawn) = (5, omega arith, refl)
 status_of-status (Interrupted (cause.Stopped worker)) = (5, omega arith, refl)
 status_of-status (Interrupted (cause.Unclosed worker)) = (5, omega arith, refl)
+status_of-status (Line line) = (6, omega arith, refl)
+status_of-status Input = (6, omega arith, refl)

@@ -6,7 +6,7 @@ use Rattle.sinks.specs.Appended.{AppendsAll, append_known}
 use Rattle.requests.specs.Makings.{plan_of}
 use Rattle.requests.specs.Reported.{Counts, Reports, ReportsFor, wants_report}
 use Rattle.requests.specs.Reports.{next_line, report_line, report_of}
-use Rattle.requests.specs.Requests.{Making, Wish, conditions, make, stream}
+use Rattle.requests.specs.Requests.{Making, Wish, conditions, make, pick, stream}
 use Rattle.requests.specs.declared.format.Format.{Format}
 use Rattle.requests.specs.declared.report.Report.{Report}
 
@@ -28,6 +28,7 @@ pub none_made : (o : Option Wish) (r : Report) → ((w : Wish) → o ≡ Some w 
 none_made None r some none quiet = let bad : Some r ≡ None = none refl in cc
 none_made (Some (stream seed count)) r some none quiet = let bad : Some r ≡ None = some (stream seed count) refl in cc
 none_made (Some conditions) r some none quiet = let bad : Some r ≡ None = some conditions refl in cc
+none_made (Some (pick m)) r some none quiet = let bad : Some r ≡ None = some (pick m) refl in cc
 none_made (Some (make m)) r some none quiet = let is = (some (make m) refl).0 in let bad : true ≡ false = sym is ∙ quiet in cc
 
 -- a `make` that asks for a report has one

@@ -1,11 +1,11 @@
 -- The status of a failure, and what a failure leaves.
-use Rattle.std.specs.Prelude.{ℕ, Bool, true, false, Result, Ok, Err}
+use Rattle.std.specs.Prelude.{◌≡◌, ◌⊎◌, ℕ, ◌+◌, Bool, true, false, Result, Ok, Err}
 use Rattle.cond_lang.specs.declared.error.CondError.{CondError}
 use Rattle.cond_lang.specs.declared.error.CondError.TheVariants.{Memory as no_memory}
 use Rattle.dealrun.specs.declared.cause.Cause.TheVariants as cause
 use Rattle.requests.specs.declared.failure.Failure.{Failure}
 use Rattle.requests.specs.declared.failure.Failure.TheVariants.{CommandLine, Plan, Label}
-use Rattle.requests.specs.declared.failure.Failure.TheVariants.{Condition, Interrupted}
+use Rattle.requests.specs.declared.failure.Failure.TheVariants.{Condition, Interrupted, Line, Input}
 
 -- the exit status of a failure
 abbrev pub status_of : Failure → ℕ
@@ -18,6 +18,8 @@ status_of (Interrupted cause.Memory) = 5
 status_of (Interrupted cause.Spawn) = 6
 status_of (Interrupted (cause.Stopped worker)) = 6
 status_of (Interrupted (cause.Unclosed worker)) = 6
+status_of (Line line) = 7
+status_of Input = 7
 
 -- want of memory in a parse is want of memory
 abbrev pub failure_of : CondError → Failure
@@ -34,9 +36,17 @@ abbrev pub faults_in : {T : Type 0} → Result T Failure → ℕ
 faults_in (Err (Interrupted cause.Output)) = 1
 faults_in _ = 0
 
+-- the input failed once if the failure says so; where the output failed, it may have failed before
+abbrev pub CountsInput : {T : Type 0} → Result T Failure → (old new : ℕ) → Type 0
+CountsInput (Err Input) old new = new ≡ old + 1
+CountsInput (Err (Interrupted cause.Output)) old new = (new ≡ old) ⊎ (new ≡ old + 1)
+CountsInput _ old new = new ≡ old
+
 -- nothing was written before this failure
 abbrev pub is_untouched : Failure → Bool
 is_untouched (Interrupted cause.Output) = false
 is_untouched (Interrupted (cause.Stopped worker)) = false
 is_untouched (Interrupted (cause.Unclosed worker)) = false
+is_untouched (Line line) = false
+is_untouched Input = false
 is_untouched _ = true

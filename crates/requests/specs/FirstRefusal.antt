@@ -8,11 +8,11 @@ use Rattle.dealrun.specs.declared.cause.Cause.TheVariants.{Memory, Output}
 use Rattle.plans.specs.declared.plan.PlanError.TheVariants.{Range, Workers, Capacity, Boards}
 use Rattle.plans.specs.declared.plan.PlanError.TheVariants.{FirstBoard}
 use Rattle.requests.specs.Makings.{CanDate, CanLabel, IsPlanned, candidates_of}
-use Rattle.requests.specs.Requests.{Making, Wish, conditions, stream, make}
+use Rattle.requests.specs.Requests.{Making, Wish, conditions, stream, make, pick}
 use Rattle.requests.specs.Wishes.{HasMeaning}
 use Rattle.requests.specs.declared.failure.Failure.{Failure}
 use Rattle.requests.specs.declared.failure.Failure.TheVariants.{CommandLine, Plan, Label}
-use Rattle.requests.specs.declared.failure.Failure.TheVariants.{Condition, Interrupted}
+use Rattle.requests.specs.declared.failure.Failure.TheVariants.{Condition, Interrupted, Line, Input}
 use Rattle.requests.specs.declared.failure.LabelName.TheVariants.{Event, Site, Date}
 
 -- what a plan has to meet, by the refusal that says that it doesn't
@@ -58,9 +58,23 @@ IsDueOf m (Label label) = IsFirstOf (of_numbers ++ of_labels) m (Label label)
 IsDueOf m (Condition error) = IsPlanned m × IsConditionDue m.where_text error
 IsDueOf m (Interrupted Memory) = IsPlanned m
 IsDueOf m (Interrupted cause) = IsPlanned m × HasMeaning (make m)
+IsDueOf m (Line line) = ⊥
+IsDueOf m Input = ⊥
+
+-- why a `pick` fails: a refusal of its plan or its labels, the first; else want of memory, the
+-- output, a line of the input, or the input
+abbrev pub IsPickDue : Making → Failure → Type 0
+IsPickDue m (Plan error) = IsDueOf m (Plan error)
+IsPickDue m (Label label) = IsDueOf m (Label label)
+IsPickDue m (Interrupted Memory) = IsPlanned m
+IsPickDue m (Interrupted Output) = IsPlanned m
+IsPickDue m (Line line) = IsPlanned m
+IsPickDue m Input = IsPlanned m
+IsPickDue m _ = ⊥
 
 -- why a wish fails
 abbrev pub IsDueFor : Wish → Failure → Type 0
 IsDueFor (stream seed count) failure = failure ≡ Interrupted Output
 IsDueFor conditions failure = failure ≡ Interrupted Output
 IsDueFor (make m) failure = IsDueOf m failure
+IsDueFor (pick m) failure = IsPickDue m failure

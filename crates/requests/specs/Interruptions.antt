@@ -1,20 +1,23 @@
 -- What stands on the output of a wish that wasn't done to its end.
-use Rattle.std.specs.Prelude.{◌≡◌, ℕ, List, Option}
+use Rattle.std.specs.Prelude.{◌≡◌, ℕ, List, [], Err, Option, Some}
 use Rattle.boards.specs.Layouts.{Layout}
 use Rattle.cond_lang.specs.Form.{Form}
 use Rattle.dealrun.specs.Outcomes.{InterruptedIn}
 use Rattle.dealrun.specs.declared.cause.Cause.{Cause}
 use Rattle.dealrun.specs.declared.cause.Cause.TheVariants.{Memory}
 use Rattle.lanes.specs.Views.{OutView}
+use Rattle.picking.specs.Outcomes.{Picks}
+use Rattle.picking.specs.declared.fault.PickFault.{PickFault}
+use Rattle.picking.specs.declared.fault.PickFault.TheVariants as picks
 use Rattle.plans.specs.Plans.{Planned}
 use Rattle.sinks.specs.Appended.{AppendsPart}
 use Rattle.values.specs.Values.{lines}
 use Rattle.requests.specs.Formats.{layout_of}
 use Rattle.requests.specs.Makings.{Means, plan_of}
-use Rattle.requests.specs.Requests.{Making, Wish, conditions, stream, make}
+use Rattle.requests.specs.Requests.{Making, Wish, conditions, stream, make, pick}
 use Rattle.requests.specs.Wishes.{language_page}
 use Rattle.requests.specs.declared.failure.Failure.{Failure}
-use Rattle.requests.specs.declared.failure.Failure.TheVariants.{Interrupted}
+use Rattle.requests.specs.declared.failure.Failure.TheVariants.{Interrupted, Line, Input}
 
 -- a run was interrupted for this cause: there are lanes as it left them, and the bytes are those
 -- that the verdicts taken from them print
@@ -30,14 +33,34 @@ pub record InterruptsMake (m : Making) (cause : Cause) (old new : Option (List �
   pub means : Means m.where_text form
   pub run : InterruptsRun (layout_of m.format (plan_of m).heading) (plan_of m) form cause old new
 
--- a wish was broken off for this cause: of a text that needs no run a proper prefix is written
-abbrev pub BreaksOff : Wish → Cause → Option (List ℕ) → Option (List ℕ) → Type 0
-BreaksOff (stream seed count) cause old new = AppendsPart old new (lines seed count)
-BreaksOff conditions cause old new = AppendsPart old new language_page
-BreaksOff (make m) cause old new = InterruptsMake m cause old new
+-- picking ended with this fault
+abbrev pub EndsPick : Making → PickFault → (before behind old new : Option (List ℕ)) → Type 0
+EndsPick m fault before behind old new =
+    Picks (layout_of m.format (plan_of m).heading) (plan_of m) (Err fault) before behind old new
 
--- what a wish leaves that fails so: nothing, unless it was broken off
-abbrev pub Leaves : Wish → Failure → Option (List ℕ) → Option (List ℕ) → Type 0
-Leaves w (Interrupted Memory) old new = new ≡ old
-Leaves w (Interrupted cause) old new = BreaksOff w cause old new
-Leaves w failure old new = new ≡ old
+-- a wish was broken off for this cause: of a text that needs no run a proper prefix is written. The
+-- output of a `pick` may also fail where it passes on what stands before a fault of its input
+abbrev pub BreaksOff : Wish → Cause → (before behind old new : Option (List ℕ)) → Type 0
+BreaksOff (stream seed count) cause before behind old new = AppendsPart old new (lines seed count)
+BreaksOff conditions cause before behind old new = AppendsPart old new language_page
+BreaksOff (make m) cause before behind old new = InterruptsMake m cause old new
+BreaksOff (pick m) cause before behind old new =
+    (fault : PickFault) × EndsPick m fault before behind old new
+
+-- a wish was ended by this fault of its input, which only a `pick` reads
+abbrev pub EndsFor : Wish → PickFault → (before behind old new : Option (List ℕ)) → Type 0
+EndsFor (pick m) fault before behind old new = EndsPick m fault before behind old new
+EndsFor w fault before behind old new = ⊥
+
+-- what a wish leaves that fails so: nothing, unless it was broken off. `before` and `behind` are
+-- what the input had to give before and behind it
+abbrev pub LeavesFrom : Wish → Failure → (before behind old new : Option (List ℕ)) → Type 0
+LeavesFrom w (Interrupted Memory) before behind old new = new ≡ old
+LeavesFrom w (Interrupted cause) before behind old new = BreaksOff w cause before behind old new
+LeavesFrom w (Line line) before behind old new = EndsFor w (picks.Refused line) before behind old new
+LeavesFrom w Input before behind old new = EndsFor w picks.Input before behind old new
+LeavesFrom w failure before behind old new = new ≡ old
+
+-- the same without an input
+abbrev pub Leaves : Wish → Failure → (old new : Option (List ℕ)) → Type 0
+Leaves w failure old new = LeavesFrom w failure (Some []) (Some []) old new

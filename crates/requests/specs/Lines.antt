@@ -4,6 +4,9 @@ use Rattle.cond_lang.specs.declared.error.CondError.{CondError}
 use Rattle.cond_lang.specs.declared.error.CondError.TheVariants as cond
 use Rattle.dealrun.specs.declared.cause.Cause.{Cause}
 use Rattle.dealrun.specs.declared.cause.Cause.TheVariants as cause
+use Rattle.number_input.specs.declared.refusal.LineFault.{LineFault}
+use Rattle.number_input.specs.declared.refusal.LineFault.TheVariants as fault
+use Rattle.number_input.specs.declared.refusal.RefusedLine.{RefusedLine}
 use Rattle.plans.specs.declared.plan.PlanError.{PlanError}
 use Rattle.plans.specs.declared.plan.PlanError.TheVariants as plan
 use Rattle.requests.specs.declared.failure.Failure.{Failure}
@@ -42,6 +45,16 @@ cause_line cause.Output = codes "output failed\n"
 cause_line (cause.Stopped worker) = codes "worker " ++ decimal worker ++ codes " stopped\n"
 cause_line (cause.Unclosed worker) = codes "worker " ++ decimal worker ++ codes " not closed\n"
 
+abbrev pub fault_text : LineFault → List ℕ
+fault_text fault.NotANumber = codes ": not a number\n"
+fault_text fault.NotBelow = codes ": not below 1099511627776\n"
+fault_text fault.TooMany = codes ": too many numbers\n"
+
+-- a line of the input is refused, counted from 1
+abbrev pub input_line : RefusedLine → List ℕ
+input_line refused =
+    codes "input refused at line " ++ decimal refused.line ++ fault_text refused.fault
+
 -- one line but for clap's texts
 abbrev pub line_of : Failure → List ℕ
 line_of (failure.CommandLine text) = string_bytes text
@@ -49,3 +62,5 @@ line_of (failure.Plan error) = plan_line error
 line_of (failure.Label name) = label_line name
 line_of (failure.Condition error) = condition_line error
 line_of (failure.Interrupted cause) = cause_line cause
+line_of (failure.Line refused) = input_line refused
+line_of failure.Input = codes "input failed\n"

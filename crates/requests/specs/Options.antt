@@ -1,9 +1,9 @@
 -- What a request asks for.
 use Rattle.std.specs.Prelude.{◌≤◌, ◌^◌, option_map}
-use Rattle.requests.specs.Requests.{Making, Wish, conditions, stream, make}
+use Rattle.requests.specs.Requests.{Making, Wish, conditions, stream, make, pick}
 use Rattle.requests.specs.declared.make.MakeRequest.{MakeRequest}
 use Rattle.requests.specs.declared.request.Request.{Request}
-use Rattle.requests.specs.declared.request.Request.TheVariants.{Conditions, Stream, Make}
+use Rattle.requests.specs.declared.request.Request.TheVariants.{Conditions, Stream, Make, Pick}
 
 abbrev pub making_of : MakeRequest → Making
 making_of r = record {
@@ -28,6 +28,7 @@ making_of r = record {
 
 abbrev pub wish_of : Request → Wish
 wish_of (Make r) = make (making_of r)
+wish_of (Pick r) = pick (making_of r)
 wish_of Conditions = conditions
 wish_of (Stream r) = stream r.seed r.count
 

@@ -7,7 +7,7 @@ use Rattle.requests.specs.Makings.{Means, plan_of}
 use Rattle.requests.specs.Reports.{report_of}
 use Rattle.sinks.specs.Appended.{AppendsAll}
 use Rattle.requests.specs.declared.format.Format.{Format}
-use Rattle.requests.specs.Requests.{Making, Wish, conditions, stream, make}
+use Rattle.requests.specs.Requests.{Making, Wish, conditions, stream, make, pick}
 use Rattle.requests.specs.declared.report.Report.{Report}
 
 -- the counts of a plan's run under a condition: the candidates are those up to the one whose board
@@ -30,6 +30,7 @@ abbrev pub ReportsFor : Wish → Option Report → Type 0
 ReportsFor (stream seed count) report = report ≡ None
 ReportsFor conditions report = report ≡ None
 ReportsFor (make m) report = ReportsOf m report
+ReportsFor (pick m) report = report ≡ None
 
 abbrev pub wants_report : Option Wish → Bool
 wants_report (Some (make m)) = m.report

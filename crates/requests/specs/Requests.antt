@@ -30,5 +30,8 @@ pub data Wish : Type 0 where
   make : Making → Wish
   -- the page of the language
   conditions : Wish
+  -- the boards of the candidates whose numbers the input gives: of the making its seed, its first
+  -- board, its labels, its format and what stands in place of Law 2 count
+  pick : Making → Wish
   -- the first values of a seed: the seed, and how many
   stream : ℕ → ℕ → Wish

@@ -38,7 +38,7 @@ pub fn advise(alloc: Global, request: &MakeRequest<'_>) -> Result<Option<String>
         Ok(_) => Ok(None),
         Err(Failure::Plan(error)) => Ok(Some(of_plan(alloc, request, error)?)),
         Err(Failure::Label(name)) => Ok(Some(of_label(alloc, request, name)?)),
-        Err(Failure::CommandLine(_) | Failure::Condition(_) | Failure::Interrupted(_)) => Ok(None),
+        Err(_) => Ok(None),
     }
 }
 

@@ -5,13 +5,15 @@ ghost use Rattle.sinks.specs.Appended.{AppendsAll};
 ghost use Rattle.sinks.specs.Sinks.{CountsFault};
 ghost use Rattle.dealrun.specs.declared.cause.Cause.TheVariants.{Memory, Output};
 ghost use Rattle.requests.specs.Failures.{failure_of, status_of};
-ghost use Rattle.requests.specs.Lines.{cause_line, condition_line, label_line, line_of, plan_line};
+ghost use Rattle.requests.specs.Lines.{cause_line, condition_line, fault_text, input_line};
+ghost use Rattle.requests.specs.Lines.{label_line, line_of, plan_line};
 ghost use Rattle.requests.specs.declared.failure.Failure.TheVariants.{Interrupted};
 ghost use Rattle.requests.specs.internal.Messages.{text_of};
 
 use crate::message::Message;
 use cond_lang::CondError;
 use dealrun::Cause;
+use number_input::{LineFault, RefusedLine};
 use plans::PlanError;
 use sinks::{Sink, SinkFault};
 use std::alloc::AllocError;
@@ -36,6 +38,10 @@ pub enum Failure {
     Condition(CondError),
     /// The output failed, memory ran out, a thread wasn't started, or a worker ended too soon.
     Interrupted(Cause),
+    /// A line of the input is refused.
+    Line(RefusedLine),
+    /// The input couldn't be read.
+    Input,
 }
 
 impl From<SinkFault> for Failure {
@@ -117,6 +123,26 @@ fn of_cause(cause: Cause) -> Message<'static>
     }
 }
 
+fn of_fault(fault: LineFault) -> &'static str
+    ensures { result.now ≡ fault_text fault }
+{
+    match fault {
+        LineFault::NotANumber => ": not a number\n",
+        LineFault::NotBelow => ": not below 1099511627776\n",
+        LineFault::TooMany => ": too many numbers\n",
+    }
+}
+
+fn of_line(refused: RefusedLine) -> Message<'static>
+    ensures { text_of result ≡ input_line refused }
+{
+    Message::with(
+        "input refused at line ",
+        refused.line,
+        of_fault(refused.fault),
+    )
+}
+
 impl Failure {
     /// The exit status.
     pub fn status(&self) -> u8
@@ -130,6 +156,7 @@ impl Failure {
                 Cause::Memory => 5,
                 Cause::Spawn | Cause::Stopped { .. } | Cause::Unclosed { .. } => 6,
             },
+            Failure::Line(_) | Failure::Input => 7,
         }
     }
 
@@ -142,6 +169,8 @@ impl Failure {
             Failure::Label(label) => Message::plain(of_label(*label)),
             Failure::Condition(error) => of_condition(*error),
             Failure::Interrupted(cause) => of_cause(*cause),
+            Failure::Line(refused) => of_line(*refused),
+            Failure::Input => Message::plain("input failed\n"),
         }
     }
 

@@ -1,7 +1,7 @@
 //! The requests of the program: what each means, what is done for it, and how it ends.
 //!
 //! A subcommand is a file: its request, with the values of its options, and the function that
-//! serves it (`make.rt`, `conditions.rt`, `stream.rt`). `request.rt` has one variant for each.
+//! serves it (`make.rt`, `pick.rt`, `conditions.rt`, `stream.rt`). `request.rt` has one variant for each.
 //! `run.rt` runs a plan in the format that is asked for. `advice.rt` tells a person what a refused
 //! option takes. How the words of a command line become a request is no business of this crate.
 #![tactic(auto)]
@@ -13,6 +13,7 @@ mod format;
 pub mod laws;
 mod make;
 mod message;
+mod pick;
 mod picking_as;
 mod progress;
 mod report;
@@ -24,7 +25,6 @@ pub use advice::advise;
 pub use failure::{Failure, LabelName};
 pub use format::Format;
 pub use make::MakeRequest;
-pub use picking_as::pick_as;
 pub use progress::Progress;
 pub use report::Report;
 pub use request::{Request, serve};

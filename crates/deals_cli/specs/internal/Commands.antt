@@ -1,8 +1,8 @@
--- How the options of `make` and `find` are added to their commands, some at a time.
+-- How the options of `make`, `find` and `pick` are added to their commands, some at a time.
 use Rattle.std.specs.Prelude.{codes}
 use Rattle.clap.specs.Words.{App, with_rule, with_subcommand}
 use Rattle.clap.specs.declared.builder.value_parser.ValueParser.TheVariants.{String}
-use Rattle.deals_cli.specs.CommandLine.{deals_top, find_app, flag_rule, make_app, option_rule}
+use Rattle.deals_cli.specs.CommandLine.{deals_top, find_app, flag_rule, make_app, option_rule, pick_app}
 use Rattle.deals_cli.specs.CommandLine.{required, u32_parser, u64_parser}
 
 abbrev pub with_candidates : App → App
@@ -52,6 +52,7 @@ with_counts a = with_rule (with_rule a
     (flag_rule (codes "report")))
     (option_rule (codes "progress") String)
 
--- the program's name with the subcommands that try candidates
+-- the program's name with the subcommands that deal candidates
 abbrev pub with_makers : App
-with_makers = with_subcommand (with_subcommand deals_top make_app.top) find_app.top
+with_makers =
+    with_subcommand (with_subcommand (with_subcommand deals_top make_app.top) find_app.top) pick_app.top

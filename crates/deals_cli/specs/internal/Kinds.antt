@@ -7,4 +7,4 @@ use Rattle.deals_cli.specs.Program.{is_shown}
 pub record IsStatusOfKind (k : ErrorKind) (status : ℕ) : Type 0 where
   pub shown : (status ≡ 0) ⊎ (status ≡ 4) → is_shown k ≡ true
   pub refused : status ≡ 2 → is_shown k ≡ false
-  pub neither : (status ≡ 3) ⊎ (status ≡ 6) → ⊥
+  pub neither : (status ≡ 3) ⊎ (status ≡ 6) ⊎ (status ≡ 7) → ⊥

@@ -1,8 +1,8 @@
 use Rattle.std.proofs.Common.{◌∙◌, ap, ap₂, is_some, sym, map, string_bytes, Some}
 use Rattle.std.proofs.lemmas.Result.{err_from_is_err_and}
 use Rattle.clap.specs.declared.error.kind.ErrorKind.TheVariants.{InvalidValue, MissingRequiredArgument}
-use Rattle.requests.specs.Requests.{make, stream}
-use Rattle.deals_cli.specs.CommandLine.{has_no_end}
+use Rattle.requests.specs.Requests.{Wish, stream}
+use Rattle.deals_cli.specs.CommandLine.{has_no_end, made_by}
 use Rattle.deals_cli.proofs.Asked.{chosen, err_kind, error_kind, refused_asked, refused_kind}
 use Rattle.deals_cli.proofs.words.read_words.Goals as goal
 
@@ -62,7 +62,7 @@ returns-then-has_no_end-clause-err c some =
     c.in_ok-matches.ensures.kinds c.subcommand.ensures.name c.subcommand.ensures.rows c.unwrap.ensures in
     let asks = (at.make (sym c.if-eq.ensures) (sym c.if-eq-2.ensures)).1 in
     let known = sym c.unknown_in.ensures ∙ ap is_some c.in_default.is in
-    let end = ap has_no_end (sym c.make_request-request.ensures) ∙ sym c.if-has_no_end.ensures in
+    let end = ap (has_no_end c.unwrap.result.0.now) (sym c.make_request-request.ensures) ∙ sym c.if-has_no_end.ensures in
     refused_asked (map string_bytes c.args.words.now) MissingRequiredArgument (asks.no_end known end) some
 
 pub returns-then-has_no_end-clause-kinds : goal.returns-then-has_no_end-clause-kinds
@@ -71,7 +71,7 @@ returns-then-has_no_end-clause-kinds c =
     c.in_ok-matches.ensures.kinds c.subcommand.ensures.name c.subcommand.ensures.rows c.unwrap.ensures in
     let asks = (at.make (sym c.if-eq.ensures) (sym c.if-eq-2.ensures)).1 in
     let known = sym c.unknown_in.ensures ∙ ap is_some c.in_default.is in
-    let end = ap has_no_end (sym c.make_request-request.ensures) ∙ sym c.if-has_no_end.ensures in
+    let end = ap (has_no_end c.unwrap.result.0.now) (sym c.make_request-request.ensures) ∙ sym c.if-has_no_end.ensures in
     refused_kind (map string_bytes c.args.words.now) MissingRequiredArgument c.in_ok-missing_end.field-0 (asks.no_end known end) c.in_ok-missing_end.ensures
 
 pub returns-clause-ok : goal.returns-clause-ok
@@ -80,5 +80,6 @@ returns-clause-ok c =
     c.in_ok-matches.ensures.kinds c.subcommand.ensures.name c.subcommand.ensures.rows c.unwrap.ensures in
     let asks = (at.make (sym c.if-eq.ensures) (sym c.if-eq-2.ensures)).1 in
     let known = sym c.unknown_in.ensures ∙ ap is_some c.in_default.is in
-    let end = ap has_no_end (sym c.make_request-request.ensures) ∙ sym c.if-has_no_end.ensures in
-    asks.ends known end ∙ ap (λ m. Some (make m)) (sym c.make_request-request.ensures)
+    let end = ap (has_no_end c.unwrap.result.0.now) (sym c.make_request-request.ensures) ∙ sym c.if-has_no_end.ensures in
+    asks.ends known end ∙ ap (λ m. Some (made_by c.unwrap.result.0.now m)) (sym c.make_request-request.ensures)
+    ∙ ap (λ (w : Wish). Some w) (sym c.request_by.ensures.wish)
