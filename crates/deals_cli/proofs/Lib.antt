@@ -7,3 +7,4 @@ pub mod Numbers
 pub mod Asked
 pub mod Statuses
 pub mod Reporting
+pub mod NoInput

@@ -5,7 +5,7 @@ ghost use Rattle.clap.specs.Words.{app_of, kind_of, rule_of, with_rule};
 ghost use Rattle.clap.specs.declared.Command.TheViews.{out-Command as fields_of};
 ghost use Rattle.deals_cli.specs.CommandLine.{conditions_app, deals, find_app, flag_rule, make_app};
 ghost use Rattle.deals_cli.specs.CommandLine.{option_rule, pick_app, required, stream_app};
-ghost use Rattle.deals_cli.specs.internal.Commands.{with_boards, with_candidates, with_counts};
+ghost use Rattle.deals_cli.specs.internal.Commands.{with_boards, with_candidates, with_counts, with_dealers};
 ghost use Rattle.deals_cli.specs.internal.Commands.{with_first_board, with_form, with_heading};
 ghost use Rattle.deals_cli.specs.internal.Commands.{with_labels, with_makers, with_notation, with_rotate};
 ghost use Rattle.deals_cli.specs.internal.Commands.{with_search};
@@ -393,7 +393,7 @@ pub fn invalid_value(alloc: Global, name: &str, unknown: &Unknown<'_>) -> Result
     command.error(ErrorKind::InvalidValue, message.as_str())
 }
 
-/// The program's name with the subcommands that deal candidates.
+/// The program's name with the subcommands that try candidates.
 fn with_makers<'a>(alloc: Global) -> Result<Command<'a>, AllocError>
     ensures app { IfOk result (λ c. app_of c ≡ with_makers) }
     ensures local { IfOk result (λ c. (fields_of c).has_globals ≡ false) }
@@ -404,15 +404,22 @@ fn with_makers<'a>(alloc: Global) -> Result<Command<'a>, AllocError>
         .after_help(LANGUAGE_AND_STATUSES)
         .subcommand_required(true)
         .subcommand(make_command(alloc)?)?
-        .subcommand(find_command(alloc)?)?
-        .subcommand(pick_command(alloc)?)
+        .subcommand(find_command(alloc)?)
+}
+
+/// The program's name with the subcommands that deal candidates.
+fn with_dealers<'a>(alloc: Global) -> Result<Command<'a>, AllocError>
+    ensures app { IfOk result (λ c. app_of c ≡ with_dealers) }
+    ensures local { IfOk result (λ c. (fields_of c).has_globals ≡ false) }
+{
+    with_makers(alloc)?.subcommand(pick_command(alloc)?)
 }
 
 /// The program's whole command line.
 pub fn command<'a>(alloc: Global) -> Result<Command<'a>, AllocError>
     ensures { IfOk result (λ c. app_of c ≡ deals) }
 {
-    with_makers(alloc)?
+    with_dealers(alloc)?
         .subcommand(conditions_command(alloc))?
         .subcommand(stream_command(alloc)?)
 }

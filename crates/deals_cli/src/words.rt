@@ -107,7 +107,7 @@ fn has_no_end(name: &str, request: &MakeRequest<'_>) -> bool
 
 /// What the subcommand of this name asks for, one of those that deal candidates.
 fn request_by<'a>(name: &str, request: MakeRequest<'a>) -> Request<'a>
-    ensures wish { wish_of result ≡ made_by name.now (making_of request) }
+    ensures wish { wish_of result ≡ made_by name.now (making_of request.entry) }
     ensures range { IsInRange result }
 {
     if name == "pick" {

@@ -52,7 +52,10 @@ with_counts a = with_rule (with_rule a
     (flag_rule (codes "report")))
     (option_rule (codes "progress") String)
 
--- the program's name with the subcommands that deal candidates
+-- the program's name with the subcommands that try candidates
 abbrev pub with_makers : App
-with_makers =
-    with_subcommand (with_subcommand (with_subcommand deals_top make_app.top) find_app.top) pick_app.top
+with_makers = with_subcommand (with_subcommand deals_top make_app.top) find_app.top
+
+-- and with the one that reads their numbers
+abbrev pub with_dealers : App
+with_dealers = with_subcommand with_makers pick_app.top

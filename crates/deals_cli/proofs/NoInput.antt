@@ -1,0 +1,75 @@
+-- Without an input no status is 7.
+use Rattle.std.proofs.Common.{◌≡◌, ◌∙◌, ℕ, zero, suc, List, [], Option, None, Some, refl, sym, subst, inl, inr, arith}
+use Rattle.std.proofs.lemmas.List.{append-nil}
+use Rattle.clap.specs.Walk.{Text}
+use Rattle.dealrun.specs.declared.cause.Cause.TheVariants as cause
+use Rattle.number_input.specs.NumberTexts.{said}
+use Rattle.number_input.specs.declared.refusal.RefusedLine.{RefusedLine}
+use Rattle.picking.specs.declared.fault.PickFault.TheVariants.{Refused}
+use Rattle.requests.specs.Failures.{status_of}
+use Rattle.requests.specs.Interruptions.{EndsFor}
+use Rattle.requests.specs.Requests.{Wish, conditions, make, pick, stream}
+use Rattle.requests.specs.declared.failure.Failure.{Failure}
+use Rattle.requests.specs.declared.failure.Failure.TheVariants.{CommandLine, Plan, Label, Condition, Interrupted, Line, Input}
+use Rattle.requests.specs.Wishes.{IsStatus, IsStatusWithInput}
+use Rattle.deals_cli.specs.Program.{IsStatusOfNone, MayLeave, TellsWhy, TellsWhyFrom}
+
+nothing_refused : (line : RefusedLine) → (said []).refused ≡ Some line → ⊥
+unfolding said
+nothing_refused line is = cc
+
+-- an input without bytes has no line that is refused
+no_line_ended : (w : Wish) (line : RefusedLine) (old new : Option (List ℕ)) → EndsFor w (Refused line) (Some []) (Some []) old new → ⊥
+no_line_ended (pick m) line old new e =
+    let none : e.given ≡ [] = sym (e.consumed ∙ append-nil e.given) in
+    nothing_refused line (subst (λ (t : List ℕ). (said t).refused ≡ Some line) none e.written.0)
+no_line_ended (make m) line old new e = e
+no_line_ended conditions line old new e = e
+no_line_ended (stream seed count) line old new e = e
+
+no_seven : (w : Wish) (f : Failure) (old new : Option (List ℕ)) → MayLeave w f (Some []) (Some []) old new → (f ≡ Input → ⊥) → status_of f ≡ 7 → ⊥
+no_seven w (CommandLine text) old new may sound is = cc
+no_seven w (Plan error) old new may sound is = cc
+no_seven w (Label label) old new may sound is = cc
+no_seven w (Condition error) old new may sound is = cc
+no_seven w (Interrupted cause.Output) old new may sound is = cc
+no_seven w (Interrupted cause.Memory) old new may sound is = cc
+no_seven w (Interrupted cause.Spawn) old new may sound is = cc
+no_seven w (Interrupted (cause.Stopped worker)) old new may sound is = cc
+no_seven w (Interrupted (cause.Unclosed worker)) old new may sound is = cc
+no_seven w (Line line) old new (inl leaves) sound is = no_line_ended w line old new leaves
+no_seven w (Line line) old new (inr flushed) sound is = let bad = flushed.0 in cc
+no_seven w Input old new may sound is = sound refl
+
+-- the first six of the statuses
+six_of : (s : ℕ) → IsStatusWithInput s → (s ≡ 7 → ⊥) → IsStatus s
+six_of s (zero, below, is) other = (0, omega arith, is)
+six_of s (suc zero, below, is) other = (1, omega arith, is)
+six_of s (suc (suc zero), below, is) other = (2, omega arith, is)
+six_of s (suc (suc (suc zero)), below, is) other = (3, omega arith, is)
+six_of s (suc (suc (suc (suc zero))), below, is) other = (4, omega arith, is)
+six_of s (suc (suc (suc (suc (suc zero)))), below, is) other = (5, omega arith, is)
+six_of s (suc (suc (suc (suc (suc (suc zero))))), below, is) other = absurd (other (sym is))
+six_of s (suc (suc (suc (suc (suc (suc (suc n)))))), below, is) other = absurd (omega arith)
+
+pub six : (words : List Text) (o : Option Wish) (s : ℕ) (old new : Option (List ℕ)) (took_all : Type 0) (err_old err_new : Option (List ℕ)) → IsStatusWithInput s
+    → ((w : Wish) → o ≡ Some w → (s ≡ 0 → ⊥) → TellsWhy w s old new took_all err_old err_new) → (o ≡ None → IsStatusOfNone words s) → IsStatus s
+six words None s old new took_all err_old err_new is some none = six_of s is (λ seven. (none refl).neither (inr (inr seven)))
+six words (Some w) s old new took_all err_old err_new is some none = six_of s is refused
+  where
+    refused : s ≡ 7 → ⊥
+    refused seven =
+        let why = some w refl (λ zero. omega (arith, seven, zero)) in
+        no_seven w why.failure old new why.stands why.input (sym why.status_is ∙ seven)
+
+-- an input that can't fail didn't
+pub without : (w : Wish) (s : ℕ) (failed : Type 0) (old new : Option (List ℕ)) (took_all : Type 0) (err_old err_new : Option (List ℕ)) → (failed → ⊥)
+    → TellsWhyFrom w s (Some []) (Some []) failed old new took_all err_old err_new → TellsWhy w s old new took_all err_old err_new
+without w s failed old new took_all err_old err_new never h = record {
+  failure = h.failure;
+  due = h.due;
+  status_is = h.status_is;
+  stands = h.stands;
+  input = λ is. never (h.input is);
+  line = h.line;
+}
