@@ -12,7 +12,7 @@ mod tally;
 
 pub use counts::Counts;
 pub use over_line::{Drawn, OverLine};
-pub use prompt::{Prompt, millis};
+pub use prompt::{GATHERED_MILLIS, Prompt, millis};
 pub use style::Style;
 pub use tally::{Tally, tally_line};
 

@@ -11,8 +11,8 @@ use std::io::{Error, Write};
 use std::snapshot::Snapshot;
 use std::time::Clock;
 
-/// For how many milliseconds a board may be gathered, before it is passed on.
-const GATHERED_MILLIS: u64 = 200;
+/// For how many milliseconds a board is gathered that is found by a search, before it is passed on.
+pub const GATHERED_MILLIS: u64 = 200;
 
 /// A clock's time in milliseconds, if it tells one.
 pub fn millis(clock: &impl Clock) -> Option<u64> {
@@ -22,8 +22,8 @@ pub fn millis(clock: &impl Clock) -> Option<u64> {
 /// A sink over a writer that gathers, for a person who may watch. It tells the bytes that the
 /// writer tells, as a `Piped` does.
 ///
-/// Whatever it has gathered is passed on after a fifth of a second, when the run says how far it
-/// is, and then the counts are shown. They are wiped when the sink is flushed or fails.
+/// Whatever it has gathered for so many milliseconds is passed on when the run says how far it is,
+/// and then the counts are shown. They are wiped when the sink is flushed or fails.
 ///
 /// Any error of the writer is a fault, and so is a count of 0 for a piece that isn't empty. If
 /// passing on fails, the next `write` or `flush` is a fault.
@@ -34,6 +34,8 @@ pub struct Prompt<W: Write, C, E> {
     first: Snapshot<W>,
     clock: C,
     counts: Counts<E>,
+    /// For how many milliseconds bytes are gathered.
+    gathered_millis: u64,
     /// Whether bytes were gathered since the last ones were passed on, and when that was.
     gathers: bool,
     passed_on: u64,
@@ -46,8 +48,8 @@ pub struct Prompt<W: Write, C, E> {
 }
 
 impl<W: Write, C: Clock, E: Write> Prompt<W, C, E> {
-    /// A sink over `writer`, with no fault so far.
-    pub fn new(writer: W, clock: C, counts: Counts<E>) -> Prompt<W, C, E>
+    /// A sink over `writer` that gathers for so many milliseconds, with no fault so far.
+    pub fn new(writer: W, clock: C, counts: Counts<E>, gathered_millis: u64) -> Prompt<W, C, E>
         ensures bytes { ⟦<Prompt<W, C, E> as Sink>⟧.bytes result ≡ W.contents writer }
         ensures faults { ⟦<Prompt<W, C, E> as Sink>⟧.faults result ≡ 0 }
     {
@@ -57,6 +59,7 @@ impl<W: Write, C: Clock, E: Write> Prompt<W, C, E> {
             first,
             clock,
             counts,
+            gathered_millis,
             gathers: false,
             passed_on: 0,
             fails: false,
@@ -83,7 +86,7 @@ impl<W: Write, C: Clock, E: Write> Prompt<W, C, E> {
             ≡ told W.contents self.old.first.value self.old.writer }
         ensures faults { self.new.faults ≡ self.old.faults }
     {
-        if !self.gathers || now.saturating_sub(self.passed_on) < GATHERED_MILLIS {
+        if !self.gathers || now.saturating_sub(self.passed_on) < self.gathered_millis {
             return;
         }
         self.gathers = false;

@@ -9,13 +9,14 @@
 ghost use Rattle.std.specs.Prelude.{◌≡◌, IfOk};
 
 use cond_lang::parse;
-use console::{Counts, Drawn, OverLine, Prompt, Style, millis};
-use deals_cli::{program, read_words};
+use console::{Counts, Drawn, GATHERED_MILLIS, OverLine, Prompt, Style, millis};
+use deals_cli::{program_with_input, read_words};
 use hints::{explain, is_never};
+use number_input::Reader;
 use requests::{MakeRequest, Progress, Request, advise};
 use sinks::{Piped, Sink, put_all};
 use std::alloc::Global;
-use std::io::{BufWriter, ErrorKind, IsTerminal, Result};
+use std::io::{BufWriter, ErrorKind, IsTerminal, Read, Result};
 use std::process::ExitCode;
 use std::{env, io};
 
@@ -34,16 +35,47 @@ const REFUSED_CONDITION: u8 = 3;
 /// The status of an output that failed.
 const FAILED_OUTPUT: u8 = 4;
 
+/// The number of the error that a descriptor isn't open: EBADF.
+const NOT_OPEN: i32 = 9;
+
+/// Standard input, which is empty if it is closed.
+#[derive(Drop)]
+struct Given {
+    stdin: io::Stdin,
+}
+
+impl Read for Given {
+    fn read(&mut self, piece: &mut [u8]) -> Result<usize> {
+        match self.stdin.read(piece) {
+            Err(error) if error.raw_os_error() == Some(NOT_OPEN) => Ok(0),
+            ended => ended,
+        }
+    }
+}
+
 /// Standard output, as `program` writes it.
 type Output = Prompt<BufWriter<io::Stdout>, HostRuntime, io::Stderr>;
 
 /// Standard error, over the line of counts.
 type Said = Piped<OverLine<io::Stderr>>;
 
+/// The run that is asked for, if it is one.
+fn run_in<'a>(asked: Option<Request<'a>>) -> Option<MakeRequest<'a>> {
+    match asked {
+        Some(Request::Make(request)) => Some(request),
+        _ => None,
+    }
+}
+
 /// The run that the words ask for, if they ask for one.
 fn run_of(alloc: Global, words: &[String]) -> Option<MakeRequest<'_>> {
+    run_in(read_words(alloc, words).ok())
+}
+
+/// The plan that the words ask for, of a run or of numbers that are read.
+fn planned_in(alloc: Global, words: &[String]) -> Option<MakeRequest<'_>> {
     match read_words(alloc, words) {
-        Ok(Request::Make(request)) => Some(request),
+        Ok(Request::Make(request) | Request::Pick(request)) => Some(request),
         _ => None,
     }
 }
@@ -60,11 +92,22 @@ fn style_of(rt: &HostRuntime, request: Option<MakeRequest<'_>>) -> Style {
     }
 }
 
+/// For how many milliseconds boards are gathered: not at all where numbers are read, since the next
+/// one may come much later.
+fn gathered_millis(request: &Option<Request<'_>>) -> u64 {
+    match request {
+        Some(Request::Pick(_)) => 0,
+        _ => GATHERED_MILLIS,
+    }
+}
+
 /// The buffered output, and the error output.
-fn open(rt: &HostRuntime, request: Option<MakeRequest<'_>>) -> Result<(Output, Said)>
+fn open(rt: &HostRuntime, asked: Option<Request<'_>>) -> Result<(Output, Said)>
     ensures out { IfOk result (λ r. ⟦<Output as Sink>⟧.faults r.0 ≡ 0) }
     ensures err { IfOk result (λ r. ⟦<Said as Sink>⟧.faults r.1 ≡ 0) }
 {
+    let gathered = gathered_millis(&asked);
+    let request = run_in(asked);
     let drawn = Drawn::new(rt.alloc())?;
     let err = Piped::new(OverLine::new(rt.stderr(), drawn.try_clone()?));
     let (style, all) = match (style_of(rt, request), request) {
@@ -74,7 +117,7 @@ fn open(rt: &HostRuntime, request: Option<MakeRequest<'_>>) -> Result<(Output, S
     let now = millis(rt).unwrap_or(0);
     let counts = Counts::new(rt.alloc(), rt.stderr(), drawn, style, all, now);
     let writer = BufWriter::with_capacity(rt.alloc(), BUFFER, rt.stdout())?;
-    Ok((Prompt::new(writer, *rt, counts), err))
+    Ok((Prompt::new(writer, *rt, counts, gathered), err))
 }
 
 /// The words that the program was called with, and its outputs.
@@ -83,13 +126,13 @@ fn start(rt: &HostRuntime) -> Result<(Vec<String>, Output, Said)>
     ensures err { IfOk result (λ r. ⟦<Said as Sink>⟧.faults r.2 ≡ 0) }
 {
     let words: Vec<String> = env::args(rt)?.collect(rt.alloc())?;
-    let (out, err) = open(rt, run_of(rt.alloc(), words.as_slice()))?;
+    let (out, err) = open(rt, read_words(rt.alloc(), words.as_slice()).ok())?;
     Ok((words, out, err))
 }
 
 /// What helps with the refused plan or label of these words; none where memory runs out.
 fn advice(alloc: Global, words: &[String]) -> Option<String> {
-    advise(alloc, &run_of(alloc, words)?).unwrap_or(None)
+    advise(alloc, &planned_in(alloc, words)?).unwrap_or(None)
 }
 
 /// What helps with the refused condition of these words; none where memory runs out.
@@ -144,7 +187,8 @@ fn main(rt: HostRuntime) -> ExitCode {
     match start(&rt) {
         Ok((words, mut out, mut err)) => {
             let words = words.as_slice();
-            let status = program(&rt, rt.alloc(), words, &mut out, &mut err);
+            let mut input = Reader::new(Given { stdin: rt.stdin() });
+            let status = program_with_input(&rt, rt.alloc(), words, &mut input, &mut out, &mut err);
             say_more(&rt, words, status, &out, &mut err);
             ExitCode::from(status)
         }

@@ -134,12 +134,7 @@ fn serve_and_flush<R: Threads + Wait + Clone + Send + 'static, I: Source, O: Sin
 /// input couldn't be read; what stands on `out` is flushed. It may wait for its workers and its
 /// input.
 #[tactic(auto, using(crate::proofs::Reporting::reporting))]
-pub fn program_with_input<
-    R: Threads + Wait + Clone + Send + 'static,
-    I: Source,
-    O: Sink,
-    E: Sink,
->(
+pub fn program_with_input<R: Threads + Wait + Clone + Send + 'static, I: Source, O: Sink, E: Sink>(
     rt: &R,
     alloc: Global,
     words: &[String],

@@ -1,8 +1,8 @@
 mod advice;
 
-use crate::{Failure, Format, MakeRequest, Progress, Request, StreamRequest, pick_as, serve};
+use crate::{Failure, Format, MakeRequest, Progress, Request, StreamRequest, serve};
 use dealrun::Cause;
-use plans::Plan;
+use number_input::{LineFault, NoBytes, Reader, RefusedLine};
 use sinks::MemSink;
 use std::alloc::Global;
 use std::process::Abort;
@@ -40,7 +40,7 @@ fn a_worker_whose_lane_was_not_closed(rt: HostRuntime) {
 fn the_values_of_a_seed(rt: HostRuntime) {
     let request = Request::Stream(StreamRequest { seed: 0, count: 3 });
     let mut out = MemSink::new(rt.alloc());
-    assert!(rt; serve(&rt, rt.alloc(), &request, &mut out).is_ok());
+    assert!(rt; serve(&rt, rt.alloc(), &request, &mut NoBytes, &mut out).is_ok());
     let values = b"366850414\n1610402240\n206956554\n";
     assert_eq!(rt; out.bytes(), values.as_slice());
 }
@@ -72,7 +72,7 @@ fn request_of(workers: u32, condition: &str) -> MakeRequest<'_> {
 fn a_make_of_no_candidates(rt: HostRuntime) {
     let request = Request::Make(request_of(2, "hcp(north)>=15"));
     let mut out = MemSink::new(rt.alloc());
-    assert!(rt; serve(&rt, rt.alloc(), &request, &mut out).is_ok());
+    assert!(rt; serve(&rt, rt.alloc(), &request, &mut NoBytes, &mut out).is_ok());
     assert_eq!(rt; out.bytes(), b"% PBN 2.1\n".as_slice());
 }
 
@@ -85,7 +85,7 @@ fn expect_refusal<R: Abort + Threads + Wait + Clone + Send + 'static>(
     line: &str,
 ) {
     let mut out = MemSink::new(alloc);
-    match serve(rt, alloc, &Request::Make(request), &mut out) {
+    match serve(rt, alloc, &Request::Make(request), &mut NoBytes, &mut out) {
         Ok(_) => assert!(rt; false),
         Err(failure) => expect_line(rt, alloc, &failure, status, line),
     }
@@ -104,25 +104,51 @@ fn a_condition_that_means_nothing(rt: HostRuntime) {
     expect_refusal(&rt, rt.alloc(), request_of(1, "hcp("), 3, line);
 }
 
-/// The line was worked out by hand.
+/// A refused line of the input is named, with what is wrong with it.
 #[test]
-fn candidates_are_picked_in_a_format(rt: HostRuntime) -> Result<(), Fail> {
-    let plan = Plan::new(0, 0, 0, 1, 64)?;
-    let mut lin = MemSink::new(rt.alloc());
-    let input = b"0\n".as_slice();
-    assert_eq!(rt;
-        pick_as(rt.alloc(), &plan, Format::Lin, &mut { input }, &mut lin)?,
-        Ok(1)
-    );
-    let line = b"qx|o1|md|3SQJ43HQ732DQT3CK9,ST6HKJ9DKJ9842CJ3,S72HAT64D75CAT872,\
-        SAK985H85DA6CQ654|sv|o|ah|Board 1|pg||\n";
-    assert_eq!(rt; lin.bytes(), line.as_slice());
-    let mut pbn = MemSink::new(rt.alloc());
-    let nothing = b"".as_slice();
-    assert_eq!(rt;
-        pick_as(rt.alloc(), &plan, Format::Pbn, &mut { nothing }, &mut pbn)?,
-        Ok(0)
-    );
-    assert_eq!(rt; pbn.bytes(), b"% PBN 2.1\n".as_slice());
-    Ok(())
+fn a_line_of_the_input_that_is_refused(rt: HostRuntime) {
+    let at = |fault| Failure::Line(RefusedLine { line: 3, fault });
+    let alloc = rt.alloc();
+    let line = "input refused at line 3: not a number\n";
+    expect_line(&rt, alloc, &at(LineFault::NotANumber), 7, line);
+    let line = "input refused at line 3: not below 1099511627776\n";
+    expect_line(&rt, alloc, &at(LineFault::NotBelow), 7, line);
+    let line = "input refused at line 3: too many numbers\n";
+    expect_line(&rt, alloc, &at(LineFault::TooMany), 7, line);
+    expect_line(&rt, alloc, &Failure::Input, 7, "input failed\n");
+}
+
+/// A `pick` in LIN.
+fn pick_request() -> Request<'static> {
+    let mut request = request_of(1, "");
+    request.candidates = None;
+    request.where_text = None;
+    request.format = Format::Lin;
+    Request::Pick(request)
+}
+
+/// Board 1 is candidate 0 of seed 0; the line was worked out by hand.
+const LINE: &[u8] = b"qx|o1|md|3SQJ43HQ732DQT3CK9,ST6HKJ9DKJ9842CJ3,S72HAT64D75CAT872,\
+    SAK985H85DA6CQ654|sv|o|ah|Board 1|pg||\n";
+
+/// Picks by these numbers, and tells whether all were dealt, and the boards.
+fn picked<R: Abort + Threads + Wait + Clone + Send + 'static>(
+    rt: &R,
+    alloc: Global,
+    numbers: &[u8],
+) -> (bool, MemSink) {
+    let mut input = Reader::new(numbers);
+    let mut out = MemSink::new(alloc);
+    let ended = serve(rt, alloc, &pick_request(), &mut input, &mut out);
+    (ended.is_ok(), out)
+}
+
+#[test]
+fn candidates_are_picked_in_a_format(rt: HostRuntime) {
+    let (is_whole, lin) = picked(&rt, rt.alloc(), b"0\n");
+    assert!(rt; is_whole);
+    assert_eq!(rt; lin.bytes(), LINE);
+    let (is_whole, lin) = picked(&rt, rt.alloc(), b"0\nzero\n");
+    assert!(rt; !is_whole);
+    assert_eq!(rt; lin.bytes(), LINE);
 }

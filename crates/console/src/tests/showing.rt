@@ -1,6 +1,6 @@
 //! What stands on the output and on the terminal, by a clock that is set by hand.
 
-use crate::{Counts, Drawn, OverLine, Prompt, Style};
+use crate::{Counts, Drawn, GATHERED_MILLIS, OverLine, Prompt, Style};
 use sinks::{Sink, put_all};
 use std::alloc::Global;
 use std::cell::{Cell, RefCell};
@@ -103,7 +103,7 @@ impl Desk {
             pen: Pen { paper: &self.out },
             broken: &self.broken,
         };
-        Prompt::new(writer, clock, counts)
+        Prompt::new(writer, clock, counts, GATHERED_MILLIS)
     }
 }
 

@@ -1,0 +1,96 @@
+"""Shards of a search: what they find, joined in order and picked, is what one run of `make` writes."""
+
+import os
+import pathlib
+import signal
+import subprocess
+import tempfile
+import time
+
+import harness
+import packages
+
+SHARD = harness.TOP / "examples" / "shard"
+SEED = ["--seed", "2024"]
+WHERE = ["--where", "hcp(north)+hcp(south)>=37"]
+
+# The first candidate and the count of each, uneven; the fifth is the longest.
+SHARDS = [
+    (0, 1),
+    (1, 7),
+    (8, 2_000_000),
+    (2_000_008, 100),
+    (2_000_108, 9_000_000),
+    (11_000_108, 1_001),
+    (11_001_109, 998_891),
+]
+LONGEST = SHARDS[4]
+CANDIDATES = 12_000_000
+SECONDS = 120
+
+
+def made(deals):
+    """What one run writes."""
+    return deals("make", *SEED, *WHERE, "--candidates", str(CANDIDATES)).stdout
+
+
+def picked(deals, folder):
+    """What is picked by the numbers of the shards' files, in order."""
+    files = sorted(path for path in pathlib.Path(folder).iterdir() if path.suffix != ".part")
+    return deals("pick", *SEED, given=b"".join(path.read_bytes() for path in files)).stdout
+
+
+def joined(deals):
+    """Shards one after another."""
+    texts = [deals("find", *SEED, *WHERE, "--first", str(f), "--candidates", str(n)).stdout for f, n in SHARDS]
+    whole = deals("find", *SEED, *WHERE, "--candidates", str(CANDIDATES)).stdout
+    yield "shards joined", None if b"".join(texts) == whole != b"" else "aren't what one run finds"
+    right = deals("pick", *SEED, given=whole).stdout == made(deals)
+    yield "shards picked", None if right else "aren't what make writes"
+
+
+def search_of(first):
+    """The process of the search from this candidate on, once there is one."""
+    wanted = f"\0find\0--first\0{first}\0".encode()
+    end = time.monotonic() + SECONDS
+    while time.monotonic() < end:
+        for entry in pathlib.Path("/proc").iterdir():
+            try:
+                if entry.name.isdigit() and wanted in (entry / "cmdline").read_bytes():
+                    if (entry / "exe").resolve() == harness.PROGRAM.resolve():
+                        return int(entry.name)
+            except OSError:
+                continue
+        time.sleep(0.005)
+    return None
+
+
+def start(folder, log, *more):
+    """Starts GNU parallel over the shards, three at once."""
+    words = ["parallel", "--will-cite", "--jobs", "3", "--joblog", log, "--colsep", " ", *more]
+    words += [str(SHARD), str(folder), "{1}", "{2}", *SEED, WHERE[0], f"'{WHERE[1]}'"]
+    process = subprocess.Popen(
+        words, stdin=subprocess.PIPE, stderr=subprocess.DEVNULL, env={**os.environ, "DEALS": str(harness.PROGRAM)}
+    )
+    process.stdin.write("".join(f"{first} {count}\n" for first, count in SHARDS).encode())
+    process.stdin.close()
+    return process
+
+
+def parallel(deals):
+    """GNU parallel, with the longest shard killed, and resumed."""
+    packages.need("parallel", "parallel")
+    with tempfile.TemporaryDirectory(prefix="shards-") as scratch:
+        folder, log = pathlib.Path(scratch) / "found", str(pathlib.Path(scratch) / "log")
+        process = start(folder, log)
+        found = search_of(LONGEST[0])
+        if found is not None:
+            os.kill(found, signal.SIGKILL)
+        failed = process.wait(SECONDS)
+        left = sorted(path.name for path in folder.iterdir())
+        broken = f"{LONGEST[0]:013d}.part" in left and len(left) == 7
+        yield "a shard killed", None if found is not None and failed == 1 and broken else f"{failed}, {left}"
+        resumed = start(folder, log, "--resume-failed").wait(SECONDS)
+        runs = len(pathlib.Path(log).read_text().splitlines()) - 1
+        yield "resumed", None if resumed == 0 and runs in (7, 8) else f"{resumed}, {runs} runs"
+        yield "GNU parallel", None if picked(deals, folder) == made(deals) else "isn't what make writes"
