@@ -75,7 +75,7 @@ class Terminal:
 
     def __init__(self, words, **environment):
         self.reader, writer = pty.openpty()
-        plain_one = {"PATH": "/usr/bin:/bin", "TERM": "dumb", "COLUMNS": "200", "LINES": "100", "HOME": "/nonexistent"}
+        plain_one = {"PATH": "/usr/sbin:/usr/bin:/bin", "TERM": "dumb", "COLUMNS": "200", "LINES": "100", "HOME": "/nonexistent"}
         self.process = subprocess.Popen(
             words,
             stdin=writer,
