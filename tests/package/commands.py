@@ -75,7 +75,8 @@ class Terminal:
 
     def __init__(self, words, **environment):
         self.reader, writer = pty.openpty()
-        plain_one = {"PATH": "/usr/sbin:/usr/bin:/bin", "TERM": "dumb", "COLUMNS": "200", "LINES": "100", "HOME": "/nonexistent"}
+        plain_one = {"PATH": "/usr/sbin:/usr/bin:/bin", "HOME": "/nonexistent"}
+        plain_one |= {"TERM": "dumb", "COLUMNS": "200", "LINES": "100"}
         self.process = subprocess.Popen(
             words,
             stdin=writer,
@@ -136,7 +137,8 @@ def in_bash(line):
 def in_fish(line):
     script = 'source $argv[1]; complete -C $argv[2] | string replace -r "\\t.*" ""; true'
     words = ["fish", "--no-config", "-c", script, PACKAGE / "completions/deals.fish", line]
-    environment = {**os.environ, "HOME": "/nonexistent", "XDG_CONFIG_HOME": "/nonexistent", "XDG_DATA_HOME": "/nonexistent"}
+    nowhere = {name: "/nonexistent" for name in ("HOME", "XDG_CONFIG_HOME", "XDG_DATA_HOME")}
+    environment = {**os.environ, **nowhere}
     return subprocess.run(words, capture_output=True, text=True, check=True, env=environment).stdout.split()
 
 

@@ -1,6 +1,7 @@
 """Makes the packages, installs them, runs what was installed, and removes it."""
 
 import os
+import re
 import shutil
 import subprocess
 
@@ -37,7 +38,10 @@ def copied(folder):
     top = folder / "another checkout"
     kept = shutil.ignore_patterns("out", "__pycache__", "*.edit")
     shutil.copytree(harness.TOP, top, symlinks=True, ignore=kept)
-    shutil.copytree(harness.PROGRAM.parent, top / "crates" / "deals" / "out")
+    out = top / "crates" / "deals" / "out"
+    out.mkdir()
+    for name in ("deals", "built-from"):
+        shutil.copy2(harness.PROGRAM.parent / name, out)
     return top
 
 
@@ -48,8 +52,10 @@ def check_made(folder):
     (folder / "two").mkdir()
     first = build(harness.TOP, folder / "one")
     old = os.umask(0o077)
-    second = build(copied(folder), folder / "two")
-    os.umask(old)
+    try:
+        second = build(copied(folder), folder / "two")
+    finally:
+        os.umask(old)
     for one, two in zip(first, second):
         yield f"made twice, {one.suffix}", one.name == two.name and one.read_bytes() == two.read_bytes()
     _, out, _ = told(["dpkg-deb", "-c", first[0]])
@@ -59,6 +65,8 @@ def check_made(folder):
     doc = "./usr/share/doc/deals/"
     files += [doc + name for name in ("copyright", "changelog.gz", "README.md", "docs/GUIDE.md", "examples/slam.cond")]
     yield "the package's files", all(name in listed for name in files)
+    named = re.findall(r"/usr/share/doc/deals/[\w./-]*", commands.plain(commands.MAN.read_text(encoding="utf-8")))
+    yield "the files that the man page names", bool(named) and all("." + name in listed for name in named)
     right = all(owner == b"root/root" and mode[5:6] != b"w" for mode, owner in listed.values())
     yield "the package's owners and rights", right
     _, out, _ = told(["dpkg-deb", "-f", first[0], "Version"])
@@ -124,7 +132,7 @@ def check_root(folder):
     for name in ("var/lib/dpkg/info", "var/lib/dpkg/updates", "var/lib/dpkg/triggers", "var/log"):
         (root / name).mkdir(parents=True)
     (root / "var/lib/dpkg/status").write_text("")
-    words = ["dpkg", f"--root={root}", "--log=/dev/null", "--force-not-root", "--force-depends", "--force-script-chrootless"]
+    words = ["dpkg", f"--root={root}", "--log=/dev/null", "--force-not-root", "--force-depends"]
     status, _, err = told([*words, "-i", package])
     yield "dpkg installs it", status == 0 and (root / "usr/bin/deals").is_file()
     status, _, err = told([*words, "--purge", "deals"])
@@ -164,7 +172,8 @@ def check_clean(folder):
     yield "clean, make", clean.told("deals", *MAKE) == (0, told([harness.PROGRAM, *MAKE])[1], b"")
     status, out, _ = clean.told("man", "-P", "cat", "deals")
     yield "clean, man", status == 0 and b"deals - deal bridge hands" in out
-    status, _, _ = clean.told("sh", "-c", 'deals make --seed 7 --boards 1 --where "$(cat /usr/share/doc/deals/examples/slam.cond)"')
+    slam = 'deals make --seed 7 --boards 1 --where "$(cat /usr/share/doc/deals/examples/slam.cond)"'
+    status, _, _ = clean.told("sh", "-c", slam)
     yield "clean, an example", status == 0
     shell = commands.Terminal(["chroot", str(clean.root), "bash", "--norc", "-i"], LC_ALL="C.UTF-8", HOME="/")
     shell.do("source /usr/share/bash-completion/bash_completion")
