@@ -1,17 +1,16 @@
 # Completion of deals in bash: commands, options, and the words that an option has.
 
 _deals_options() {
+    local form='--first-board --event --site --date --format --dealer --vulnerable --rotate'
     local search='--seed --candidates --first --workers --lane --where --boards'
     case $1 in
-        make)
-            echo "$search --first-board --event --site --date --format --dealer --vulnerable --rotate" \
-                "--report --progress --help -h"
-            ;;
+        make) echo "$search $form --report --progress --help -h" ;;
+        pick) echo "--seed $form --help -h" ;;
         find) echo "$search --report --progress --help -h" ;;
         stream) echo '--seed --count --help -h' ;;
         conditions) echo '--help -h' ;;
-        '') echo 'make find conditions stream help --help -h --version -V' ;;
-        help) echo 'make find conditions stream help' ;;
+        '') echo 'make find pick conditions stream help --help -h --version -V' ;;
+        help) echo 'make find pick conditions stream help' ;;
     esac
 }
 
