@@ -49,7 +49,7 @@ def compile_shim(folder):
 
 
 def build():
-    """Builds the program, where it is older than its sources."""
+    """Builds the program, where it is missing or was built from other sources."""
     subprocess.run([TOP / "deals", "--version"], check=True, stdout=subprocess.DEVNULL)
 
 
