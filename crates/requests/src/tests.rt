@@ -118,28 +118,23 @@ fn a_line_of_the_input_that_is_refused(rt: HostRuntime) {
     expect_line(&rt, alloc, &Failure::Input, 7, "input failed\n");
 }
 
-/// A `pick` in LIN.
-fn pick_request() -> Request<'static> {
-    let mut request = request_of(1, "");
-    request.candidates = None;
-    request.where_text = None;
-    request.format = Format::Lin;
-    Request::Pick(request)
-}
-
 /// Board 1 is candidate 0 of seed 0; the line was worked out by hand.
 const LINE: &[u8] = b"qx|o1|md|3SQJ43HQ732DQT3CK9,ST6HKJ9DKJ9842CJ3,S72HAT64D75CAT872,\
     SAK985H85DA6CQ654|sv|o|ah|Board 1|pg||\n";
 
-/// Picks by these numbers, and tells whether all were dealt, and the boards.
+/// Picks by these numbers in LIN, and tells whether all were dealt, and the boards.
 fn picked<R: Abort + Threads + Wait + Clone + Send + 'static>(
     rt: &R,
     alloc: Global,
     numbers: &[u8],
 ) -> (bool, MemSink) {
+    let mut request = request_of(1, "");
+    request.candidates = None;
+    request.where_text = None;
+    request.format = Format::Lin;
     let mut input = Reader::new(numbers);
     let mut out = MemSink::new(alloc);
-    let ended = serve(rt, alloc, &pick_request(), &mut input, &mut out);
+    let ended = serve(rt, alloc, &Request::Pick(request), &mut input, &mut out);
     (ended.is_ok(), out)
 }
 
