@@ -22,16 +22,13 @@ use crate::tree::{Tree, Value};
 use cards::{Measure, Seat};
 use std::alloc::Global;
 use std::marker::Model;
-use thiserror::Error;
 
 /// Why the parser stopped.
-#[derive(Debug, Drop, Error, PartialEq, Eq)]
+#[derive(Drop)]
 pub(crate) enum Refusal {
     /// No condition goes on with the token in sight.
-    #[error("syntax")]
     Syntax,
     /// An allocation failed.
-    #[error("out of memory")]
     Memory,
 }
 
@@ -369,7 +366,7 @@ pub(crate) fn parse_tokens(alloc: Global, tokens: &[Placed], end: usize) -> Resu
 }
 
 /// How far some tokens go, and whether they end there.
-#[derive(Clone, Copy, Debug)]
+#[derive(Clone, Copy)]
 pub(crate) struct Reach {
     /// How many of the tokens, at most, begin a condition.
     pub count: usize,

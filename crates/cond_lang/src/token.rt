@@ -33,14 +33,14 @@ pub enum Token {
 }
 
 /// A token and the offset of its first byte.
-#[derive(Clone, Copy, Debug, Default, PartialEq, Eq)]
+#[derive(Clone, Copy, Default)]
 pub struct Placed {
     pub token: Token,
     pub at: usize,
 }
 
 /// What a piece of the text is: a separator or a comment, a token, or a fault.
-#[derive(Clone, Copy, Debug, PartialEq, Eq)]
+#[derive(Clone, Copy)]
 pub enum Piece {
     /// A space, a tab, an end of a line, or a comment.
     Separator,

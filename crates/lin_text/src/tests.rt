@@ -33,59 +33,64 @@ fn the_pack_in_order(rt: HostRuntime) -> Result<(), Fail> {
     Ok(())
 }
 
+/// A board's number, its dealer and its vulnerability, and its line before the hands and after.
+type Lines = &'static [(u64, Seat, Vul, &'static str, &'static str)];
+
 /// The worked deal with other dealers, vulnerabilities and numbers than Law 2's.
+const LINES: Lines = &[
+    (
+        2,
+        Seat::East,
+        Vul::NorthSouth,
+        "qx|o2|md|4",
+        "n|ah|Board 2|pg||\n",
+    ),
+    (
+        9,
+        Seat::South,
+        Vul::EastWest,
+        "qx|o9|md|1",
+        "e|ah|Board 9|pg||\n",
+    ),
+    (
+        10,
+        Seat::North,
+        Vul::Both,
+        "qx|o10|md|3",
+        "b|ah|Board 10|pg||\n",
+    ),
+    (
+        99_999_999_999,
+        Seat::West,
+        Vul::Neither,
+        "qx|o99999999999|md|2",
+        "o|ah|Board 99999999999|pg||\n",
+    ),
+    (
+        1_099_511_627_776,
+        Seat::West,
+        Vul::EastWest,
+        "qx|o1099511627776|md|2",
+        "e|ah|Board 1099511627776|pg||\n",
+    ),
+];
+
+/// The hands of the worked deal, and the word before the vulnerability.
+const HANDS: &str = "SJ973HJ98742D3CK4,SKQT2HATDJ6542C85,SH63DAKQ987CA9732,SA8654HKQ5DTCQJT6|sv|";
+
 #[test]
 fn dealers_vulnerabilities_and_numbers(rt: HostRuntime) -> Result<(), Fail> {
-    let hands = b"SJ973HJ98742D3CK4,SKQT2HATDJ6542C85,SH63DAKQ987CA9732,SA8654HKQ5DTCQJT6|sv|";
     let mut printer = LinPrinter::new(rt.alloc())?;
-    for (number, dealer, vulnerable, front, back) in [
-        (
-            2,
-            Seat::East,
-            Vul::NorthSouth,
-            "qx|o2|md|4",
-            "n|ah|Board 2|pg||\n",
-        ),
-        (
-            9,
-            Seat::South,
-            Vul::EastWest,
-            "qx|o9|md|1",
-            "e|ah|Board 9|pg||\n",
-        ),
-        (
-            10,
-            Seat::North,
-            Vul::Both,
-            "qx|o10|md|3",
-            "b|ah|Board 10|pg||\n",
-        ),
-        (
-            99_999_999_999,
-            Seat::West,
-            Vul::Neither,
-            "qx|o99999999999|md|2",
-            "o|ah|Board 99999999999|pg||\n",
-        ),
-        (
-            1_099_511_627_776,
-            Seat::West,
-            Vul::EastWest,
-            "qx|o1099511627776|md|2",
-            "e|ah|Board 1099511627776|pg||\n",
-        ),
-    ] {
+    for (number, dealer, vulnerable, front, back) in LINES.iter() {
         printer.print(&Board {
-            number,
+            number: *number,
             candidate: 7,
-            dealer,
-            vulnerable,
+            dealer: *dealer,
+            vulnerable: *vulnerable,
             deal: deal(WORKED)?,
         });
-        let mut line = Vec::from_slice(rt.alloc(), front.as_bytes())?;
-        line.extend_from_slice(hands)?;
-        line.extend_from_slice(back.as_bytes())?;
-        assert_eq!(rt; printer.text(), line.as_slice());
+        let line = [*front, HANDS, *back].concat(rt.alloc())?;
+        assert_eq!(rt; printer.text(), line.as_bytes());
     }
     Ok(())
 }

@@ -1,8 +1,8 @@
 //! Threads at work at the same time: two workers, and a worker beside the writer.
 
 use crate::gates::{CountsCalls, TwoWay, WaitsForBytes, Watcher};
-use cond_lang::Cond;
-use dealrun::{MemSink, Piped, Plan, run};
+use crate::support::run_all;
+use dealrun::{MemSink, Piped, Plan};
 use std::sync::Arc;
 use std::sync::atomic::{AtomicU64, Ordering};
 use std::test::Fail;
@@ -14,17 +14,7 @@ fn two_workers_at_once(rt: HostRuntime) -> Result<(), Fail> {
     let mut sink = MemSink::new(rt.alloc());
     let marks = [AtomicU64::new(0), AtomicU64::new(0)];
     let gate = Arc::new(rt.alloc(), TwoWay { marks })?;
-    assert!(rt;
-        run(
-            &rt,
-            rt.alloc(),
-            &plan,
-            Cond::any(rt.alloc()),
-            &mut sink,
-            gate
-        )
-        .is_ok()
-    );
+    assert!(rt; run_all(&rt, rt.alloc(), &plan, &mut sink, gate).is_ok());
     Ok(())
 }
 
@@ -46,14 +36,7 @@ fn writes_beside_the_worker(rt: HostRuntime) -> Result<(), Fail> {
     };
     let gate = Arc::new(rt.alloc(), waits)?;
     let mut sink = Piped::new(watcher);
-    let report = run(
-        &rt,
-        rt.alloc(),
-        &plan,
-        Cond::any(rt.alloc()),
-        &mut sink,
-        gate,
-    );
+    let report = run_all(&rt, rt.alloc(), &plan, &mut sink, gate);
     assert_eq!(rt; report.ok().map(|report| report.boards), Some(10));
     Ok(())
 }
@@ -72,14 +55,7 @@ fn waits_for_the_writer(rt: HostRuntime) -> Result<(), Fail> {
     };
     let gate = Arc::new(rt.alloc(), CountsCalls(calls))?;
     let mut sink = Piped::new(watcher);
-    let report = run(
-        &rt,
-        rt.alloc(),
-        &plan,
-        Cond::any(rt.alloc()),
-        &mut sink,
-        gate,
-    );
+    let report = run_all(&rt, rt.alloc(), &plan, &mut sink, gate);
     assert_eq!(rt; report.ok().map(|report| report.boards), Some(10));
     assert!(rt; most.load(Ordering::SeqCst) <= 2);
     Ok(())

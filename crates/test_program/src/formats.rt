@@ -152,26 +152,45 @@ fn turned_to_the_dealers_of_the_cycle(rt: HostRuntime) -> Result<(), Fail> {
 }
 
 /// The first deal of seed 0, turned to each dealer.
+const TURNS: &[(&str, &str)] = &[
+    (
+        "N",
+        "72.AT64.75.AT872 AK985.85.A6.Q654 QJ43.Q732.QT3.K9 T6.KJ9.KJ9842.J3",
+    ),
+    (
+        "E",
+        "T6.KJ9.KJ9842.J3 72.AT64.75.AT872 AK985.85.A6.Q654 QJ43.Q732.QT3.K9",
+    ),
+    (
+        "S",
+        "QJ43.Q732.QT3.K9 T6.KJ9.KJ9842.J3 72.AT64.75.AT872 AK985.85.A6.Q654",
+    ),
+    (
+        "W",
+        "AK985.85.A6.Q654 QJ43.Q732.QT3.K9 T6.KJ9.KJ9842.J3 72.AT64.75.AT872",
+    ),
+];
+
 #[test]
 fn turned_to_one_dealer(rt: HostRuntime) -> Result<(), Fail> {
-    const NORTH: &str = "72.AT64.75.AT872";
-    const EAST: &str = "AK985.85.A6.Q654";
-    const SOUTH: &str = "QJ43.Q732.QT3.K9";
-    const WEST: &str = "T6.KJ9.KJ9842.J3";
-    for (dealer, [a, b, c, d]) in [
-        ("N", [NORTH, EAST, SOUTH, WEST]),
-        ("E", [WEST, NORTH, EAST, SOUTH]),
-        ("S", [SOUTH, WEST, NORTH, EAST]),
-        ("W", [EAST, SOUTH, WEST, NORTH]),
-    ] {
-        let want = format!(in rt.alloc();
-            "% PBN 2.1\n[Board \"1\"]\n[Dealer \"{dealer}\"]\n[Vulnerable \"None\"]\n\
-             [Deal \"N:{a} {b} {c} {d}\"]\n\n"
-        )?;
-        let one = ["--candidates", "1", "--rotate", "--dealer", dealer];
-        writes(&rt, rt.alloc(), one.as_slice(), want.as_str())?;
+    for (dealer, deal) in TURNS.iter() {
+        turns_to(&rt, rt.alloc(), dealer, deal)?;
     }
     Ok(())
+}
+
+/// The first deal of seed 0 is this one once it is turned to the dealer.
+fn turns_to<R: Abort + Threads + Wait + Clone + Send + 'static>(
+    rt: &R,
+    alloc: Global,
+    dealer: &str,
+    deal: &str,
+) -> Result<(), Fail> {
+    let begin = "% PBN 2.1\n[Board \"1\"]\n[Dealer \"";
+    let middle = "\"]\n[Vulnerable \"None\"]\n[Deal \"N:";
+    let want = [begin, dealer, middle, deal, "\"]\n\n"].concat(alloc)?;
+    let options = ["--candidates", "1", "--rotate", "--dealer", dealer];
+    writes(rt, alloc, options.as_slice(), want.as_str())
 }
 
 /// A dealer turns nothing by itself, and neither do the sides.
@@ -192,44 +211,49 @@ fn dealer_and_sides_alone(rt: HostRuntime) -> Result<(), Fail> {
     writes(&rt, rt.alloc(), options.as_slice(), want)
 }
 
-/// A word that is none of an option's values, in another case too, is refused in clap's words.
+/// An option, a word that is none of its values, and how clap's text begins.
+type Words = &'static [(&'static str, &'static str, &'static str)];
+
+/// A value in another case is none either.
+const NO_VALUES: Words = &[
+    (
+        "--format",
+        "text",
+        "error: invalid value 'text' for '--format <FORMAT>'\n  \
+         [possible values: pbn, hands, lin, html]\n",
+    ),
+    (
+        "--format",
+        "PBN",
+        "error: invalid value 'PBN' for '--format <FORMAT>'\n",
+    ),
+    (
+        "--dealer",
+        "north",
+        "error: invalid value 'north' for '--dealer <SEAT>'\n  [possible values: N, E, S, W]\n",
+    ),
+    (
+        "--dealer",
+        "n",
+        "error: invalid value 'n' for '--dealer <SEAT>'\n",
+    ),
+    (
+        "--vulnerable",
+        "both",
+        "error: invalid value 'both' for '--vulnerable <SIDES>'\n  \
+         [possible values: None, NS, EW, All]\n",
+    ),
+    (
+        "--vulnerable",
+        "",
+        "error: invalid value '' for '--vulnerable <SIDES>'\n",
+    ),
+];
+
 #[test]
 fn words_that_are_no_values(rt: HostRuntime) -> Result<(), Fail> {
-    for (option, word, text) in [
-        (
-            "--format",
-            "text",
-            "error: invalid value 'text' for '--format <FORMAT>'\n  \
-             [possible values: pbn, hands, lin, html]\n",
-        ),
-        (
-            "--format",
-            "PBN",
-            "error: invalid value 'PBN' for '--format <FORMAT>'\n",
-        ),
-        (
-            "--dealer",
-            "north",
-            "error: invalid value 'north' for '--dealer <SEAT>'\n  [possible values: N, E, S, W]\n",
-        ),
-        (
-            "--dealer",
-            "n",
-            "error: invalid value 'n' for '--dealer <SEAT>'\n",
-        ),
-        (
-            "--vulnerable",
-            "both",
-            "error: invalid value 'both' for '--vulnerable <SIDES>'\n  \
-             [possible values: None, NS, EW, All]\n",
-        ),
-        (
-            "--vulnerable",
-            "",
-            "error: invalid value '' for '--vulnerable <SIDES>'\n",
-        ),
-    ] {
-        let options = ["--boards", "4", option, word];
+    for (option, word, text) in NO_VALUES.iter() {
+        let options = ["--boards", "4", *option, *word];
         let outcome = make_of(&rt, rt.alloc(), options.as_slice())?;
         assert_eq!(rt; outcome.status, 2, "{option} {word}");
         assert!(rt;

@@ -1,8 +1,9 @@
 //! Runs over lanes that are interrupted: failing sinks and stopping gates.
 
 use crate::gates::StopsAt;
+use crate::support::{run_all, run_plainly};
 use cond_lang::Cond;
-use dealrun::{Cause, Fuse, MemSink, Plan, run, run_plain};
+use dealrun::{Cause, Fuse, MemSink, Plan};
 use lanes::{Core, Event, LaneOut, OpenGate};
 use std::alloc::Global;
 use std::process::Abort;
@@ -12,7 +13,7 @@ use std::test::Fail;
 /// The text of 200 candidates of seed 0, all accepted.
 fn whole_text(alloc: Global) -> Result<MemSink, Fail> {
     let mut whole = MemSink::new(alloc);
-    let answer = run_plain(&Plan::new(0, 0, 200, 1, 64)?, &Cond::any(alloc), &mut whole);
+    let answer = run_plainly(&Plan::new(0, 0, 200, 1, 64)?, &Cond::any(alloc), &mut whole);
     answer.ok().ok_or("the whole text")?;
     Ok(whole)
 }
@@ -26,14 +27,7 @@ fn fails_at_each_write(rt: HostRuntime) -> Result<(), Fail> {
         for fails_at in 1..=202u64 {
             let mut sink = Fuse::new(MemSink::new(rt.alloc()), fails_at, 4096, true);
             let gate = Arc::new(rt.alloc(), OpenGate)?;
-            match run(
-                &rt,
-                rt.alloc(),
-                &plan,
-                Cond::any(rt.alloc()),
-                &mut sink,
-                gate,
-            ) {
+            match run_all(&rt, rt.alloc(), &plan, &mut sink, gate) {
                 Ok(report) => assert_eq!(rt; (fails_at, report.boards), (202, 200)),
                 Err(fault) => {
                     assert_eq!(rt;
@@ -56,14 +50,7 @@ fn counts_whole_games(rt: HostRuntime) -> Result<(), Fail> {
     for (fails_at, bytes, boards) in [(1, 0, 0), (135, 134, 0), (136, 135, 1)] {
         let mut sink = Fuse::new(MemSink::new(rt.alloc()), fails_at, 1, true);
         let gate = Arc::new(rt.alloc(), OpenGate)?;
-        match run(
-            &rt,
-            rt.alloc(),
-            &plan,
-            Cond::any(rt.alloc()),
-            &mut sink,
-            gate,
-        ) {
+        match run_all(&rt, rt.alloc(), &plan, &mut sink, gate) {
             Ok(_) => assert!(rt; false),
             Err(fault) => assert_eq!(rt; (fault.cause, fault.boards), (Cause::Output, boards)),
         }
@@ -82,19 +69,12 @@ fn stops_at_each_number(rt: HostRuntime) -> Result<(), Fail> {
             let mut before = MemSink::new(rt.alloc());
             let first = Plan::new(0, 0, number, 1, 64)?;
             assert_eq!(rt;
-                run_plain(&first, &Cond::any(rt.alloc()), &mut before),
+                run_plainly(&first, &Cond::any(rt.alloc()), &mut before),
                 Ok(number)
             );
             let mut sink = MemSink::new(rt.alloc());
             let gate = Arc::new(rt.alloc(), StopsAt(number))?;
-            match run(
-                &rt,
-                rt.alloc(),
-                &plan,
-                Cond::any(rt.alloc()),
-                &mut sink,
-                gate,
-            ) {
+            match run_all(&rt, rt.alloc(), &plan, &mut sink, gate) {
                 Ok(_) => assert!(rt; false),
                 Err(fault) => {
                     assert!(rt; matches!(fault.cause, Cause::Stopped { .. }));
@@ -114,14 +94,7 @@ fn names_the_first_cause(rt: HostRuntime) -> Result<(), Fail> {
     let plan = Plan::new(0, 0, 200, 3, 64)?;
     let mut sink = Fuse::new(MemSink::new(rt.alloc()), 1, 4096, true);
     let gate = Arc::new(rt.alloc(), StopsAt(5))?;
-    match run(
-        &rt,
-        rt.alloc(),
-        &plan,
-        Cond::any(rt.alloc()),
-        &mut sink,
-        gate,
-    ) {
+    match run_all(&rt, rt.alloc(), &plan, &mut sink, gate) {
         Ok(_) => assert!(rt; false),
         Err(fault) => assert_eq!(rt; (fault.cause, fault.boards), (Cause::Output, 0)),
     }
@@ -135,20 +108,13 @@ fn stops_a_lone_worker(rt: HostRuntime) -> Result<(), Fail> {
     let mut four = MemSink::new(rt.alloc());
     let before = Plan::new(0, 0, 4, 1, 64)?;
     assert_eq!(rt;
-        run_plain(&before, &Cond::any(rt.alloc()), &mut four),
+        run_plainly(&before, &Cond::any(rt.alloc()), &mut four),
         Ok(4)
     );
     let mut sink = MemSink::new(rt.alloc());
     let gate = Arc::new(rt.alloc(), StopsAt(4))?;
     let plan = Plan::new(0, 0, 10, 1, 64)?;
-    let ended = run(
-        &rt,
-        rt.alloc(),
-        &plan,
-        Cond::any(rt.alloc()),
-        &mut sink,
-        gate,
-    );
+    let ended = run_all(&rt, rt.alloc(), &plan, &mut sink, gate);
     assert_eq!(rt;
         ended.err().map(|fault| fault.cause),
         Some(Cause::Stopped { worker: 0 })
@@ -174,14 +140,7 @@ fn replays_on_the_core(rt: HostRuntime) -> Result<(), Fail> {
     let plan = Plan::new(0, 0, 10, 1, 64)?;
     let mut sink = MemSink::new(rt.alloc());
     let gate = Arc::new(rt.alloc(), StopsAt(4))?;
-    let Err(mut fault) = run(
-        &rt,
-        rt.alloc(),
-        &plan,
-        Cond::any(rt.alloc()),
-        &mut sink,
-        gate,
-    ) else {
+    let Err(mut fault) = run_all(&rt, rt.alloc(), &plan, &mut sink, gate) else {
         assert!(rt; false);
         return Ok(());
     };
@@ -216,14 +175,7 @@ fn replays_a_limit_on_the_core(rt: HostRuntime) -> Result<(), Fail> {
     let plan = Plan::new(0, 0, 10, 1, 64)?.limited(3)?;
     let mut sink = MemSink::new(rt.alloc());
     let gate = Arc::new(rt.alloc(), OpenGate)?;
-    let Ok(mut report) = run(
-        &rt,
-        rt.alloc(),
-        &plan,
-        Cond::any(rt.alloc()),
-        &mut sink,
-        gate,
-    ) else {
+    let Ok(mut report) = run_all(&rt, rt.alloc(), &plan, &mut sink, gate) else {
         assert!(rt; false);
         return Ok(());
     };

@@ -1,72 +1,67 @@
 //! `make`, through the program.
 
-use crate::support::{make_of, outcome_of, words_of};
-use dealrun::{Fuse, MemSink};
-use deals_cli::program;
+use crate::support::{failed_outcome_of, make_of, outcome_of};
+use std::alloc::Global;
+use std::process::Abort;
+use std::sync::Wait;
 use std::test::Fail;
+use std::thread::Threads;
 
-/// How many bytes and how many boards are written.
+/// The options after `make --seed 0`, how many bytes they write, and how many boards.
+type Sizes = &'static [(&'static [&'static str], usize, usize)];
+
+const NUMBERS: Sizes = &[
+    (&["--candidates", "0"], 10, 0),
+    (&["--candidates", "3"], 381, 3),
+    (&["--candidates", "200"], 25_052, 200),
+    (&["--candidates", "1", "--first", "2"], 135, 1),
+    (&["--candidates", "1", "--first", "1099511627775"], 135, 1),
+];
+
+const CONDITIONS: Sizes = &[
+    (&["--candidates", "100", "--where", NONE], 10, 0),
+    (&["--candidates", "20", "--where", SUM], 2_496, 20),
+    (&["--candidates", "20", "--where", NO_SUM], 10, 0),
+];
+
+const NONE: &str = "shape(north,9-9-9-9)";
+
+const SUM: &str = "hcp(north)+hcp(east)+hcp(south)+hcp(west)==40";
+
+const NO_SUM: &str = "hcp(north)+hcp(east)+hcp(south)+hcp(west)!=40";
+
+const LIMITS: Sizes = &[
+    (&["--candidates", "200", "--boards", "5"], 628, 5),
+    (&["--candidates", "200", "--boards", "200"], 25_052, 200),
+    (&["--candidates", "200", "--boards", "201"], 25_052, 200),
+    (
+        &["--candidates", "200", "--boards", "5", "--where", NONE],
+        10,
+        0,
+    ),
+    (&["--boards", "3"], 381, 3),
+    (&["--boards", "5", "--first", "1099511627774"], 258, 2),
+    (&["--boards", "5", "--first", "1099511627776"], 10, 0),
+];
+
 #[test]
 fn writes_so_many_bytes(rt: HostRuntime) -> Result<(), Fail> {
-    const SUM: &str = "hcp(north)+hcp(east)+hcp(south)+hcp(west)==40";
-    const NO_SUM: &str = "hcp(north)+hcp(east)+hcp(south)+hcp(west)!=40";
-    for (options, bytes, boards) in [
-        (["--candidates", "0"].as_slice(), 10, 0),
-        (["--candidates", "3"].as_slice(), 381, 3),
-        (["--candidates", "200"].as_slice(), 25_052, 200),
-        (["--candidates", "1", "--first", "2"].as_slice(), 135, 1),
-        (
-            ["--candidates", "1", "--first", "1099511627775"].as_slice(),
-            135,
-            1,
-        ),
-        (
-            ["--candidates", "100", "--where", "shape(north,9-9-9-9)"].as_slice(),
-            10,
-            0,
-        ),
-        (["--candidates", "20", "--where", SUM].as_slice(), 2_496, 20),
-        (["--candidates", "20", "--where", NO_SUM].as_slice(), 10, 0),
-        (["--candidates", "200", "--boards", "5"].as_slice(), 628, 5),
-        (
-            ["--candidates", "200", "--boards", "200"].as_slice(),
-            25_052,
-            200,
-        ),
-        (
-            ["--candidates", "200", "--boards", "201"].as_slice(),
-            25_052,
-            200,
-        ),
-        (
-            [
-                "--candidates",
-                "200",
-                "--boards",
-                "5",
-                "--where",
-                "shape(north,9-9-9-9)",
-            ]
-            .as_slice(),
-            10,
-            0,
-        ),
-        (["--boards", "3"].as_slice(), 381, 3),
-        (
-            ["--boards", "5", "--first", "1099511627774"].as_slice(),
-            258,
-            2,
-        ),
-        (
-            ["--boards", "5", "--first", "1099511627776"].as_slice(),
-            10,
-            0,
-        ),
-    ] {
-        let outcome = make_of(&rt, rt.alloc(), options)?;
+    writes_sizes(&rt, rt.alloc(), NUMBERS)?;
+    writes_sizes(&rt, rt.alloc(), CONDITIONS)?;
+    writes_sizes(&rt, rt.alloc(), LIMITS)
+}
+
+/// So many bytes and so many boards are written, and nothing is said.
+fn writes_sizes<R: Abort + Threads + Wait + Clone + Send + 'static>(
+    rt: &R,
+    alloc: Global,
+    sizes: Sizes,
+) -> Result<(), Fail> {
+    for (options, bytes, boards) in sizes.iter() {
+        let outcome = make_of(rt, alloc, options)?;
         assert_eq!(rt; outcome.status, 0);
-        assert_eq!(rt; outcome.out.bytes().len(), bytes, "{options:?}");
-        assert_eq!(rt; games(outcome.out.bytes()), boards, "{options:?}");
+        assert_eq!(rt; outcome.out.bytes().len(), *bytes, "{options:?}");
+        assert_eq!(rt; games(outcome.out.bytes()), *boards, "{options:?}");
         assert!(rt; outcome.err.bytes().is_empty());
     }
     Ok(())
@@ -204,20 +199,15 @@ fn shares_out_by_a_condition(rt: HostRuntime) -> Result<(), Fail> {
 fn says_that_the_output_failed(rt: HostRuntime) -> Result<(), Fail> {
     let words = ["deals", "make", "--seed", "0", "--candidates", "20"];
     let whole = outcome_of(&rt, rt.alloc(), words.as_slice(), [].as_slice())?;
-    let words = words_of(rt.alloc(), words.as_slice(), [].as_slice())?;
-    for fails_at in 0..=22 {
-        let mut out = Fuse::new(MemSink::new(rt.alloc()), fails_at, 4096, fails_at != 0);
-        let mut err = MemSink::new(rt.alloc());
-        let status = program(&rt, rt.alloc(), words.as_slice(), &mut out, &mut err);
-        assert!(rt; whole.out.bytes().starts_with(out.bytes()));
-        if fails_at == 22 {
-            assert_eq!(rt; status, 0);
-            assert_eq!(rt; out.bytes(), whole.out.bytes());
-        } else {
-            assert_eq!(rt; status, 4);
-            assert_eq!(rt; err.bytes(), b"output failed\n".as_slice());
-            assert_eq!(rt; out.bytes() == whole.out.bytes(), fails_at == 0);
-        }
+    for fails_at in 0..=21 {
+        let failed = failed_outcome_of(&rt, rt.alloc(), words.as_slice(), fails_at, fails_at != 0)?;
+        assert_eq!(rt; failed.status, 4);
+        assert_eq!(rt; failed.err.bytes(), b"output failed\n".as_slice());
+        assert!(rt; whole.out.bytes().starts_with(failed.out.bytes()));
+        assert_eq!(rt; failed.out.bytes() == whole.out.bytes(), fails_at == 0);
     }
+    let past = failed_outcome_of(&rt, rt.alloc(), words.as_slice(), 22, true)?;
+    assert_eq!(rt; past.status, 0);
+    assert_eq!(rt; past.out.bytes(), whole.out.bytes());
     Ok(())
 }

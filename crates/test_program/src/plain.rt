@@ -1,7 +1,8 @@
 //! The plain run and plans.
 
+use crate::support::run_plainly;
 use cond_lang::{Cond, parse};
-use dealrun::{Fuse, MemSink, PlainFault, Plan, PlanError, run_plain};
+use dealrun::{Fuse, MemSink, PlainFault, Plan, PlanError};
 use pbn_text::{Date, Heading, Label};
 use std::test::Fail;
 
@@ -52,13 +53,13 @@ fn writes_all_deals(rt: HostRuntime) -> Result<(), Fail> {
     let plan = Plan::new(0, 0, 200, 1, 64)?;
     let mut sink = MemSink::new(rt.alloc());
     assert_eq!(rt;
-        run_plain(&plan, &Cond::any(rt.alloc()), &mut sink),
+        run_plainly(&plan, &Cond::any(rt.alloc()), &mut sink),
         Ok(200)
     );
     assert_eq!(rt; sink.bytes().len(), 25_052);
     let mut limited = MemSink::new(rt.alloc());
     assert_eq!(rt;
-        run_plain(&plan.limited(5)?, &Cond::any(rt.alloc()), &mut limited),
+        run_plainly(&plan.limited(5)?, &Cond::any(rt.alloc()), &mut limited),
         Ok(5)
     );
     assert_eq!(rt; limited.bytes().len(), 628);
@@ -76,7 +77,10 @@ fn writes_under_a_heading(rt: HostRuntime) -> Result<(), Fail> {
     let plan = Plan::new(0, 0, 2, 1, 64)?.numbered(16)?.headed(heading);
     assert!(rt; plan.heading().event.is_some());
     let mut sink = MemSink::new(rt.alloc());
-    assert_eq!(rt; run_plain(&plan, &Cond::any(rt.alloc()), &mut sink), Ok(2));
+    assert_eq!(rt;
+        run_plainly(&plan, &Cond::any(rt.alloc()), &mut sink),
+        Ok(2)
+    );
     assert_eq!(rt; sink.bytes().len(), 342);
     assert!(rt;
         sink.bytes().starts_with(
@@ -93,14 +97,14 @@ fn counts_whole_games(rt: HostRuntime) -> Result<(), Fail> {
     for (fails_at, bytes, boards) in [(1, 0, 0), (10, 9, 0), (135, 134, 0), (136, 135, 1)] {
         let mut sink = Fuse::new(MemSink::new(rt.alloc()), fails_at, 1, true);
         assert_eq!(rt;
-            run_plain(&plan, &Cond::any(rt.alloc()), &mut sink),
+            run_plainly(&plan, &Cond::any(rt.alloc()), &mut sink),
             Err(PlainFault { boards })
         );
         assert_eq!(rt; sink.bytes().len(), bytes);
     }
     let mut whole = Fuse::new(MemSink::new(rt.alloc()), 0, 1, true);
     assert_eq!(rt;
-        run_plain(&plan, &Cond::any(rt.alloc()), &mut whole),
+        run_plainly(&plan, &Cond::any(rt.alloc()), &mut whole),
         Ok(200)
     );
     assert_eq!(rt; whole.bytes().len(), 25_052);
@@ -113,10 +117,10 @@ fn fails_at_each_write(rt: HostRuntime) -> Result<(), Fail> {
     let plan = Plan::new(0, 0, 200, 1, 64)?;
     let any = Cond::any(rt.alloc());
     let mut whole = MemSink::new(rt.alloc());
-    assert_eq!(rt; run_plain(&plan, &any, &mut whole), Ok(200));
+    assert_eq!(rt; run_plainly(&plan, &any, &mut whole), Ok(200));
     for fails_at in 1..=202 {
         let mut sink = Fuse::new(MemSink::new(rt.alloc()), fails_at, 4096, true);
-        let answer = run_plain(&plan, &any, &mut sink);
+        let answer = run_plainly(&plan, &any, &mut sink);
         assert!(rt; whole.bytes().starts_with(sink.bytes()));
         if fails_at == 202 {
             assert_eq!(rt; answer, Ok(200));
@@ -135,7 +139,7 @@ fn shares_out_by_a_condition(rt: HostRuntime) -> Result<(), Fail> {
     for text in [b"hcp(north)>=15".as_slice(), b"not hcp(north)>=15"] {
         let condition = parse(rt.alloc(), text)?;
         let mut sink = MemSink::new(rt.alloc());
-        let Ok(kept) = run_plain(&plan, &condition, &mut sink) else {
+        let Ok(kept) = run_plainly(&plan, &condition, &mut sink) else {
             assert!(rt; false);
             return Ok(());
         };

@@ -7,47 +7,47 @@ use std::sync::Wait;
 use std::test::Fail;
 use std::thread::Threads;
 
+/// Words that ask for nothing.
+const NO_WISHES: &[&[&str]] = &[
+    &["deals", "--frist"],
+    &["deals"],
+    &["deals", "deal"],
+    &["deals", "stream"],
+    &["deals", "stream", "--seed", "0"],
+    &["deals", "make", "--seed", "0"],
+    &[
+        "deals",
+        "make",
+        "--seed",
+        "0",
+        "--candidates",
+        "18446744073709551616",
+    ],
+    &[
+        "deals",
+        "make",
+        "--seed",
+        "0",
+        "--candidates",
+        "1",
+        "--boards",
+        "4294967296",
+    ],
+    &[
+        "deals",
+        "make",
+        "--seed",
+        "0",
+        "--candidates",
+        "1",
+        "--event",
+        "-x",
+    ],
+];
+
 #[test]
 fn refuses_words(rt: HostRuntime) -> Result<(), Fail> {
-    for words in [
-        ["deals", "--frist"].as_slice(),
-        ["deals"].as_slice(),
-        ["deals", "deal"].as_slice(),
-        ["deals", "stream"].as_slice(),
-        ["deals", "stream", "--seed", "0"].as_slice(),
-        ["deals", "make", "--seed", "0"].as_slice(),
-        [
-            "deals",
-            "make",
-            "--seed",
-            "0",
-            "--candidates",
-            "18446744073709551616",
-        ]
-        .as_slice(),
-        [
-            "deals",
-            "make",
-            "--seed",
-            "0",
-            "--candidates",
-            "1",
-            "--boards",
-            "4294967296",
-        ]
-        .as_slice(),
-        [
-            "deals",
-            "make",
-            "--seed",
-            "0",
-            "--candidates",
-            "1",
-            "--event",
-            "-x",
-        ]
-        .as_slice(),
-    ] {
+    for words in NO_WISHES.iter() {
         let outcome = outcome_of(&rt, rt.alloc(), words, [].as_slice())?;
         assert_eq!(rt; outcome.status, 2, "{words:?}");
         assert!(rt; outcome.out.bytes().is_empty() && !outcome.err.bytes().is_empty());
@@ -105,107 +105,107 @@ fn refuses_a_make_without_an_end(rt: HostRuntime) -> Result<(), Fail> {
     refuses(&rt, rt.alloc(), ["--first", "4"].as_slice(), 2, want)
 }
 
-/// The options after `make --seed 0`, the status and the line.
+/// The options after `make --seed 0`, and the line that refuses them.
+type Refusals = &'static [(&'static [&'static str], &'static str)];
+
+const PLANS: Refusals = &[
+    (&["--candidates", "1099511627777"], "plan refused: range\n"),
+    (
+        &["--candidates", "2", "--first", "1099511627775"],
+        "plan refused: range\n",
+    ),
+    (
+        &["--candidates", "1", "--first", "18446744073709551615"],
+        "plan refused: range\n",
+    ),
+    (
+        &["--candidates", "1", "--workers", "0"],
+        "plan refused: workers\n",
+    ),
+    (
+        &["--candidates", "1", "--workers", "17", "--lane", "0"],
+        "plan refused: workers\n",
+    ),
+    (
+        &["--candidates", "1", "--lane", "4097"],
+        "plan refused: lane capacity\n",
+    ),
+    (
+        &["--candidates", "1", "--boards", "0", "--first-board", "0"],
+        "plan refused: boards\n",
+    ),
+    (
+        &["--candidates", "1", "--first-board", "0"],
+        "plan refused: first board\n",
+    ),
+    (
+        &["--candidates", "1", "--first-board", "1099511627777"],
+        "plan refused: first board\n",
+    ),
+    (
+        &["--candidates", "1", "--lane", "0", "--where", "x"],
+        "plan refused: lane capacity\n",
+    ),
+];
+
+const LABELS: Refusals = &[
+    (
+        &["--candidates", "1", "--event", "a\"b"],
+        "label refused: event\n",
+    ),
+    (
+        &["--candidates", "1", "--site", "a\\b", "--date", "x"],
+        "label refused: site\n",
+    ),
+    (
+        &["--candidates", "1", "--date", "2024-05-01"],
+        "label refused: date\n",
+    ),
+    (
+        &["--candidates", "1", "--date", "x", "--where", "x"],
+        "label refused: date\n",
+    ),
+];
+
+const CONDITIONS: Refusals = &[
+    (
+        &["--candidates", "1", "--where", "hcp(nord)>=15 #"],
+        "condition refused at byte 4: unknown word\n",
+    ),
+    (
+        &["--candidates", "1", "--where", "hcp(north)< =15"],
+        "condition refused at byte 12: unexpected byte\n",
+    ),
+    (
+        &["--candidates", "1", "--where", "len(north,spades)>=00005"],
+        "condition refused at byte 19: number too long\n",
+    ),
+    (
+        &["--candidates", "1", "--where", "hcp(north)>=15)"],
+        "condition refused at byte 14: syntax\n",
+    ),
+    (
+        &["--candidates", "1", "--where", ""],
+        "condition refused at byte 0: syntax\n",
+    ),
+];
+
 #[test]
 fn refuses_plans_labels_and_conditions(rt: HostRuntime) -> Result<(), Fail> {
-    for (options, status, want) in [
-        (
-            ["--candidates", "1099511627777"].as_slice(),
-            2,
-            "plan refused: range\n",
-        ),
-        (
-            ["--candidates", "2", "--first", "1099511627775"].as_slice(),
-            2,
-            "plan refused: range\n",
-        ),
-        (
-            ["--candidates", "1", "--first", "18446744073709551615"].as_slice(),
-            2,
-            "plan refused: range\n",
-        ),
-        (
-            ["--candidates", "1", "--workers", "0"].as_slice(),
-            2,
-            "plan refused: workers\n",
-        ),
-        (
-            ["--candidates", "1", "--workers", "17", "--lane", "0"].as_slice(),
-            2,
-            "plan refused: workers\n",
-        ),
-        (
-            ["--candidates", "1", "--lane", "4097"].as_slice(),
-            2,
-            "plan refused: lane capacity\n",
-        ),
-        (
-            ["--candidates", "1", "--boards", "0", "--first-board", "0"].as_slice(),
-            2,
-            "plan refused: boards\n",
-        ),
-        (
-            ["--candidates", "1", "--first-board", "0"].as_slice(),
-            2,
-            "plan refused: first board\n",
-        ),
-        (
-            ["--candidates", "1", "--first-board", "1099511627777"].as_slice(),
-            2,
-            "plan refused: first board\n",
-        ),
-        (
-            ["--candidates", "1", "--event", "a\"b"].as_slice(),
-            2,
-            "label refused: event\n",
-        ),
-        (
-            ["--candidates", "1", "--site", "a\\b", "--date", "x"].as_slice(),
-            2,
-            "label refused: site\n",
-        ),
-        (
-            ["--candidates", "1", "--date", "2024-05-01"].as_slice(),
-            2,
-            "label refused: date\n",
-        ),
-        (
-            ["--candidates", "1", "--date", "x", "--where", "x"].as_slice(),
-            2,
-            "label refused: date\n",
-        ),
-        (
-            ["--candidates", "1", "--lane", "0", "--where", "x"].as_slice(),
-            2,
-            "plan refused: lane capacity\n",
-        ),
-        (
-            ["--candidates", "1", "--where", "hcp(nord)>=15 #"].as_slice(),
-            3,
-            "condition refused at byte 4: unknown word\n",
-        ),
-        (
-            ["--candidates", "1", "--where", "hcp(north)< =15"].as_slice(),
-            3,
-            "condition refused at byte 12: unexpected byte\n",
-        ),
-        (
-            ["--candidates", "1", "--where", "len(north,spades)>=00005"].as_slice(),
-            3,
-            "condition refused at byte 19: number too long\n",
-        ),
-        (
-            ["--candidates", "1", "--where", "hcp(north)>=15)"].as_slice(),
-            3,
-            "condition refused at byte 14: syntax\n",
-        ),
-        (
-            ["--candidates", "1", "--where", ""].as_slice(),
-            3,
-            "condition refused at byte 0: syntax\n",
-        ),
-    ] {
-        refuses(&rt, rt.alloc(), options, status, want)?;
+    refuses_each(&rt, rt.alloc(), PLANS, 2)?;
+    refuses_each(&rt, rt.alloc(), LABELS, 2)?;
+    refuses_each(&rt, rt.alloc(), CONDITIONS, 3)
+}
+
+/// Each of the refusals ends with this status.
+fn refuses_each<R: Abort + Threads + Wait + Clone + Send + 'static>(
+    rt: &R,
+    alloc: Global,
+    refusals: Refusals,
+    status: u8,
+) -> Result<(), Fail> {
+    for (options, want) in refusals.iter() {
+        refuses(rt, alloc, options, status, want)?;
     }
     Ok(())
 }

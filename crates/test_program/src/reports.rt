@@ -20,166 +20,171 @@ fn reports<R: Abort + Threads + Wait + Clone + Send + 'static>(
     Ok(())
 }
 
+/// Options, and what is said of a run with them.
+type Reports = &'static [(&'static [&'static str], &'static str)];
+
 /// Every candidate is a board.
+const ALL: Reports = &[
+    (
+        &["--candidates", "36", "--report"],
+        "36 boards from 36 candidates, numbers 0 to 35, of seed 0\n\
+         next: --first 36 --first-board 37\n",
+    ),
+    (
+        &["--candidates", "1", "--report"],
+        "1 board from 1 candidate, number 0, of seed 0\nnext: --first 1 --first-board 2\n",
+    ),
+    (
+        &["--candidates", "0", "--report"],
+        "0 boards from no candidates of seed 0\nnext: --first 0 --first-board 1\n",
+    ),
+    (
+        &[
+            "--candidates",
+            "0",
+            "--boards",
+            "7",
+            "--report",
+            "--first",
+            "5",
+            "--first-board",
+            "9",
+        ],
+        "0 boards from no candidates of seed 0, fewer than the 7 asked for\n\
+         next: --first 5 --first-board 9\n",
+    ),
+    (
+        &["--candidates", "50", "--boards", "50", "--report"],
+        "50 boards from 50 candidates, numbers 0 to 49, of seed 0\n\
+         next: --first 50 --first-board 51\n",
+    ),
+    (
+        &["--candidates", "50", "--boards", "1", "--report"],
+        "1 board from 1 candidate, number 0, of seed 0\nnext: --first 1 --first-board 2\n",
+    ),
+    (
+        &["--candidates", "1", "--boards", "2", "--report"],
+        "1 board from 1 candidate, number 0, of seed 0, fewer than the 2 asked for\n\
+         next: --first 1 --first-board 2\n",
+    ),
+];
+
 #[test]
 fn reports_all_candidates(rt: HostRuntime) -> Result<(), Fail> {
-    for (options, want) in [
-        (
-            ["--candidates", "36", "--report"].as_slice(),
-            "36 boards from 36 candidates, numbers 0 to 35, of seed 0\n\
-             next: --first 36 --first-board 37\n",
-        ),
-        (
-            ["--candidates", "1", "--report"].as_slice(),
-            "1 board from 1 candidate, number 0, of seed 0\nnext: --first 1 --first-board 2\n",
-        ),
-        (
-            ["--candidates", "0", "--report"].as_slice(),
-            "0 boards from no candidates of seed 0\nnext: --first 0 --first-board 1\n",
-        ),
-        (
-            [
-                "--candidates",
-                "0",
-                "--boards",
-                "7",
-                "--report",
-                "--first",
-                "5",
-                "--first-board",
-                "9",
-            ]
-            .as_slice(),
-            "0 boards from no candidates of seed 0, fewer than the 7 asked for\n\
-             next: --first 5 --first-board 9\n",
-        ),
-        (
-            ["--candidates", "50", "--boards", "50", "--report"].as_slice(),
-            "50 boards from 50 candidates, numbers 0 to 49, of seed 0\n\
-             next: --first 50 --first-board 51\n",
-        ),
-        (
-            ["--candidates", "50", "--boards", "1", "--report"].as_slice(),
-            "1 board from 1 candidate, number 0, of seed 0\nnext: --first 1 --first-board 2\n",
-        ),
-        (
-            ["--candidates", "1", "--boards", "2", "--report"].as_slice(),
-            "1 board from 1 candidate, number 0, of seed 0, fewer than the 2 asked for\n\
-             next: --first 1 --first-board 2\n",
-        ),
-    ] {
-        reports(&rt, rt.alloc(), options, want)?;
-    }
-    Ok(())
+    reports_each(&rt, rt.alloc(), ALL)
 }
 
 /// Some candidates are boards.
+const SEARCHES: Reports = &[
+    (
+        &[
+            "--boards",
+            "3",
+            "--where",
+            "hcp(north) in 20-22",
+            "--report",
+        ],
+        "3 boards from 119 candidates, numbers 0 to 118, of seed 0\n\
+         next: --first 119 --first-board 4\n",
+    ),
+    (
+        &[
+            "--candidates",
+            "50",
+            "--boards",
+            "9",
+            "--where",
+            "hcp(north) in 20-22",
+            "--report",
+        ],
+        "1 board from 50 candidates, numbers 0 to 49, of seed 0, fewer than the 9 asked for\n\
+         next: --first 50 --first-board 2\n",
+    ),
+    (
+        &[
+            "--candidates",
+            "50",
+            "--where",
+            "shape(north,0-0-0-0)",
+            "--report",
+        ],
+        "0 boards from 50 candidates, numbers 0 to 49, of seed 0\n\
+         next: --first 50 --first-board 1\n",
+    ),
+    (
+        &[
+            "--candidates",
+            "40",
+            "--workers",
+            "9",
+            "--boards",
+            "2",
+            "--where",
+            "controls(east)>=5",
+            "--report",
+        ],
+        "2 boards from 6 candidates, numbers 0 to 5, of seed 0\n\
+         next: --first 6 --first-board 3\n",
+    ),
+];
+
 #[test]
 fn reports_a_search(rt: HostRuntime) -> Result<(), Fail> {
-    for (options, want) in [
-        (
-            [
-                "--boards",
-                "3",
-                "--where",
-                "hcp(north) in 20-22",
-                "--report",
-            ]
-            .as_slice(),
-            "3 boards from 119 candidates, numbers 0 to 118, of seed 0\n\
-             next: --first 119 --first-board 4\n",
-        ),
-        (
-            [
-                "--candidates",
-                "50",
-                "--boards",
-                "9",
-                "--where",
-                "hcp(north) in 20-22",
-                "--report",
-            ]
-            .as_slice(),
-            "1 board from 50 candidates, numbers 0 to 49, of seed 0, fewer than the 9 asked for\n\
-             next: --first 50 --first-board 2\n",
-        ),
-        (
-            [
-                "--candidates",
-                "50",
-                "--where",
-                "shape(north,0-0-0-0)",
-                "--report",
-            ]
-            .as_slice(),
-            "0 boards from 50 candidates, numbers 0 to 49, of seed 0\n\
-             next: --first 50 --first-board 1\n",
-        ),
-        (
-            [
-                "--candidates",
-                "40",
-                "--workers",
-                "9",
-                "--boards",
-                "2",
-                "--where",
-                "controls(east)>=5",
-                "--report",
-            ]
-            .as_slice(),
-            "2 boards from 6 candidates, numbers 0 to 5, of seed 0\n\
-             next: --first 6 --first-board 3\n",
-        ),
-    ] {
-        reports(&rt, rt.alloc(), options, want)?;
-    }
-    Ok(())
+    reports_each(&rt, rt.alloc(), SEARCHES)
 }
 
 /// The last candidates of the seed, and the last boards.
+const ENDS: Reports = &[
+    (
+        &["--first", "1099511627774", "--boards", "5", "--report"],
+        "2 boards from 2 candidates, numbers 1099511627774 to 1099511627775, of seed 0, \
+         fewer than the 5 asked for\n",
+    ),
+    (
+        &["--first", "1099511627770", "--boards", "5", "--report"],
+        "5 boards from 5 candidates, numbers 1099511627770 to 1099511627774, of seed 0\n\
+         next: --first 1099511627775 --first-board 6\n",
+    ),
+    (
+        &["--first", "1099511627776", "--boards", "5", "--report"],
+        "0 boards from no candidates of seed 0, fewer than the 5 asked for\n",
+    ),
+    (
+        &[
+            "--candidates",
+            "2",
+            "--first-board",
+            "1099511627775",
+            "--report",
+        ],
+        "2 boards from 2 candidates, numbers 0 to 1, of seed 0\n",
+    ),
+    (
+        &[
+            "--candidates",
+            "2",
+            "--first-board",
+            "1099511627774",
+            "--report",
+        ],
+        "2 boards from 2 candidates, numbers 0 to 1, of seed 0\n\
+         next: --first 2 --first-board 1099511627776\n",
+    ),
+];
+
 #[test]
 fn reports_at_the_ends(rt: HostRuntime) -> Result<(), Fail> {
-    for (options, want) in [
-        (
-            ["--first", "1099511627774", "--boards", "5", "--report"].as_slice(),
-            "2 boards from 2 candidates, numbers 1099511627774 to 1099511627775, of seed 0, \
-             fewer than the 5 asked for\n",
-        ),
-        (
-            ["--first", "1099511627770", "--boards", "5", "--report"].as_slice(),
-            "5 boards from 5 candidates, numbers 1099511627770 to 1099511627774, of seed 0\n\
-             next: --first 1099511627775 --first-board 6\n",
-        ),
-        (
-            ["--first", "1099511627776", "--boards", "5", "--report"].as_slice(),
-            "0 boards from no candidates of seed 0, fewer than the 5 asked for\n",
-        ),
-        (
-            [
-                "--candidates",
-                "2",
-                "--first-board",
-                "1099511627775",
-                "--report",
-            ]
-            .as_slice(),
-            "2 boards from 2 candidates, numbers 0 to 1, of seed 0\n",
-        ),
-        (
-            [
-                "--candidates",
-                "2",
-                "--first-board",
-                "1099511627774",
-                "--report",
-            ]
-            .as_slice(),
-            "2 boards from 2 candidates, numbers 0 to 1, of seed 0\n\
-             next: --first 2 --first-board 1099511627776\n",
-        ),
-    ] {
-        reports(&rt, rt.alloc(), options, want)?;
+    reports_each(&rt, rt.alloc(), ENDS)
+}
+
+/// Each of the reports is said.
+fn reports_each<R: Abort + Threads + Wait + Clone + Send + 'static>(
+    rt: &R,
+    alloc: Global,
+    each: Reports,
+) -> Result<(), Fail> {
+    for (options, want) in each.iter() {
+        reports(rt, alloc, options, want)?;
     }
     Ok(())
 }

@@ -1,9 +1,12 @@
 //! `stream`, through the program and alone.
 
-use crate::support::{outcome_of, words_of};
+use crate::support::{failed_outcome_of, outcome_of, words_of};
 use dealrun::{Fuse, MemSink, put_all, stream};
 use deals_cli::program;
+use std::alloc::{AllocError, Global};
+use std::sync::Wait;
 use std::test::Fail;
+use std::thread::Threads;
 
 #[test]
 fn prints_the_values_of_a_seed(rt: HostRuntime) -> Result<(), Fail> {
@@ -78,18 +81,15 @@ fn stops_at_a_fault_and_goes_on_later(rt: HostRuntime) -> Result<(), Fail> {
 #[test]
 fn says_that_the_output_failed(rt: HostRuntime) -> Result<(), Fail> {
     let words = ["deals", "stream", "--seed", "0", "--count", "3"];
-    let words = words_of(rt.alloc(), words.as_slice(), [].as_slice())?;
     for (fails_at, flush_ok, want) in [
         (1, true, ""),
         (2, true, "366850414\n"),
         (0, false, "366850414\n1610402240\n206956554\n"),
     ] {
-        let mut out = Fuse::new(MemSink::new(rt.alloc()), fails_at, 4096, flush_ok);
-        let mut err = MemSink::new(rt.alloc());
-        let status = program(&rt, rt.alloc(), words.as_slice(), &mut out, &mut err);
-        assert_eq!(rt; status, 4);
-        assert_eq!(rt; out.bytes(), want.as_bytes());
-        assert_eq!(rt; err.bytes(), b"output failed\n".as_slice());
+        let failed = failed_outcome_of(&rt, rt.alloc(), words.as_slice(), fails_at, flush_ok)?;
+        assert_eq!(rt; failed.status, 4);
+        assert_eq!(rt; failed.out.bytes(), want.as_bytes());
+        assert_eq!(rt; failed.err.bytes(), b"output failed\n".as_slice());
     }
     Ok(())
 }
@@ -97,11 +97,21 @@ fn says_that_the_output_failed(rt: HostRuntime) -> Result<(), Fail> {
 #[test]
 fn ignores_a_standard_error_that_fails(rt: HostRuntime) -> Result<(), Fail> {
     let words = ["deals", "stream", "--seed", "4294967296", "--count", "3"];
-    let words = words_of(rt.alloc(), words.as_slice(), [].as_slice())?;
-    let mut out = MemSink::new(rt.alloc());
-    let mut err = Fuse::new(MemSink::new(rt.alloc()), 1, 4096, true);
-    let status = program(&rt, rt.alloc(), words.as_slice(), &mut out, &mut err);
+    let (status, out, err) = outcome_beside_failing_err(&rt, rt.alloc(), words.as_slice())?;
     assert_eq!(rt; status, 2);
     assert!(rt; out.bytes().is_empty() && err.bytes().is_empty());
     Ok(())
+}
+
+/// The status of the program, and both outputs, where the error output fails at its first write.
+fn outcome_beside_failing_err<R: Threads + Wait + Clone + Send + 'static>(
+    rt: &R,
+    alloc: Global,
+    words: &[&str],
+) -> Result<(u8, MemSink, Fuse), AllocError> {
+    let words = words_of(alloc, words, [].as_slice())?;
+    let mut out = MemSink::new(alloc);
+    let mut err = Fuse::new(MemSink::new(alloc), 1, 4096, true);
+    let status = program(rt, alloc, words.as_slice(), &mut out, &mut err);
+    Ok((status, out, err))
 }

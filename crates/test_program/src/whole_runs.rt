@@ -1,10 +1,12 @@
 //! Runs over lanes that end well: the same bytes as the plain run, whatever the workers and the
 //! capacity.
 
+use crate::support::{run_all, run_plainly};
 use cond_lang::{Cond, parse};
-use dealrun::{Fuse, MemSink, Plan, run, run_plain};
+use dealrun::{Fuse, MemSink, Plan, run};
 use lanes::OpenGate;
 use std::alloc::Global;
+use std::process::Abort;
 use std::sync::{Arc, Wait};
 use std::test::Fail;
 use std::thread::Threads;
@@ -15,16 +17,27 @@ fn writes_the_plain_text(rt: HostRuntime) -> Result<(), Fail> {
         let condition = parse(rt.alloc(), text)?;
         let plan = Plan::new(0, 0, 200, 1, 64)?;
         let mut plain = MemSink::new(rt.alloc());
-        let boards = run_plain(&plan, &condition, &mut plain);
-        for workers in [1, 3, 16] {
-            for capacity in [1, 64] {
-                let plan = Plan::new(0, 0, 200, workers, capacity)?;
-                let (made, sink) = run_in_memory(&rt, rt.alloc(), &plan, condition.try_clone()?)?;
-                assert_eq!(rt; made, boards.ok());
-                assert!(rt; sink.bytes() == plain.bytes());
-            }
+        let boards = run_plainly(&plan, &condition, &mut plain).ok();
+        for (workers, capacity) in [(1, 1), (1, 64), (3, 1), (3, 64), (16, 1), (16, 64)] {
+            let plan = Plan::new(0, 0, 200, workers, capacity)?;
+            writes(&rt, rt.alloc(), &plan, &condition, boards, plain.bytes())?;
         }
     }
+    Ok(())
+}
+
+/// The run over lanes ends well with these boards and this text.
+fn writes<R: Abort + Threads + Wait + Clone + Send + 'static>(
+    rt: &R,
+    alloc: Global,
+    plan: &Plan,
+    condition: &Cond,
+    boards: Option<u64>,
+    text: &[u8],
+) -> Result<(), Fail> {
+    let (made, sink) = run_in_memory(rt, alloc, plan, condition.try_clone()?)?;
+    assert_eq!(rt; made, boards);
+    assert!(rt; sink.bytes() == text);
     Ok(())
 }
 
@@ -48,7 +61,7 @@ fn writes_the_plain_text_byte_by_byte(rt: HostRuntime) -> Result<(), Fail> {
     for (count, workers, boards, bytes) in [(200, 3, 200, 25_052), (3, 16, 3, 381), (0, 1, 0, 10)] {
         let plan = Plan::new(0, 0, count, workers, 64)?;
         let mut plain = MemSink::new(rt.alloc());
-        let made = run_plain(&plan, &Cond::any(rt.alloc()), &mut plain);
+        let made = run_plainly(&plan, &Cond::any(rt.alloc()), &mut plain);
         assert_eq!(rt; made, Ok(boards));
         let (made, sink) = run_byte_by_byte(&rt, rt.alloc(), &plan)?;
         assert_eq!(rt; made, Some(boards));
@@ -57,7 +70,10 @@ fn writes_the_plain_text_byte_by_byte(rt: HostRuntime) -> Result<(), Fail> {
     }
     let mut none = MemSink::new(rt.alloc());
     let empty = Plan::new(0, 0, 0, 1, 64)?;
-    assert_eq!(rt; run_plain(&empty, &Cond::any(rt.alloc()), &mut none), Ok(0));
+    assert_eq!(rt;
+        run_plainly(&empty, &Cond::any(rt.alloc()), &mut none),
+        Ok(0)
+    );
     assert_eq!(rt; none.bytes(), b"% PBN 2.1\n".as_slice());
     Ok(())
 }
@@ -70,7 +86,7 @@ fn run_byte_by_byte<R: Threads + Wait + Clone + Send + 'static>(
 ) -> Result<(Option<u64>, Fuse), Fail> {
     let mut sink = Fuse::new(MemSink::new(alloc), 0, 1, true);
     let gate = Arc::new(alloc, OpenGate)?;
-    let report = run(rt, alloc, plan, Cond::any(alloc), &mut sink, gate);
+    let report = run_all(rt, alloc, plan, &mut sink, gate);
     Ok((report.ok().map(|report| report.boards), sink))
 }
 
@@ -80,14 +96,7 @@ fn stops_at_a_limit(rt: HostRuntime) -> Result<(), Fail> {
     let plan = Plan::new(0, 0, 200, 3, 64)?.limited(5)?;
     let mut sink = MemSink::new(rt.alloc());
     let gate = Arc::new(rt.alloc(), OpenGate)?;
-    match run(
-        &rt,
-        rt.alloc(),
-        &plan,
-        Cond::any(rt.alloc()),
-        &mut sink,
-        gate,
-    ) {
+    match run_all(&rt, rt.alloc(), &plan, &mut sink, gate) {
         Ok(mut report) => {
             assert_eq!(rt; report.boards, 5);
             for (lane, number) in report.lanes.iter_mut().zip([6, 7, 5]) {
@@ -108,11 +117,9 @@ fn has_limits_past_the_end(rt: HostRuntime) -> Result<(), Fail> {
         (b"shape(north,9-9-9-9)", 5, 0, 10),
     ] {
         let plan = Plan::new(0, 0, 200, 3, 64)?.limited(limit)?;
-        let mut sink = MemSink::new(rt.alloc());
-        let gate = Arc::new(rt.alloc(), OpenGate)?;
         let condition = parse(rt.alloc(), text)?;
-        let report = run(&rt, rt.alloc(), &plan, condition, &mut sink, gate);
-        assert_eq!(rt; report.ok().map(|report| report.boards), Some(boards));
+        let (made, sink) = run_in_memory(&rt, rt.alloc(), &plan, condition)?;
+        assert_eq!(rt; made, Some(boards));
         assert_eq!(rt; sink.bytes().len(), bytes);
     }
     Ok(())

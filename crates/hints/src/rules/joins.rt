@@ -26,53 +26,78 @@ pub(crate) fn hint(alloc: Global, parts: &Parts, can: &KindSet) -> Said {
     no_close(alloc, parts, can)
 }
 
-/// `spades(north)>=5`, `north>=15`, `k==1`, `>=15`
+/// `spades(north)>=5`, `north>=15`, `>=15`, `k==1`
 fn no_value(alloc: Global, parts: &Parts) -> Said {
-    let token = parts.next(0);
-    if is_suit(token) {
-        let seat = if is(parts.next(1), "(") && is_seat(parts.next(2)) {
-            parts.next(2)
-        } else {
-            b"north"
-        };
-        return say(
-            alloc,
-            &[
-                b"for a suit's length write \"len(",
-                seat,
-                b",",
-                token,
-                b")\"",
-            ],
-        );
+    first_of!(
+        suit_first(alloc, parts),
+        seat_first(alloc, parts),
+        sign_first(alloc, parts)
+    );
+    ranks_first(alloc, parts)
+}
+
+/// `spades(north)>=5`
+fn suit_first(alloc: Global, parts: &Parts) -> Said {
+    let suit = parts.next(0);
+    if !is_suit(suit) {
+        return Ok(None);
     }
-    if is_seat(token) {
-        return say(
-            alloc,
-            &[
-                b"begin with what you ask of the seat, as in hcp(",
-                token,
-                b")",
-            ],
-        );
+    let seat = if is(parts.next(1), "(") && is_seat(parts.next(2)) {
+        parts.next(2)
+    } else {
+        b"north"
+    };
+    say(
+        alloc,
+        &[
+            b"for a suit's length write \"len(",
+            seat,
+            b",",
+            suit,
+            b")\"",
+        ],
+    )
+}
+
+/// `north>=15`
+fn seat_first(alloc: Global, parts: &Parts) -> Said {
+    let seat = parts.next(0);
+    if !is_seat(seat) {
+        return Ok(None);
     }
-    if is(token, ">") && is(parts.back(1), "<") {
+    say(
+        alloc,
+        &[
+            b"begin with what you ask of the seat, as in hcp(",
+            seat,
+            b")",
+        ],
+    )
+}
+
+/// `>=15`, or the second half of `<>`.
+fn sign_first(alloc: Global, parts: &Parts) -> Said {
+    let sign = parts.next(0);
+    if is(sign, "<>") || is(sign, ">") && is(parts.back(1), "<") {
         return say(alloc, &[b"for \"<>\" write \"!=\""]);
     }
-    if is_relation(token) {
+    if is_relation(sign) {
         return say(
             alloc,
             &[b"a value is missing before this sign, as in hcp(north)>=15"],
         );
     }
-    if is_word(token) && are_ranks(token) {
+    Ok(None)
+}
+
+/// `k==1`
+fn ranks_first(alloc: Global, parts: &Parts) -> Said {
+    let ranks = parts.next(0);
+    if is_word(ranks) && are_ranks(ranks) {
         return say(
             alloc,
-            &[b"for cards of a rank write \"cards(north,", token, b")\""],
+            &[b"for cards of a rank write \"cards(north,", ranks, b")\""],
         );
-    }
-    if is(token, "<>") {
-        return say(alloc, &[b"for \"<>\" write \"!=\""]);
     }
     Ok(None)
 }

@@ -42,7 +42,7 @@ fn say_range(alloc: Global, value: &[u8], low: &[u8], high: &[u8]) -> Said {
 /// The number that the digits write, up to 9,999.
 fn number(digits: &[u8]) -> u16 {
     let mut number: u16 = 0;
-    for digit in digits.iter().take(4) {
+    for digit in &digits[..digits.len().min(4)] {
         number = number
             .saturating_mul(10)
             .saturating_add(u16::from(digit.saturating_sub(b'0')));

@@ -104,14 +104,14 @@ fn ranks_twice(alloc: Global, word: &[u8], place: Place) -> Said {
 /// What a person means by a name from elsewhere, by the place.
 fn other_name(alloc: Global, word: &[u8], place: Place) -> Said {
     let meant = match place {
-        Place::Seat => seat_meant(word),
-        Place::Suit => suit_meant(word),
-        Place::Ranks => match suit_meant(word) {
+        Place::Seat => meant_in(SEATS, word),
+        Place::Suit => meant_in(SUITS, word),
+        Place::Ranks => match meant_in(SUITS, word) {
             Some(suit) => Some(suit),
-            None => rank_meant(word),
+            None => meant_in(RANKS, word),
         },
         Place::Lengths => None,
-        Place::Other => word_meant(word),
+        Place::Other => meant_in(OTHERS, word),
     };
     match meant {
         Some(meant) => say(alloc, &[b"write \"", meant, b"\""]),
@@ -119,56 +119,95 @@ fn other_name(alloc: Global, word: &[u8], place: Place) -> Said {
     }
 }
 
-fn seat_meant(word: &[u8]) -> Option<&'static [u8]> {
-    match word {
-        b"n" | b"nord" => Some(b"north"),
-        b"e" | b"ost" | b"est" => Some(b"east"),
-        b"s" | b"sud" | b"sued" => Some(b"south"),
-        b"w" | b"ouest" => Some(b"west"),
-        _ => None,
-    }
-}
+/// Words from elsewhere, and the word that is meant by each.
+type Meanings = &'static [(&'static str, &'static str)];
 
-fn suit_meant(word: &[u8]) -> Option<&'static [u8]> {
-    match word {
-        b"s" | b"pik" | b"pique" => Some(b"spades"),
-        b"h" | b"herz" | b"coeur" => Some(b"hearts"),
-        b"d" | b"karo" | b"carreau" => Some(b"diamonds"),
-        b"c" | b"treff" | b"trefle" | b"kreuz" => Some(b"clubs"),
-        _ => None,
-    }
-}
+const SEATS: Meanings = &[
+    ("n", "north"),
+    ("nord", "north"),
+    ("e", "east"),
+    ("ost", "east"),
+    ("est", "east"),
+    ("s", "south"),
+    ("sud", "south"),
+    ("sued", "south"),
+    ("w", "west"),
+    ("ouest", "west"),
+];
 
-fn rank_meant(word: &[u8]) -> Option<&'static [u8]> {
-    match word {
-        b"ace" | b"aces" => Some(b"a"),
-        b"king" | b"kings" => Some(b"k"),
-        b"queen" | b"queens" => Some(b"q"),
-        b"jack" | b"jacks" => Some(b"j"),
-        b"ten" | b"tens" => Some(b"t"),
-        _ => None,
-    }
-}
+const SUITS: Meanings = &[
+    ("s", "spades"),
+    ("pik", "spades"),
+    ("pique", "spades"),
+    ("h", "hearts"),
+    ("herz", "hearts"),
+    ("coeur", "hearts"),
+    ("d", "diamonds"),
+    ("karo", "diamonds"),
+    ("carreau", "diamonds"),
+    ("c", "clubs"),
+    ("treff", "clubs"),
+    ("trefle", "clubs"),
+    ("kreuz", "clubs"),
+];
 
-fn word_meant(word: &[u8]) -> Option<&'static [u8]> {
-    match word {
-        b"points" | b"point" | b"pts" | b"hp" => Some(b"hcp"),
-        b"length" | b"lengths" => Some(b"len"),
-        b"distribution" | b"dist" => Some(b"shape"),
-        b"ltc" => Some(b"losers"),
-        b"und" | b"et" | b"with" => Some(b"and"),
-        b"oder" | b"ou" => Some(b"or"),
-        b"no" | b"nicht" => Some(b"not"),
-        b"is" | b"equals" | b"equal" => Some(b"=="),
-        b"plus" => Some(b"+"),
-        b"ace" | b"aces" => Some(b"cards(north,a)"),
-        b"king" | b"kings" => Some(b"cards(north,k)"),
-        b"queen" | b"queens" => Some(b"cards(north,q)"),
-        b"jack" | b"jacks" => Some(b"cards(north,j)"),
-        b"ten" | b"tens" => Some(b"cards(north,t)"),
-        b"honours" | b"honors" | b"tops" | b"top" => Some(b"cards(north,akq)"),
-        _ => None,
+const RANKS: Meanings = &[
+    ("ace", "a"),
+    ("aces", "a"),
+    ("king", "k"),
+    ("kings", "k"),
+    ("queen", "q"),
+    ("queens", "q"),
+    ("jack", "j"),
+    ("jacks", "j"),
+    ("ten", "t"),
+    ("tens", "t"),
+];
+
+const OTHERS: Meanings = &[
+    ("points", "hcp"),
+    ("point", "hcp"),
+    ("pts", "hcp"),
+    ("hp", "hcp"),
+    ("length", "len"),
+    ("lengths", "len"),
+    ("distribution", "shape"),
+    ("dist", "shape"),
+    ("ltc", "losers"),
+    ("und", "and"),
+    ("et", "and"),
+    ("with", "and"),
+    ("oder", "or"),
+    ("ou", "or"),
+    ("no", "not"),
+    ("nicht", "not"),
+    ("is", "=="),
+    ("equals", "=="),
+    ("equal", "=="),
+    ("plus", "+"),
+    ("ace", "cards(north,a)"),
+    ("aces", "cards(north,a)"),
+    ("king", "cards(north,k)"),
+    ("kings", "cards(north,k)"),
+    ("queen", "cards(north,q)"),
+    ("queens", "cards(north,q)"),
+    ("jack", "cards(north,j)"),
+    ("jacks", "cards(north,j)"),
+    ("ten", "cards(north,t)"),
+    ("tens", "cards(north,t)"),
+    ("honours", "cards(north,akq)"),
+    ("honors", "cards(north,akq)"),
+    ("tops", "cards(north,akq)"),
+    ("top", "cards(north,akq)"),
+];
+
+fn meant_in(meanings: Meanings, word: &[u8]) -> Option<&'static [u8]> {
+    for (other, meant) in meanings.iter() {
+        if word == other.as_bytes() {
+            return Some(meant.as_bytes());
+        }
     }
+    None
 }
 
 /// The word that is most like the given one, of those that can stand at the place.
