@@ -26,7 +26,7 @@ use std::thread::Threads;
 ///
 /// All memory is taken first: a lane and a clone of the condition for each worker, and 128 KiB for
 /// the printer. So the calling thread needs little stack: a plain `make` of the program `deals`
-/// needs 80 KiB, all in all. Then one worker starts for each lane, and the caller's thread writes
+/// needs 88 KiB, all in all. Then one worker starts for each lane, and the caller's thread writes
 /// while they run. It may wait for its workers.
 ///
 /// # Errors

@@ -8,7 +8,7 @@ ghost use Rattle.lanes.specs.Work.{Ends};
 ghost use Rattle.dealrun.specs.MergedVerdicts.{verdicts_for};
 
 use cond_lang::Cond;
-use lanes::{Gate, Job, LaneIn, LaneOut, Share, WorkEnd, lane_in_blocks, work};
+use lanes::{Gate, Job, LaneIn, LaneOut, Pace, Share, WorkEnd, lane_in_blocks, work};
 use plans::Plan;
 use std::alloc::{AllocError, Global};
 use std::snapshot::Snapshot;
@@ -42,14 +42,25 @@ pub(crate) struct Assignment<R, G> {
     ghost fresh: { lane.sent ≡ [] },
 }
 
-/// The assignment of one worker, and the other end of its lane. `Err` only if an allocation
-/// failed.
+/// How the ends of a run's lanes wait for each other, on the cores that it may use. If these can't
+/// be told, as on one.
+fn pace_of<R: Threads>(rt: &R, plan: &Plan) -> Pace {
+    let cores = match thread::available_parallelism(rt) {
+        Ok(cores) => cores.get(),
+        Err(_) => 1,
+    };
+    Pace::of(plan.workers(), cores)
+}
+
+/// The assignment of one worker, and the other end of its lane, whose ends wait at this pace. `Err`
+/// only if an allocation failed.
 fn assign<R: Clone, G: Drop>(
     rt: &R,
     alloc: Global,
     plan: &Plan,
     cond: &Cond,
     worker: u32,
+    pace: Pace,
     gate: &Arc<G, Global>,
     stop: &Arc<AtomicBool, Global>,
 ) -> Result<(Assignment<R, G>, LaneOut), AllocError>
@@ -67,7 +78,7 @@ fn assign<R: Clone, G: Drop>(
     let Ok(cond) = cond.try_clone() else {
         return Err(AllocError);
     };
-    let Ok((sender, taker)) = lane_in_blocks(alloc, plan.capacity(), plan.workers()) else {
+    let Ok((sender, taker)) = lane_in_blocks(alloc, plan.capacity(), pace) else {
         return Err(AllocError);
     };
     let seed = plan.seed();
@@ -83,7 +94,7 @@ fn assign<R: Clone, G: Drop>(
 
 /// The assignments of all workers of a plan, and the other ends of their lanes. `Err` only if an
 /// allocation failed.
-pub(crate) fn assign_all<R: Clone, G: Drop>(
+pub(crate) fn assign_all<R: Threads + Clone, G: Drop>(
     rt: &R,
     alloc: Global,
     plan: &Plan,
@@ -100,10 +111,11 @@ pub(crate) fn assign_all<R: Clone, G: Drop>(
         ≡ map (λ l. l.ring) r.1.items) }
     ensures idle { IfOk result (λ r. All (λ l. (l.taken ≡ []) × (l.settled ≡ false)) r.1.items) }
 {
+    let pace = pace_of(rt, plan);
     let mut assignments = Vec::new(alloc);
     let mut lanes = Vec::new(alloc);
     for worker in 0..plan.workers() {
-        let (assignment, lane) = assign(rt, alloc, plan, cond, worker, gate, stop)?;
+        let (assignment, lane) = assign(rt, alloc, plan, cond, worker, pace, gate, stop)?;
         assignments.push(assignment)?;
         lanes.push(lane)?;
     }

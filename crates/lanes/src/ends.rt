@@ -115,9 +115,9 @@ pub fn lane(alloc: Global, capacity: u32) -> Result<(LaneIn, LaneOut), LaneError
     ends_with_blocks(alloc, capacity, 0, Pace::Spins)
 }
 
-/// Makes a lane as `lane` does for one of so many workers. Its ends handle blocks of verdicts: the
+/// Makes a lane as `lane` does, whose ends wait at this pace. They handle blocks of verdicts: the
 /// worker judges a block of candidates before it sends their verdicts, and the writer takes a block
-/// out of the ring at once. They wait as suits a run with so many workers.
+/// out of the ring at once.
 ///
 /// A block is a quarter of the capacity, at most 16 verdicts, and none below a capacity of 4. The
 /// ring is smaller by the two blocks, so that a worker with blocks is never more than `capacity`
@@ -125,7 +125,7 @@ pub fn lane(alloc: Global, capacity: u32) -> Result<(LaneIn, LaneOut), LaneError
 pub fn lane_in_blocks(
     alloc: Global,
     capacity: u32,
-    workers: u32,
+    pace: Pace,
 ) -> Result<(LaneIn, LaneOut), LaneError>
     ensures capacity { IsErrOf result Capacity ↔ ((capacity ≡ 0) ⊎ (4096 < capacity)) }
     ensures ring { IfOk result (λ r. r.0.ring ≡ r.1.ring) }
@@ -134,7 +134,7 @@ pub fn lane_in_blocks(
     ensures taker { IfOk result (λ r. (r.1.taken ≡ []) × (r.1.settled ≡ false)) }
 {
     let block = capacity as usize / PARTS_WITH_A_BLOCK;
-    ends_with_blocks(alloc, capacity, block.min(MAX_BLOCK), Pace::of(workers))
+    ends_with_blocks(alloc, capacity, block.min(MAX_BLOCK), pace)
 }
 
 /// The two ends of a lane, each with blocks of so many verdicts, and the ring with the rest of the

@@ -22,6 +22,7 @@ pub use model::{Core, Event};
 pub use share::{Job, Share};
 pub use turns::Turns;
 pub use verdict::Verdict;
+pub use wait::Pace;
 pub use worker::{WorkEnd, work};
 
 #[cfg(test)]

@@ -68,7 +68,7 @@ fn capacities_with_blocks(rt: HostRuntime) -> Result<(), Fail> {
     for capacity in [0, 4097] {
         assert!(rt;
             matches!(
-                lane_in_blocks(rt.alloc(), capacity, 1),
+                lane_in_blocks(rt.alloc(), capacity, Pace::Spins),
                 Err(LaneError::Capacity)
             )
         );
@@ -84,10 +84,33 @@ fn capacities_with_blocks(rt: HostRuntime) -> Result<(), Fail> {
         (4096, 4064),
     ];
     for (capacity, room) in rooms {
-        let (mut sender, _taker) = lane_in_blocks(rt.alloc(), capacity, 1)?;
+        let (mut sender, _taker) = lane_in_blocks(rt.alloc(), capacity, Pace::Spins)?;
         assert_eq!(rt; sender.count_room(), room);
     }
     Ok(())
+}
+
+/// Each worker is a thread, and so is the writer.
+#[test]
+fn paces(rt: HostRuntime) {
+    let cores_enough = [(0, 1), (1, 2), (1, 4), (2, 4), (3, 4), (15, 16), (16, 17)];
+    for (workers, cores) in cores_enough {
+        assert!(rt; matches!(Pace::of(workers, cores), Pace::Spins));
+    }
+    let too_few_cores = [
+        (0, 0),
+        (1, 0),
+        (1, 1),
+        (2, 2),
+        (4, 4),
+        (5, 4),
+        (16, 16),
+        (16, 1),
+    ];
+    for (workers, cores) in too_few_cores {
+        assert!(rt; matches!(Pace::of(workers, cores), Pace::Yields));
+    }
+    assert!(rt; matches!(Pace::of(u32::MAX, usize::MAX), Pace::Spins));
 }
 
 #[test]
@@ -146,7 +169,7 @@ fn take_all(taker: &mut LaneOut, numbers: Range<u64>) -> bool {
 
 #[test]
 fn blocks_of_a_lane(rt: HostRuntime) -> Result<(), Fail> {
-    let (mut sender, mut taker) = lane_in_blocks(rt.alloc(), 64, 1)?;
+    let (mut sender, mut taker) = lane_in_blocks(rt.alloc(), 64, Pace::Spins)?;
     assert!(rt; send_all(&mut sender, 0..32));
     assert!(rt; sender.try_send(verdict(32)).is_err());
     // The writer has a block out of the ring, and then there is room for as much.
@@ -161,7 +184,7 @@ fn blocks_of_a_lane(rt: HostRuntime) -> Result<(), Fail> {
 /// A lane is settled while the writer has a verdict in its block.
 #[test]
 fn a_settled_lane_with_a_block(rt: HostRuntime) -> Result<(), Fail> {
-    let (mut sender, mut taker) = lane_in_blocks(rt.alloc(), 8, 1)?;
+    let (mut sender, mut taker) = lane_in_blocks(rt.alloc(), 8, Pace::Spins)?;
     assert!(rt; sender.try_send(verdict(3)).is_ok());
     assert!(rt; sender.try_send(verdict(4)).is_ok());
     assert!(rt; sender.try_send(verdict(5)).is_ok());
@@ -241,7 +264,7 @@ fn a_stopped_share(rt: HostRuntime) -> Result<(), Fail> {
 /// Stops before the 21st verdict of a share, whose block has begun and is not sent to its end.
 #[test]
 fn a_share_stopped_within_a_block(rt: HostRuntime) -> Result<(), Fail> {
-    let (sender, mut taker) = lane_in_blocks(rt.alloc(), 64, 1)?;
+    let (sender, mut taker) = lane_in_blocks(rt.alloc(), 64, Pace::Spins)?;
     let gate = Arc::new(rt.alloc(), StopsAt(25))?;
     let stop = Arc::new(rt.alloc(), AtomicBool::new(false))?;
     let job = Job {

@@ -15,7 +15,8 @@
 //! One loop a lane's end: look at the stop flag, pause, count. It ends with enough, with less once
 //! the other end stands still, or without when the flag is up.
 
-ghost use Rattle.std.specs.Prelude.{◌≡◌, ◌<◌, ◌≤◌, true, false};
+ghost use Rattle.std.specs.Prelude.{◌≡◌, ◌+◌, ◌<◌, ◌≤◌, ◌↔◌, true, false};
+ghost use Rattle.lanes.specs.declared.wait.Pace.TheVariants.{Spins};
 
 use crate::ends::{LaneIn, LaneOut};
 use std::sync::Wait;
@@ -25,10 +26,6 @@ use std::{hint, thread};
 /// The most spins between two looks: some microseconds, so that a flag that goes up is soon seen.
 const MAX_SPINS: usize = 4096;
 
-/// More workers than this and their writer are taken to be more threads than there are cores to
-/// spare.
-const FEW_WORKERS: u32 = 3;
-
 /// How many spins a verdict of the other end takes, about, so that a pause lasts about a lane's
 /// content.
 const SPINS_A_VERDICT: usize = 4;
@@ -37,22 +34,25 @@ const SPINS_A_VERDICT: usize = 4;
 /// while the other does.
 const PARTS_OF_A_LANE: usize = 2;
 
-/// What an end of a lane does between two looks at the other one.
-#[derive(Clone, Copy, Drop)]
-pub(crate) enum Pace {
-    /// It spins: the other end has a core of its own.
+/// How an end of a lane waits for the other one.
+#[derive(Clone, Copy, Debug, Drop)]
+pub enum Pace {
+    /// It spins for a while before it lets other threads run: the other end has a core of its own.
     Spins,
-    /// It lets other threads run, and goes on with what there is.
+    /// It lets other threads run at once: there are more threads than cores.
     Yields,
 }
 
 impl Pace {
-    /// The pace of a run with so many workers.
-    pub(crate) fn of(workers: u32) -> Pace {
-        if workers > FEW_WORKERS {
-            Pace::Yields
-        } else {
+    /// The pace of a run with so many workers on so many cores: its ends spin exactly if there is a
+    /// core for each worker and one for the writer.
+    pub fn of(workers: u32, cores: usize) -> Pace
+        ensures { (result ≡ Spins) ↔ (workers + 1 ≤ cores) }
+    {
+        if (workers as usize) < cores {
             Pace::Spins
+        } else {
+            Pace::Yields
         }
     }
 }
