@@ -14,6 +14,7 @@ class Case:
     err: bytes | None = b""
     line: bytes = b""  # what err begins with: below it what is refused is explained, where memory allows
     workers: int = 0  # how many threads it starts
+    given: bytes = b""  # what stands on its input
 
 
 NORTH, EAST, SOUTH, WEST = range(4)
@@ -83,6 +84,16 @@ def of_make():
 
 def asked(*more):
     return ["make", "--seed", "7", "--candidates", "1", *more]
+
+
+def of_pick():
+    words = ["pick", "--seed", "7"]
+    yield Case("pick, nothing", words, out=model.games(7, 0))
+    yield Case("pick, three", words, out=model.games(7, 3), given=b"0\n1\r\n\n 2")
+    numbers = b"".join(b"%d\n" % number for number in range(3000))
+    yield Case("pick, many", words, out=model.games(7, 3000), given=numbers)
+    refused = b"input refused at line 3: not a number\n"
+    yield Case("pick, a refused line", words, 7, model.games(7, 2), refused, given=b"0\n1\ntwo\n")
 
 
 def of_texts():
@@ -160,5 +171,5 @@ def of_find():
 
 
 def every(is_all):
-    chosen = [*of_texts(), *of_make(), *of_find(), *of_refusals()]
+    chosen = [*of_texts(), *of_make(), *of_find(), *of_pick(), *of_refusals()]
     return [*chosen, *of_more()] if is_all else chosen

@@ -53,9 +53,9 @@ def build():
     subprocess.run([TOP / "deals", "--version"], check=True, stdout=subprocess.DEVNULL)
 
 
-def run(command, shim, fault, at, stderr=subprocess.PIPE):
+def run(command, shim, fault, at, stderr=subprocess.PIPE, given=b""):
     """Runs a command whose call number `at` of the fault's kind fails; 0: none fails. What it writes to a standard error
-    that is given isn't told."""
+    that is given isn't told. Its input has the bytes of `given`."""
     report = os.memfd_create("report")
     os.truncate(report, REPORT.size)
     settings = {
@@ -68,11 +68,12 @@ def run(command, shim, fault, at, stderr=subprocess.PIPE):
         "FAULT_MOST": str(fault.most),
         "FAULT_REPORT": str(report),
     }
+    stdin = subprocess.PIPE if given else subprocess.DEVNULL
     process = subprocess.Popen(
-        command, env=settings, pass_fds=[report], stdout=subprocess.PIPE, stderr=stderr, stdin=subprocess.DEVNULL
+        command, env=settings, pass_fds=[report], stdout=subprocess.PIPE, stderr=stderr, stdin=stdin
     )
     try:
-        out, err = process.communicate(timeout=SECONDS)
+        out, err = process.communicate(given or None, timeout=SECONDS)
         status = process.returncode
     except subprocess.TimeoutExpired:
         process.kill()

@@ -77,6 +77,16 @@ def start(folder, log, *more):
     return process
 
 
+def array(deals):
+    """The script for Slurm: its shards, started as the jobs of an array are."""
+    with tempfile.TemporaryDirectory(prefix="shards-") as folder:
+        for task in range(4):
+            words = [harness.TOP / "examples" / "search.slurm", folder, "3000000", *SEED, *WHERE]
+            settings = {**os.environ, "DEALS": str(harness.PROGRAM), "SLURM_ARRAY_TASK_ID": str(task)}
+            subprocess.run(words, cwd=harness.TOP, env=settings, check=True)
+        yield "an array of jobs", None if picked(deals, folder) == made(deals) else "isn't what make writes"
+
+
 def parallel(deals):
     """GNU parallel, with the longest shard killed, and resumed."""
     packages.need("parallel", "parallel")

@@ -45,7 +45,7 @@ impl Read for Drops<'_> {
 }
 
 /// Aborts unless picking from this reader ends so and writes this text.
-fn check<R: Read>(
+fn check<R: Read + Drop>(
     rt: &(impl Abort + AllocGlobal),
     reader: R,
     ends: std::result::Result<u64, PickFault>,

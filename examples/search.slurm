@@ -1,0 +1,15 @@
+#!/bin/sh
+#SBATCH --job-name=deals
+#SBATCH --ntasks=1
+#SBATCH --cpus-per-task=1
+#SBATCH --output=deals-%A_%a.log
+# A shard of a search for each number of the array, COUNT candidates each:
+#
+#   sbatch --array=0-99 examples/search.slurm FOLDER COUNT OPTIONS_OF_FIND..
+#
+# The folder is shared by all machines. Submit it from the folder that has examples/.
+set -eu
+folder=$1
+count=$2
+shift 2
+exec examples/shard "$folder" $((SLURM_ARRAY_TASK_ID * count)) "$count" "$@"
