@@ -57,7 +57,8 @@ EndsFor w fault before behind old new = ⊥
 abbrev pub LeavesFrom : Wish → Failure → (before behind old new : Option (List ℕ)) → Type 0
 LeavesFrom w (Interrupted Memory) before behind old new = new ≡ old
 LeavesFrom w (Interrupted cause) before behind old new = BreaksOff w cause before behind old new
-LeavesFrom w (Line line) before behind old new = EndsFor w (picks.Refused line) before behind old new
+LeavesFrom w (Line line) before behind old new =
+    EndsFor w (picks.Refused line) before behind old new
 LeavesFrom w Input before behind old new = EndsFor w picks.Input before behind old new
 LeavesFrom w failure before behind old new = new ≡ old
 

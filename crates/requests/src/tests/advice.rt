@@ -145,7 +145,8 @@ fn labels_that_can_not_be_written(rt: HostRuntime) -> Result<(), Fail> {
         ),
         (
             event(long),
-            "  --event \"0123456789012345678901234567890123456789012345678901234567890123456789..\": \
+            "  --event \"01234567890123456789012345678901234567890123456789\
+            01234567890123456789..\": \
             at most 100 characters of ASCII, \
             from space to ~, without \" and \\\n",
         ),
