@@ -19,6 +19,8 @@ use std::alloc::Global;
 
 /// Writes the boards of the candidates whose numbers the input gives, under a plan and its labels.
 /// What was written before a fault of the input is passed on.
+// In line it would take the stack of a `make` too, a piece of the input for each format.
+#[inline(never)]
 #[tactic(auto, using(crate::proofs::Statuses::endings, crate::proofs::FirstDue::picked))]
 pub fn pick<I: Source, O: Sink>(
     alloc: Global,
