@@ -3,8 +3,8 @@
 //! A subcommand is a file: its request, with the values of its options, and the function that
 //! serves it (`make.rt`, `pick.rt`, `conditions.rt`, `stream.rt`). `request.rt` has one variant for
 //! each. `run.rt` runs a plan in the format that is asked for, and `picking_as.rt` deals the
-//! candidates that an input names in it. `advice.rt` tells a person what a refused option takes. How
-//! the words of a command line become a request is no business of this crate.
+//! candidates that an input names in it. `advice.rt` tells a person what a refused option takes.
+//! How the words of a command line become a request is no business of this crate.
 #![tactic(auto)]
 
 mod advice;
