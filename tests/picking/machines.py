@@ -83,14 +83,13 @@ def need_service(package, file):
     packages.need(package, file)
 
 
-def shown(start, changes):
-    """The command of docs/SCALE.md that begins so, with other numbers and another condition."""
+def shown(words, changes):
+    """The command of docs/SCALE.md that has these words, with other numbers and another condition."""
     text = (harness.TOP / "docs" / "SCALE.md").read_text(encoding="utf-8")
-    blocks = [block for block in re.findall(r"^```sh\n(.*?)^```", text, re.MULTILINE | re.DOTALL)]
-    [command] = [block for block in blocks if start in block]
+    [command] = [block for block in re.findall(r"^```sh\n(.*?)^```", text, re.MULTILINE | re.DOTALL) if words in block]
     for before, after in changes.items():
         if before not in command:
-            raise ValueError(f"docs/SCALE.md: {before!r} isn't in the command with {start!r}")
+            raise ValueError(f"docs/SCALE.md: {before!r} isn't in the command with {words!r}")
         command = command.replace(before, after)
     return command
 
