@@ -1,5 +1,6 @@
 """Shards of a search: what they find, joined in order and picked, is what one run of `make` writes."""
 
+import functools
 import os
 import pathlib
 import signal
@@ -29,6 +30,7 @@ CANDIDATES = 12_000_000
 SECONDS = 120
 
 
+@functools.cache
 def made(deals):
     """What one run writes."""
     return deals("make", *SEED, *WHERE, "--candidates", str(CANDIDATES)).stdout
