@@ -399,7 +399,7 @@ fn with_makers<'a>(alloc: Global) -> Result<Command<'a>, AllocError>
     ensures local { IfOk result (λ c. (fields_of c).has_globals ≡ false) }
 {
     Command::new(alloc, "deals")
-        .version("0.1.0")
+        .version("0.2.0")
         .about(ABOUT)
         .after_help(LANGUAGE_AND_STATUSES)
         .subcommand_required(true)
