@@ -23,6 +23,14 @@ LABEL = 'at most 100 characters of ASCII, from space to ~, without " and \\'
 DATE = "a date is written YYYY.MM.DD, as 2024.05.01"
 SHOWN = "a\\bca\\bca\\bca\\bca\\bca\\bca\\bca\\bca\\bca\\bca\\bca\\bca\\bca\\bca\\bca\\bca\\bca\\"
 
+# What clap says of a missing option, and what stands below it where a seed is missing.
+MISSING = "error: the following required arguments were not provided:\n"
+MORE_INFORMATION = "For more information, try '--help'.\n"
+SEED_HINTS = (
+    "  hint: for a lesson any number is a good seed: --seed 7\n"
+    "  hint: for a club draw one that nobody can guess: od -An -N4 -tu4 /dev/urandom\n"
+)
+
 # A condition, and whether it accepts four hands.
 CONDITIONS = {
     "every deal": (None, lambda d: True),
@@ -100,9 +108,17 @@ def of_texts():
     yield Case("stream", ["stream", "--seed", "0", "--count", "3"], out=b"366850414\n1610402240\n206956554\n")
     yield Case("stream, nothing", ["stream", "--seed", "0", "--count", "0"])
     yield Case("stream, long", ["stream", "--seed", "9", "--count", "20000"], out=model.values(9, 20000))
-    yield Case("version", ["--version"], out=b"deals 0.1.0\n")
+    yield Case("version", ["--version"], out=b"deals 0.2.0\n")
     for words in (["--help"], ["help"], ["help", "make"], ["make", "--help"], ["stream", "-h"]):
         yield Case(" ".join(words), words, out=None)
+
+
+def without_seed(command, more):
+    """clap's text, and for new boards how to come to a seed."""
+    words = more.replace("<M>", "36").replace("<TEXT>", "hcp(north)>=15").split()
+    line = f"{MISSING}  --seed <S>\n\nUsage: deals {command} --seed <S> {more}\n\n{MORE_INFORMATION}"
+    said = line if command == "pick" else line + SEED_HINTS
+    return Case(f"{command}, no seed", [command, *words], 2, err=said.encode(), line=line.encode())
 
 
 def of_refusals():
@@ -119,6 +135,8 @@ def of_refusals():
         asked("--event", "-x"),
     ):
         yield Case("words: " + " ".join(words), words, 2, err=None)
+    for command, more in (("make", "--boards <M>"), ("find", "--where <TEXT> --boards <M>"), ("pick", "--rotate")):
+        yield without_seed(command, more)
     yield Case("words: no text", ["make", b"\xff"], 2, err=b"")
     for more, line, advice in (
         (["--first", "1099511627776"], "plan refused: range", "--candidates 1: 0 to 0 from this --first on"),

@@ -1,9 +1,9 @@
 //! The program `deals`: its words and standard streams, and its status.
 //!
-//! What `program` says on standard error is one line, for programs to read. For a person it is
-//! explained below that line what a refused option takes, what is wrong with a condition, and why
-//! the output failed; while a run lasts, its boards are passed on as they are found, and its counts
-//! are shown.
+//! What `program` says on standard error is one line, or clap's text, for programs to read. For a
+//! person it is explained below what a refused option takes, how to come to a seed, what is wrong
+//! with a condition, and why the output failed; while a run lasts, its boards are passed on as they
+//! are found, and its counts are shown.
 #![tactic(auto)]
 
 ghost use Rattle.std.specs.Prelude.{◌≡◌, IfOk};
@@ -130,9 +130,33 @@ fn start(rt: &HostRuntime) -> Result<(Vec<String>, Output, Said)>
     Ok((words, out, err))
 }
 
-/// What helps with the refused plan or label of these words; none where memory runs out.
+/// The line of clap's that a seed is missing.
+const NO_SEED: &str = "\n  --seed <S>\n";
+
+/// How to come to a seed for new boards.
+const HOW_TO_SEED: &str = "  hint: for a lesson any number is a good seed: --seed 7
+  hint: for a club draw one that nobody can guess: od -An -N4 -tu4 /dev/urandom
+";
+
+/// What helps with these refused words, if they deal from a seed and have none. For `pick` none
+/// helps but the one that its numbers come from.
+fn seed_advice(alloc: Global, words: &[String]) -> Option<String> {
+    if !matches!(words.get(1)?.as_str(), "make" | "find") {
+        return None;
+    }
+    let refusal = read_words(alloc, words).err()?.to_string(alloc).ok()?;
+    if refusal.as_str().contains(NO_SEED) {
+        return String::from_str(alloc, HOW_TO_SEED).ok();
+    }
+    None
+}
+
+/// What helps with these refused words, or their refused plan or label; none where memory runs out.
 fn advice(alloc: Global, words: &[String]) -> Option<String> {
-    advise(alloc, &planned_in(alloc, words)?).unwrap_or(None)
+    match planned_in(alloc, words) {
+        Some(request) => advise(alloc, &request).unwrap_or(None),
+        None => seed_advice(alloc, words),
+    }
 }
 
 /// What helps with the refused condition of these words; none where memory runs out.

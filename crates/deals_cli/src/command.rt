@@ -73,6 +73,8 @@ The same options give the same bytes, on every machine and with any number of wo
 
 const SEED: &str = "The seed, 0 to 4294967295";
 
+const NEW_SEED: &str = "The seed, 0 to 4294967295; to draw one: od -An -N4 -tu4 /dev/urandom";
+
 const COUNT: &str = "How many values, 0 to 1099511627776";
 
 const CANDIDATES: &str = "How many candidates are tried; first + N is at most 1099511627776 \
@@ -181,7 +183,7 @@ fn with_candidates<'a>(alloc: Global, command: Command<'a>) -> Result<Command<'a
     ensures local { IfOk result (λ c. (fields_of c).has_globals
         ≡ (fields_of command.entry).has_globals) }
 {
-    let seed = required(alloc, "seed", value_parser!(u32), "S", SEED);
+    let seed = required(alloc, "seed", value_parser!(u32), "S", NEW_SEED);
     let command = with_option(command, seed)?;
     let candidates = option(alloc, "candidates", value_parser!(u64), "N", CANDIDATES);
     with_option(command, candidates)
@@ -399,7 +401,7 @@ fn with_makers<'a>(alloc: Global) -> Result<Command<'a>, AllocError>
     ensures local { IfOk result (λ c. (fields_of c).has_globals ≡ false) }
 {
     Command::new(alloc, "deals")
-        .version("0.1.0")
+        .version("0.2.0")
         .about(ABOUT)
         .after_help(LANGUAGE_AND_STATUSES)
         .subcommand_required(true)

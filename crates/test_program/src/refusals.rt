@@ -75,7 +75,7 @@ fn shows_help_and_version(rt: HostRuntime) -> Result<(), Fail> {
         [].as_slice(),
     )?;
     assert_eq!(rt; outcome.status, 0);
-    assert_eq!(rt; outcome.out.bytes(), b"deals 0.1.0\n".as_slice());
+    assert_eq!(rt; outcome.out.bytes(), b"deals 0.2.0\n".as_slice());
     Ok(())
 }
 
