@@ -7,6 +7,7 @@
 mod candidates;
 mod card;
 mod deal;
+mod fixed;
 mod hand;
 mod honours;
 pub mod laws;
