@@ -1,10 +1,15 @@
 //! Cards that are fixed at seats before the deal.
 
-ghost use Rattle.std.specs.Prelude.{◌≡◌, ◌↔◌, ◌≤◌, IsSome, IfSome};
-ghost use Rattle.cards.specs.Fixed.{IsFixed, free_count, held, is_fixed_at, is_free, none_fixed};
-ghost use Rattle.cards.specs.internal.Around.{IsListed, fixed_mask};
+ghost use Rattle.std.specs.Prelude.{◌≡◌, ◌↔◌, ◌-◌, IsSome, IfSome};
+ghost use Rattle.lcg48.specs.Sequence.{state_after};
+ghost use Rattle.cards.specs.Deals.{IsPartition};
+ghost use Rattle.cards.specs.Fixed.{IsFixed, dealt_around, free_count, held, is_fixed_at, is_free};
+ghost use Rattle.cards.specs.Fixed.{none_fixed, places_for};
+ghost use Rattle.cards.specs.internal.Around.{IsListed, IsSide, fixed_mask};
 
-use crate::Seat;
+use crate::around::settle;
+use crate::{Deal, Seat};
+use lcg48::Lcg48;
 use std::marker::Model;
 
 /// Cards that are fixed at seats before the deal, which contracts see as a list of 52: the seat of
@@ -12,18 +17,19 @@ use std::marker::Model;
 #[derive(Clone, Drop)]
 pub struct Fixed {
     seats: [Option<Seat>; 52],
-    masks: FixedMasks,
+    north: Side,
+    east: Side,
+    south: Side,
+    west: Side,
     free: [u8; 52],
     count: usize,
 }
 
-/// The masks of the seats' fixed cards.
+/// What is fixed at one seat: the mask of these cards, and how many free ones it gets.
 #[derive(Clone, Copy)]
-pub(crate) struct FixedMasks {
-    pub(crate) north: u64,
-    pub(crate) east: u64,
-    pub(crate) south: u64,
-    pub(crate) west: u64,
+pub(crate) struct Side {
+    mask: u64,
+    room: usize,
 }
 
 impl Model for Fixed {
@@ -35,7 +41,7 @@ impl Model for Fixed {
 
     ghost view = { λ f. f.seats };
 
-    ghost invariant = { λ f. IsKept f.seats f.masks f.free f.count };
+    ghost invariant = { λ f. IsKept f.seats f.north f.east f.south f.west f.free f.count };
 }
 
 impl Fixed {
@@ -64,18 +70,52 @@ impl Fixed {
         ensures { result ≡ seats }
     {
         let (free, count) = list_free(&seats);
-        let masks = FixedMasks {
-            north: mask_fixed(&seats, Seat::North),
-            east: mask_fixed(&seats, Seat::East),
-            south: mask_fixed(&seats, Seat::South),
-            west: mask_fixed(&seats, Seat::West),
-        };
         Fixed {
+            north: side_of(&seats, Seat::North),
+            east: side_of(&seats, Seat::East),
+            south: side_of(&seats, Seat::South),
+            west: side_of(&seats, Seat::West),
             seats,
-            masks,
             free,
             count,
         }
+    }
+
+    /// The deal of the next draws around the fixed cards. Of m free cards the first m - 1 draws
+    /// shuffle the list by rising number; North has the first of it until it has thirteen cards,
+    /// then East, South and West.
+    pub fn draw(&self, generator: &mut Lcg48) -> Deal
+        ensures value { result
+            ≡ dealt_around self.now (places_for (free_count self.now) generator.old) }
+        ensures partition { IsPartition result }
+        ensures stepped { generator.new
+            ≡ state_after generator.old (free_count self.now - 1) }
+    {
+        let mut cards = self.free;
+        let south_end = self.count - self.west.room;
+        let east_end = south_end - self.south.room;
+        let north_end = east_end - self.east.room;
+        let west = settle(&mut cards, generator, self.count, self.west.room);
+        let south = settle(&mut cards, generator, south_end, self.south.room);
+        let east = settle(&mut cards, generator, east_end, self.east.room);
+        let north = settle(&mut cards, generator, north_end, self.north.room);
+        Deal::of_masks(
+            self.north.mask | north,
+            self.east.mask | east,
+            self.south.mask | south,
+            self.west.mask | west,
+        )
+    }
+}
+
+/// What is fixed at the seat.
+fn side_of(seats: &[Option<Seat>; 52], seat: Seat) -> Side
+    requires { IsFixed seats.now }
+    ensures { IsSide seats.now seat result }
+{
+    Side {
+        mask: mask_fixed(seats, seat),
+        room: 13 - held_by(seats, seat),
     }
 }
 

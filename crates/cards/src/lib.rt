@@ -4,6 +4,7 @@
 //! each card, and a `Hand` counts what one seat has.
 #![tactic(auto)]
 
+mod around;
 mod candidates;
 mod card;
 mod deal;
