@@ -1,8 +1,7 @@
 -- The deal around fixed cards: a partition, with the masks of what is fixed and what is dealt.
 use Rattle.std.proofs.Common.{◌≡◌, ℕ, zero, suc, ◌+◌, ◌-◌, ◌^◌, ◌<◌, ◌≤◌, ◌==◌, ◌&&◌, max, Bool, true, false, cond, List, [], ◌∷◌, length, take, get_or, map, refl, sym, ap, ◌∙◌, arith, inl, inr}
 use Rattle.std.specs.Prelude.{Option, Some, None, nat_le, ltb, unwrap_or, if◌then◌else◌}
-use Rattle.std.specs.List.{count_by, range_with_len, sum_by}
-use Rattle.std.specs.List.Sorted.{IsPermutation}
+use Rattle.std.specs.List.{count_by}
 use Rattle.std.proofs.lemmas.Bool.{cases_lt}
 use Rattle.std.proofs.lemmas.Bool.Decides.{nat_tests}
 use Rattle.std.proofs.lemmas.List.{get_or-map, length-map, take_all}
@@ -18,8 +17,8 @@ use Rattle.std.proofs.lemmas.List.Sorted.{sum_by-IsPermutation}
 use Rattle.cards.specs.declared.seat.Seat.{Seat}
 use Rattle.cards.specs.declared.seat.Seat.TheVariants.{North, East, South, West}
 use Rattle.cards.specs.Pack.{seat_number}
-use Rattle.cards.specs.Shuffle.{IsPlaces, card_at, pack}
-use Rattle.cards.specs.Deals.{IsPartition, cards_of, position_of}
+use Rattle.cards.specs.Shuffle.{card_at, pack}
+use Rattle.cards.specs.Deals.{IsPartition, position_of}
 use Rattle.cards.specs.Fixed.{IsFixed, dealt_around, free_count, free_index, held, is_fixed_at, is_free, open_seat, places_for, room, seat_around}
 use Rattle.cards.specs.declared.fixed.Side.{Side}
 use Rattle.cards.specs.internal.Around.{IsSide, fixed_at, fixed_mask, settles_within}
@@ -27,7 +26,6 @@ use Rattle.cards.specs.internal.Masks.{IsMasks, seat_mask, seats_of_masks}
 use Rattle.cards.specs.internal.MaskBits.{bit_at_pack, mask-pack-lt, same_masks}
 use Rattle.cards.proofs.DealMasks.{bit_at_seat, masks_view, seat_mask-lt}
 use Rattle.cards.proofs.FullMasks.{masks_of_partition}
-use Rattle.cards.proofs.Tracing.{length-pack}
 use Rattle.cards.proofs.Dealing.{position_of-card_at}
 use Rattle.cards.proofs.Partitions.{positions_whole}
 use Rattle.cards.proofs.FewPlaces.{are_places, is_less, isn't_less, position_above, position_below}
@@ -42,6 +40,7 @@ all_held (o ∷ xs) =
   where
     counted_cons : (p : Option Seat → Bool) (o : Option Seat) (xs : List (Option Seat)) → count_by p (o ∷ xs) ≡ cond (p o) 1 0 + count_by p xs
     counted_cons p o xs = sum_by-cons (λ x. cond (p x) 1 0) o xs
+
     one_of : (o : Option Seat) → cond (is_fixed_at North o) 1 0 + cond (is_fixed_at East o) 1 0 + cond (is_fixed_at South o) 1 0 + cond (is_fixed_at West o) 1 0 + cond (is_free o) 1 0 ≡ 1
     one_of None = refl
     one_of (Some North) = refl
@@ -90,12 +89,12 @@ chain_within a b c d p low size ln le ls lw sn se ss sw inside =
     elim (cases_lt p a) [
       | inl h ↦ λ q. rw (chain_north a b c p h) (at_north q h)
       | inr g ↦ elim (cases_lt p (a + b)) [
-          | inl h ↦ λ q. rw (chain_east a b c p (omega arith) h) (at_east q (omega arith) h)
-          | inr g ↦ elim (cases_lt p (a + b + c)) [
-              | inl h ↦ λ q. rw (chain_south a b c p (omega arith) h) (at_south q (omega arith) h)
-              | inr g ↦ λ q. rw (chain_west a b c p (omega arith)) (at_west q (omega arith))
-            ]
+        | inl h ↦ λ q. rw (chain_east a b c p (omega arith) h) (at_east q (omega arith) h)
+        | inr g ↦ elim (cases_lt p (a + b + c)) [
+          | inl h ↦ λ q. rw (chain_south a b c p (omega arith) h) (at_south q (omega arith) h)
+          | inr g ↦ λ q. rw (chain_west a b c p (omega arith)) (at_west q (omega arith))
         ]
+      ]
     ]
   where
     at_north : (q : Seat) → p < a → (nat_le (low q) p && ltb p (low q + size q)) ≡ (seat_number North == seat_number q)
@@ -103,16 +102,19 @@ chain_within a b c d p low size ln le ls lw sn se ss sw inside =
     at_north East h = within_before (low East) (low East + size East) p (omega (arith, le))
     at_north South h = within_before (low South) (low South + size South) p (omega (arith, ls))
     at_north West h = within_before (low West) (low West + size West) p (omega (arith, lw))
+
     at_east : (q : Seat) → a ≤ p → p < a + b → (nat_le (low q) p && ltb p (low q + size q)) ≡ (seat_number East == seat_number q)
     at_east North g h = within_after (low North) (low North + size North) p (omega (arith, ln, sn))
     at_east East g h = within_yes (low East) (low East + size East) p (omega (arith, le)) (omega (arith, le, se))
     at_east South g h = within_before (low South) (low South + size South) p (omega (arith, ls))
     at_east West g h = within_before (low West) (low West + size West) p (omega (arith, lw))
+
     at_south : (q : Seat) → a + b ≤ p → p < a + b + c → (nat_le (low q) p && ltb p (low q + size q)) ≡ (seat_number South == seat_number q)
     at_south North g h = within_after (low North) (low North + size North) p (omega (arith, ln, sn))
     at_south East g h = within_after (low East) (low East + size East) p (omega (arith, le, se))
     at_south South g h = within_yes (low South) (low South + size South) p (omega (arith, ls)) (omega (arith, ls, ss))
     at_south West g h = within_before (low West) (low West + size West) p (omega (arith, lw))
+
     at_west : (q : Seat) → a + b + c ≤ p → (nat_le (low q) p && ltb p (low q + size q)) ≡ (seat_number West == seat_number q)
     at_west North g = within_after (low North) (low North + size North) p (omega (arith, ln, sn))
     at_west East g = within_after (low East) (low East + size East) p (omega (arith, le, se))
@@ -155,9 +157,9 @@ positions_of_free fixed x h ok =
     let few : m ≤ 52 = few_free fixed ok in
     let k : ℕ → ℕ = λ p. cond (ltb p m) (h p) 0 in
     let moved : total (λ i. k (position_of places (card_at places i))) 52 ≡ total (λ i. k (position_of places i)) 52 =
-        sym (total_of_map (λ c. k (position_of places c)) (card_at places) 52)
-        ∙ sum_by-IsPermutation (λ c. k (position_of places c)) pack (map (card_at places) pack) (positions_whole places (are_places m x))
-        ∙ total_of_map (λ c. k (position_of places c)) (λ i. i) 52 in
+    sym (total_of_map (λ c. k (position_of places c)) (card_at places) 52)
+    ∙ sum_by-IsPermutation (λ c. k (position_of places c)) pack (map (card_at places) pack) (positions_whole places (are_places m x))
+    ∙ total_of_map (λ c. k (position_of places c)) (λ i. i) 52 in
     let back : total (λ i. k (position_of places (card_at places i))) 52 ≡ total k 52 = total_same _ k 52 (λ i inside. ap k (position_of-card_at places i inside)) in
     sym (total_cut (λ i. k (position_of places i)) (λ i. h (position_of places i)) m 52 few
     (λ i inside. ap (λ b. cond b (h (position_of places i)) 0) (is_less (position_of places i) m (position_below m x i few inside)))
@@ -176,10 +178,13 @@ first_cards fixed places q (suc n) inside = go (first_cards fixed places q n (om
   where
     t : ℕ → ℕ
     t = λ c. one_if q (seat_around fixed places c)
+
     g : ℕ → ℕ
     g = λ i. one_if q (open_seat fixed (position_of places i))
+
     e : suc n ≡ n + 1
     e = omega arith
+
     go : total t n ≡ count_by (is_fixed_at q) (take n fixed) + total g (free_index fixed n) → (o : Option Seat) → fixed_at fixed n ≡ o → total t n + t n ≡ count_by (is_fixed_at q) (take (suc n) fixed) + total g (free_index fixed (suc n))
     go before None is =
         let at : t n ≡ g (free_index fixed n) = ap (λ o. one_if q (unwrap_or o (open_seat fixed (position_of places (free_index fixed n))))) is in
@@ -206,8 +211,8 @@ around_is_partition fixed x ok =
           let all : take 52 fixed ≡ fixed = take_all 52 fixed (omega (arith, ok.count)) in
           let some = first_cards fixed places q 52 (omega (arith, ok.count)) in
           let dealt : total (λ i. one_if q (open_seat fixed (position_of places i))) (free_index fixed 52) ≡ room fixed q =
-              ap (λ xs. total (λ i. one_if q (open_seat fixed (position_of places i))) (count_by is_free xs)) all
-              ∙ positions_of_free fixed x (λ p. one_if q (open_seat fixed p)) ok ∙ open_seats_of fixed q ok in
+          ap (λ xs. total (λ i. one_if q (open_seat fixed (position_of places i))) (count_by is_free xs)) all
+          ∙ positions_of_free fixed x (λ p. one_if q (open_seat fixed p)) ok ∙ open_seats_of fixed q ok in
           total_of_map (one_if q) (seat_around fixed places) 52 ∙ omega (arith, some, dealt, ap (count_by (is_fixed_at q)) all, ok.room q);
     }
 

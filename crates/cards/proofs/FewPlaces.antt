@@ -1,5 +1,5 @@
 -- The places of a shuffle of m items, above which everything stays.
-use Rattle.std.proofs.Common.{◌≡◌, ℕ, zero, suc, ◌+◌, ◌-◌, ◌<◌, ◌≤◌, Bool, true, false, List, get_or, refl, sym, ap, ◌∙◌, arith, inl, inr}
+use Rattle.std.proofs.Common.{◌≡◌, ℕ, zero, suc, ◌+◌, ◌-◌, ◌<◌, ◌≤◌, true, false, get_or, refl, sym, ap, ◌∙◌, arith, inl, inr}
 use Rattle.std.specs.Prelude.{ltb, if◌then◌else◌}
 use Rattle.std.proofs.lemmas.Bool.{cases_lt}
 use Rattle.std.proofs.lemmas.Bool.Decides.{nat_tests}
@@ -43,9 +43,9 @@ unfolding places_for
 are_places m x = record {
   count = length-map-range_with_len (place_for_item m x) 0 51;
   below = λ i h. elim (cases_lt (m + i) 52) [
-      | inl few ↦ omega (arith, stays_at m x i h few)
-      | inr many ↦ omega (arith, drawn_at m x i h (omega arith), drawn_below m x i h (omega arith))
-    ];
+    | inl few ↦ omega (arith, stays_at m x i h few)
+    | inr many ↦ omega (arith, drawn_at m x i h (omega arith), drawn_below m x i h (omega arith))
+  ];
 }
 
 nothing_moves : (a t : ℕ) → other_of a a t ≡ t

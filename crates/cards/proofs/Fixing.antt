@@ -1,16 +1,15 @@
 -- The masks and the list that are kept of fixed cards.
-use Rattle.std.proofs.Common.{◌≡◌, ℕ, zero, suc, ◌+◌, ◌*◌, ◌%◌, ◌^◌, ◌<◌, ◌≤◌, ◌≢◌, Bool, true, false, cond, List, [], ◌∷◌, length, take, map, replicate, get_or, set, refl, sym, ap, ◌∙◌, arith, inl, inr, ◌⊎◌}
-use Rattle.std.specs.Prelude.{Option, Some, None, slice_get, unwrap_or}
+use Rattle.std.proofs.Common.{◌≡◌, ℕ, ◌+◌, ◌*◌, ◌%◌, ◌^◌, ◌<◌, ◌≤◌, ◌≢◌, Bool, true, false, cond, List, length, take, replicate, get_or, set, sym, ap, ◌∙◌, arith, inl, inr, ◌⊎◌}
+use Rattle.std.specs.Prelude.{Option}
 use Rattle.std.specs.List.{count_by}
 use Rattle.std.specs.Int.Bits.{bit_or}
 use Rattle.std.proofs.lemmas.Nat.{one_shl}
 use Rattle.std.proofs.lemmas.Bool.{cases_lt}
-use Rattle.std.proofs.lemmas.List.{get_or-map, length-map, get_or-replicate, get_or_past, get_or-set_same, get_or-set_other}
-use Rattle.std.proofs.lemmas.List.Sums.{count_by_more_no, count_by_more_yes}
+use Rattle.std.proofs.lemmas.List.{get_or-replicate, get_or_past, get_or-set_same, get_or-set_other}
 use lib.Lanes.{mask_l}
 use Rattle.cards.specs.declared.seat.Seat.{Seat}
-use Rattle.cards.specs.Fixed.{is_free, is_fixed_at, free_count, free_index}
-use Rattle.cards.specs.internal.Around.{IsListed, fixed_at, fixed_mask}
+use Rattle.cards.specs.Fixed.{is_free, free_index}
+use Rattle.cards.specs.internal.Around.{IsListed, fixed_at}
 use Rattle.cards.proofs.Drawing.{set_more}
 use Rattle.cards.proofs.DealMasks.{mask_more, mask_step}
 
@@ -28,9 +27,9 @@ bit_passed cards i mask new inside e test is =
 
 zeros_below : (i : ℕ) → get_or (replicate 52 0) i 0 < 52
 zeros_below i = elim (cases_lt i 52) [
-      | inl h ↦ rw (get_or-replicate {A = ℕ} 52 i 0 0 h) (omega arith)
-      | inr h ↦ rw (get_or_past {X = ℕ} (replicate 52 0) i 0 (omega arith)) (omega arith)
-    ]
+  | inl h ↦ rw (get_or-replicate {A = ℕ} 52 i 0 0 h) (omega arith)
+  | inr h ↦ rw (get_or_past {X = ℕ} (replicate 52 0) i 0 (omega arith)) (omega arith)
+]
 
 pub none_listed : (fixed : List (Option Seat)) → IsListed fixed (replicate 52 0) 0
 none_listed fixed = record {
@@ -46,9 +45,9 @@ one_listed fixed free count i long few below all here before =
     let inside : count < length free = omega arith in
     record {
       below = λ k h. elim (same_or_not k count) [
-          | inl e ↦ rw e (rw (get_or-set_same free count i 0 inside) below)
-          | inr ne ↦ rw (get_or-set_other free count k i 0 ne) (before.below k h)
-        ];
+        | inl e ↦ rw e (rw (get_or-set_same free count i 0 inside) below)
+        | inr ne ↦ rw (get_or-set_other free count k i 0 ne) (before.below k h)
+      ];
       frees = set_more (λ k x. is_free (fixed_at fixed x) ≡ true) free count i inside before.frees here;
       index = set_more (λ k x. free_index fixed x ≡ k) free count i inside before.index (sym all);
     }

@@ -1,7 +1,7 @@
 -- The exchanges of the free cards, and the masks of what they leave.
-use Rattle.std.proofs.Common.{◌≡◌, ℕ, zero, suc, ◌+◌, ◌-◌, ◌*◌, ◌%◌, ◌^◌, ◌<◌, ◌≤◌, ◌≢◌, ◌==◌, ◌&&◌, Bool, true, false, cond, List, length, get_or, set, map, refl, sym, ap, ◌∙◌, arith, subst, inl, inr, ◌⊎◌, take, min}
+use Rattle.std.proofs.Common.{◌≡◌, ℕ, zero, suc, ◌+◌, ◌-◌, ◌*◌, ◌%◌, ◌^◌, ◌<◌, ◌≤◌, ◌≢◌, ◌&&◌, Bool, true, false, cond, List, length, get_or, map, refl, sym, ap, ◌∙◌, arith, subst, inl, inr, ◌⊎◌, take}
 use Rattle.std.specs.Prelude.{Option, None, nat_le, ltb}
-use Rattle.std.specs.List.{swap, count_by}
+use Rattle.std.specs.List.{swap}
 use Rattle.std.specs.Int.{bit_at, w64}
 use Rattle.std.specs.Int.Bits.{bit_or}
 use Rattle.std.proofs.lemmas.Bool.{cases_lt}
@@ -116,9 +116,9 @@ same_index fixed c d long h h' vacant vacant' e =
     elim (cases_lt c d) [
       | inl less ↦ absurd (omega (arith, e, index_apart fixed c d long less h' vacant))
       | inr more ↦ elim (cases_lt d c) [
-          | inl less ↦ absurd (omega (arith, e, index_apart fixed d c long less h vacant'))
-          | inr none ↦ omega arith
-        ]
+        | inl less ↦ absurd (omega (arith, e, index_apart fixed d c long less h vacant'))
+        | inr none ↦ omega arith
+      ]
     ]
 
 pub index_below : (fixed : List (Option Seat)) (c : ℕ) → free_index fixed c ≤ c
@@ -160,15 +160,19 @@ settles_elsewhere fixed free m x low high y c all long few listed inside is belo
   where
     k : ℕ
     k = card_at (places_for m x) low
+
     k_below : k < m
     k_below = item_below m x low few inside
+
     y_below : y < 52
     y_below = rw is (listed.below k (omega (arith, k_below)))
+
     apart : is_free (fixed_at fixed c) ≡ true → position_of (places_for m x) (free_index fixed c) ≢ low
     apart vacant e =
         let back = (card_at-position_of (places_for m x) (free_index fixed c) (are_places m x) (omega (arith, index_below fixed c))).1 in
         let index : free_index fixed c ≡ free_index fixed y = sym back ∙ ap (card_at (places_for m x)) e ∙ sym (listed.index k k_below) ∙ ap (free_index fixed) (sym is) in
         other (same_index fixed c y long below y_below vacant (ap (λ d. is_free (fixed_at fixed d)) is ∙ listed.frees k k_below) index)
+
     go : (b : Bool) → is_free (fixed_at fixed c) ≡ b → settles_within fixed (places_for m x) low high c ≡ settles_within fixed (places_for m x) (low + 1) high c
     go true e = ap (λ b. is_free (fixed_at fixed c) && b) (within_not_first low high (position_of (places_for m x) (free_index fixed c)) (apart e))
     go false e = rw e refl

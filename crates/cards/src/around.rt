@@ -12,12 +12,7 @@ use lcg48::Lcg48;
 
 /// Runs the exchanges for so many positions below `end`, and returns the mask of the cards left
 /// there, which no later exchange touches.
-pub(crate) fn settle(
-    cards: &mut [u8; 52],
-    generator: &mut Lcg48,
-    end: usize,
-    count: usize,
-) -> u64
+pub(crate) fn settle(cards: &mut [u8; 52], generator: &mut Lcg48, end: usize, count: usize) -> u64
     requires some { count ≤ end }
     requires inside { end ≤ 52 }
     requires cards { AreCards cards.old }
@@ -31,9 +26,9 @@ pub(crate) fn settle(
         → IsDealingAround fixed free x generator.old cards.old end
         → result
         ≡ mask_l
-            (map
-                (settles_within fixed (places_for (free_count fixed) x) (end - count) end)
-                pack_in_order) }
+        (map
+        (settles_within fixed (places_for (free_count fixed) x) (end - count) end)
+        pack_in_order) }
 {
     let mut mask = 0;
     for k in 0..count {

@@ -123,10 +123,7 @@ fn side_of(seats: &[Option<Seat>; 52], seat: Seat) -> Side
 fn held_by(seats: &[Option<Seat>; 52], seat: Seat) -> usize
     ensures { result ≡ held seats.now seat }
 {
-    seats
-        .iter()
-        .filter(|fixed| **fixed == Some(seat))
-        .count()
+    seats.iter().filter(|fixed| **fixed == Some(seat)).count()
 }
 
 /// The cards that are fixed at the seat.

@@ -25,6 +25,7 @@ pub mod testing;
 pub use candidates::{Candidates, MAX_CANDIDATES};
 pub use card::Card;
 pub use deal::Deal;
+pub use fixed::Fixed;
 pub use hand::Hand;
 pub use honours::Honours;
 pub use measure::Measure;

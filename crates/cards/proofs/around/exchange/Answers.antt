@@ -1,4 +1,4 @@
-use Rattle.std.proofs.Common.{◌+◌, ◌<◌, ◌≤◌, ◌∙◌, length, get_or, sym, ap, arith}
+use Rattle.std.proofs.Common.{◌+◌, ◌<◌, ◌∙◌, length, get_or, sym, ap, arith}
 use Rattle.std.proofs.lemmas.List.Edits.{swap_is, swapped_from_swap}
 use Rattle.cards.specs.Shuffle.{place_of}
 use Rattle.cards.proofs.FreeCards.{cards_swapped, dealing_around_last, dealing_around_on, free_card_settled}

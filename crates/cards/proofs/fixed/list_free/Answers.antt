@@ -1,4 +1,4 @@
-use Rattle.std.proofs.Common.{◌≡◌, ◌+◌, ◌<◌, ◌∙◌, length, refl, sym, ap, arith, subst}
+use Rattle.std.proofs.Common.{◌∙◌, refl, sym, arith, subst}
 use Rattle.std.specs.Prelude.{None}
 use Rattle.std.proofs.lemmas.List.{length-set}
 use Rattle.std.proofs.lemmas.List.Sums.{count_by_more_no, count_by_more_yes}
@@ -23,15 +23,15 @@ loop-card-preserved c =
     let before = c.loop-card.invariant in
     elim c.if-is_open.branch [
       | then-is_open w ↦ record {
-          all = omega (arith, w.count-is, before.all, count_by_more_yes is_free seats i None (omega arith) (sym c.is_open.ensures ∙ w.if-is_open.true));
-          long = rw w.free-is (simp length-set before.long);
-          few = omega (arith, w.count-is, before.few);
-          listed = subst (IsListed seats c.if-is_open.free) (sym w.count-is) (rw w.free-is (one_listed seats c.loop-card.free c.loop-card.count i before.long before.few (omega arith) before.all (sym c.is_open.ensures ∙ w.if-is_open.true) before.listed));
-        }
+        all = omega (arith, w.count-is, before.all, count_by_more_yes is_free seats i None (omega arith) (sym c.is_open.ensures ∙ w.if-is_open.true));
+        long = rw w.free-is (simp length-set before.long);
+        few = omega (arith, w.count-is, before.few);
+        listed = subst (IsListed seats c.if-is_open.free) (sym w.count-is) (rw w.free-is (one_listed seats c.loop-card.free c.loop-card.count i before.long before.few (omega arith) before.all (sym c.is_open.ensures ∙ w.if-is_open.true) before.listed));
+      }
       | else-is_open w ↦ record {
-          all = omega (arith, w.count-is, before.all, count_by_more_no is_free seats i None (omega arith) (sym c.is_open.ensures ∙ w.if-is_open.false));
-          long = rw w.free-is before.long;
-          few = omega (arith, w.count-is, before.few);
-          listed = subst (IsListed seats c.if-is_open.free) (sym w.count-is) (rw w.free-is before.listed);
-        }
+        all = omega (arith, w.count-is, before.all, count_by_more_no is_free seats i None (omega arith) (sym c.is_open.ensures ∙ w.if-is_open.false));
+        long = rw w.free-is before.long;
+        few = omega (arith, w.count-is, before.few);
+        listed = subst (IsListed seats c.if-is_open.free) (sym w.count-is) (rw w.free-is before.listed);
+      }
     ]

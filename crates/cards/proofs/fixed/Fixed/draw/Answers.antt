@@ -1,8 +1,7 @@
-use Rattle.std.proofs.Common.{◌≡◌, ℕ, ◌+◌, ◌-◌, ◌∙◌, List, sym, ap, arith, subst, refl}
+use Rattle.std.proofs.Common.{◌≡◌, ℕ, ◌-◌, ◌∙◌, List, sym, ap, arith, subst}
 use Rattle.std.specs.Prelude.{Option}
 use Rattle.lcg48.specs.Sequence.{state_after}
 use Rattle.cards.specs.declared.seat.Seat.{Seat}
-use Rattle.cards.specs.Deals.{IsPartition}
 use Rattle.cards.specs.Fixed.{dealt_around, free_count, places_for}
 use Rattle.cards.specs.internal.Around.{IsListed}
 use Rattle.cards.proofs.FreeCards.{dealing_around_at, dealing_around_first}

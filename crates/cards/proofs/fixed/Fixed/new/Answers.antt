@@ -1,9 +1,7 @@
-use Rattle.std.proofs.Common.{◌≡◌, ◌≤◌, ◌∙◌, get_or, sym, arith, below_more, rules, ap}
+use Rattle.std.proofs.Common.{get_or, arith, below_more}
 use Rattle.std.proofs.lemmas.Bool.{false≢true}
-use Rattle.std.proofs.lemmas.List.Elements.{All-from_get_or}
 use Rattle.cards.specs.declared.seat.Seat.TheVariants.{North}
 use Rattle.cards.specs.Deals.{all_seats}
-use Rattle.cards.specs.Fixed.{held}
 use Rattle.cards.proofs.fixed.Fixed.new.Goals as goal
 
 pub loop-seat-preserved : goal.loop-seat-preserved

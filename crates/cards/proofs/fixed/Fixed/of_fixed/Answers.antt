@@ -1,5 +1,4 @@
-use Rattle.std.proofs.Common.{◌≡◌, arith, sym, subst}
-use Rattle.cards.specs.internal.Around.{IsListed}
+use Rattle.std.proofs.Common.{arith}
 use Rattle.cards.proofs.AroundDeals.{rooms_together}
 use Rattle.cards.proofs.fixed.Fixed.of_fixed.Goals as goal
 
