@@ -23,10 +23,10 @@ card-below cards i h below =
     let long : length cards ≡ 52 = length_permutation pack cards h ∙ length-pack in
     All-get_or (λ c. c < 52) cards i 0 (rw long below) all
 
-state-below : (x n : ℕ) → state_after x (n + 1) < 2 ^ 48
+pub state-below : (x n : ℕ) → state_after x (n + 1) < 2 ^ 48
 state-below x n = rw (state_after-more x n) (omega arith)
 
-place-below : (j x : ℕ) → 0 < j → x < 2 ^ 48 → place_of j x < j
+pub place-below : (j x : ℕ) → 0 < j → x < 2 ^ 48 → place_of j x < j
 place-below j x h below = (div-lt_iff_lt-mul (omega arith)).1 (mul-lt-mul_of_pos_left below h)
 
 drawn_at : (x i : ℕ) → i < 51 → get_or (drawn_places x) i 0 ≡ place_of (52 - i) (state_after x (i + 1))

@@ -6,6 +6,7 @@ pub mod Measures
 pub mod Hands
 pub mod Balanced
 pub mod Ranks
+pub mod Fixed
 pub mod Candidates
 pub mod CandidateWalks
 pub mod Packed

@@ -3,4 +3,5 @@ pub mod Masks
 pub mod MaskBits
 pub mod PackedMasks
 pub mod BalancedInOrder
+pub mod Around
 pub mod Exchanges

@@ -1,12 +1,14 @@
 //! Laws of this crate's definitions: functions whose contracts are the laws. They do nothing, but
 //! for `equality`, which compares.
 
-ghost use Rattle.std.specs.Prelude.{◌≡◌, ℕ, List, map, ◌↔◌, IsTrue};
+ghost use Rattle.std.specs.Prelude.{◌≡◌, ℕ, List, map, ◌↔◌, ◌<◌, IsTrue, Option, Some, None, slice_get};
 ghost use Rattle.std.specs.List.Sorted.{IsPermutation};
 ghost use Rattle.cards.specs.Shuffle.{IsPlaces, card_at, pack};
 ghost use Rattle.cards.specs.Hands.{is_rearrangement, is_balanced};
 ghost use Rattle.cards.specs.Balanced.{IsBalanced};
-ghost use Rattle.cards.specs.Candidates.{candidate};
+ghost use Rattle.cards.specs.Candidates.{candidate, candidate_around, state_before};
+ghost use Rattle.cards.specs.Fixed.{IsFixed, free_count, free_index, none_fixed, open_seat};
+ghost use Rattle.cards.specs.Fixed.{places_for};
 ghost use Rattle.cards.specs.Deals.{IsPartition};
 ghost use Rattle.cards.specs.Hands.{hand_of};
 ghost use Rattle.cards.specs.Turning.{goes_to, turned};
@@ -42,6 +44,38 @@ pub fn equality(a: &Deal, b: &Deal) -> bool
 /// Every candidate of every seed is a partition of the pack into four hands of thirteen.
 pub fn candidates()
     ensures { (seed k : ℕ) → IsPartition (candidate seed k) }
+{}
+
+/// With no card fixed a candidate is what it is without fixed cards.
+pub fn around_nothing()
+    ensures { (seed k : ℕ) → candidate_around none_fixed seed k ≡ candidate seed k }
+{}
+
+/// Every candidate around fixed cards is a partition of the pack into four hands of thirteen.
+pub fn around_is_a_partition()
+    ensures { (fixed : List (Option ASeat)) (seed k : ℕ)
+        → IsFixed fixed
+        → IsPartition (candidate_around fixed seed k) }
+{}
+
+/// Each fixed card is at its seat.
+pub fn fixed_cards_stay()
+    ensures { (fixed : List (Option ASeat)) (seed k card : ℕ) (seat : ASeat)
+        → IsFixed fixed
+        → slice_get fixed card ≡ Some (Some seat)
+        → slice_get (candidate_around fixed seed k) card ≡ Some seat }
+{}
+
+/// The free cards are dealt by Algorithm P: the free card whose index the exchanges bring to
+/// position i goes to the seat that gets the i-th of them.
+pub fn free_cards_are_dealt()
+    ensures { (fixed : List (Option ASeat)) (seed k card i : ℕ)
+        → IsFixed fixed
+        → i < free_count fixed
+        → slice_get fixed card ≡ Some None
+        → free_index fixed card
+        ≡ card_at (places_for (free_count fixed) (state_before seed k)) i
+        → slice_get (candidate_around fixed seed k) card ≡ Some (open_seat fixed i) }
 {}
 
 /// A turned deal has the same hands: each is where it went.

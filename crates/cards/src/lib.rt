@@ -4,9 +4,11 @@
 //! each card, and a `Hand` counts what one seat has.
 #![tactic(auto)]
 
+mod around;
 mod candidates;
 mod card;
 mod deal;
+mod fixed;
 mod hand;
 mod honours;
 pub mod laws;
@@ -23,6 +25,7 @@ pub mod testing;
 pub use candidates::{Candidates, MAX_CANDIDATES};
 pub use card::Card;
 pub use deal::Deal;
+pub use fixed::Fixed;
 pub use hand::Hand;
 pub use honours::Honours;
 pub use measure::Measure;

@@ -21,6 +21,17 @@ pub fn deal(hands: &[u8]) -> Result<Deal, &'static str> {
 /// Returns the seats of the cards by their numbers. A card that isn't written is North's.
 pub fn seats_of(hands: &[u8]) -> [Seat; 52] {
     let mut seats = [Seat::North; 52];
+    for (seat, written) in seats.iter_mut().zip(fixed_in(hands)) {
+        if let Some(written) = written {
+            *seat = written;
+        }
+    }
+    seats
+}
+
+/// Returns the seats of the cards that are written, by their numbers.
+pub fn fixed_in(hands: &[u8]) -> [Option<Seat>; 52] {
+    let mut seats = [None; 52];
     let mut seat = Seat::North;
     let mut suit = 0;
     for byte in hands {
@@ -34,7 +45,7 @@ pub fn seats_of(hands: &[u8]) -> [Seat; 52] {
                 let first = 13 * (suit % 4);
                 if let Some(rank) = b"AKQJT98765432".iter().position(|letter| *letter == rank) {
                     if let Some(holder) = seats.get_mut(first + rank % 13) {
-                        *holder = seat;
+                        *holder = Some(seat);
                     }
                 }
             }

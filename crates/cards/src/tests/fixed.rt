@@ -1,0 +1,161 @@
+//! Deals around fixed cards, with outside values, and against a plain program.
+
+use super::*;
+use crate::testing::fixed_in;
+
+/// The deal of the candidate of the seed around the fixed cards.
+fn around(seed: u32, candidate: u64, hands: &[u8]) -> Option<Deal> {
+    let mut steps = Steps::new();
+    let jump = Stride::of(51 * (candidate % MAX_CANDIDATES), &mut steps);
+    let mut generator = jump.apply(&Lcg48::seeded(seed));
+    Some(Fixed::new(fixed_in(hands))?.draw(&mut generator))
+}
+
+/// A seed, a candidate, what is fixed from North on, and the deal.
+const WORKED: [(u32, u64, &[u8], &[u8]); 10] = [
+    (
+        0,
+        0,
+        b"",
+        b"72.AT64.75.AT872 AK985.85.A6.Q654 QJ43.Q732.QT3.K9 T6.KJ9.KJ9842.J3",
+    ),
+    (
+        0,
+        0,
+        b"AKQ32.K..A",
+        b"AKQ8632.K.K.AQ92 JT5.QJ843.AQ75.4 9.AT52.964.KJ765 74.976.JT832.T83",
+    ),
+    (
+        0,
+        1,
+        b"AKQ32.K..A",
+        b"AKQJ32.K.952.A94 T654.AT976.A8.QJ 98.QJ82.T74.KT62 7.543.KQJ63.8753",
+    ),
+    (
+        0,
+        2,
+        b"AKQ32.K..A",
+        b"AKQ732.AK.AJ.A75 96.QJ9.KT87632.T JT.53.Q9.KQJ9632 854.T87642.54.84",
+    ),
+    (
+        7,
+        1_000_000,
+        b"AKQ32.K..A",
+        b"AKQ832.K64..A863 74.AQ852.AK53.K9 J9.J973.J987.Q42 T65.T.QT642.JT75",
+    ),
+    (
+        0,
+        0,
+        b"... ... ...AKQJT98765432",
+        b"AQT974.KJT6.654. K6.AQ9432.JT732. ...AKQJT98765432 J8532.875.AKQ98.",
+    ),
+    (
+        0,
+        0,
+        b"AKQJT98765432... .AKQJT98765432.. ..AKQJT98765432.",
+        b"AKQJT98765432... .AKQJT98765432.. ..AKQJT98765432. ...AKQJT98765432",
+    ),
+    (
+        0,
+        3,
+        b"... A.A.A.A ... K.K.K.K",
+        b"T87.7653.JT.J762 AJ53.AQ4.A963.A5 Q942.J92.874.983 K6.KT8.KQ52.KQT4",
+    ),
+    (
+        0,
+        0,
+        b"...",
+        b"72.AT64.75.AT872 AK985.85.A6.Q654 QJ43.Q732.QT3.K9 T6.KJ9.KJ9842.J3",
+    ),
+    (
+        2024,
+        5,
+        b"KQ432.A93.AJ.JT8 ... A985.KJ742.KQ32.",
+        b"KQ432.A93.AJ.JT8 6.865.6.AQ976532 A985.KJ742.KQ32. JT7.QT.T98754.K4",
+    ),
+];
+
+#[test]
+fn worked_deals_around_fixed_cards(rt: HostRuntime) -> Result<(), Fail> {
+    for (seed, candidate, hands, wanted) in WORKED.iter() {
+        assert_eq!(rt; around(*seed, *candidate, hands), Some(deal_of(wanted)?));
+    }
+    Ok(())
+}
+
+#[test]
+fn fourteen_fixed_cards_are_refused(rt: HostRuntime) {
+    assert!(rt; Fixed::new(fixed_in(b"AKQJT98765432...")).is_some());
+    assert!(rt; Fixed::new(fixed_in(b"AKQJT98765432.A..")).is_none());
+    assert!(rt; Fixed::new(fixed_in(b"... ... ... AKQJT98765432...2")).is_none());
+}
+
+#[test]
+fn nothing_fixed_is_the_candidate(rt: HostRuntime) {
+    let mut generator = Lcg48::seeded(2026);
+    let mut again = generator;
+    for _ in 0..1_000 {
+        assert!(rt; Fixed::none().draw(&mut again) == Deal::draw(&mut generator));
+    }
+    assert_eq!(rt; generator.state(), again.state());
+}
+
+/// The deal as it is described: the free cards are listed and shuffled, and North takes the first
+/// of them until it has thirteen cards, then East, South and West.
+fn dealt_plainly(fixed: &[Option<Seat>; 52], generator: &mut Lcg48) -> [Seat; 52] {
+    let mut free = [0; 52];
+    let mut count = 0;
+    for (card, seat) in fixed.iter().enumerate() {
+        if seat.is_none() {
+            free[count % 52] = card;
+            count = (count % 52) + 1;
+        }
+    }
+    for j in (2..count + 1).rev() {
+        let place = (j as u128 * u128::from(generator.next())) >> 48;
+        free.swap((j - 1) % 52, place as usize % 52);
+    }
+    let mut seats = [Seat::North; 52];
+    for (seat, fixed) in seats.iter_mut().zip(fixed.iter()) {
+        *seat = fixed.unwrap_or(Seat::West);
+    }
+    let mut next = free.iter().take(count);
+    for seat in [Seat::North, Seat::East, Seat::South] {
+        let held = fixed.iter().filter(|fixed| **fixed == Some(seat)).count();
+        for card in next.by_ref().take(13 - held % 14) {
+            seats[*card % 52] = seat;
+        }
+    }
+    seats
+}
+
+/// Of a deal each card stays fixed or is taken away, by one draw for each.
+fn some_fixed(deal: &Deal, generator: &mut Lcg48) -> [Option<Seat>; 52] {
+    let often = generator.next() >> 45;
+    let mut fixed = [None; 52];
+    for (card, seat) in fixed.iter_mut().enumerate() {
+        if let Some(card) = Card::new(card as u8) {
+            if generator.next() >> 45 < often {
+                *seat = Some(deal.holder(card));
+            }
+        }
+    }
+    fixed
+}
+
+#[test]
+fn ten_thousand_sets_by_a_plain_program(rt: HostRuntime) {
+    let mut generator = Lcg48::seeded(24);
+    for _ in 0..10_000 {
+        let deal = Deal::draw(&mut generator);
+        let seats = some_fixed(&deal, &mut generator);
+        let mut again = generator;
+        let plain = Deal::from_seats(&dealt_plainly(&seats, &mut again));
+        let fixed = Fixed::new(seats);
+        assert!(rt; fixed.is_some());
+        if let Some(fixed) = fixed {
+            assert_eq!(rt; Some(fixed.draw(&mut generator)), plain);
+            assert_eq!(rt; generator.state(), again.state());
+        }
+    }
+}
