@@ -12,8 +12,8 @@ use Rattle.cards.specs.declared.seat.Seat.TheVariants.{North}
 use Rattle.cards.specs.Pack.{seat_at_position, seat_of_number}
 use Rattle.cards.specs.Shuffle.{place_of, drawn_places, card_at, pack}
 use Rattle.cards.specs.Deals.{dealt, position_of}
-use Rattle.cards.specs.Candidates.{candidate, candidate_around, state_before}
-use Rattle.cards.specs.Fixed.{IsFixed, dealt_around, free_count, free_index, is_free, none_fixed, open_seat, places_for, seat_around}
+use Rattle.cards.specs.Candidates.{candidate, state_before}
+use Rattle.cards.specs.Fixed.{IsFixed, candidate_around, dealt_around, free_count, free_index, is_free, none_fixed, open_seat, places_for, seat_around}
 use Rattle.cards.specs.internal.Around.{fixed_at}
 use Rattle.cards.proofs.Dealing.{card_at-position_of, position_of-card_at}
 use Rattle.cards.proofs.FewPlaces.{are_places, drawn_at, is_less, isn't_less}

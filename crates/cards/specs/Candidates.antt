@@ -1,11 +1,10 @@
 -- The one sequence of candidates of a seed: candidate k is dealt by the 51 draws after the first 51
 -- * k.
-use Rattle.std.specs.Prelude.{ℕ, ◌*◌, List, Option}
+use Rattle.std.specs.Prelude.{ℕ, ◌*◌, List}
 use Rattle.lcg48.specs.Sequence.{seeded_state, state_after}
 use Rattle.cards.specs.declared.seat.Seat.{Seat}
 use Rattle.cards.specs.Shuffle.{drawn_places}
 use Rattle.cards.specs.Deals.{dealt}
-use Rattle.cards.specs.Fixed.{dealt_around, free_count, places_for}
 
 -- the state before the first draw of candidate k
 abbrev pub state_before : ℕ → ℕ → ℕ
@@ -14,8 +13,3 @@ state_before seed k = state_after (seeded_state seed) (51 * k)
 -- the deal of candidate k
 abbrev pub candidate : ℕ → ℕ → List Seat
 candidate seed k = dealt (drawn_places (state_before seed k))
-
--- the deal of candidate k around fixed cards: of m free cards it takes the first m - 1 of its draws
-abbrev pub candidate_around : List (Option Seat) → ℕ → ℕ → List Seat
-candidate_around fixed seed k =
-    dealt_around fixed (places_for (free_count fixed) (state_before seed k))

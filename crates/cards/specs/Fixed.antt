@@ -8,6 +8,7 @@ use Rattle.cards.specs.declared.seat.Seat.TheVariants.{North, East, South, West}
 use Rattle.cards.specs.Pack.{seat_number}
 use Rattle.cards.specs.Shuffle.{pack, place_of}
 use Rattle.cards.specs.Deals.{position_of}
+use Rattle.cards.specs.Candidates.{state_before}
 
 abbrev pub is_free : Option Seat → Bool
 is_free None = true
@@ -67,3 +68,8 @@ seat_around fixed places c =
 -- the deal of a list of places around the fixed cards
 unfoldable pub dealt_around : List (Option Seat) → List ℕ → List Seat
 dealt_around fixed places = map (seat_around fixed places) pack
+
+-- the deal of candidate k around fixed cards: of m free cards it takes the first m - 1 of its draws
+abbrev pub candidate_around : List (Option Seat) → ℕ → ℕ → List Seat
+candidate_around fixed seed k =
+    dealt_around fixed (places_for (free_count fixed) (state_before seed k))

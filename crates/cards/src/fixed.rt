@@ -1,6 +1,6 @@
 //! Cards that are fixed at seats before the deal.
 
-ghost use Rattle.std.specs.Prelude.{◌≡◌, ◌↔◌, ◌-◌, IsSome, IfSome};
+ghost use Rattle.std.specs.Prelude.{◌≡◌, ◌↔◌, ◌-◌, ◌<◌, IsSome, IsTrue, IfSome};
 ghost use Rattle.lcg48.specs.Sequence.{state_after};
 ghost use Rattle.cards.specs.Deals.{IsPartition};
 ghost use Rattle.cards.specs.Fixed.{IsFixed, dealt_around, free_count, held, is_fixed_at, is_free};
@@ -51,7 +51,7 @@ impl Fixed {
         ensures kept { IfSome result (λ f. f ≡ seats) }
     {
         for seat in [Seat::North, Seat::East, Seat::South, Seat::West] {
-            if held_by(&seats, seat) > 13 {
+            if has_more(&seats, seat) {
                 return None;
             }
         }
@@ -117,6 +117,13 @@ fn side_of(seats: &[Option<Seat>; 52], seat: Seat) -> Side
         mask: mask_fixed(seats, seat),
         room: 13 - held_by(seats, seat),
     }
+}
+
+/// Whether more than thirteen cards are fixed at the seat.
+fn has_more(seats: &[Option<Seat>; 52], seat: Seat) -> bool
+    ensures { IsTrue result ↔ (13 < held seats.now seat) }
+{
+    held_by(seats, seat) > 13
 }
 
 /// How many cards are fixed at the seat.

@@ -29,7 +29,8 @@ AreCards cards = (i : ℕ) → i < 52 → slice_index cards i < 52
 -- the free cards while n positions are open: traced back through the exchanges to come, position i
 -- leads to where its card stands now
 pub record IsDealingAround
-    (fixed : List (Option Seat)) (free : List ℕ) (x state : ℕ) (cards : List ℕ) (n : ℕ) : Type 0 where
+    (fixed : List (Option Seat)) (free : List ℕ)
+    (x state : ℕ) (cards : List ℕ) (n : ℕ) : Type 0 where
   pub long : length fixed ≡ 52
   pub few : free_count fixed ≤ 52
   pub listed : IsListed fixed free (free_count fixed)

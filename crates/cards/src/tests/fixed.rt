@@ -111,6 +111,7 @@ fn dealt_plainly(fixed: &[Option<Seat>; 52], generator: &mut Lcg48) -> [Seat; 52
             count = (count % 52) + 1;
         }
     }
+    let count = count % 53;
     for j in (2..count + 1).rev() {
         let place = (j as u128 * u128::from(generator.next())) >> 48;
         free.swap((j - 1) % 52, place as usize % 52);
