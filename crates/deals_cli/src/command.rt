@@ -57,8 +57,8 @@ const STREAM_EXAMPLES: &str = "Example:
   deals stream --seed 0 --count 3";
 
 const MAKE_EXAMPLES: &str = "Examples:
-  Thirty-six boards:
-    deals make --seed 2024 --candidates 36
+  Thirty-six boards, from a seed that was drawn for them:
+    deals make --seed 3469703443 --boards 36
   Strong balanced hands for North, from a million candidates, on three workers:
     deals make --seed 2024 --candidates 1000000 --workers 3 --lane 4096 \
     --where 'hcp(north)>=15 and balanced(north)'
@@ -305,7 +305,9 @@ fn make_command<'a>(alloc: Global) -> Result<Command<'a>, AllocError>
     ensures local { IfOk result (λ c. (fields_of c).has_globals ≡ false) }
 {
     let command = Command::new(alloc, "make")
-        .about("Writes bridge deals in Portable Bridge Notation, as hand records or as LIN")
+        .about(
+            "Writes bridge deals in Portable Bridge Notation, as hand records, LIN or a page to print",
+        )
         .after_help(MAKE_EXAMPLES);
     let command = with_candidates(alloc, command)?;
     let command = with_search(alloc, command)?;
