@@ -305,9 +305,7 @@ fn make_command<'a>(alloc: Global) -> Result<Command<'a>, AllocError>
     ensures local { IfOk result (λ c. (fields_of c).has_globals ≡ false) }
 {
     let command = Command::new(alloc, "make")
-        .about(
-            "Writes bridge deals in Portable Bridge Notation, as hand records, LIN or a page to print",
-        )
+        .about("Writes bridge deals in Portable Bridge Notation, as hand records, LIN or a page")
         .after_help(MAKE_EXAMPLES);
     let command = with_candidates(alloc, command)?;
     let command = with_search(alloc, command)?;
