@@ -50,6 +50,17 @@ install_all() {
     printf '%s\n' $files "$doc/install.sh" "$doc/installed" $made >"$1/$doc/installed"
 }
 
+# Says how the program is found by its name, if it isn't yet.
+say_path() {
+    bin=$(CDPATH='' cd -- "$1/bin" && pwd)
+    case ":$PATH:" in
+        *":$bin:"*) return 0 ;;
+    esac
+    quoted=$(printf '%s\n' "$bin" | sed "s/'/'\\\\''/g")
+    echo "deals is in $bin, which is not on the PATH. To put it there (for good: in ~/.profile):"
+    echo "export PATH='$quoted':\"\$PATH\""
+}
+
 [ $# -gt 0 ] || usage
 case $1 in
     --remove)
@@ -75,9 +86,6 @@ case $1 in
         mkdir -p "$1"
         remove "$1"
         install_all "$1"
-        case ":$PATH:" in
-            *":$1/bin:"*) ;;
-            *) echo "deals is in $1/bin, which is not on the PATH" ;;
-        esac
+        say_path "$1"
         ;;
 esac

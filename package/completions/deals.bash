@@ -3,10 +3,11 @@
 _deals_options() {
     local form='--first-board --event --site --date --format --dealer --vulnerable --rotate'
     local search='--seed --candidates --first --workers --lane --where --boards'
+    local hands='--north --east --south --west'
     case $1 in
-        make) echo "$search $form --report --progress --help -h" ;;
-        pick) echo "--seed $form --help -h" ;;
-        find) echo "$search --report --progress --help -h" ;;
+        make) echo "$search $hands $form --report --progress --help -h" ;;
+        pick) echo "--seed $hands $form --help -h" ;;
+        find) echo "$search $hands --report --progress --help -h" ;;
         stream) echo '--seed --count --help -h' ;;
         conditions) echo '--help -h' ;;
         '') echo 'make find pick conditions stream help --help -h --version -V' ;;
@@ -21,7 +22,7 @@ _deals_words() {
         --vulnerable) echo 'None NS EW All' ;;
         --progress) echo 'auto always never' ;;
         --seed | --candidates | --first | --workers | --lane | --where | --boards | --count | --first-board | \
-            --event | --site | --date) echo '' ;;
+            --event | --site | --date | --north | --east | --south | --west) echo '' ;;
         *) return 1 ;;
     esac
 }

@@ -14,6 +14,7 @@ complete -c deals -n '__fish_seen_subcommand_from help' -a 'make find pick condi
 set -l all '__fish_seen_subcommand_from make find pick conditions stream; and not __fish_seen_subcommand_from help'
 set -l runs '__fish_seen_subcommand_from make find'
 set -l boards '__fish_seen_subcommand_from make pick'
+set -l dealt '__fish_seen_subcommand_from make find pick'
 set -l stream '__fish_seen_subcommand_from stream'
 
 complete -c deals -n $all -s h -l help -d 'print the options'
@@ -25,6 +26,10 @@ complete -c deals -n $runs -l workers -x -d 'how many threads judge candidates, 
 complete -c deals -n $runs -l lane -x -d 'how many verdicts a worker may be ahead, 1 to 4096'
 complete -c deals -n $runs -l where -x -d 'the condition that a deal has to meet'
 complete -c deals -n $runs -l boards -x -d 'stop after so many boards'
+complete -c deals -n $dealt -l north -x -d 'the cards that North holds, as AKQ32.K..A'
+complete -c deals -n $dealt -l east -x -d 'the cards that East holds'
+complete -c deals -n $dealt -l south -x -d 'the cards that South holds'
+complete -c deals -n $dealt -l west -x -d 'the cards that West holds'
 complete -c deals -n $runs -l report -d 'say afterwards how many boards there are'
 complete -c deals -n $runs -l progress -x -a 'auto always never' -d 'when counts are shown'
 complete -c deals -n $boards -l first-board -x -d 'the number of the first board'

@@ -111,9 +111,15 @@ def check_tarball(folder):
     kept = prefix / "share" / "man" / "man1" / "other.1"
     kept.parent.mkdir(parents=True)
     kept.write_text("")
+    install = ["sh", unpacked / "install.sh", prefix]
     for _ in range(2):
-        status, out, err = told(["sh", unpacked / "install.sh", prefix])
+        status, out, err = told(install)
         yield "the tarball installs", (status, err) == (0, b"") and out.startswith(b"deals is in ")
+    line = out.decode().splitlines()[1]
+    found = told(["sh", "-c", line + "; command -v deals"])[1].decode().strip()
+    yield "the last line puts it on the PATH", line.startswith("export PATH=") and found == str(prefix / "bin/deals")
+    path = f"{os.environ['PATH']}:{prefix / 'bin'}"
+    yield "and isn't written where it is on it", told(install, PATH=path) == (0, b"", b"")
     yield "and runs", told([prefix / "bin/deals", *MAKE])[:2] == told([harness.PROGRAM, *MAKE])[:2]
     status, out, _ = told(["man", "-M", prefix / "share/man", "-P", "cat", "deals"], LC_ALL="C.UTF-8", MANWIDTH="80")
     yield "and has a man page", status == 0 and b"NAME\n       deals" in out

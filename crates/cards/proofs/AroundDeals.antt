@@ -20,7 +20,7 @@ use Rattle.cards.specs.Pack.{seat_number}
 use Rattle.cards.specs.Shuffle.{card_at, pack}
 use Rattle.cards.specs.Deals.{IsPartition, position_of}
 use Rattle.cards.specs.Fixed.{IsFixed, dealt_around, free_count, free_index, held, is_fixed_at, is_free, open_seat, places_for, room, seat_around}
-use Rattle.cards.specs.declared.fixed.Side.{Side}
+use Rattle.cards.specs.declared.around.Side.{Side}
 use Rattle.cards.specs.internal.Around.{IsSide, fixed_at, fixed_mask, settles_within}
 use Rattle.cards.specs.internal.Masks.{IsMasks, seat_mask, seats_of_masks}
 use Rattle.cards.specs.internal.MaskBits.{bit_at_pack, mask-pack-lt, same_masks}

@@ -1,10 +1,11 @@
 -- Laws of the deals around fixed cards.
-use Rattle.std.proofs.Common.{◌≡◌, ℕ, zero, suc, ◌+◌, ◌-◌, ◌/◌, ◌<◌, ◌≤◌, cond, List, map, refl, sym, ap, ◌∙◌, arith, inl, inr}
+use Rattle.std.proofs.Common.{◌≡◌, ℕ, zero, suc, ◌+◌, ◌-◌, ◌/◌, ◌<◌, ◌≤◌, cond, List, [], ◌∷◌, length, map, replicate, refl, sym, ap, ◌∙◌, arith, inl, inr}
 use Rattle.std.specs.Prelude.{Option, Some, None, slice_get, unwrap_or, ltb, if◌then◌else◌}
-use Rattle.std.specs.List.{range_with_len}
+use Rattle.std.specs.List.{count_by, range_with_len}
 use Rattle.std.proofs.lemmas.Bool.{cases_lt}
 use Rattle.std.proofs.lemmas.Option.{get_or_from_slice_get, slice_get-get_or, slice_get_within}
 use Rattle.std.proofs.lemmas.List.{get_or-replicate}
+use Rattle.std.proofs.lemmas.List.Sums.{count_by-le-length, sum_by-cons}
 use Rattle.std.proofs.lemmas.List.FromFn.{fill_by_all, get_or-map-range_with_len, length-map-range_with_len}
 use Rattle.lcg48.specs.Sequence.{state_after}
 use Rattle.cards.specs.declared.seat.Seat.{Seat}
@@ -62,10 +63,10 @@ seat_at p h =
       ]
     ]
 
-pub around_nothing : (seed k : ℕ) → candidate_around none_fixed seed k ≡ candidate seed k
+-- the deal of the next draws
+pub nothing_around : (x : ℕ) → dealt_around none_fixed (places_for 52 x) ≡ dealt (drawn_places x)
 unfolding dealt_around dealt pack
-around_nothing seed k =
-    let x : ℕ = state_before seed k in
+nothing_around x =
     let places : List ℕ = places_for 52 x in
     let seat : ℕ → Seat = λ c. seat_at_position (position_of places c) in
     fill_by_all seat (dealt_around none_fixed places) 52 North
@@ -76,6 +77,23 @@ around_nothing seed k =
     ∙ ap (λ i. open_seat none_fixed (position_of places i)) (index_of_all c (omega arith))
     ∙ seat_at (position_of places c) (card_at-position_of places c (are_places 52 x) h).0)
     ∙ ap dealt (same_places x)
+
+pub around_nothing : (seed k : ℕ) → candidate_around none_fixed seed k ≡ candidate seed k
+around_nothing seed k = nothing_around (state_before seed k)
+
+-- all cards are free only if none is fixed
+pub all_free : (fixed : List (Option Seat)) → length fixed ≡ 52 → free_count fixed ≡ 52 → fixed ≡ none_fixed
+all_free fixed long all = all_none fixed (all ∙ sym long) ∙ ap (λ n. replicate n None) long
+  where
+    head_free : (o : Option Seat) (n m : ℕ) → cond (is_free o) 1 0 + n ≡ m + 1 → n ≤ m → (o ≡ None) × (n ≡ m)
+    head_free None n m e le = (refl, omega (arith, e))
+    head_free (Some seat) n m e le = absurd (omega (arith, e, le))
+
+    all_none : (xs : List (Option Seat)) → count_by is_free xs ≡ length xs → xs ≡ replicate (length xs) None
+    all_none [] e = refl
+    all_none (o ∷ xs) e =
+        let both = head_free o (count_by is_free xs) (length xs) (sym (sum_by-cons (λ p. cond (is_free p) 1 0) o xs) ∙ e ∙ omega arith) (count_by-le-length is_free xs) in
+        ap (λ p. p ∷ xs) both.0 ∙ ap (λ ys. None ∷ ys) (all_none xs both.1)
 
 -- the seat of a card, from what is fixed there
 seat_in_deal : (fixed : List (Option Seat)) (places : List ℕ) (c : ℕ) (o : Option Seat) → IsFixed fixed → slice_get fixed c ≡ Some o

@@ -1,14 +1,21 @@
--- What `Candidates` goes through: every step-th candidate of a seed.
-use Rattle.std.specs.Prelude.{◌≡◌, ℕ, ◌-◌, ◌*◌, ◌≤◌}
+-- What `Candidates` goes through: every step-th candidate of a seed, dealt around fixed cards.
+use Rattle.std.specs.Prelude.{◌≡◌, ℕ, ◌-◌, ◌*◌, ◌≤◌, List, Option}
+use Rattle.cards.specs.declared.seat.Seat.{Seat}
 use Rattle.cards.specs.Candidates.{state_before}
+use Rattle.cards.specs.Fixed.{free_count}
 
--- what contracts see of `Candidates`: the state, and how many draws are passed over after each deal
+-- what contracts see of `Candidates`: the state, how many draws are passed over after those that a
+-- deal takes, and the fixed cards
 pub record CandidatesView : Type 0 where
   pub state : ℕ
   pub gap : ℕ
+  pub fixed : List (Option Seat)
 
--- the next deal is that of candidate k, then come those of k + step, k + 2 * step, ..
-pub record GoesOnAt (candidates : CandidatesView) (seed k step : ℕ) : Type 0 where
+-- the next deal is that of candidate k around the fixed cards, then come those of k + step,
+-- k + 2 * step, ..
+pub record GoesOnAt (candidates : CandidatesView) (around : List (Option Seat)) (seed k step : ℕ)
+    : Type 0 where
   pub before : candidates.state ≡ state_before seed k
   pub some : 1 ≤ step
-  pub others : candidates.gap ≡ 51 * (step - 1)
+  pub others : candidates.gap ≡ 51 * step - (free_count around - 1)
+  pub fixed_are : candidates.fixed ≡ around

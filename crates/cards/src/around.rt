@@ -1,66 +1,136 @@
-//! The exchanges of the free cards, with each place drawn when it is needed.
+//! Dealing around fixed cards: what is prepared of them once, and each deal.
 
-ghost use Rattle.std.specs.Prelude.{◌≡◌, ℕ, List, Option, ◌+◌, ◌-◌, ◌<◌, ◌≤◌, ◌^◌, map, slice_index};
-ghost use lib.Lanes.{mask_l};
-ghost use Rattle.cards.specs.declared.seat.Seat.{Seat as ASeat};
-ghost use Rattle.cards.specs.Shuffle.{card_at, pack as pack_in_order};
-ghost use Rattle.cards.specs.Fixed.{free_count, places_for};
-ghost use Rattle.cards.specs.internal.Around.{AreCards, IsDealingAround, settles_within};
+ghost use Rattle.std.specs.Prelude.{◌≡◌, ◌-◌, ◌≤◌};
+ghost use Rattle.lcg48.specs.Sequence.{state_after};
+ghost use Rattle.cards.specs.Deals.{IsPartition};
+ghost use Rattle.cards.specs.Fixed.{IsFixed, dealt_around, free_count, is_fixed_at, places_for};
+ghost use Rattle.cards.specs.internal.Around.{IsListed, IsSide, fixed_mask};
 
-use crate::places::place_for;
+use crate::fixed::{Fixed, held_by, is_open};
+use crate::settle::settle;
+use crate::{Deal, Seat};
 use lcg48::Lcg48;
+use std::marker::Model;
 
-/// Runs the exchanges for so many positions below `end`, and returns the mask of the cards left
-/// there, which no later exchange touches.
-pub(crate) fn settle(cards: &mut [u8; 52], generator: &mut Lcg48, end: usize, count: usize) -> u64
-    requires some { count ≤ end }
-    requires inside { end ≤ 52 }
-    requires cards { AreCards cards.old }
-    ensures cards { AreCards cards.new }
-    ensures dealing { (fixed : List (Option ASeat)) (free : List ℕ) (x : ℕ)
-        → end ≤ free_count fixed
-        → IsDealingAround fixed free x generator.old cards.old end
-        → IsDealingAround fixed free x generator.new cards.new (end - count) }
-    ensures mask { (fixed : List (Option ASeat)) (free : List ℕ) (x : ℕ)
-        → end ≤ free_count fixed
-        → IsDealingAround fixed free x generator.old cards.old end
-        → result
-        ≡ mask_l
-        (map
-        (settles_within fixed (places_for (free_count fixed) x) (end - count) end)
-        pack_in_order) }
+/// What is kept of fixed cards to deal around them, which contracts see as their list: the mask of
+/// each seat, how many free cards it gets, and the free cards by rising number.
+#[derive(Drop)]
+pub(crate) struct Around {
+    fixed: Fixed,
+    north: Side,
+    east: Side,
+    south: Side,
+    west: Side,
+    free: [u8; 52],
+    count: usize,
+}
+
+/// What is fixed at one seat: the mask of these cards, and how many free ones it gets.
+#[derive(Clone, Copy)]
+pub(crate) struct Side {
+    mask: u64,
+    room: usize,
+}
+
+impl Model for Around {
+    ghost use Rattle.std.specs.Prelude.{List, Option};
+    ghost use Rattle.cards.specs.declared.seat.Seat.{Seat as ASeat};
+    ghost use Rattle.cards.specs.internal.Around.{IsKept};
+
+    ghost Value = { List (Option ASeat) };
+
+    ghost view = { λ a. a.fixed };
+
+    ghost invariant = { λ a. IsKept a.fixed a.north a.east a.south a.west a.free a.count };
+}
+
+impl Around {
+    pub(crate) fn of(fixed: &Fixed) -> Around
+        ensures { result ≡ fixed.now }
+    {
+        let seats = fixed.as_array();
+        let (free, count) = list_free(seats);
+        Around {
+            fixed: *fixed,
+            north: side_of(seats, Seat::North),
+            east: side_of(seats, Seat::East),
+            south: side_of(seats, Seat::South),
+            west: side_of(seats, Seat::West),
+            free,
+            count,
+        }
+    }
+
+    /// The deal of the next draws around the fixed cards. Of m free cards the first m - 1 draws
+    /// shuffle the list by rising number; North has the first of it until it has thirteen cards,
+    /// then East, South and West.
+    pub(crate) fn draw(&self, generator: &mut Lcg48) -> Deal
+        ensures value { result
+            ≡ dealt_around self.now (places_for (free_count self.now) generator.old) }
+        ensures partition { IsPartition result }
+        ensures stepped { generator.new
+            ≡ state_after generator.old (free_count self.now - 1) }
+        ensures few { free_count self.now ≤ 52 }
+    {
+        let mut cards = self.free;
+        let south_end = self.count - self.west.room;
+        let east_end = south_end - self.south.room;
+        let north_end = east_end - self.east.room;
+        let west = settle(&mut cards, generator, self.count, self.west.room);
+        let south = settle(&mut cards, generator, south_end, self.south.room);
+        let east = settle(&mut cards, generator, east_end, self.east.room);
+        let north = settle(&mut cards, generator, north_end, self.north.room);
+        Deal::of_masks(
+            self.north.mask | north,
+            self.east.mask | east,
+            self.south.mask | south,
+            self.west.mask | west,
+        )
+    }
+}
+
+/// What is fixed at the seat.
+fn side_of(seats: &[Option<Seat>; 52], seat: Seat) -> Side
+    requires { IsFixed seats.now }
+    ensures { IsSide seats.now seat result }
+{
+    Side {
+        mask: mask_fixed(seats, seat),
+        room: 13 - held_by(seats, seat),
+    }
+}
+
+/// The cards that are fixed at the seat.
+fn mask_fixed(seats: &[Option<Seat>; 52], seat: Seat) -> u64
+    ensures { result ≡ fixed_mask seats.now seat }
 {
     let mut mask = 0;
-    for k in 0..count {
-        let card = exchange(cards, generator, end - 1 - k);
-        mask |= 1 << card;
+    for (card, fixed) in seats.iter().enumerate() {
+        if is_at(*fixed, seat) {
+            mask |= 1 << card;
+        }
     }
     mask
 }
 
-/// The exchange at a position with the next draw, and the card that stays there. At position 0
-/// nothing is left to do.
-fn exchange(cards: &mut [u8; 52], generator: &mut Lcg48, position: usize) -> u8
-    requires inside { position < 52 }
-    requires cards { AreCards cards.old }
-    ensures cards { AreCards cards.new }
-    ensures below { result < 52 }
-    ensures dealing { (fixed : List (Option ASeat)) (free : List ℕ) (x : ℕ)
-        → position < free_count fixed
-        → IsDealingAround fixed free x generator.old cards.old (position + 1)
-        → IsDealingAround fixed free x generator.new cards.new position }
-    ensures card { (fixed : List (Option ASeat)) (free : List ℕ) (x : ℕ)
-        → position < free_count fixed
-        → IsDealingAround fixed free x generator.old cards.old (position + 1)
-        → result ≡ slice_index free (card_at (places_for (free_count fixed) x) position) }
+/// The free cards by rising number, and how many there are.
+fn list_free(seats: &[Option<Seat>; 52]) -> ([u8; 52], usize)
+    ensures count { result.1 ≡ free_count seats.now }
+    ensures listed { IsListed seats.now result.0 result.1 }
 {
-    if position == 0 {
-        return cards[0];
+    let mut free = [0; 52];
+    let mut count = 0;
+    for (card, fixed) in seats.iter().enumerate() {
+        if is_open(*fixed) {
+            free[count] = card as u8;
+            count += 1;
+        }
     }
-    let place = usize::from(place_for(position + 1, generator.next()));
-    let card = cards[place];
-    let other = cards[position];
-    cards[position] = card;
-    cards[place] = other;
-    card
+    (free, count)
+}
+
+fn is_at(fixed: Option<Seat>, seat: Seat) -> bool
+    ensures { result ≡ is_fixed_at seat fixed }
+{
+    fixed == Some(seat)
 }

@@ -1,10 +1,16 @@
 //! The candidates of a seed, from one on: deal after deal, with a jump over those between.
 
-ghost use Rattle.std.specs.Prelude.{◌≡◌, ℕ, ◌+◌, ◌<◌, ◌≤◌, ◌^◌};
-ghost use Rattle.cards.specs.Candidates.{candidate};
+ghost use Rattle.std.specs.Prelude.{◌≡◌, ℕ, List, Option, ◌+◌, ◌-◌, ◌<◌, ◌≤◌, ◌^◌};
+ghost use Rattle.lcg48.specs.Sequence.{state_after};
 ghost use Rattle.cards.specs.CandidateWalks.{GoesOnAt};
+ghost use Rattle.cards.specs.Deals.{IsPartition};
+ghost use Rattle.cards.specs.Fixed.{candidate_around, dealt_around, free_count, none_fixed};
+ghost use Rattle.cards.specs.Fixed.{places_for};
+ghost use Rattle.cards.specs.declared.seat.Seat.{Seat as ASeat};
+ghost use Rattle.cards.specs.internal.DealtFrom.{fixed_in};
 
-use crate::Deal;
+use crate::around::Around;
+use crate::{Deal, Fixed};
 use lcg48::{Lcg48, Steps, Stride};
 use std::marker::Model;
 
@@ -16,20 +22,34 @@ const DRAWS: u64 = 51;
 /// They take 51 draws each. 51 * 2^40 is below 2^48, the number of states, so no draw comes twice.
 pub const MAX_CANDIDATES: u64 = 1 << 40;
 
-/// Every `step`-th candidate of a seed, from one on. Contracts see the generator's state before the
-/// next candidate's draws, and how many draws are passed over after them.
+/// Every `step`-th candidate of a seed around fixed cards, from one on. Contracts see the
+/// generator's state before the next candidate's draws, how many draws are passed over after those
+/// that it takes, and the fixed cards.
 #[derive(Drop)]
 pub struct Candidates {
     generator: Lcg48,
     gap: Stride,
+    dealing: Dealing,
+}
+
+/// How the candidates are dealt: the pack if no card is fixed, else the free cards.
+#[derive(Drop)]
+enum Dealing {
+    Pack,
+    Around(Around),
 }
 
 impl Model for Candidates {
     ghost use Rattle.cards.specs.CandidateWalks.{CandidatesView};
+    ghost use Rattle.cards.specs.internal.DealtFrom.{fixed_in};
 
     ghost Value = { CandidatesView };
 
-    ghost view = { λ c. record { state = c.generator; gap = c.gap } };
+    ghost view = { λ c. record {
+      state = c.generator;
+      gap = c.gap;
+      fixed = fixed_in c.dealing;
+    } };
 }
 
 impl Candidates {
@@ -39,28 +59,68 @@ impl Candidates {
     pub fn new(seed: u32, first: u64, step: u32) -> Candidates
         requires first { first < 2 ^ 40 + 16 }
         requires step { 1 ≤ step }
-        ensures { GoesOnAt result seed first step }
+        ensures { GoesOnAt result none_fixed seed first step }
+    {
+        Candidates::around(seed, first, step, &Fixed::none())
+    }
+
+    /// The same candidates, dealt around these fixed cards.
+    pub fn around(seed: u32, first: u64, step: u32, fixed: &Fixed) -> Candidates
+        requires first { first < 2 ^ 40 + 16 }
+        requires step { 1 ≤ step }
+        ensures { GoesOnAt result fixed.now seed first step }
     {
         let mut steps = Steps::new();
         let jump = Stride::of(DRAWS * first, &mut steps);
+        let taken = fixed.free().saturating_sub(1) as u64;
         Candidates {
             generator: jump.apply(&Lcg48::seeded(seed)),
-            gap: Stride::of(DRAWS * u64::from(step - 1), &mut steps),
+            gap: Stride::of(DRAWS * u64::from(step) - taken, &mut steps),
+            dealing: Dealing::of(fixed),
         }
     }
 
     /// The next candidate's deal.
     #[inline]
     pub fn next(&mut self) -> Deal
-        ensures deal { (seed number step : ℕ)
-            → GoesOnAt self.old seed number step
-            → result ≡ candidate seed number }
-        ensures moved { (seed number step : ℕ)
-            → GoesOnAt self.old seed number step
-            → GoesOnAt self.new seed (number + step) step }
+        ensures deal { (fixed : List (Option ASeat)) (seed number step : ℕ)
+            → GoesOnAt self.old fixed seed number step
+            → result ≡ candidate_around fixed seed number }
+        ensures partition { IsPartition result }
+        ensures moved { (fixed : List (Option ASeat)) (seed number step : ℕ)
+            → GoesOnAt self.old fixed seed number step
+            → GoesOnAt self.new fixed seed (number + step) step }
     {
-        let deal = Deal::draw(&mut self.generator);
+        let deal = self.dealing.draw(&mut self.generator);
         self.generator = self.gap.apply(&self.generator);
         deal
+    }
+}
+
+impl Dealing {
+    fn of(fixed: &Fixed) -> Dealing
+        ensures { fixed_in result ≡ fixed.now }
+    {
+        if fixed.free() == 52 {
+            return Dealing::Pack;
+        }
+        Dealing::Around(Around::of(fixed))
+    }
+
+    /// The deal of the next draws.
+    #[inline]
+    fn draw(&self, generator: &mut Lcg48) -> Deal
+        ensures value { result
+            ≡ dealt_around (fixed_in self.now)
+            (places_for (free_count (fixed_in self.now)) generator.old) }
+        ensures partition { IsPartition result }
+        ensures stepped { generator.new
+            ≡ state_after generator.old (free_count (fixed_in self.now) - 1) }
+        ensures few { free_count (fixed_in self.now) ≤ 52 }
+    {
+        match self {
+            Dealing::Pack => Deal::draw(generator),
+            Dealing::Around(around) => around.draw(generator),
+        }
     }
 }

@@ -1,47 +1,34 @@
 //! Cards that are fixed at seats before the deal.
 
-ghost use Rattle.std.specs.Prelude.{◌≡◌, ◌↔◌, ◌-◌, ◌<◌, IsSome, IsTrue, IfSome};
-ghost use Rattle.lcg48.specs.Sequence.{state_after};
-ghost use Rattle.cards.specs.Deals.{IsPartition};
-ghost use Rattle.cards.specs.Fixed.{IsFixed, dealt_around, free_count, held, is_fixed_at, is_free};
-ghost use Rattle.cards.specs.Fixed.{none_fixed, places_for};
-ghost use Rattle.cards.specs.internal.Around.{IsListed, IsSide, fixed_mask};
+ghost use Rattle.std.specs.Prelude.{◌≡◌, ◌↔◌, ◌<◌, IsSome, IsTrue, IfSome};
+ghost use Rattle.cards.specs.Fixed.{IsFixed, free_count, held, is_free, none_fixed};
 
-use crate::around::settle;
-use crate::{Deal, Seat};
-use lcg48::Lcg48;
+use crate::Seat;
 use std::marker::Model;
 
 /// Cards that are fixed at seats before the deal, which contracts see as a list of 52: the seat of
 /// each fixed card by its number, and `None` for each free one. No seat has more than thirteen.
-#[derive(Clone, Drop)]
+#[derive(Clone, Copy, Debug)]
 pub struct Fixed {
     seats: [Option<Seat>; 52],
-    north: Side,
-    east: Side,
-    south: Side,
-    west: Side,
-    free: [u8; 52],
-    count: usize,
-}
-
-/// What is fixed at one seat: the mask of these cards, and how many free ones it gets.
-#[derive(Clone, Copy)]
-pub(crate) struct Side {
-    mask: u64,
-    room: usize,
+    free: usize,
 }
 
 impl Model for Fixed {
-    ghost use Rattle.std.specs.Prelude.{List, Option};
+    ghost use Rattle.std.specs.Prelude.{◌≡◌, List, Option};
     ghost use Rattle.cards.specs.declared.seat.Seat.{Seat as ASeat};
-    ghost use Rattle.cards.specs.internal.Around.{IsKept};
+    ghost use Rattle.cards.specs.Fixed.{IsFixed, free_count};
 
     ghost Value = { List (Option ASeat) };
 
     ghost view = { λ f. f.seats };
 
-    ghost invariant = { λ f. IsKept f.seats f.north f.east f.south f.west f.free f.count };
+    ghost invariant = { λ f. record {
+      fits : IsFixed f.seats;
+      count : f.free ≡ free_count f.seats;
+    } };
+
+    ghost inverse = { λ xs. record { seats = xs; free = free_count xs } };
 }
 
 impl Fixed {
@@ -69,53 +56,24 @@ impl Fixed {
         requires { IsFixed seats }
         ensures { result ≡ seats }
     {
-        let (free, count) = list_free(&seats);
-        Fixed {
-            north: side_of(&seats, Seat::North),
-            east: side_of(&seats, Seat::East),
-            south: side_of(&seats, Seat::South),
-            west: side_of(&seats, Seat::West),
-            seats,
-            free,
-            count,
-        }
+        let free = seats.iter().filter(|fixed| fixed.is_none()).count();
+        Fixed { seats, free }
     }
 
-    /// The deal of the next draws around the fixed cards. Of m free cards the first m - 1 draws
-    /// shuffle the list by rising number; North has the first of it until it has thirteen cards,
-    /// then East, South and West.
-    pub fn draw(&self, generator: &mut Lcg48) -> Deal
-        ensures value { result
-            ≡ dealt_around self.now (places_for (free_count self.now) generator.old) }
-        ensures partition { IsPartition result }
-        ensures stepped { generator.new
-            ≡ state_after generator.old (free_count self.now - 1) }
+    /// How many cards are free.
+    pub fn free(&self) -> usize
+        ensures count { result ≡ free_count self.now }
+        ensures fixed { IsFixed self.now }
     {
-        let mut cards = self.free;
-        let south_end = self.count - self.west.room;
-        let east_end = south_end - self.south.room;
-        let north_end = east_end - self.east.room;
-        let west = settle(&mut cards, generator, self.count, self.west.room);
-        let south = settle(&mut cards, generator, south_end, self.south.room);
-        let east = settle(&mut cards, generator, east_end, self.east.room);
-        let north = settle(&mut cards, generator, north_end, self.north.room);
-        Deal::of_masks(
-            self.north.mask | north,
-            self.east.mask | east,
-            self.south.mask | south,
-            self.west.mask | west,
-        )
+        self.free
     }
-}
 
-/// What is fixed at the seat.
-fn side_of(seats: &[Option<Seat>; 52], seat: Seat) -> Side
-    requires { IsFixed seats.now }
-    ensures { IsSide seats.now seat result }
-{
-    Side {
-        mask: mask_fixed(seats, seat),
-        room: 13 - held_by(seats, seat),
+    /// The seats by card number.
+    pub(crate) fn as_array(&self) -> &[Option<Seat>; 52]
+        ensures seats { result.now ≡ self.now }
+        ensures fixed { IsFixed result.now }
+    {
+        &self.seats
     }
 }
 
@@ -127,48 +85,13 @@ fn has_more(seats: &[Option<Seat>; 52], seat: Seat) -> bool
 }
 
 /// How many cards are fixed at the seat.
-fn held_by(seats: &[Option<Seat>; 52], seat: Seat) -> usize
+pub(crate) fn held_by(seats: &[Option<Seat>; 52], seat: Seat) -> usize
     ensures { result ≡ held seats.now seat }
 {
     seats.iter().filter(|fixed| **fixed == Some(seat)).count()
 }
 
-/// The cards that are fixed at the seat.
-fn mask_fixed(seats: &[Option<Seat>; 52], seat: Seat) -> u64
-    ensures { result ≡ fixed_mask seats.now seat }
-{
-    let mut mask = 0;
-    for (card, fixed) in seats.iter().enumerate() {
-        if is_at(*fixed, seat) {
-            mask |= 1 << card;
-        }
-    }
-    mask
-}
-
-/// The free cards by rising number, and how many there are.
-fn list_free(seats: &[Option<Seat>; 52]) -> ([u8; 52], usize)
-    ensures count { result.1 ≡ free_count seats.now }
-    ensures listed { IsListed seats.now result.0 result.1 }
-{
-    let mut free = [0; 52];
-    let mut count = 0;
-    for (card, fixed) in seats.iter().enumerate() {
-        if is_open(*fixed) {
-            free[count] = card as u8;
-            count += 1;
-        }
-    }
-    (free, count)
-}
-
-fn is_at(fixed: Option<Seat>, seat: Seat) -> bool
-    ensures { result ≡ is_fixed_at seat fixed }
-{
-    fixed == Some(seat)
-}
-
-fn is_open(fixed: Option<Seat>) -> bool
+pub(crate) fn is_open(fixed: Option<Seat>) -> bool
     ensures { result ≡ is_free fixed }
 {
     fixed.is_none()

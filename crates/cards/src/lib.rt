@@ -18,6 +18,7 @@ mod packed;
 mod places;
 mod reference;
 mod seat;
+mod settle;
 mod shuffle;
 mod suit;
 pub mod testing;

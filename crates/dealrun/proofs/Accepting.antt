@@ -8,39 +8,39 @@ use Rattle.std.proofs.lemmas.List.Sums.{position_or_len_is, passes_at_first}
 use Rattle.std.proofs.lemmas.List.FromFn.{map-range_with_len_more, length-range_with_len, get_or-range_with_len}
 use Rattle.std.proofs.Math.Seq.{take-append_seam}
 use Rattle.boards.specs.declared.board.Board.{Board}
-use Rattle.cards.specs.Candidates.{candidate}
+use Rattle.cards.specs.declared.seat.Seat.{Seat}
 use Rattle.cond_lang.specs.Form.{Form}
 use Rattle.cond_lang.specs.Meaning.{holds}
 use Rattle.lanes.specs.declared.verdict.Verdict.{Verdict}
 use Rattle.lanes.specs.Verdicts.{verdict_of}
-use Rattle.plans.specs.Plans.{Planned}
+use Rattle.plans.specs.Plans.{Planned, candidate_of}
 use Rattle.dealrun.specs.Text.{accepted_among, board_of, boards_of, limited, end_of}
 use Rattle.dealrun.specs.MergedVerdicts.{boards_in}
 use Rattle.dealrun.proofs.BoardLists.{accepted_among-none, accepted_among-more, accepted_among-parts, boards_in-none, boards_in-push, boards_of-none, boards_of-more, length-boards_of}
 
 -- the boards of the accepted ones among the verdicts on these candidates
 last_board : (plan : Planned) (k : ℕ) (boards : List Board) (numbers : List ℕ) (b : Bool) → boards ≡ boards_of plan numbers
-    → cond b (boards ++ board_of plan (length boards) k (candidate plan.seed k) ∷ []) boards ≡ boards_of plan (numbers ++ cond b (k ∷ []) [])
+    → cond b (boards ++ board_of plan (length boards) k (candidate_of plan k) ∷ []) boards ≡ boards_of plan (numbers ++ cond b (k ∷ []) [])
 last_board plan k boards numbers true is =
-    let board : ℕ → Board = λ n. board_of plan n k (candidate plan.seed k) in
+    let board : ℕ → Board = λ n. board_of plan n k (candidate_of plan k) in
     ap (λ bs. bs ++ board (length bs) ∷ []) is ∙ ap (λ n. boards_of plan numbers ++ board n ∷ []) (length-boards_of plan numbers) ∙ sym (boards_of-more plan numbers k)
 last_board plan k boards numbers false is = is ∙ ap (boards_of plan) (sym (append-nil numbers))
 
 pub boards_are : (plan : Planned) (form : Form) (n : ℕ)
-    → boards_in plan (map (λ i. verdict_of plan.seed form (plan.first + i)) (range_with_len 0 n)) ≡ boards_of plan (accepted_among plan.seed plan.first form n)
-boards_are plan form zero = boards_in-none plan ∙ sym (ap (boards_of plan) (accepted_among-none plan.seed plan.first form) ∙ boards_of-none plan)
+    → boards_in plan (map (λ i. verdict_of (candidate_of plan) form (plan.first + i)) (range_with_len 0 n)) ≡ boards_of plan (accepted_among (candidate_of plan) plan.first form n)
+boards_are plan form zero = boards_in-none plan ∙ sym (ap (boards_of plan) (accepted_among-none (candidate_of plan) plan.first form) ∙ boards_of-none plan)
 boards_are plan form (suc n) =
-    let seed = plan.seed in
+    let deals : ℕ → List Seat = candidate_of plan in
     let first = plan.first in
-    let at : ℕ → Verdict = λ i. verdict_of seed form (first + i) in
+    let at : ℕ → Verdict = λ i. verdict_of deals form (first + i) in
     let e : suc n ≡ n + 1 = omega arith in
     ap (λ m. boards_in plan (map at (range_with_len 0 m))) e ∙ ap (boards_in plan) (map-range_with_len_more at 0 n n (omega arith)) ∙ boards_in-push plan (map at (range_with_len 0 n)) (at n)
-    ∙ last_board plan (first + n) (boards_in plan (map at (range_with_len 0 n))) (accepted_among seed first form n) (holds form (candidate seed (first + n))) (boards_are plan form n)
-    ∙ ap (boards_of plan) (sym (ap (accepted_among seed first form) e ∙ accepted_among-more seed first form n (holds form (candidate seed (first + n))) refl))
+    ∙ last_board plan (first + n) (boards_in plan (map at (range_with_len 0 n))) (accepted_among deals first form n) (holds form (deals (first + n))) (boards_are plan form n)
+    ∙ ap (boards_of plan) (sym (ap (accepted_among deals first form) e ∙ accepted_among-more deals first form n (holds form (deals (first + n))) refl))
 
 module _ (p : Planned) (form : Form) (t : ℕ) (le : t ≤ p.count) where
   abbrev counted : ℕ → ℕ
-  counted i = length (accepted_among p.seed p.first form i)
+  counted i = length (accepted_among (candidate_of p) p.first form i)
 
   abbrev IsShort : Option ℕ → Type 0
   IsShort limit = (i : ℕ) → i < t → ForSome limit (λ most. counted i < most)
@@ -97,17 +97,17 @@ module _ (p : Planned) (form : Form) (t : ℕ) (le : t ≤ p.count) where
   needed None short = needed_none
   needed (Some most) short = needed_some most short
 
-  take_met : (most : ℕ) → counted t ≡ most → take most (accepted_among p.seed p.first form p.count) ≡ accepted_among p.seed p.first form t
+  take_met : (most : ℕ) → counted t ≡ most → take most (accepted_among (candidate_of p) p.first form p.count) ≡ accepted_among (candidate_of p) p.first form t
   take_met most is =
-      let split = accepted_among-parts p.seed p.first form t p.count le in
-      ap (λ n. take n (accepted_among p.seed p.first form p.count)) (sym is) ∙ ap (take (counted t)) split.is ∙ take-append_seam (accepted_among p.seed p.first form t) split.rest
+      let split = accepted_among-parts (candidate_of p) p.first form t p.count le in
+      ap (λ n. take n (accepted_among (candidate_of p) p.first form p.count)) (sym is) ∙ ap (take (counted t)) split.is ∙ take-append_seam (accepted_among (candidate_of p) p.first form t) split.rest
 
-  within_limit : (limit : Option ℕ) → ForSome limit (λ most. counted t ≤ most) → IsEnd limit → limited limit (accepted_among p.seed p.first form p.count) ≡ accepted_among p.seed p.first form t
-  within_limit None within (inl e) = ap (accepted_among p.seed p.first form) (sym e)
+  within_limit : (limit : Option ℕ) → ForSome limit (λ most. counted t ≤ most) → IsEnd limit → limited limit (accepted_among (candidate_of p) p.first form p.count) ≡ accepted_among (candidate_of p) p.first form t
+  within_limit None within (inl e) = ap (accepted_among (candidate_of p) p.first form) (sym e)
   within_limit None within (inr e) = absurd (cc)
   within_limit (Some most) within (inl e) =
       let few : counted t ≤ most = within most refl in
-      ap (λ n. take most (accepted_among p.seed p.first form n)) (sym e) ∙ take_all most (accepted_among p.seed p.first form t) few
+      ap (λ n. take most (accepted_among (candidate_of p) p.first form n)) (sym e) ∙ take_all most (accepted_among (candidate_of p) p.first form t) few
   within_limit (Some most) within (inr e) = take_met most (cc)
 
   pub end_here : IsShort p.limit → IsEnd p.limit → end_of p form ≡ t
@@ -116,5 +116,5 @@ module _ (p : Planned) (form : Form) (t : ℕ) (le : t ≤ p.count) where
   pub needed_here : IsShort p.limit → t ≤ end_of p form
   needed_here short = needed p.limit short
 
-  pub accepted_here : ForSome p.limit (λ most. counted t ≤ most) → IsEnd p.limit → limited p.limit (accepted_among p.seed p.first form p.count) ≡ accepted_among p.seed p.first form t
+  pub accepted_here : ForSome p.limit (λ most. counted t ≤ most) → IsEnd p.limit → limited p.limit (accepted_among (candidate_of p) p.first form p.count) ≡ accepted_among (candidate_of p) p.first form t
   accepted_here within ended = within_limit p.limit within ended

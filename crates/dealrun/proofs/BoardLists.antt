@@ -9,11 +9,11 @@ use Rattle.std.proofs.lemmas.List.FromFn.{length-enumerate_from}
 use Rattle.std.proofs.Math.Seq.{take-append_seam, take-append-add}
 use Rattle.boards.specs.declared.board.Board.{Board}
 use Rattle.boards.specs.Layouts.{Layout}
-use Rattle.cards.specs.Candidates.{candidate}
+use Rattle.cards.specs.declared.seat.Seat.{Seat}
 use Rattle.cond_lang.specs.Form.{Form}
 use Rattle.cond_lang.specs.Meaning.{holds}
 use Rattle.lanes.specs.declared.verdict.Verdict.{Verdict}
-use Rattle.plans.specs.Plans.{Planned}
+use Rattle.plans.specs.Plans.{Planned, candidate_of}
 use Rattle.dealrun.specs.Text.{accepted_among, board_of, boards_of, limited, text_of, text_of_boards}
 use Rattle.dealrun.specs.MergedVerdicts.{boards_in}
 use Rattle.values.proofs.Ranges.{range_with_len-add, range_with_len-more}
@@ -45,9 +45,9 @@ pub boards_of-none : (plan : Planned) → boards_of plan [] ≡ []
 unfolding boards_of
 boards_of-none plan = refl
 
-pub boards_of-more : (plan : Planned) (xs : List ℕ) (k : ℕ) → boards_of plan (xs ++ k ∷ []) ≡ boards_of plan xs ++ board_of plan (length xs) k (candidate plan.seed k) ∷ []
+pub boards_of-more : (plan : Planned) (xs : List ℕ) (k : ℕ) → boards_of plan (xs ++ k ∷ []) ≡ boards_of plan xs ++ board_of plan (length xs) k (candidate_of plan k) ∷ []
 unfolding boards_of
-boards_of-more plan xs k = boards_by-append (λ n k. board_of plan n k (candidate plan.seed k)) xs (k ∷ [])
+boards_of-more plan xs k = boards_by-append (λ n k. board_of plan n k (candidate_of plan k)) xs (k ∷ [])
 
 -- the boards of more candidates
 pub record MoreBoards (plan : Planned) (xs ys : List ℕ) : Type 0 where
@@ -57,12 +57,12 @@ pub record MoreBoards (plan : Planned) (xs ys : List ℕ) : Type 0 where
 pub boards_of-append : (plan : Planned) (xs ys : List ℕ) → MoreBoards plan xs ys
 unfolding boards_of
 boards_of-append plan xs ys =
-    let f : ℕ → ℕ → Board = λ n k. board_of plan n k (candidate plan.seed k) in
+    let f : ℕ → ℕ → Board = λ n k. board_of plan n k (candidate_of plan k) in
     record { more = boards_by f (length xs) ys; is = boards_by-append f xs ys }
 
 pub length-boards_of : (plan : Planned) (xs : List ℕ) → length (boards_of plan xs) ≡ length xs
 unfolding boards_of
-length-boards_of plan xs = length-boards_by (λ n k. board_of plan n k (candidate plan.seed k)) xs
+length-boards_of plan xs = length-boards_by (λ n k. board_of plan n k (candidate_of plan k)) xs
 
 -- of verdicts
 
@@ -101,9 +101,9 @@ pub text_of-none : (layout : Layout) (plan : Planned) → text_of layout plan []
 text_of-none layout plan = ap (text_of_boards layout) (boards_of-none plan) ∙ text_of_boards-none layout
 
 pub text_of-more : (layout : Layout) (plan : Planned) (xs : List ℕ) (k : ℕ)
-    → text_of layout plan (xs ++ k ∷ []) ≡ text_of layout plan xs ++ layout.board (board_of plan (length xs) k (candidate plan.seed k))
+    → text_of layout plan (xs ++ k ∷ []) ≡ text_of layout plan xs ++ layout.board (board_of plan (length xs) k (candidate_of plan k))
 text_of-more layout plan xs k =
-    ap (text_of_boards layout) (boards_of-more plan xs k) ∙ text_of_boards-more layout (boards_of plan xs) (board_of plan (length xs) k (candidate plan.seed k))
+    ap (text_of_boards layout) (boards_of-more plan xs k) ∙ text_of_boards-more layout (boards_of plan xs) (board_of plan (length xs) k (candidate_of plan k))
 
 -- what comes after the boards of the first candidates
 pub record LaterOf (layout : Layout) (plan : Planned) (xs ys : List ℕ) : Type 0 where
@@ -120,36 +120,36 @@ text_of-append layout plan xs ys =
 
 -- ---- accepted candidates
 
-pub accepted_among-none : (seed first : ℕ) (form : Form) → accepted_among seed first form 0 ≡ []
+pub accepted_among-none : (deals : ℕ → List Seat) (first : ℕ) (form : Form) → accepted_among deals first form 0 ≡ []
 unfolding accepted_among
-accepted_among-none seed first form = refl
+accepted_among-none deals first form = refl
 
 filter-one : {X : Type 0} (p : X → Bool) (x : X) (b : Bool) → p x ≡ b → filter p (x ∷ []) ≡ cond b (x ∷ []) []
 filter-one p x true e = rw e refl
 filter-one p x false e = rw e refl
 
-pub accepted_among-more : (seed first : ℕ) (form : Form) (i : ℕ) (b : Bool) → holds form (candidate seed (first + i)) ≡ b
-    → accepted_among seed first form (i + 1) ≡ accepted_among seed first form i ++ cond b ((first + i) ∷ []) []
+pub accepted_among-more : (deals : ℕ → List Seat) (first : ℕ) (form : Form) (i : ℕ) (b : Bool) → holds form (deals (first + i)) ≡ b
+    → accepted_among deals first form (i + 1) ≡ accepted_among deals first form i ++ cond b ((first + i) ∷ []) []
 unfolding accepted_among
-accepted_among-more seed first form i b e =
-    ap (filter (λ k. holds form (candidate seed k))) (range_with_len-more first i)
-    ∙ filter-append (λ k. holds form (candidate seed k)) (range_with_len first i) ((first + i) ∷ [])
-    ∙ ap (λ l. filter (λ k. holds form (candidate seed k)) (range_with_len first i) ++ l) (filter-one (λ k. holds form (candidate seed k)) (first + i) b e)
+accepted_among-more deals first form i b e =
+    ap (filter (λ k. holds form (deals k))) (range_with_len-more first i)
+    ∙ filter-append (λ k. holds form (deals k)) (range_with_len first i) ((first + i) ∷ [])
+    ∙ ap (λ l. filter (λ k. holds form (deals k)) (range_with_len first i) ++ l) (filter-one (λ k. holds form (deals k)) (first + i) b e)
 
 -- the accepted ones among more candidates
-pub record More (seed first : ℕ) (form : Form) (i n : ℕ) : Type 0 where
+pub record More (deals : ℕ → List Seat) (first : ℕ) (form : Form) (i n : ℕ) : Type 0 where
   pub rest : List ℕ
-  pub is : accepted_among seed first form n ≡ accepted_among seed first form i ++ rest
+  pub is : accepted_among deals first form n ≡ accepted_among deals first form i ++ rest
 
-pub accepted_among-parts : (seed first : ℕ) (form : Form) (i n : ℕ) → i ≤ n → More seed first form i n
+pub accepted_among-parts : (deals : ℕ → List Seat) (first : ℕ) (form : Form) (i n : ℕ) → i ≤ n → More deals first form i n
 unfolding accepted_among
-accepted_among-parts seed first form i n h =
+accepted_among-parts deals first form i n h =
     let e : n ≡ i + (n - i) = omega arith in
     record {
-      rest = filter (λ k. holds form (candidate seed k)) (range_with_len (first + i) (n - i));
-      is = ap (λ k. filter (λ k. holds form (candidate seed k)) (range_with_len first k)) e
-          ∙ ap (filter (λ k. holds form (candidate seed k))) (range_with_len-add first i (n - i))
-          ∙ filter-append (λ k. holds form (candidate seed k)) (range_with_len first i) (range_with_len (first + i) (n - i));
+      rest = filter (λ k. holds form (deals k)) (range_with_len (first + i) (n - i));
+      is = ap (λ k. filter (λ k. holds form (deals k)) (range_with_len first k)) e
+          ∙ ap (filter (λ k. holds form (deals k))) (range_with_len-add first i (n - i))
+          ∙ filter-append (λ k. holds form (deals k)) (range_with_len first i) (range_with_len (first + i) (n - i));
     }
 
 -- ---- the limit

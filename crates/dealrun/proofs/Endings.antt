@@ -9,9 +9,10 @@ use Rattle.std.proofs.lemmas.List.FromFn.{fill_by_all, get_or-map-range_with_len
 use Rattle.std.proofs.lemmas.Option.{slice_get-get_or}
 use denote.RawPtr.{null_ptr}
 use Rattle.boards.specs.Layouts.{Layout}
-use Rattle.cards.specs.Candidates.{candidate}
+use Rattle.cards.specs.Candidates.{state_before}
 use Rattle.cards.specs.Deals.{IsPartition}
-use Rattle.cards.proofs.Partitions.{candidate_partition}
+use Rattle.cards.specs.Fixed.{IsFixed}
+use Rattle.cards.proofs.AroundDeals.{around_is_partition}
 use Rattle.std.proofs.lemmas.List.Elements.{All-map}
 use Rattle.cond_lang.specs.Form.{Form}
 use Rattle.lanes.specs.declared.verdict.Verdict.{Verdict}
@@ -21,7 +22,7 @@ use Rattle.lanes.specs.Prefixes.{IsPrefix}
 use Rattle.lanes.proofs.Places.{count_even, turns_less}
 use Rattle.lanes.proofs.Sums.{turn_counts, sum-turn_counts}
 use Rattle.lanes.proofs.VerdictLists.{length-verdicts, verdicts-are}
-use Rattle.plans.specs.Plans.{Planned}
+use Rattle.plans.specs.Plans.{Planned, candidate_of}
 use Rattle.sinks.specs.Appended.{append_known, AppendsAll, AppendsPart}
 use Rattle.dealrun.specs.Text.{accepted_among, accepted, boards_of, text_of, text_of_boards, end_of}
 use Rattle.dealrun.specs.MergedVerdicts.{verdicts_for, at_turn, in_turn, boards_in, boards_taken, taken_in_all}
@@ -78,7 +79,7 @@ taken_total plan lanes t some h =
 module _ (plan : Planned) (form : Form) (lanes : List OutView) (t : ℕ) (some : 0 < plan.workers) (le : t ≤ plan.count) (h : TakenInTurn plan lanes t)
     (parts : ByNumber plan lanes (λ w l. IsPrefix l.taken (verdicts_for plan form w))) where
   abbrev at : ℕ → Verdict
-  at i = verdict_of plan.seed form (plan.first + i)
+  at i = verdict_of (candidate_of plan) form (plan.first + i)
 
   at_lane : (w : ℕ) → w < plan.workers → get_or (taken_lists lanes) w [] ≡ (get_or lanes w no_lane).taken
   at_lane w lt = get_or-map (λ (l : OutView). l.taken) lanes w no_lane [] (omega (arith, lt, h.long))
@@ -90,8 +91,8 @@ module _ (plan : Planned) (form : Form) (lanes : List OutView) (t : ℕ) (some :
       let d : Verdict = at 0 in
       slice_get-get_or xs k d here ∙ ap (λ x. Some x)
       (ap (λ ys. get_or ys k d) part ∙ get_or-take (length xs) (verdicts_for plan form w) k d here
-      ∙ ap (λ ys. get_or ys k d) (verdicts-are plan.seed plan.first plan.count form plan.workers w lt)
-      ∙ get_or-map-range_with_len (λ i. verdict_of plan.seed form (plan.first + (w + i * plan.workers))) 0 (turns plan.workers w plan.count) k k d there (omega arith))
+      ∙ ap (λ ys. get_or ys k d) (verdicts-are (candidate_of plan) plan.first plan.count form plan.workers w lt)
+      ∙ get_or-map-range_with_len (λ i. verdict_of (candidate_of plan) form (plan.first + (w + i * plan.workers))) 0 (turns plan.workers w plan.count) k k d there (omega arith))
 
   at_turn_is : (i : ℕ) → i < t → at_turn plan.workers (taken_lists lanes) i ≡ Some (at i)
   at_turn_is i lt =
@@ -116,31 +117,31 @@ module _ (plan : Planned) (form : Form) (lanes : List OutView) (t : ℕ) (some :
       ∙ ap (λ o. map at (range_with_len 0 m) ++ cons_option o []) (at_turn_is m (omega arith))
       ∙ sym (ap (λ n. map at (range_with_len 0 n)) e ∙ map-range_with_len_more at 0 m m (omega arith))
 
-  pub taken_boards : (m : ℕ) → m ≤ t → boards_taken plan lanes m ≡ boards_of plan (accepted_among plan.seed plan.first form m)
+  pub taken_boards : (m : ℕ) → m ≤ t → boards_taken plan lanes m ≡ boards_of plan (accepted_among (candidate_of plan) plan.first form m)
   taken_boards m le' = ap (boards_in plan) (recovers m le') ∙ boards_are plan form m
 
-  pub count_taken : (m : ℕ) → m ≤ t → board_count plan (taken_lists lanes) m ≡ length (accepted_among plan.seed plan.first form m)
-  count_taken m le' = ap length (taken_boards m le') ∙ length-boards_of plan (accepted_among plan.seed plan.first form m)
+  pub count_taken : (m : ℕ) → m ≤ t → board_count plan (taken_lists lanes) m ≡ length (accepted_among (candidate_of plan) plan.first form m)
+  count_taken m le' = ap length (taken_boards m le') ∙ length-boards_of plan (accepted_among (candidate_of plan) plan.first form m)
 
-  pub short_candidates : StaysShort plan lanes t → (i : ℕ) → i < t → ForSome plan.limit (λ most. length (accepted_among plan.seed plan.first form i) < most)
+  pub short_candidates : StaysShort plan lanes t → (i : ℕ) → i < t → ForSome plan.limit (λ most. length (accepted_among (candidate_of plan) plan.first form i) < most)
   short_candidates short i lt most is = let less : board_count plan (taken_lists lanes) i < most = short i lt most is in omega (arith, less, count_taken i (omega arith))
 
   -- as many as were needed, and the text of all
   module _ (layout : Layout) (boards : ℕ) (old new : Option (List ℕ)) (written : WroteTaken layout plan lanes t boards old new) (within : ForSome plan.limit (λ most. boards ≤ most)) (short : StaysShort plan lanes t)
       (ended : (t ≡ plan.count) ⊎ (plan.limit ≡ Some boards)) where
-    boards_here : boards ≡ length (accepted_among plan.seed plan.first form t)
+    boards_here : boards ≡ length (accepted_among (candidate_of plan) plan.first form t)
     boards_here = written.boards_are ∙ count_taken t (omega arith)
 
-    ended_here : (t ≡ plan.count) ⊎ (plan.limit ≡ Some (length (accepted_among plan.seed plan.first form t)))
+    ended_here : (t ≡ plan.count) ⊎ (plan.limit ≡ Some (length (accepted_among (candidate_of plan) plan.first form t)))
     ended_here = elim (ended) [ inl e ↦ inl e | inr e ↦ inr (e ∙ ap (λ n. Some n) boards_here) ]
 
-    within_here : ForSome plan.limit (λ most. length (accepted_among plan.seed plan.first form t) ≤ most)
+    within_here : ForSome plan.limit (λ most. length (accepted_among (candidate_of plan) plan.first form t) ≤ most)
     within_here most is = let few : boards ≤ most = within most is in omega (arith, few, boards_here)
 
     pub ends : end_of plan form ≡ t
     ends = end_here plan form t le (short_candidates short) ended_here
 
-    accepted_is : accepted plan form ≡ accepted_among plan.seed plan.first form t
+    accepted_is : accepted plan form ≡ accepted_among (candidate_of plan) plan.first form t
     accepted_is = accepted_here plan form t le within_here ended_here
 
     pub whole_text : new ≡ append_known old (text_of layout plan (accepted plan form))
@@ -150,8 +151,8 @@ module _ (plan : Planned) (form : Form) (lanes : List OutView) (t : ℕ) (some :
     all_boards = boards_here ∙ ap length (sym accepted_is)
 
 -- the accepted deals are partitions, as every candidate is
-partitions : (plan : Planned) (form : Form) → All IsPartition (map (candidate plan.seed) (accepted plan form))
-partitions plan form = All-map IsPartition (candidate plan.seed) (accepted plan form) (λ k d lt. candidate_partition plan.seed (get_or (accepted plan form) k d))
+partitions : (plan : Planned) (form : Form) → IsFixed plan.fixed → All IsPartition (map (candidate_of plan) (accepted plan form))
+partitions plan form fits = All-map IsPartition (candidate_of plan) (accepted plan form) (λ k d lt. around_is_partition plan.fixed (state_before plan.seed (get_or (accepted plan form) k d)) fits)
 
 -- the lanes were taken in turn, as lists
 turns_as_lists : (plan : Planned) (lanes : List OutView) (m : ℕ) → TakenInTurn plan lanes m → map (λ l. length l.taken) lanes ≡ for_each_worker plan (λ w. turns plan.workers w m)
@@ -215,7 +216,7 @@ module _ (layout : Layout) (plan : Planned) (form : Form) (lanes : List OutView)
   whole : plan.limit ≢ Some boards → ByNumber plan lanes (λ w l. (l.taken ≡ verdicts_for plan form w) × (l.left ≡ []))
   whole less w e lt =
       whole_lane plan form (get_or lanes w e) w (fronts w e lt) (sent w e lt)
-      (h.in_turn.turns_are w e lt ∙ ap (turns plan.workers w) (all_needed less) ∙ sym (length-verdicts plan.seed plan.first plan.count form plan.workers w))
+      (h.in_turn.turns_are w e lt ∙ ap (turns plan.workers w) (all_needed less) ∙ sym (length-verdicts (candidate_of plan) plan.first plan.count form plan.workers w))
 
   lanes_complete : TakesWhatIsOwed plan form lanes boards
   lanes_complete = record {
@@ -255,13 +256,13 @@ module _ (layout : Layout) (plan : Planned) (form : Form) (lanes : List OutView)
     boards_are = done.stands.boards_are;
   }
 
-  pub closed : AppendsAll mid new layout.footer → Closes layout plan form lanes boards old new
-  closed is = record {
+  pub closed : IsFixed plan.fixed → AppendsAll mid new layout.footer → Closes layout plan form lanes boards old new
+  closed fits is = record {
     lanes_are = done.lanes_are;
     text_is = record {
       bytes = after_body layout.footer is;
       boards_are = done.boards_are;
-      partitions = partitions plan form;
+      partitions = partitions plan form fits;
     };
     stands = stand_closed layout layout.footer plan form lanes (taken_in_all lanes) boards old mid new refl done.stands.lanes_are printed_before is;
   }

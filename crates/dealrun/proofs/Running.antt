@@ -4,10 +4,9 @@ use Rattle.std.proofs.lemmas.List.{append-nil, take_all}
 use Rattle.std.proofs.Math.Seq.{take-append_seam}
 use Rattle.boards.specs.Layouts.{Layout}
 use Rattle.cards.specs.declared.seat.Seat.{Seat}
-use Rattle.cards.specs.Candidates.{candidate}
 use Rattle.cond_lang.specs.Form.{Form}
 use Rattle.cond_lang.specs.Meaning.{holds}
-use Rattle.plans.specs.Plans.{Planned}
+use Rattle.plans.specs.Plans.{Planned, candidate_of}
 use Rattle.sinks.specs.Appended.{append_known, AppendsAll, AppendsPart}
 use Rattle.dealrun.specs.Reference.{BreaksOffIn}
 use Rattle.dealrun.specs.Text.{accepted, accepted_among, board_of, limited, text_of}
@@ -16,10 +15,10 @@ use Rattle.dealrun.proofs.BoardLists.{IsWithin, accepted_among-more, accepted_am
 
 -- after i candidates: the accepted ones among them were written, within the limit
 pub record Running (layout : Layout) (plan : Planned) (form : Form) (i boards : ℕ) (base now : Option (List ℕ)) : Type 0 where
-  pub count : boards ≡ length (accepted_among plan.seed plan.first form i)
+  pub count : boards ≡ length (accepted_among (candidate_of plan) plan.first form i)
   pub few : boards ≤ i
   pub within : IsWithin plan.limit boards
-  pub bytes : AppendsAll base now (text_of layout plan (accepted_among plan.seed plan.first form i))
+  pub bytes : AppendsAll base now (text_of layout plan (accepted_among (candidate_of plan) plan.first form i))
 
 nothing_within : (limit : Option ℕ) → IsWithin limit 0
 nothing_within None = tt
@@ -27,20 +26,20 @@ nothing_within (Some most) = omega arith
 
 pub running_none : (layout : Layout) (plan : Planned) (form : Form) (base now : Option (List ℕ)) (text : List ℕ) → text ≡ layout.header → AppendsAll base now text → Running layout plan form 0 0 base now
 running_none layout plan form base now text is e = record {
-  count = sym (ap length (accepted_among-none plan.seed plan.first form));
+  count = sym (ap length (accepted_among-none (candidate_of plan) plan.first form));
   few = omega arith;
   within = nothing_within plan.limit;
-  bytes = e ∙ ap (append_known base) (is ∙ sym (ap (text_of layout plan) (accepted_among-none plan.seed plan.first form) ∙ text_of-none layout plan));
+  bytes = e ∙ ap (append_known base) (is ∙ sym (ap (text_of layout plan) (accepted_among-none (candidate_of plan) plan.first form) ∙ text_of-none layout plan));
 }
 
 test_of : (form : Form) (deal other : List Seat) (b : Bool) → deal ≡ other → b ≡ holds form deal → holds form other ≡ b
 test_of form deal other b is e = ap (holds form) (sym is) ∙ sym e
 
-pub running_skip : (layout : Layout) (plan : Planned) (form : Form) (i boards : ℕ) (base now : Option (List ℕ)) (deal : List Seat) → deal ≡ candidate plan.seed (plan.first + i)
+pub running_skip : (layout : Layout) (plan : Planned) (form : Form) (i boards : ℕ) (base now : Option (List ℕ)) (deal : List Seat) → deal ≡ candidate_of plan (plan.first + i)
     → false ≡ holds form deal → Running layout plan form i boards base now → Running layout plan form (i + 1) boards base now
 running_skip layout plan form i boards base now deal is test r =
-    let same : accepted_among plan.seed plan.first form (i + 1) ≡ accepted_among plan.seed plan.first form i =
-    accepted_among-more plan.seed plan.first form i false (test_of form deal (candidate plan.seed (plan.first + i)) false is test) ∙ append-nil (accepted_among plan.seed plan.first form i) in
+    let same : accepted_among (candidate_of plan) plan.first form (i + 1) ≡ accepted_among (candidate_of plan) plan.first form i =
+    accepted_among-more (candidate_of plan) plan.first form i false (test_of form deal (candidate_of plan (plan.first + i)) false is test) ∙ append-nil (accepted_among (candidate_of plan) plan.first form i) in
     record {
       count = r.count ∙ sym (ap length same);
       few = let few = r.few in omega arith;
@@ -49,23 +48,23 @@ running_skip layout plan form i boards base now deal is test r =
     }
 
 -- the list of the accepted ones with one more
-one_more : (plan : Planned) (form : Form) (i : ℕ) (deal : List Seat) → deal ≡ candidate plan.seed (plan.first + i) → true ≡ holds form deal
-    → accepted_among plan.seed plan.first form (i + 1) ≡ accepted_among plan.seed plan.first form i ++ (plan.first + i) ∷ []
-one_more plan form i deal is test = accepted_among-more plan.seed plan.first form i true (test_of form deal (candidate plan.seed (plan.first + i)) true is test)
+one_more : (plan : Planned) (form : Form) (i : ℕ) (deal : List Seat) → deal ≡ candidate_of plan (plan.first + i) → true ≡ holds form deal
+    → accepted_among (candidate_of plan) plan.first form (i + 1) ≡ accepted_among (candidate_of plan) plan.first form i ++ (plan.first + i) ∷ []
+one_more plan form i deal is test = accepted_among-more (candidate_of plan) plan.first form i true (test_of form deal (candidate_of plan (plan.first + i)) true is test)
 
 -- the text of the next board
-board_is : (layout now : Layout) (plan : Planned) (k boards : ℕ) (xs : List ℕ) (deal : List Seat) → now ≡ layout → deal ≡ candidate plan.seed k → boards ≡ length xs
-    → now.board (board_of plan boards k deal) ≡ layout.board (board_of plan (length xs) k (candidate plan.seed k))
+board_is : (layout now : Layout) (plan : Planned) (k boards : ℕ) (xs : List ℕ) (deal : List Seat) → now ≡ layout → deal ≡ candidate_of plan k → boards ≡ length xs
+    → now.board (board_of plan boards k deal) ≡ layout.board (board_of plan (length xs) k (candidate_of plan k))
 board_is layout now plan k boards xs deal same is count =
     ap (λ l. l.board (board_of plan boards k deal)) same
     ∙ ap (λ n. layout.board (board_of plan n k deal)) count ∙ ap (λ d. layout.board (board_of plan (length xs) k d)) is
 
-pub running_next : (layout before : Layout) (plan : Planned) (form : Form) (i k boards : ℕ) (base now new : Option (List ℕ)) (deal : List Seat) → deal ≡ candidate plan.seed (plan.first + i)
+pub running_next : (layout before : Layout) (plan : Planned) (form : Form) (i k boards : ℕ) (base now new : Option (List ℕ)) (deal : List Seat) → deal ≡ candidate_of plan (plan.first + i)
     → true ≡ holds form deal → (plan.limit ≡ Some boards → ⊥) → before ≡ layout → k ≡ plan.first + i → Running layout plan form i boards base now → AppendsAll now new (before.board (board_of plan boards k deal))
     → Running layout plan form (i + 1) (boards + 1) base new
 running_next layout before plan form i k boards base now new deal is test not_full same k_is r put_at =
     let put : AppendsAll now new (before.board (board_of plan boards (plan.first + i) deal)) = subst (λ n. AppendsAll now new (before.board (board_of plan boards n deal))) k_is put_at in
-    let xs : List ℕ = accepted_among plan.seed plan.first form i in
+    let xs : List ℕ = accepted_among (candidate_of plan) plan.first form i in
     let more = one_more plan form i deal is test in
     let len : length (xs ++ (plan.first + i) ∷ []) ≡ length xs + 1 = rw length-append refl in
     record {
@@ -83,7 +82,7 @@ pub record Ended (layout : Layout) (plan : Planned) (form : Form) (boards : ℕ)
   pub bytes : AppendsAll base now (text_of layout plan (accepted plan form))
   pub count : boards ≡ length (accepted plan form)
 
-ended_by : (layout : Layout) (plan : Planned) (form : Form) (i boards : ℕ) (base now : Option (List ℕ)) → Running layout plan form i boards base now → accepted plan form ≡ accepted_among plan.seed plan.first form i
+ended_by : (layout : Layout) (plan : Planned) (form : Form) (i boards : ℕ) (base now : Option (List ℕ)) → Running layout plan form i boards base now → accepted plan form ≡ accepted_among (candidate_of plan) plan.first form i
     → Ended layout plan form boards base now
 ended_by layout plan form i boards base now r same = record {
   bytes = r.bytes ∙ ap (λ xs. append_known base (text_of layout plan xs)) (sym same);
@@ -92,15 +91,15 @@ ended_by layout plan form i boards base now r same = record {
 
 pub ended_full : (layout : Layout) (plan : Planned) (form : Form) (i boards : ℕ) (base now : Option (List ℕ)) → Running layout plan form i boards base now → i ≤ plan.count → plan.limit ≡ Some boards → Ended layout plan form boards base now
 ended_full layout plan form i boards base now r h full =
-    let parts = accepted_among-parts plan.seed plan.first form i plan.count h in
+    let parts = accepted_among-parts (candidate_of plan) plan.first form i plan.count h in
     ended_by layout plan form i boards base now r
-    (ap (limited plan.limit) parts.is ∙ limited-full plan.limit (accepted_among plan.seed plan.first form i) parts.rest (full ∙ ap (λ n. Some n) r.count))
+    (ap (limited plan.limit) parts.is ∙ limited-full plan.limit (accepted_among (candidate_of plan) plan.first form i) parts.rest (full ∙ ap (λ n. Some n) r.count))
 
 pub ended_all : (layout : Layout) (plan : Planned) (form : Form) (i boards : ℕ) (base now : Option (List ℕ)) → Running layout plan form i boards base now → i ≡ plan.count → Ended layout plan form boards base now
 ended_all layout plan form i boards base now r e =
-    let within : IsWithin plan.limit (length (accepted_among plan.seed plan.first form i)) = subst (IsWithin plan.limit) r.count r.within in
+    let within : IsWithin plan.limit (length (accepted_among (candidate_of plan) plan.first form i)) = subst (IsWithin plan.limit) r.count r.within in
     ended_by layout plan form i boards base now r
-    (ap (λ n. limited plan.limit (accepted_among plan.seed plan.first form n)) (sym e) ∙ limited-all plan.limit (accepted_among plan.seed plan.first form i) within)
+    (ap (λ n. limited plan.limit (accepted_among (candidate_of plan) plan.first form n)) (sym e) ∙ limited-all plan.limit (accepted_among (candidate_of plan) plan.first form i) within)
 
 -- ---- a fault
 
@@ -136,15 +135,15 @@ breaks_header layout plan form base new text is part =
 take_front : (n : ℕ) (xs ys : List ℕ) → n ≡ length xs → take n (xs ++ ys) ≡ xs
 take_front n xs ys e = ap (λ m. take m (xs ++ ys)) e ∙ take-append_seam xs ys
 
-pub breaks_board : (layout before : Layout) (plan : Planned) (form : Form) (i number boards : ℕ) (base now new : Option (List ℕ)) (deal : List Seat) → deal ≡ candidate plan.seed (plan.first + i)
+pub breaks_board : (layout before : Layout) (plan : Planned) (form : Form) (i number boards : ℕ) (base now new : Option (List ℕ)) (deal : List Seat) → deal ≡ candidate_of plan (plan.first + i)
     → true ≡ holds form deal → (plan.limit ≡ Some boards → ⊥) → i < plan.count → before ≡ layout → number ≡ plan.first + i → Running layout plan form i boards base now
     → AppendsPart now new (before.board (board_of plan boards number deal)) → BreaksOffIn layout base new plan (accepted plan form) boards
 breaks_board layout before plan form i number boards base now new deal is test not_full below same number_is r part_at =
     let part : AppendsPart now new (before.board (board_of plan boards (plan.first + i) deal)) = subst (λ n. AppendsPart now new (before.board (board_of plan boards n deal))) number_is part_at in
-    let xs : List ℕ = accepted_among plan.seed plan.first form i in
+    let xs : List ℕ = accepted_among (candidate_of plan) plan.first form i in
     let k : ℕ = plan.first + i in
     let g : List ℕ = before.board (board_of plan boards (plan.first + i) deal) in
-    let parts = accepted_among-parts plan.seed plan.first form (i + 1) plan.count (omega arith) in
+    let parts = accepted_among-parts (candidate_of plan) plan.first form (i + 1) plan.count (omega arith) in
     let within : IsWithin plan.limit (length xs + 1) = subst (λ n. IsWithin plan.limit (n + 1)) r.count (within_more plan.limit boards r.within not_full) in
     let next = limited-next plan.limit xs k parts.rest within in
     let all : accepted plan form ≡ xs ++ k ∷ [] ++ next.rest =

@@ -8,7 +8,7 @@ use Rattle.lanes.specs.declared.verdict.Verdict.{Verdict}
 use Rattle.lanes.specs.Views.{OutView}
 use Rattle.lanes.proofs.Places.{turns_less}
 use Rattle.lanes.proofs.VerdictLists.{length-verdicts}
-use Rattle.plans.specs.Plans.{Planned}
+use Rattle.plans.specs.Plans.{Planned, candidate_of}
 use Rattle.dealrun.specs.MergedVerdicts.{verdicts_for}
 use Rattle.dealrun.specs.Outcomes.{contents_of}
 use Rattle.dealrun.specs.internal.Joins.{IsWhole, KnowsRest}
@@ -25,7 +25,7 @@ some_left plan form lanes t place l some taken less place_is l_is whole =
     let mine : IsWhole (verdicts_for plan form w) l = subst (IsWhole (verdicts_for plan form w)) (sym is) (whole w l rem) in
     let more = turns_less W w t plan.count rem refl less in
     let all = ap length mine.1 in
-    let sent = length-verdicts plan.seed plan.first plan.count form W w in
+    let sent = length-verdicts (candidate_of plan) plan.first plan.count form W w in
     let got = ap (λ x. length x.taken) is ∙ taken.turns_are w l rem in
     (mine.0, omega (arith, more, all, length-append l.taken l.left, sent, got, mine.2))
 

@@ -4,7 +4,6 @@ use Rattle.std.specs.Prelude.{ℕ, ◌+◌, ◌-◌, ◌≡◌, ◌≢◌, ◌<�
 use Rattle.std.specs.Prelude.{map, take, Option, Some, true, false, slice_get}
 use Rattle.std.specs.List.{enumerate_from, range_with_len}
 use Rattle.boards.specs.Layouts.{Layout}
-use Rattle.cards.specs.Candidates.{candidate}
 use Rattle.cards.specs.Deals.{IsPartition}
 use Rattle.cond_lang.specs.Form.{Form}
 use Rattle.lanes.specs.declared.verdict.Verdict.{Verdict}
@@ -13,7 +12,7 @@ use Rattle.lanes.specs.Views.{OutView}
 use Rattle.lanes.specs.Prefixes.{IsPrefix, IsProperPrefix}
 use Rattle.dealrun.specs.declared.cause.Cause.{Cause}
 use Rattle.dealrun.specs.declared.cause.Cause.TheVariants.{Memory, Spawn, Output, Stopped, Unclosed}
-use Rattle.plans.specs.Plans.{Planned}
+use Rattle.plans.specs.Plans.{Planned, candidate_of}
 use Rattle.sinks.specs.Appended.{AppendsAll, AppendsPart}
 use Rattle.dealrun.specs.Text.{accepted_among, accepted, boards_of, end_of}
 use Rattle.dealrun.specs.Text.{text_of_boards, text_of, text_in}
@@ -59,7 +58,7 @@ pub record WritesTextIn (layout : Layout) (plan : Planned) (form : Form) (boards
     (old new : Option (List ℕ)) : Type 0 where
   pub bytes : AppendsAll old new (text_in layout plan form)
   pub boards_are : boards ≡ length (accepted plan form)
-  pub partitions : All IsPartition (map (candidate plan.seed) (accepted plan form))
+  pub partitions : All IsPartition (map (candidate_of plan) (accepted plan form))
 
 -- ---- however a run ends
 
@@ -75,7 +74,8 @@ pub record AreLanesConsistent (plan : Planned) (form : Form) (lanes : List OutVi
   pub needed : AllSettled lanes → taken_in_all lanes ≤ end_of plan form
   -- and the boards of the first m that were taken are those of the first m candidates
   pub candidates : AllSettled lanes → (m : ℕ) → m ≤ taken_in_all lanes
-      → boards_taken plan lanes m ≡ boards_of plan (accepted_among plan.seed plan.first form m)
+      → boards_taken plan lanes m
+      ≡ boards_of plan (accepted_among (candidate_of plan) plan.first form m)
 
 -- of the last piece the end is missing: of the header if nothing was taken, else of the board of
 -- the m-th verdict

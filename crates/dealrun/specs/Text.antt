@@ -7,15 +7,14 @@ use Rattle.boards.specs.declared.board.Board.{Board}
 use Rattle.boards.specs.Layouts.{Layout}
 use Rattle.boards.specs.Settings.{board_in}
 use Rattle.cards.specs.declared.seat.Seat.{Seat}
-use Rattle.cards.specs.Candidates.{candidate}
 use Rattle.cond_lang.specs.Form.{Form}
 use Rattle.cond_lang.specs.Meaning.{holds}
-use Rattle.plans.specs.Plans.{Planned}
+use Rattle.plans.specs.Plans.{Planned, candidate_of}
 
--- the numbers of the accepted ones among n candidates from `first` on, in order
-unfoldable pub accepted_among : ℕ → ℕ → Form → ℕ → List ℕ
-accepted_among seed first form n =
-    filter (λ k. holds form (candidate seed k)) (range_with_len first n)
+-- the numbers of the accepted ones among n candidates from `first` on, in order, by their deals
+unfoldable pub accepted_among : (ℕ → List Seat) → ℕ → Form → ℕ → List ℕ
+accepted_among deals first form n =
+    filter (λ k. holds form (deals k)) (range_with_len first n)
 
 -- the first so many, or all if there is no limit
 abbrev pub limited : Option ℕ → List ℕ → List ℕ
@@ -24,7 +23,8 @@ limited (Some most) xs = take most xs
 
 -- the numbers of the accepted candidates of a plan, within its limit
 abbrev pub accepted : Planned → Form → List ℕ
-accepted plan form = limited plan.limit (accepted_among plan.seed plan.first form plan.count)
+accepted plan form =
+    limited plan.limit (accepted_among (candidate_of plan) plan.first form plan.count)
 
 -- the board that a plan makes of a candidate's deal, after n boards. A setting may turn it: the
 -- condition was asked before, of the candidate itself
@@ -34,7 +34,7 @@ board_of plan n candidate deal = board_in plan.setting (plan.first_board + n) ca
 -- the boards of these candidates, in order
 unfoldable pub boards_of : Planned → List ℕ → List Board
 boards_of plan numbers =
-    map (λ p. board_of plan p.0 p.1 (candidate plan.seed p.1)) (enumerate_from 0 numbers)
+    map (λ p. board_of plan p.0 p.1 (candidate_of plan p.1)) (enumerate_from 0 numbers)
 
 -- the header and these boards: a text without its footer
 abbrev pub text_of_boards : Layout → List Board → List ℕ
@@ -54,5 +54,5 @@ end_of plan form = ends_at plan.limit
     ends_at : Option ℕ → ℕ
     ends_at None = plan.count
     ends_at (Some most) = position_or_len
-        (λ m. length (accepted_among plan.seed plan.first form m) == most)
+        (λ m. length (accepted_among (candidate_of plan) plan.first form m) == most)
         (range_with_len 0 plan.count)

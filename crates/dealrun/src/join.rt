@@ -2,7 +2,7 @@
 
 ghost use Rattle.std.specs.Prelude.{◌≡◌, ◌+◌, ◌<◌, ◌≤◌, ℕ, All, map, take, vec_len, slice_index_or};
 ghost use Rattle.std.specs.Prelude.{false};
-ghost use Rattle.lanes.specs.Jobs.{verdicts_of};
+ghost use Rattle.lanes.specs.Jobs.{verdicts_around};
 
 use crate::start::Started;
 use lanes::{LaneOut, WorkEnd};
@@ -47,7 +47,7 @@ ghost use Rattle.dealrun.specs.internal.Joins.{JoinsAs, JoinedAs};
 fn join_one<R: Threads>(rt: &R, handle: Started, lane: &mut LaneOut) -> WorkEnd
     requires { handle.promise.lane.value.ring ≡ lane.old.ring }
     ensures same { (lane.new.ring ≡ lane.old.ring) × (lane.new.taken ≡ lane.old.taken) }
-    ensures joined { JoinsAs (verdicts_of handle.promise.job.value) lane.old lane.new result }
+    ensures joined { JoinsAs (verdicts_around handle.promise.job.value) lane.old lane.new result }
 {
     match handle.join(rt) {
         WorkEnd::Done(mut closed) => {

@@ -42,7 +42,7 @@ fn write_accepted<N: Notation, S: Sink>(
         return Err(PlainFault { boards });
     }
     let first = plan.first();
-    let mut candidates = Candidates::new(plan.seed(), first, 1);
+    let mut candidates = Candidates::around(plan.seed(), first, 1, plan.fixed());
     for place in 0..plan.count() {
         if is_full(plan, boards) {
             break;

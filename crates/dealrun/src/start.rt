@@ -3,12 +3,14 @@
 ghost use Rattle.std.specs.Prelude.{◌≡◌, ◌+◌, ◌<◌, ◌≤◌, ℕ, [], All, IfOk, IfSome, map, take};
 ghost use Rattle.std.specs.Prelude.{vec_len, vec_capacity, false, true};
 ghost use Rattle.std.specs.List.{range_with_len};
-ghost use Rattle.lanes.specs.Jobs.{verdicts_of};
+ghost use Rattle.lanes.specs.Jobs.{verdicts_around};
 ghost use Rattle.lanes.specs.Work.{Ends};
 ghost use Rattle.dealrun.specs.MergedVerdicts.{verdicts_for};
 
 use cond_lang::Cond;
-use lanes::{Gate, Job, LaneIn, LaneOut, Pace, Share, WorkEnd, lane_in_blocks, work};
+use lanes::{
+    Gate, Job, JobAround, LaneIn, LaneOut, Pace, Share, WorkEnd, lane_in_blocks, work_around,
+};
 use plans::Plan;
 use std::alloc::{AllocError, Global};
 use std::snapshot::Snapshot;
@@ -20,12 +22,12 @@ use std::thread::{Promise, PromisedHandle, Threads};
 /// The promise that a worker ends as its job asks, on the ring of its lane.
 #[derive(Drop)]
 pub(crate) struct EndsAsAssigned {
-    job: Snapshot<Job>,
+    job: Snapshot<JobAround>,
     lane: Snapshot<LaneIn>,
 }
 
 impl Promise<WorkEnd> for EndsAsAssigned {
-    ghost kept_by = { λ p r. Ends (verdicts_of p.job.value) p.lane.value.ring r };
+    ghost kept_by = { λ p r. Ends (verdicts_around p.job.value) p.lane.value.ring r };
 }
 
 /// The handle of a worker that was started.
@@ -35,7 +37,7 @@ pub(crate) type Started = PromisedHandle<WorkEnd, EndsAsAssigned>;
 #[derive(Drop)]
 pub(crate) struct Assignment<R, G> {
     rt: R,
-    job: Job,
+    job: JobAround,
     lane: LaneIn,
     gate: Arc<G, Global>,
     stop: Arc<AtomicBool, Global>,
@@ -65,7 +67,8 @@ fn assign<R: Clone, G: Drop>(
     stop: &Arc<AtomicBool, Global>,
 ) -> Result<(Assignment<R, G>, LaneOut), AllocError>
     requires { worker < plan.now.workers }
-    ensures job { IfOk result (λ r. verdicts_of r.0.job ≡ verdicts_for plan.now cond.now worker) }
+    ensures job { IfOk result (λ r.
+        verdicts_around r.0.job ≡ verdicts_for plan.now cond.now worker) }
     ensures ring { IfOk result (λ r. r.0.lane.ring ≡ r.1.ring) }
     ensures taker { IfOk result (λ r. (r.1.taken ≡ []) × (r.1.settled ≡ false)) }
 {
@@ -84,7 +87,7 @@ fn assign<R: Clone, G: Drop>(
     let seed = plan.seed();
     let assignment = Assignment {
         rt: rt.clone()?,
-        job: Job { seed, share, cond },
+        job: Job { seed, share, cond }.around(*plan.fixed()),
         lane: sender,
         gate: Arc::try_clone(gate)?,
         stop: Arc::try_clone(stop)?,
@@ -105,7 +108,7 @@ pub(crate) fn assign_all<R: Threads + Clone, G: Drop>(
     ensures len { IfOk result (λ r. (vec_len r.0 ≡ plan.now.workers)
         × (vec_len r.1 ≡ plan.now.workers)) }
     ensures few { IfOk result (λ _. (0 < plan.now.workers) × (plan.now.workers ≤ 16)) }
-    ensures jobs { IfOk result (λ r. map (λ a. verdicts_of a.job) r.0.items
+    ensures jobs { IfOk result (λ r. map (λ a. verdicts_around a.job) r.0.items
         ≡ map (verdicts_for plan.now cond.now) (range_with_len 0 plan.now.workers)) }
     ensures rings { IfOk result (λ r. map (λ a. a.lane.ring) r.0.items
         ≡ map (λ l. l.ring) r.1.items) }
@@ -127,8 +130,8 @@ fn start<T: Threads, R: Wait + Drop + Send + 'static, G: Gate + Drop + Send + Sy
     rt: &T,
     assignment: Assignment<R, G>,
 ) -> Option<Started>
-    ensures job { IfSome result (λ h. verdicts_of h.promise.job.value
-        ≡ verdicts_of assignment.job) }
+    ensures job { IfSome result (λ h. verdicts_around h.promise.job.value
+        ≡ verdicts_around assignment.job) }
     ensures ring { IfSome result (λ h. h.promise.lane.value.ring ≡ assignment.lane.ring) }
 {
     let Assignment {
@@ -142,7 +145,12 @@ fn start<T: Threads, R: Wait + Drop + Send + 'static, G: Gate + Drop + Send + Sy
         job: Snapshot::of(&job),
         lane: Snapshot::of(&lane),
     };
-    thread::spawn_with(rt, promise, move || work(mine, job, lane, gate, stop)).ok()
+    thread::spawn_with(
+        rt,
+        promise,
+        move || work_around(mine, job, lane, gate, stop),
+    )
+    .ok()
 }
 
 /// Starts the workers in order, until a thread can't be made. True if all were started.
@@ -156,8 +164,8 @@ pub(crate) fn start_all<
     ensures all { result ≡ true → vec_len handles.new ≡ vec_len assignments }
     ensures not_all { result ≡ false → vec_len handles.new < vec_len assignments }
     ensures len { vec_len handles.new ≤ vec_len assignments }
-    ensures jobs { map (λ h. verdicts_of h.promise.job.value) handles.new.items
-        ≡ take (vec_len handles.new) (map (λ a. verdicts_of a.job) assignments.items) }
+    ensures jobs { map (λ h. verdicts_around h.promise.job.value) handles.new.items
+        ≡ take (vec_len handles.new) (map (λ a. verdicts_around a.job) assignments.items) }
     ensures rings { map (λ h. h.promise.lane.value.ring) handles.new.items
         ≡ take (vec_len handles.new) (map (λ a. a.lane.ring) assignments.items) }
 {

@@ -155,5 +155,7 @@ fn write_rest<N: Notation, S: Sink>(
     ensures faults { CountsFault (S.faults sink.old) (S.faults sink.new) result }
 {
     write_remaining(plan, lanes, notation, sink, progress)?;
+    // Its contract says that no seat has more than thirteen fixed cards: each deal is a partition.
+    let _fixed = plan.fixed();
     put_all(sink, notation.footer())
 }

@@ -11,7 +11,7 @@ ghost use Rattle.std.specs.Prelude.{◌≡◌, IfOk};
 use cond_lang::parse;
 use console::{Counts, Drawn, GATHERED_MILLIS, OverLine, Prompt, Style, millis};
 use deals_cli::{program_with_input, read_words};
-use hints::{explain, is_never};
+use hints::explain;
 use number_input::Reader;
 use requests::{MakeRequest, Progress, Request, advise};
 use sinks::{Piped, Sink, put_all};
@@ -23,10 +23,7 @@ use std::{env, io};
 /// How much output is gathered before it is passed on, unless a fifth of a second passes first.
 const BUFFER: usize = 64 * 1024;
 
-/// The status of a run that did all.
-const DONE: u8 = 0;
-
-/// The status of words, a plan or a label that are refused.
+/// The status of words, a plan, a label or a hand that are refused.
 const REFUSED_PLAN: u8 = 2;
 
 /// The status of a condition that is refused.
@@ -166,21 +163,25 @@ fn explanation(alloc: Global, words: &[String]) -> Option<String> {
     explain(alloc, text, refusal).ok()
 }
 
-/// The note on a condition that no deal meets, for a person at a terminal.
-const NEVER_MET: &str = "note: no deal meets this condition, by its numbers alone\n";
-
-/// Whether no deal meets the condition of these words, by its numbers alone.
-fn is_unmet(alloc: Global, words: &[String]) -> Option<bool> {
-    let text = run_of(alloc, words)?.where_text?.as_bytes();
-    Some(is_never(&parse(alloc, text).ok()?))
+/// What there is to note of the run that these words ask for, if it isn't refused; none where
+/// memory runs out.
+fn note(alloc: Global, words: &[String]) -> Option<String> {
+    let request = run_of(alloc, words)?;
+    let condition = parse(alloc, request.where_text?.as_bytes()).ok()?;
+    match advise(alloc, &request) {
+        Ok(None) => hints::note(alloc, &condition).unwrap_or(None),
+        _ => None,
+    }
 }
 
-/// What there is to note of a run that did all.
-fn note(rt: &HostRuntime, words: &[String]) -> Option<String> {
-    if rt.stderr().is_terminal() && is_unmet(rt.alloc(), words)? {
-        return String::from_str(rt.alloc(), NEVER_MET).ok();
+/// Notes for a person at a terminal, before the search begins, that no deal meets the condition.
+fn put_note(rt: &HostRuntime, words: &[String]) {
+    if !rt.stderr().is_terminal() {
+        return;
     }
-    None
+    if let Some(text) = note(rt.alloc(), words) {
+        let _ = put_all(&mut Piped::new(rt.stderr()), text.as_bytes());
+    }
 }
 
 /// Why the output failed, if the system said so.
@@ -196,7 +197,6 @@ fn say_more(rt: &HostRuntime, words: &[String], status: u8, out: &Output, err: &
     }
     let alloc = rt.alloc();
     let more = match status {
-        DONE => note(rt, words),
         REFUSED_PLAN => advice(alloc, words),
         REFUSED_CONDITION => explanation(alloc, words),
         FAILED_OUTPUT => reason(alloc, out),
@@ -211,6 +211,7 @@ fn main(rt: HostRuntime) -> ExitCode {
     match start(&rt) {
         Ok((words, mut out, mut err)) => {
             let words = words.as_slice();
+            put_note(&rt, words);
             let mut input = Reader::new(Given { stdin: rt.stdin() });
             let status = program_with_input(&rt, rt.alloc(), words, &mut input, &mut out, &mut err);
             say_more(&rt, words, status, &out, &mut err);

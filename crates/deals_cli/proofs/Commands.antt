@@ -76,7 +76,11 @@ plain_make = record {
     | inr (inr (inr (inr (inr (inr (inr (inr (inr (inr (inr (inr (inr (inr (inr (inl e))))))))))))))) ↦ rw e refl
     | inr (inr (inr (inr (inr (inr (inr (inr (inr (inr (inr (inr (inr (inr (inr (inr (inl e)))))))))))))))) ↦ rw e refl
     | inr (inr (inr (inr (inr (inr (inr (inr (inr (inr (inr (inr (inr (inr (inr (inr (inr (inl e))))))))))))))))) ↦ rw e refl
-    | inr (inr (inr (inr (inr (inr (inr (inr (inr (inr (inr (inr (inr (inr (inr (inr (inr (inr bad))))))))))))))))) ↦ absurd bad
+    | inr (inr (inr (inr (inr (inr (inr (inr (inr (inr (inr (inr (inr (inr (inr (inr (inr (inr (inl e)))))))))))))))))) ↦ rw e refl
+    | inr (inr (inr (inr (inr (inr (inr (inr (inr (inr (inr (inr (inr (inr (inr (inr (inr (inr (inr (inl e))))))))))))))))))) ↦ rw e refl
+    | inr (inr (inr (inr (inr (inr (inr (inr (inr (inr (inr (inr (inr (inr (inr (inr (inr (inr (inr (inr (inl e)))))))))))))))))))) ↦ rw e refl
+    | inr (inr (inr (inr (inr (inr (inr (inr (inr (inr (inr (inr (inr (inr (inr (inr (inr (inr (inr (inr (inr (inl e))))))))))))))))))))) ↦ rw e refl
+    | inr (inr (inr (inr (inr (inr (inr (inr (inr (inr (inr (inr (inr (inr (inr (inr (inr (inr (inr (inr (inr (inr bad))))))))))))))))))))) ↦ absurd bad
   ];
   acts = λ a is. elim is [
     | inl e ↦ rw e (inl (refl, refl))
@@ -93,11 +97,15 @@ plain_make = record {
     | inr (inr (inr (inr (inr (inr (inr (inr (inr (inr (inr (inl e))))))))))) ↦ rw e (inl (refl, refl))
     | inr (inr (inr (inr (inr (inr (inr (inr (inr (inr (inr (inr (inl e)))))))))))) ↦ rw e (inl (refl, refl))
     | inr (inr (inr (inr (inr (inr (inr (inr (inr (inr (inr (inr (inr (inl e))))))))))))) ↦ rw e (inl (refl, refl))
-    | inr (inr (inr (inr (inr (inr (inr (inr (inr (inr (inr (inr (inr (inr (inl e)))))))))))))) ↦ rw e (inr (inr (refl, flag_value (codes "rotate"))))
-    | inr (inr (inr (inr (inr (inr (inr (inr (inr (inr (inr (inr (inr (inr (inr (inl e))))))))))))))) ↦ rw e (inr (inr (refl, flag_value (codes "report"))))
+    | inr (inr (inr (inr (inr (inr (inr (inr (inr (inr (inr (inr (inr (inr (inl e)))))))))))))) ↦ rw e (inl (refl, refl))
+    | inr (inr (inr (inr (inr (inr (inr (inr (inr (inr (inr (inr (inr (inr (inr (inl e))))))))))))))) ↦ rw e (inl (refl, refl))
     | inr (inr (inr (inr (inr (inr (inr (inr (inr (inr (inr (inr (inr (inr (inr (inr (inl e)))))))))))))))) ↦ rw e (inl (refl, refl))
-    | inr (inr (inr (inr (inr (inr (inr (inr (inr (inr (inr (inr (inr (inr (inr (inr (inr (inl e))))))))))))))))) ↦ rw e (inr (inl refl))
-    | inr (inr (inr (inr (inr (inr (inr (inr (inr (inr (inr (inr (inr (inr (inr (inr (inr (inr bad))))))))))))))))) ↦ absurd bad
+    | inr (inr (inr (inr (inr (inr (inr (inr (inr (inr (inr (inr (inr (inr (inr (inr (inr (inl e))))))))))))))))) ↦ rw e (inl (refl, refl))
+    | inr (inr (inr (inr (inr (inr (inr (inr (inr (inr (inr (inr (inr (inr (inr (inr (inr (inr (inl e)))))))))))))))))) ↦ rw e (inr (inr (refl, flag_value (codes "rotate"))))
+    | inr (inr (inr (inr (inr (inr (inr (inr (inr (inr (inr (inr (inr (inr (inr (inr (inr (inr (inr (inl e))))))))))))))))))) ↦ rw e (inr (inr (refl, flag_value (codes "report"))))
+    | inr (inr (inr (inr (inr (inr (inr (inr (inr (inr (inr (inr (inr (inr (inr (inr (inr (inr (inr (inr (inl e)))))))))))))))))))) ↦ rw e (inl (refl, refl))
+    | inr (inr (inr (inr (inr (inr (inr (inr (inr (inr (inr (inr (inr (inr (inr (inr (inr (inr (inr (inr (inr (inl e))))))))))))))))))))) ↦ rw e (inr (inl refl))
+    | inr (inr (inr (inr (inr (inr (inr (inr (inr (inr (inr (inr (inr (inr (inr (inr (inr (inr (inr (inr (inr (inr bad))))))))))))))))))))) ↦ absurd bad
   ];
 }
 
@@ -114,7 +122,11 @@ plain_find = record {
     | inr (inr (inr (inr (inr (inr (inr (inl e))))))) ↦ rw e refl
     | inr (inr (inr (inr (inr (inr (inr (inr (inl e)))))))) ↦ rw e refl
     | inr (inr (inr (inr (inr (inr (inr (inr (inr (inl e))))))))) ↦ rw e refl
-    | inr (inr (inr (inr (inr (inr (inr (inr (inr (inr bad))))))))) ↦ absurd bad
+    | inr (inr (inr (inr (inr (inr (inr (inr (inr (inr (inl e)))))))))) ↦ rw e refl
+    | inr (inr (inr (inr (inr (inr (inr (inr (inr (inr (inr (inl e))))))))))) ↦ rw e refl
+    | inr (inr (inr (inr (inr (inr (inr (inr (inr (inr (inr (inr (inl e)))))))))))) ↦ rw e refl
+    | inr (inr (inr (inr (inr (inr (inr (inr (inr (inr (inr (inr (inr (inl e))))))))))))) ↦ rw e refl
+    | inr (inr (inr (inr (inr (inr (inr (inr (inr (inr (inr (inr (inr (inr bad))))))))))))) ↦ absurd bad
   ];
   acts = λ a is. elim is [
     | inl e ↦ rw e (inl (refl, refl))
@@ -124,10 +136,14 @@ plain_find = record {
     | inr (inr (inr (inr (inl e)))) ↦ rw e (inl (refl, refl))
     | inr (inr (inr (inr (inr (inl e))))) ↦ rw e (inl (refl, refl))
     | inr (inr (inr (inr (inr (inr (inl e)))))) ↦ rw e (inl (refl, refl))
-    | inr (inr (inr (inr (inr (inr (inr (inl e))))))) ↦ rw e (inr (inr (refl, flag_value (codes "report"))))
+    | inr (inr (inr (inr (inr (inr (inr (inl e))))))) ↦ rw e (inl (refl, refl))
     | inr (inr (inr (inr (inr (inr (inr (inr (inl e)))))))) ↦ rw e (inl (refl, refl))
-    | inr (inr (inr (inr (inr (inr (inr (inr (inr (inl e))))))))) ↦ rw e (inr (inl refl))
-    | inr (inr (inr (inr (inr (inr (inr (inr (inr (inr bad))))))))) ↦ absurd bad
+    | inr (inr (inr (inr (inr (inr (inr (inr (inr (inl e))))))))) ↦ rw e (inl (refl, refl))
+    | inr (inr (inr (inr (inr (inr (inr (inr (inr (inr (inl e)))))))))) ↦ rw e (inl (refl, refl))
+    | inr (inr (inr (inr (inr (inr (inr (inr (inr (inr (inr (inl e))))))))))) ↦ rw e (inr (inr (refl, flag_value (codes "report"))))
+    | inr (inr (inr (inr (inr (inr (inr (inr (inr (inr (inr (inr (inl e)))))))))))) ↦ rw e (inl (refl, refl))
+    | inr (inr (inr (inr (inr (inr (inr (inr (inr (inr (inr (inr (inr (inl e))))))))))))) ↦ rw e (inr (inl refl))
+    | inr (inr (inr (inr (inr (inr (inr (inr (inr (inr (inr (inr (inr (inr bad))))))))))))) ↦ absurd bad
   ];
 }
 
@@ -144,7 +160,11 @@ plain_pick = record {
     | inr (inr (inr (inr (inr (inr (inr (inl e))))))) ↦ rw e refl
     | inr (inr (inr (inr (inr (inr (inr (inr (inl e)))))))) ↦ rw e refl
     | inr (inr (inr (inr (inr (inr (inr (inr (inr (inl e))))))))) ↦ rw e refl
-    | inr (inr (inr (inr (inr (inr (inr (inr (inr (inr bad))))))))) ↦ absurd bad
+    | inr (inr (inr (inr (inr (inr (inr (inr (inr (inr (inl e)))))))))) ↦ rw e refl
+    | inr (inr (inr (inr (inr (inr (inr (inr (inr (inr (inr (inl e))))))))))) ↦ rw e refl
+    | inr (inr (inr (inr (inr (inr (inr (inr (inr (inr (inr (inr (inl e)))))))))))) ↦ rw e refl
+    | inr (inr (inr (inr (inr (inr (inr (inr (inr (inr (inr (inr (inr (inl e))))))))))))) ↦ rw e refl
+    | inr (inr (inr (inr (inr (inr (inr (inr (inr (inr (inr (inr (inr (inr bad))))))))))))) ↦ absurd bad
   ];
   acts = λ a is. elim is [
     | inl e ↦ rw e (inl (refl, refl))
@@ -155,9 +175,13 @@ plain_pick = record {
     | inr (inr (inr (inr (inr (inl e))))) ↦ rw e (inl (refl, refl))
     | inr (inr (inr (inr (inr (inr (inl e)))))) ↦ rw e (inl (refl, refl))
     | inr (inr (inr (inr (inr (inr (inr (inl e))))))) ↦ rw e (inl (refl, refl))
-    | inr (inr (inr (inr (inr (inr (inr (inr (inl e)))))))) ↦ rw e (inr (inr (refl, flag_value (codes "rotate"))))
-    | inr (inr (inr (inr (inr (inr (inr (inr (inr (inl e))))))))) ↦ rw e (inr (inl refl))
-    | inr (inr (inr (inr (inr (inr (inr (inr (inr (inr bad))))))))) ↦ absurd bad
+    | inr (inr (inr (inr (inr (inr (inr (inr (inl e)))))))) ↦ rw e (inl (refl, refl))
+    | inr (inr (inr (inr (inr (inr (inr (inr (inr (inl e))))))))) ↦ rw e (inl (refl, refl))
+    | inr (inr (inr (inr (inr (inr (inr (inr (inr (inr (inl e)))))))))) ↦ rw e (inl (refl, refl))
+    | inr (inr (inr (inr (inr (inr (inr (inr (inr (inr (inr (inl e))))))))))) ↦ rw e (inl (refl, refl))
+    | inr (inr (inr (inr (inr (inr (inr (inr (inr (inr (inr (inr (inl e)))))))))))) ↦ rw e (inr (inr (refl, flag_value (codes "rotate"))))
+    | inr (inr (inr (inr (inr (inr (inr (inr (inr (inr (inr (inr (inr (inl e))))))))))))) ↦ rw e (inr (inl refl))
+    | inr (inr (inr (inr (inr (inr (inr (inr (inr (inr (inr (inr (inr (inr bad))))))))))))) ↦ absurd bad
   ];
 }
 

@@ -10,7 +10,7 @@ use Rattle.requests.specs.Failures.{status_of}
 use Rattle.requests.specs.Interruptions.{EndsFor}
 use Rattle.requests.specs.Requests.{Wish, conditions, make, pick, stream}
 use Rattle.requests.specs.declared.failure.Failure.{Failure}
-use Rattle.requests.specs.declared.failure.Failure.TheVariants.{CommandLine, Plan, Label, Condition, Interrupted, Line, Input}
+use Rattle.requests.specs.declared.failure.Failure.TheVariants.{CommandLine, Plan, Label, Hand, Condition, Interrupted, Line, Input}
 use Rattle.requests.specs.Wishes.{IsStatus, IsStatusWithInput}
 use Rattle.deals_cli.specs.Program.{IsStatusOfNone, MayLeave, TellsWhy, TellsWhyFrom}
 
@@ -31,6 +31,7 @@ no_seven : (w : Wish) (f : Failure) (old new : Option (List ℕ)) → MayLeave w
 no_seven w (CommandLine text) old new may sound is = cc
 no_seven w (Plan error) old new may sound is = cc
 no_seven w (Label label) old new may sound is = cc
+no_seven w (Hand seat) old new may sound is = cc
 no_seven w (Condition error) old new may sound is = cc
 no_seven w (Interrupted cause.Output) old new may sound is = cc
 no_seven w (Interrupted cause.Memory) old new may sound is = cc

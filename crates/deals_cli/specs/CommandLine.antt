@@ -15,6 +15,7 @@ use Rattle.boards.specs.declared.law2.Vul.{Vul}
 use Rattle.boards.specs.declared.law2.Vul.TheVariants.{Neither, NorthSouth, EastWest, Both}
 use Rattle.cards.specs.declared.seat.Seat.{Seat}
 use Rattle.cards.specs.declared.seat.Seat.TheVariants.{North, East, South, West}
+use Rattle.hand_texts.specs.HandTexts.{GivenHands}
 use Rattle.requests.specs.Requests.{Making, Wish, conditions, stream, make, pick}
 use Rattle.requests.specs.declared.format.Format.{Format}
 use Rattle.requests.specs.declared.format.Format.TheVariants.{Pbn, Hands, Lin, Html}
@@ -58,6 +59,10 @@ make_app = command_with (codes "make") (
     ∷ option_rule (codes "first") u64_parser
     ∷ option_rule (codes "workers") u32_parser
     ∷ option_rule (codes "lane") u32_parser
+    ∷ option_rule (codes "north") parsed.String
+    ∷ option_rule (codes "east") parsed.String
+    ∷ option_rule (codes "south") parsed.String
+    ∷ option_rule (codes "west") parsed.String
     ∷ option_rule (codes "where") parsed.String
     ∷ option_rule (codes "boards") u32_parser
     ∷ option_rule (codes "first-board") u64_parser
@@ -80,6 +85,10 @@ find_app = command_with (codes "find") (
     ∷ option_rule (codes "first") u64_parser
     ∷ option_rule (codes "workers") u32_parser
     ∷ option_rule (codes "lane") u32_parser
+    ∷ option_rule (codes "north") parsed.String
+    ∷ option_rule (codes "east") parsed.String
+    ∷ option_rule (codes "south") parsed.String
+    ∷ option_rule (codes "west") parsed.String
     ∷ option_rule (codes "where") parsed.String
     ∷ option_rule (codes "boards") u32_parser
     ∷ flag_rule (codes "report")
@@ -90,6 +99,10 @@ find_app = command_with (codes "find") (
 abbrev pub pick_app : App
 pick_app = command_with (codes "pick") (
     required (option_rule (codes "seed") u32_parser)
+    ∷ option_rule (codes "north") parsed.String
+    ∷ option_rule (codes "east") parsed.String
+    ∷ option_rule (codes "south") parsed.String
+    ∷ option_rule (codes "west") parsed.String
     ∷ option_rule (codes "first-board") u64_parser
     ∷ option_rule (codes "event") parsed.String
     ∷ option_rule (codes "site") parsed.String
@@ -180,6 +193,15 @@ format_in name rows =
     if bytes_eq name (codes "find") then Numbers
     else unwrap_or (choice_in formats (codes "format") rows) Pbn
 
+-- the texts of hands that the options were given
+abbrev pub hands_in : List Row → GivenHands
+hands_in rows = record {
+  north = first_of (codes "north") rows;
+  east = first_of (codes "east") rows;
+  south = first_of (codes "south") rows;
+  west = first_of (codes "west") rows;
+}
+
 -- by the subcommand's name and what its options were given
 abbrev pub making_in : Text → List Row → Making
 making_in name rows = record {
@@ -194,6 +216,7 @@ making_in name rows = record {
   event = first_of (codes "event") rows;
   site = first_of (codes "site") rows;
   date = first_of (codes "date") rows;
+  hands = hands_in rows;
   format = format_in name rows;
   dealer = choice_in dealers (codes "dealer") rows;
   vulnerable = choice_in sides (codes "vulnerable") rows;

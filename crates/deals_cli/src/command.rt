@@ -6,8 +6,8 @@ ghost use Rattle.clap.specs.declared.Command.TheViews.{out-Command as fields_of}
 ghost use Rattle.deals_cli.specs.CommandLine.{conditions_app, deals, find_app, flag_rule, make_app};
 ghost use Rattle.deals_cli.specs.CommandLine.{option_rule, pick_app, required, stream_app};
 ghost use Rattle.deals_cli.specs.internal.Commands.{with_boards, with_candidates, with_counts, with_dealers};
-ghost use Rattle.deals_cli.specs.internal.Commands.{with_first_board, with_form, with_heading};
-ghost use Rattle.deals_cli.specs.internal.Commands.{with_labels, with_makers, with_notation, with_rotate};
+ghost use Rattle.deals_cli.specs.internal.Commands.{with_first_board, with_form, with_hand, with_hands};
+ghost use Rattle.deals_cli.specs.internal.Commands.{with_heading, with_labels, with_makers, with_notation, with_rotate};
 ghost use Rattle.deals_cli.specs.internal.Commands.{with_search};
 
 use crate::choices::Unknown;
@@ -32,9 +32,9 @@ const LANGUAGE_AND_STATUSES: &str =
   suits spades, hearts, diamonds, clubs; # begins a comment
   deals conditions prints it all, with ten examples.
 
-Exit status: 0 done; 2 the words, the plan or a label is refused; 3 the condition is refused;
-  4 the output failed; 5 out of memory; 6 a thread or a worker failed; 7 a line of the input is
-  refused, or the input failed.";
+Exit status: 0 done; 2 the words, the plan, a label or a hand is refused; 3 the condition is
+  refused; 4 the output failed; 5 out of memory; 6 a thread or a worker failed; 7 a line of the
+  input is refused, or the input failed.";
 
 const FIND_EXAMPLES: &str = "Example:
   Where the slam hands are among a thousand million candidates:
@@ -90,6 +90,15 @@ const WORKERS: &str = "How many workers, 1 to 16; one fewer than the machine has
 
 const LANE: &str = "How many verdicts a worker may be ahead of the writer, 1 to 4096; with several \
     workers 4096 is the fastest [default: 64]";
+
+const NORTH: &str = "The cards that North holds, as AKQ32.K..A: the spades, hearts, diamonds and \
+    clubs, parted by three dots; the rest is dealt [default: none]";
+
+const EAST: &str = "The cards that East holds, like North's [default: none]";
+
+const SOUTH: &str = "The cards that South holds, like North's [default: none]";
+
+const WEST: &str = "The cards that West holds, like North's [default: none]";
 
 const WHERE: &str = "The condition that a deal has to meet [default: every deal]";
 
@@ -203,6 +212,33 @@ fn with_search<'a>(alloc: Global, command: Command<'a>) -> Result<Command<'a>, A
     with_option(command, lane)
 }
 
+/// The command with the option of the cards that a seat holds.
+fn with_hand<'a>(
+    alloc: Global,
+    command: Command<'a>,
+    id: &'a str,
+    help: &'a str,
+) -> Result<Command<'a>, AllocError>
+    ensures app { IfOk result (λ c. app_of c ≡ with_hand id.entry.now (app_of command.entry)) }
+    ensures local { IfOk result (λ c. (fields_of c).has_globals
+        ≡ (fields_of command.entry).has_globals) }
+{
+    let hand = option(alloc, id, ValueParser::String, "HAND", help);
+    with_option(command, hand)
+}
+
+/// The command with the options of the cards that are fixed at the seats.
+fn with_hands<'a>(alloc: Global, command: Command<'a>) -> Result<Command<'a>, AllocError>
+    ensures app { IfOk result (λ c. app_of c ≡ with_hands (app_of command.entry)) }
+    ensures local { IfOk result (λ c. (fields_of c).has_globals
+        ≡ (fields_of command.entry).has_globals) }
+{
+    let command = with_hand(alloc, command, "north", NORTH)?;
+    let command = with_hand(alloc, command, "east", EAST)?;
+    let command = with_hand(alloc, command, "south", SOUTH)?;
+    with_hand(alloc, command, "west", WEST)
+}
+
 /// The command with the options of which deals are kept.
 fn with_boards<'a>(alloc: Global, command: Command<'a>) -> Result<Command<'a>, AllocError>
     ensures app { IfOk result (λ c. app_of c ≡ with_boards (app_of command.entry)) }
@@ -309,6 +345,7 @@ fn make_command<'a>(alloc: Global) -> Result<Command<'a>, AllocError>
         .after_help(MAKE_EXAMPLES);
     let command = with_candidates(alloc, command)?;
     let command = with_search(alloc, command)?;
+    let command = with_hands(alloc, command)?;
     let command = with_boards(alloc, command)?;
     let command = with_form(alloc, command)?;
     with_counts(alloc, command)
@@ -323,6 +360,7 @@ fn find_command<'a>(alloc: Global) -> Result<Command<'a>, AllocError>
         .after_help(FIND_EXAMPLES);
     let command = with_candidates(alloc, command)?;
     let command = with_search(alloc, command)?;
+    let command = with_hands(alloc, command)?;
     let command = with_boards(alloc, command)?;
     with_counts(alloc, command)
 }
@@ -336,6 +374,7 @@ fn pick_command<'a>(alloc: Global) -> Result<Command<'a>, AllocError>
         .after_help(PICK_EXAMPLES);
     let seed = required(alloc, "seed", value_parser!(u32), "S", SEED);
     let command = with_option(command, seed)?;
+    let command = with_hands(alloc, command)?;
     with_form(alloc, command)
 }
 

@@ -198,10 +198,10 @@ pub fn program_with_input<R: Threads + Wait + Clone + Send + 'static, I: Source,
 /// Runs the program, and returns its exit status. The first word is the program's name.
 ///
 /// 0: done, or help or the version was asked for, whose text is on `out`; 2: the command line, the
-/// plan or a label is refused; 3: the condition is refused; 4: the output failed; 5: want of
-/// memory; 6: a thread couldn't be started, or a worker stopped or wasn't closed. What went wrong
-/// is said on `err`, in one line but for clap's texts, and a report if that is asked for; faults of
-/// `err` are ignored. It may wait for its workers.
+/// plan, a label or a hand is refused; 3: the condition is refused; 4: the output failed; 5: want
+/// of memory; 6: a thread couldn't be started, or a worker stopped or wasn't closed. What went
+/// wrong is said on `err`, in one line but for clap's texts, and a report if that is asked for;
+/// faults of `err` are ignored. It may wait for its workers.
 pub fn program<R: Threads + Wait + Clone + Send + 'static, O: Sink, E: Sink>(
     rt: &R,
     alloc: Global,

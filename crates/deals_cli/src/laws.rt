@@ -3,9 +3,11 @@
 ghost use Rattle.std.specs.Prelude.{◌≡◌, ◌∷◌, [], None, Some, codes, false, true};
 ghost use Rattle.boards.specs.declared.law2.Vul.TheVariants.{NorthSouth};
 ghost use Rattle.cards.specs.declared.seat.Seat.TheVariants.{South};
-ghost use Rattle.clap.specs.declared.error.kind.ErrorKind.TheVariants.{InvalidValue, UnknownArgument};
+ghost use Rattle.clap.specs.declared.error.kind.ErrorKind.TheVariants.{InvalidValue};
+ghost use Rattle.clap.specs.declared.error.kind.ErrorKind.TheVariants.{UnknownArgument};
 ghost use Rattle.deals_cli.specs.CommandLine.{asked, kinds_for};
-ghost use Rattle.requests.specs.Requests.{conditions, make, stream};
+ghost use Rattle.hand_texts.specs.HandTexts.{none_given};
+ghost use Rattle.requests.specs.Requests.{conditions, make, pick, stream};
 ghost use Rattle.requests.specs.declared.format.Format.TheVariants.{Hands, Numbers, Pbn};
 ghost use Rattle.requests.specs.declared.progress.Progress.TheVariants.{Auto, Never};
 
@@ -37,6 +39,7 @@ pub fn example_of_make()
           event = None;
           site = None;
           date = None;
+          hands = none_given;
           format = Pbn;
           dealer = None;
           vulnerable = None;
@@ -67,6 +70,7 @@ pub fn example_of_formats()
           event = None;
           site = None;
           date = None;
+          hands = none_given;
           format = Hands;
           dealer = Some South;
           vulnerable = Some NorthSouth;
@@ -78,6 +82,40 @@ pub fn example_of_formats()
         (codes "deals" ∷ codes "make" ∷ codes "--seed" ∷ codes "0"
         ∷ codes "--boards" ∷ codes "12" ∷ codes "--format" ∷ codes "PBN" ∷ [])
         ≡ InvalidValue ∷ [] }
+{}
+
+/// `deals pick --seed 2024 --north KQ432.A93.AJ.JT8 --south A985.KJ742.KQ32. --format hands` asks
+/// for hand records of the candidates whose numbers the input gives, each with these hands for
+/// North and South, the rest dealt to East and West.
+pub fn example_of_hands()
+    ensures { asked
+        (codes "deals" ∷ codes "pick" ∷ codes "--seed" ∷ codes "2024"
+        ∷ codes "--north" ∷ codes "KQ432.A93.AJ.JT8"
+        ∷ codes "--south" ∷ codes "A985.KJ742.KQ32."
+        ∷ codes "--format" ∷ codes "hands" ∷ [])
+        ≡ Some (pick record {
+          seed = 2024;
+          candidates = None;
+          first = 0;
+          workers = 1;
+          lane = 64;
+          where_text = None;
+          boards = None;
+          first_board = None;
+          event = None;
+          site = None;
+          date = None;
+          hands = record none_given {
+            north = Some (codes "KQ432.A93.AJ.JT8");
+            south = Some (codes "A985.KJ742.KQ32.");
+          };
+          format = Hands;
+          dealer = None;
+          vulnerable = None;
+          rotate = false;
+          report = false;
+          progress = Auto;
+        }) }
 {}
 
 /// `deals find --seed 7 --candidates 1000 --first 5 --where 'hcp(north)>=15' --progress never` asks
@@ -100,6 +138,7 @@ pub fn example_of_find()
           event = None;
           site = None;
           date = None;
+          hands = none_given;
           format = Numbers;
           dealer = None;
           vulnerable = None;

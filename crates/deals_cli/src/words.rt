@@ -3,8 +3,9 @@
 ghost use Rattle.std.specs.Prelude.{◌≡◌, ◌≤◌, ◌^◌, Some, codes, IfErr, IfOk, IsSome, map};
 ghost use Rattle.std.specs.Prelude.{option_map, string_bytes};
 ghost use Rattle.clap.specs.Words.{HasKind, first_of, found_of, kind_of, rows_of};
-ghost use Rattle.deals_cli.specs.CommandLine.{asked, format_in, has_no_end, is_set, kinds_for};
-ghost use Rattle.deals_cli.specs.CommandLine.{made_by, making_in, number_in, number_or};
+ghost use Rattle.deals_cli.specs.CommandLine.{asked, format_in, hands_in, has_no_end, is_set};
+ghost use Rattle.deals_cli.specs.CommandLine.{kinds_for, made_by, making_in, number_in, number_or};
+ghost use Rattle.hand_texts.specs.HandTexts.{given_by};
 ghost use Rattle.requests.specs.Options.{IsInRange, making_of, wish_of};
 ghost use Rattle.deals_cli.specs.internal.Readings.{MakeValues, MayGive32, MayGive64, StreamValues};
 
@@ -12,6 +13,7 @@ use crate::choices::{dealer_in, format_in, progress_in, sides_in, unknown_in};
 use crate::command::{command, invalid_value, missing_end};
 use clap::error::ErrorKind;
 use clap::{ArgMatches, Error};
+use hand_texts::HandTexts;
 use requests::{Format, MakeRequest, Progress, Request, StreamRequest};
 use std::alloc::Global;
 
@@ -71,6 +73,18 @@ fn format_by(name: &str, matches: &ArgMatches) -> Format
     format_in(matches).unwrap_or(Format::Pbn)
 }
 
+/// The texts of hands that the options were given.
+fn hands_in<'a>(matches: &ArgMatches<'a>) -> HandTexts<'a>
+    ensures { given_by result ≡ hands_in (rows_of (found_of matches.now)) }
+{
+    HandTexts {
+        north: text_in(matches, "north"),
+        east: text_in(matches, "east"),
+        south: text_in(matches, "south"),
+        west: text_in(matches, "west"),
+    }
+}
+
 /// What the options of `make`, `find` or `pick` were given, or their defaults. The others have some
 /// of those of `make`.
 fn make_request<'a>(name: &str, matches: &ArgMatches<'a>) -> MakeRequest<'a>
@@ -89,6 +103,7 @@ fn make_request<'a>(name: &str, matches: &ArgMatches<'a>) -> MakeRequest<'a>
         event: text_in(matches, "event"),
         site: text_in(matches, "site"),
         date: text_in(matches, "date"),
+        hands: hands_in(matches),
         format: format_by(name, matches),
         dealer: dealer_in(matches),
         vulnerable: sides_in(matches),

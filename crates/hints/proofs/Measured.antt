@@ -10,7 +10,7 @@ use Rattle.cards.specs.Hands.{has_honour, holds_card, holds_in, honours_in, hono
 use Rattle.cards.specs.Pack.{is_in_suit, rank_of, suit_number}
 use Rattle.cards.specs.Shuffle.{pack}
 use Rattle.cards.proofs.MaskCounts.{both-le, cond-le, sum_by-le}
-use Rattle.hints.specs.Never.{rank_count}
+use Rattle.hints.specs.Limits.{rank_count}
 
 -- ---- controls
 

@@ -1,91 +1,26 @@
 -- What is never met by its numbers alone is met by no deal.
-use Rattle.std.proofs.Common.{◌≡◌, ◌≤◌, ◌+◌, ◌&&◌, ◌||◌, ◌==◌, ◌∙◌, ◌⊎◌, ℕ, not, Bool, true, false, List, [], ◌∷◌, ap, arith, inl, inr, nat_le, nat_lt, refl, sum, sym}
+use Rattle.std.proofs.Common.{◌≡◌, ◌≤◌, ◌+◌, ◌&&◌, ◌||◌, ◌==◌, ◌∙◌, ℕ, not, Bool, true, false, List, [], ◌∷◌, ap, arith, inl, inr, nat_le, nat_lt, refl, sum, sym}
 use Rattle.std.specs.Prelude.{IsTrue}
 use Rattle.std.specs.List.Sorted.{IsPermutation}
 use Rattle.std.proofs.lemmas.Bool.{cases_lt}
-use Rattle.std.proofs.lemmas.Bool.Decides.{nat_tests}
 use Rattle.std.proofs.lemmas.List.Sorted.{sum_by-IsPermutation}
 use Rattle.std.proofs.lemmas.List.Sums.{sum_by-cons}
-use Rattle.cards.specs.declared.measure.Measure.TheVariants.{Hcp, Controls, Losers}
 use Rattle.cards.specs.declared.seat.Seat.{Seat}
-use Rattle.cards.specs.declared.suit.Suit.TheVariants.{Spades, Hearts, Diamonds, Clubs}
 use Rattle.cards.specs.Deals.{IsPartition}
 use Rattle.cards.specs.Hands.{hand_of, is_rearrangement, is_same, shape_of}
-use Rattle.cards.proofs.MaskCounts.{length_of-le}
 use Rattle.cards.proofs.Rearranging.{rearrangement_is_permutation}
-use Rattle.cards.proofs.WeightedCounts.{weight_in-most}
-use Rattle.cond_lang.specs.Form.{Amount, Form, all_of, any_of, balanced, cards_held, compare, longest, loose_pattern, loose_shape, negation, number, pattern, points, shape, shortest, suit_cards_held, suit_length, suit_points, suit_total, total, within}
-use Rattle.cond_lang.specs.Form.{sum as plus}
+use Rattle.cond_lang.specs.Form.{Form, all_of, any_of, balanced, compare, loose_pattern, loose_shape, negation, pattern, shape, within}
 use Rattle.cond_lang.specs.Meaning.{holds, is_related, value_in}
 use Rattle.cond_lang.specs.declared.tree.Op.{Op}
 use Rattle.cond_lang.specs.declared.tree.Op.TheVariants.{AtLeast, AtMost, Equal, Less, More, NotEqual}
-use Rattle.hints.specs.Never.{greatest_of, is_never, is_never_related, least_of}
-use Rattle.hints.proofs.Bounds.{lengths_add, longest_least, longest_most, points_most, shortest_most}
-use Rattle.hints.proofs.Measured.{cards_most, controls_most, losers_most, suit_cards_most, suit_controls_most, suit_losers_most}
-
--- ---- values
-
-pub at_least : (deal : List Seat) → IsPartition deal → (a : Amount) → least_of a ≤ value_in deal a
-at_least deal ok (plus a b) = omega (arith, at_least deal ok a, at_least deal ok b)
-at_least deal ok (number n) = omega arith
-at_least deal ok (points q) = omega arith
-at_least deal ok (suit_points q s) = omega arith
-at_least deal ok (total m q) = omega arith
-at_least deal ok (suit_total m q s) = omega arith
-at_least deal ok (cards_held q h) = omega arith
-at_least deal ok (suit_cards_held q s h) = omega arith
-at_least deal ok (suit_length q s) = omega arith
-at_least deal ok (longest q) = longest_least _ _ _ _ (lengths_add deal q ok)
-at_least deal ok (shortest q) = omega arith
-
-pub at_most : (deal : List Seat) → IsPartition deal → (a : Amount) → value_in deal a ≤ greatest_of a
-at_most deal ok (plus a b) = omega (arith, at_most deal ok a, at_most deal ok b)
-at_most deal ok (number n) = omega arith
-at_most deal ok (points q) = points_most deal q ok
-at_most deal ok (suit_points q s) = weight_in-most (4 ∷ 3 ∷ 2 ∷ 1 ∷ []) (hand_of deal q) s refl (omega arith)
-at_most deal ok (total Hcp q) = points_most deal q ok
-at_most deal ok (total Controls q) = controls_most (hand_of deal q)
-at_most deal ok (total Losers q) = losers_most (hand_of deal q)
-at_most deal ok (suit_total Hcp q s) = weight_in-most (4 ∷ 3 ∷ 2 ∷ 1 ∷ []) (hand_of deal q) s refl (omega arith)
-at_most deal ok (suit_total Controls q s) = suit_controls_most (hand_of deal q) s
-at_most deal ok (suit_total Losers q s) = suit_losers_most (hand_of deal q) s
-at_most deal ok (cards_held q h) = cards_most h (hand_of deal q)
-at_most deal ok (suit_cards_held q s h) = suit_cards_most h (hand_of deal q) s
-at_most deal ok (suit_length q s) = length_of-le (hand_of deal q) s
-at_most deal ok (longest q) =
-    let hand = hand_of deal q in
-    longest_most _ _ _ _ (length_of-le hand Spades) (length_of-le hand Hearts) (length_of-le hand Diamonds) (length_of-le hand Clubs)
-at_most deal ok (shortest q) = shortest_most _ _ _ _ (lengths_add deal q ok)
+use Rattle.hints.specs.Limits.{greatest_of, least_of}
+use Rattle.hints.specs.Never.{is_never, is_never_related}
+use Rattle.hints.specs.Torn.{is_torn}
+use Rattle.hints.proofs.Bounds.{lengths_add}
+use Rattle.hints.proofs.TwoTests.{torn}
+use Rattle.hints.proofs.Values.{all_true, apart, at_least, at_most, both_sides, false_unless, less, no_less, no_more, not_more, same, same_number}
 
 -- ---- relations
-
-both_sides : (b c : Bool) → (b || c) ≡ true → (b ≡ true) ⊎ (c ≡ true)
-both_sides true c h = inl refl
-both_sides false c h = inr h
-
-less : (a b : ℕ) → nat_lt a b ≡ true → a + 1 ≤ b
-less a b h = grind (arith, nat_tests)
-
-not_more : (a b : ℕ) → nat_le a b ≡ true → a ≤ b
-not_more a b h = grind (arith, nat_tests)
-
-no_less : (a b : ℕ) → b ≤ a → nat_lt a b ≡ false
-no_less a b h = grind (arith, nat_tests)
-
-no_more : (a b : ℕ) → b + 1 ≤ a → nat_le a b ≡ false
-no_more a b h = grind (arith, nat_tests)
-
-apart : (x y : ℕ) → (x + 1 ≤ y) ⊎ (y + 1 ≤ x) → (x == y) ≡ false
-apart x y (inl h) = grind (arith, nat_tests)
-apart x y (inr h) = grind (arith, nat_tests)
-
-same : (x y : ℕ) → x ≤ y → y ≤ x → not (x == y) ≡ false
-same x y h k = grind (arith, nat_tests)
-
-all_true : (b c : Bool) → (b && c) ≡ true → (b ≡ true) × (c ≡ true)
-all_true true true h = (refl, refl)
-all_true true false h = absurd (cc h)
-all_true false c h = absurd (cc h)
 
 unrelated : (o : Op) (a b c d x y : ℕ) → a ≤ x → x ≤ b → c ≤ y → y ≤ d → is_never_related o a b c d ≡ true → is_related o x y ≡ false
 unrelated Equal a b c d x y h i j k never =
@@ -132,9 +67,6 @@ outside a b m n x h i never =
 
 -- ---- shapes
 
-same_number : (x y : ℕ) → (x == y) ≡ true → x ≡ y
-same_number x y h = grind (arith, nat_tests)
-
 equal_sums : (xs ys : List ℕ) → is_same xs ys ≡ true → sum xs ≡ sum ys
 equal_sums [] [] h = refl
 equal_sums (x ∷ xs) (y ∷ ys) h =
@@ -142,10 +74,6 @@ equal_sums (x ∷ xs) (y ∷ ys) h =
     omega (arith, same_number x y two.0, equal_sums xs ys two.1, sum_by-cons (λ n. n) x xs, sum_by-cons (λ n. n) y ys)
 equal_sums [] (y ∷ ys) h = absurd (cc h)
 equal_sums (x ∷ xs) [] h = absurd (cc h)
-
-false_unless : (b : Bool) → (b ≡ true → ⊥) → b ≡ false
-false_unless true h = absurd (h refl)
-false_unless false h = refl
 
 not_thirteen : (n : ℕ) → not (n == 13) ≡ true → n ≡ 13 → ⊥
 not_thirteen n h e = absurd (cc (ap (λ k. not (k == 13)) (sym e) ∙ h))
@@ -176,9 +104,13 @@ sound (any_of a b) never deal ok =
     let two = all_true (is_never a) (is_never b) never in
     none_of_two (holds a deal) (holds b deal) (sound a two.0 deal ok) (sound b two.1 deal ok)
 sound (all_of a b) never deal ok =
-    elim (both_sides (is_never a) (is_never b) never) [
+    elim (both_sides (is_never a) (is_never b || is_torn (all_of a b) (all_of a b)) never) [
       | inl e ↦ none_left (holds a deal) (holds b deal) (sound a e deal ok)
-      | inr e ↦ none_right (holds a deal) (holds b deal) (sound b e deal ok)
+      | inr rest ↦
+          elim (both_sides (is_never b) (is_torn (all_of a b) (all_of a b)) rest) [
+            | inl e ↦ none_right (holds a deal) (holds b deal) (sound b e deal ok)
+            | inr e ↦ false_unless (holds (all_of a b) deal) (torn deal ok (all_of a b) (all_of a b) e)
+          ]
     ]
 sound (negation a) never deal ok = absurd (cc never)
 sound (compare a o b) never deal ok =

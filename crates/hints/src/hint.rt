@@ -2,7 +2,10 @@
 
 use crate::kinds::KindSet;
 use crate::parts::{Parts, is_number};
-use crate::rules::{calls, joins, ranges, shapes, signs, words};
+use crate::rule::first_in;
+use crate::rules::texts::TEXTS;
+use crate::rules::truths::TRUTHS;
+use crate::rules::{calls, joins, ranges, sentences, shapes, signs, suits, words};
 use crate::said::{Said, first_of, say};
 use std::alloc::Global;
 
@@ -10,6 +13,7 @@ use std::alloc::Global;
 pub(crate) fn of_piece(alloc: Global, text: &[u8], at: usize) -> Said {
     let parts = Parts::of(alloc, text, at)?;
     first_of!(
+        of_either(alloc, &parts),
         ranges::hint(alloc, &parts),
         words::hint(alloc, &parts),
         signs::hint(alloc, &parts),
@@ -17,6 +21,17 @@ pub(crate) fn of_piece(alloc: Global, text: &[u8], at: usize) -> Said {
     if is_number(parts.next(0)) {
         return of_number(alloc, parts.next(0));
     }
+    Ok(None)
+}
+
+/// The hint for what may be a piece that isn't in the language or a token that can't stand there.
+fn of_either(alloc: Global, parts: &Parts) -> Said {
+    first_of!(
+        first_in(alloc, parts, TEXTS),
+        first_in(alloc, parts, TRUTHS),
+        suits::hint(alloc, parts),
+        sentences::hint(alloc, parts),
+    );
     Ok(None)
 }
 
@@ -38,6 +53,7 @@ fn of_number(alloc: Global, mut digits: &[u8]) -> Said {
 pub(crate) fn of_syntax(alloc: Global, text: &[u8], at: usize, can: &KindSet) -> Said {
     let parts = Parts::of(alloc, text, at)?;
     first_of!(
+        of_either(alloc, &parts),
         shapes::hint(alloc, &parts),
         ranges::hint(alloc, &parts),
         calls::hint(alloc, &parts, can),

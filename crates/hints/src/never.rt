@@ -1,20 +1,20 @@
 //! Conditions that no deal meets, by their numbers alone.
 
-ghost use Rattle.std.specs.Prelude.{◌≡◌, ◌*◌, ◌≤◌, ◌||◌, nat_lt, List, IsTrue, false, sum};
+ghost use Rattle.std.specs.Prelude.{◌≡◌, ◌||◌, nat_lt, List, IsTrue, false, sum};
 ghost use Rattle.cards.specs.Deals.{IsPartition};
 ghost use Rattle.cards.specs.declared.seat.Seat.{Seat};
-ghost use Rattle.cond_lang.specs.Form.{amount_of, form_of};
-ghost use Rattle.cond_lang.specs.Limits.{HasAtMostAtoms, atoms_of};
+ghost use Rattle.cond_lang.specs.Form.{form_of};
+ghost use Rattle.cond_lang.specs.Limits.{HasAtMostAtoms};
 ghost use Rattle.cond_lang.specs.Meaning.{holds};
-ghost use Rattle.hints.specs.Never.{greatest_of, is_never, is_never_related, least_of, most_in};
-ghost use Rattle.hints.specs.Never.{most_of, rank_count};
+ghost use Rattle.hints.specs.Never.{is_never, is_never_related};
 
-use cards::{Honours, Measure};
-use cond_lang::{Cond, Op, Tree, Value};
+use crate::limits::{greatest, least};
+use crate::torn::is_torn;
+use cond_lang::{Cond, Op, Tree};
 
 /// Tells whether no deal meets the condition, by its numbers alone: a value that can't be so large
-/// or so small, a range whose first number is above its second, or lengths that aren't thirteen
-/// together.
+/// or so small, a range whose first number is above its second, tests of one value that leave it no
+/// number, or lengths that aren't thirteen together.
 ///
 /// `false` says nothing: there are other reasons why no deal meets a condition.
 pub fn is_never(condition: &Cond) -> bool
@@ -26,13 +26,15 @@ pub fn is_never(condition: &Cond) -> bool
 }
 
 /// Whether no deal meets the tree.
-fn is_never_met(tree: &Tree) -> bool
+pub(crate) fn is_never_met(tree: &Tree) -> bool
     requires { HasAtMostAtoms 1024 (form_of tree.now) }
     ensures { result ≡ is_never (form_of tree.now) }
 {
     match tree {
         Tree::AnyOf(left, right) => is_never_met(left) && is_never_met(right),
-        Tree::AllOf(left, right) => is_never_met(left) || is_never_met(right),
+        Tree::AllOf(left, right) => {
+            is_never_met(left) || is_never_met(right) || is_torn(tree, tree)
+        }
         Tree::Compare { left, op, right } => {
             let (a, b) = (least(left), greatest(left));
             let (c, d) = (least(right), greatest(right));
@@ -50,74 +52,6 @@ fn is_never_met(tree: &Tree) -> bool
         Tree::Negation(_) | Tree::Balanced(_) => false,
         Tree::LooseShape(..) | Tree::LoosePattern(..) => false,
     }
-}
-
-/// The least that the value is.
-fn least(value: &Value) -> u32
-    requires { atoms_of (amount_of value.now) ≤ 1024 }
-    ensures value { result ≡ least_of (amount_of value.now) }
-    ensures most { result ≤ 65535 * atoms_of (amount_of value.now) }
-{
-    match value {
-        Value::Sum(left, right) => least(left) + least(right),
-        Value::Number(number) => u32::from(*number),
-        Value::Longest(_) => 4,
-        _ => 0,
-    }
-}
-
-/// The greatest that the value is.
-fn greatest(value: &Value) -> u32
-    requires { atoms_of (amount_of value.now) ≤ 1024 }
-    ensures value { result ≡ greatest_of (amount_of value.now) }
-    ensures most { result ≤ 65535 * atoms_of (amount_of value.now) }
-{
-    match value {
-        Value::Sum(left, right) => greatest(left) + greatest(right),
-        Value::Number(number) => u32::from(*number),
-        Value::Points(_) => 37,
-        Value::SuitPoints(..) => 10,
-        Value::Total(measure, _) => most_of(*measure),
-        Value::SuitTotal(measure, _, _) => most_in(*measure),
-        Value::Cards(_, ranks) => 4 * rank_count(*ranks),
-        Value::SuitCards(_, _, ranks) => rank_count(*ranks),
-        Value::Length(..) | Value::Longest(_) => 13,
-        Value::Shortest(_) => 3,
-    }
-}
-
-/// The most that a hand counts by the measure.
-fn most_of(measure: Measure) -> u32
-    ensures value { result ≡ most_of measure }
-    ensures few { result ≤ 37 }
-{
-    match measure {
-        Measure::Hcp => 37,
-        Measure::Controls | Measure::Losers => 12,
-    }
-}
-
-/// The most that the cards of one suit count by the measure.
-fn most_in(measure: Measure) -> u32
-    ensures value { result ≡ most_in measure }
-    ensures few { result ≤ 10 }
-{
-    match measure {
-        Measure::Hcp => 10,
-        Measure::Controls | Measure::Losers => 3,
-    }
-}
-
-/// How many ranks these are.
-fn rank_count(ranks: Honours) -> u32
-    ensures value { result ≡ rank_count ranks }
-    ensures few { result ≤ 5 }
-{
-    u32::from(ranks.ace)
-        + u32::from(ranks.king)
-        + u32::from(ranks.queen)
-        + u32::from(ranks.jack)
-        + u32::from(ranks.ten)
 }
 
 /// Whether the relation holds of no two numbers, the left from a to b and the right from c to d.

@@ -225,6 +225,11 @@ pub(crate) fn is(part: &[u8], text: &str) -> bool {
     part == text.as_bytes()
 }
 
+/// Whether the part reads as one of these.
+pub(crate) fn is_one_of(part: &[u8], texts: &[&str]) -> bool {
+    texts.iter().any(|text| is(part, text))
+}
+
 /// Whether the part may stand in a value, outside of brackets.
 fn is_in_value(bytes: &[u8]) -> bool {
     is(bytes, "+") || is_number(bytes) || is_measure(bytes)
@@ -236,7 +241,7 @@ pub(crate) fn is_measure(bytes: &[u8]) -> bool {
 }
 
 /// Whether the token begins a value, and is a word.
-fn begins_a_value(token: Token) -> bool {
+pub(crate) fn begins_a_value(token: Token) -> bool {
     matches!(
         token,
         Token::Measure(_) | Token::Cards | Token::Len | Token::Longest | Token::Shortest

@@ -19,11 +19,11 @@ pub use ends::{Closed, LaneError, LaneIn, LaneOut, lane, lane_in_blocks};
 pub use gate::{Gate, OpenGate};
 pub use limits::{MAX_CAPACITY, MAX_WORKERS};
 pub use model::{Core, Event};
-pub use share::{Job, Share};
+pub use share::{Job, JobAround, Share};
 pub use turns::Turns;
 pub use verdict::Verdict;
 pub use wait::Pace;
-pub use worker::{WorkEnd, work};
+pub use worker::{WorkEnd, work, work_around};
 
 #[cfg(test)]
 mod tests;

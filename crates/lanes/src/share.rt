@@ -4,7 +4,7 @@ ghost use Rattle.std.specs.Prelude.{◌≡◌, ◌+◌, ◌*◌, ◌<◌, ◌≤
 ghost use Rattle.lanes.specs.Verdicts.{turns};
 
 use crate::limits::MAX_WORKERS;
-use cards::MAX_CANDIDATES;
+use cards::{Fixed, MAX_CANDIDATES};
 use cond_lang::Cond;
 
 /// Of the `count` candidates from `first` on, every `workers`-th one, from the one numbered `first
@@ -70,4 +70,33 @@ pub struct Job {
     pub seed: u32,
     pub share: Share,
     pub cond: Cond,
+}
+
+/// A job whose candidates are dealt around fixed cards.
+#[derive(Drop)]
+pub struct JobAround {
+    pub seed: u32,
+    pub share: Share,
+    pub cond: Cond,
+    pub fixed: Fixed,
+}
+
+impl Job {
+    /// The job with its candidates dealt around these cards.
+    pub fn around(self, fixed: Fixed) -> JobAround
+        ensures { result ≡ record {
+          seed = self.seed;
+          share = self.share;
+          cond = self.cond;
+          fixed = fixed;
+        } }
+    {
+        let Job { seed, share, cond } = self;
+        JobAround {
+            seed,
+            share,
+            cond,
+            fixed,
+        }
+    }
 }

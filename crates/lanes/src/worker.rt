@@ -3,7 +3,7 @@
 ghost use Rattle.std.specs.Prelude.{◌≡◌, ◌+◌, ◌*◌, ◌^◌, ◌<◌, ◌≤◌, [], ◌∷◌, ◌++◌, MatchBool, length, take};
 ghost use Rattle.std.specs.Prelude.{true, false};
 ghost use Rattle.cards.specs.CandidateWalks.{GoesOnAt};
-ghost use Rattle.lanes.specs.Jobs.{verdicts_of};
+ghost use Rattle.lanes.specs.Jobs.{verdicts_around, verdicts_of};
 ghost use Rattle.lanes.specs.Prefixes.{IsProperPrefix};
 ghost use Rattle.lanes.specs.Verdicts.{turns};
 ghost use Rattle.lanes.specs.Work.{Ends};
@@ -11,10 +11,10 @@ ghost use Rattle.lanes.specs.Work.{Ends};
 use crate::block::MAX_BLOCK;
 use crate::ends::{Closed, LaneIn};
 use crate::gate::Gate;
-use crate::share::Job;
+use crate::share::{Job, JobAround};
 use crate::slot::Slot;
 use crate::verdict::Verdict;
-use cards::Candidates;
+use cards::{Candidates, Fixed};
 use std::alloc::Global;
 use std::sync::atomic::{AtomicBool, Ordering};
 use std::sync::{Arc, Wait};
@@ -43,6 +43,20 @@ pub fn work<R: Wait + Drop, G: Gate + Drop>(
     requires { lane.sent ≡ [] }
     ensures { Ends (verdicts_of job) lane.ring result }
 {
+    work_around(rt, job.around(Fixed::none()), lane, gate, stop)
+}
+
+/// The same as `work`, with the candidates dealt around the job's fixed cards.
+pub fn work_around<R: Wait + Drop, G: Gate + Drop>(
+    rt: R,
+    job: JobAround,
+    lane: LaneIn,
+    gate: Arc<G, Global>,
+    stop: Arc<AtomicBool, Global>,
+) -> WorkEnd
+    requires { lane.sent ≡ [] }
+    ensures { Ends (verdicts_around job) lane.ring result }
+{
     let mut lane = lane;
     let all = send_all(&rt, &job, &mut lane, &*gate, &stop);
     if !all {
@@ -59,7 +73,7 @@ pub fn work<R: Wait + Drop, G: Gate + Drop>(
 /// Returns true when the whole share was sent.
 fn send_all<R: Wait, G: Gate>(
     rt: &R,
-    job: &Job,
+    job: &JobAround,
     lane: &mut LaneIn,
     gate: &G,
     stop: &AtomicBool,
@@ -67,11 +81,11 @@ fn send_all<R: Wait, G: Gate>(
     requires { lane.old.sent ≡ [] }
     ensures ring { lane.new.ring ≡ lane.old.ring }
     ensures sent { MatchBool result
-        (lane.new.sent ≡ verdicts_of job.now)
-        (IsProperPrefix lane.new.sent (verdicts_of job.now)) }
+        (lane.new.sent ≡ verdicts_around job.now)
+        (IsProperPrefix lane.new.sent (verdicts_around job.now)) }
 {
     let first = job.share.first + u64::from(job.share.worker);
-    let mut candidates = Candidates::new(job.seed, first, job.share.workers);
+    let mut candidates = Candidates::around(job.seed, first, job.share.workers, &job.fixed);
     // As the lane keeps them: to copy a verdict that was made just now takes 9 ns.
     let mut verdicts = [Slot::of(&Verdict::of_no_candidate()); MAX_BLOCK];
     let count = job.share.len();
@@ -89,20 +103,20 @@ fn send_all<R: Wait, G: Gate>(
 }
 
 /// Judges the share's candidates from this place on, as many as the block has verdicts.
-fn judge(job: &Job, candidates: &mut Candidates, place: u64, block: &mut [Slot])
+fn judge(job: &JobAround, candidates: &mut Candidates, place: u64, block: &mut [Slot])
     requires fits { place + length block.old < 2 ^ 64 }
     requires within { place + length block.old
         ≤ turns job.now.share.workers job.now.share.worker job.now.share.count }
-    requires at { GoesOnAt candidates.old job.now.seed
+    requires at { GoesOnAt candidates.old job.now.fixed job.now.seed
         (job.now.share.first + job.now.share.worker + place * job.now.share.workers)
         job.now.share.workers }
     ensures len { length block.new ≡ length block.old }
-    ensures at { GoesOnAt candidates.new job.now.seed
+    ensures at { GoesOnAt candidates.new job.now.fixed job.now.seed
         (job.now.share.first + job.now.share.worker
         + (place + length block.old) * job.now.share.workers)
         job.now.share.workers }
-    ensures block { take place (verdicts_of job.now) ++ block.new
-        ≡ take (place + length block.old) (verdicts_of job.now) }
+    ensures block { take place (verdicts_around job.now) ++ block.new
+        ≡ take (place + length block.old) (verdicts_around job.now) }
 {
     for i in 0..block.len() {
         let deal = candidates.next();
@@ -118,7 +132,7 @@ fn judge(job: &Job, candidates: &mut Candidates, place: u64, block: &mut [Slot])
 /// if the gate returns false or the stop flag is up.
 fn send_block<R: Wait, G: Gate>(
     rt: &R,
-    job: &Job,
+    job: &JobAround,
     lane: &mut LaneIn,
     gate: &G,
     stop: &AtomicBool,

@@ -2,7 +2,6 @@
 use Rattle.std.proofs.Common.{◌≡◌, ◌∙◌, ℕ, ◌+◌, List, [], ◌∷◌, ◌++◌, length, Option, None, Some, Ok, Err, refl, sym, ap, subst, append_assoc, length-append}
 use Rattle.std.proofs.lemmas.List.{append-nil}
 use Rattle.boards.specs.Layouts.{Layout}
-use Rattle.cards.specs.Candidates.{candidate}
 use Rattle.dealrun.specs.Text.{board_of, text_of}
 use Rattle.dealrun.proofs.BoardLists.{text_of-append, text_of-more, text_of-none}
 use Rattle.number_input.specs.NumberTexts.{Said, said}
@@ -12,28 +11,28 @@ use Rattle.picking.specs.Outcomes.{PicksOf}
 use Rattle.picking.specs.Picked.{footer_of, picked_text}
 use Rattle.picking.specs.internal.Picking.{PickedAll, PickedSoFar}
 use Rattle.picking.specs.declared.fault.PickFault.TheVariants.{Refused, Input, Output}
-use Rattle.plans.specs.Plans.{Planned}
+use Rattle.plans.specs.Plans.{Planned, candidate_of}
 use Rattle.sinks.specs.Appended.{AppendsAll, AppendsPart, append_known}
 use Rattle.sinks.proofs.SinkLemmas.{append_known-append, append_known-nil, whole_then_part}
 
 -- the text of one number more
 more_text : (layout now_layout : Layout) (plan : Planned) (numbers : List ℕ) (boards k : ℕ) → now_layout ≡ layout → boards ≡ length numbers
-    → text_of layout plan (numbers ++ k ∷ []) ≡ text_of layout plan numbers ++ now_layout.board (board_of plan boards k (candidate plan.seed k))
+    → text_of layout plan (numbers ++ k ∷ []) ≡ text_of layout plan numbers ++ now_layout.board (board_of plan boards k (candidate_of plan k))
 more_text layout now_layout plan numbers boards k same count =
     text_of-more layout plan numbers k
-    ∙ ap (λ n. text_of layout plan numbers ++ layout.board (board_of plan n k (candidate plan.seed k))) (sym count)
-    ∙ ap (λ (l : Layout). text_of layout plan numbers ++ l.board (board_of plan boards k (candidate plan.seed k))) (sym same)
+    ∙ ap (λ n. text_of layout plan numbers ++ layout.board (board_of plan n k (candidate_of plan k))) (sym count)
+    ∙ ap (λ (l : Layout). text_of layout plan numbers ++ l.board (board_of plan boards k (candidate_of plan k))) (sym same)
 
 pub picked_board : (layout now_layout : Layout) (plan : Planned) (s t : ScannerView) (given : List ℕ) (b boards k : ℕ) (base now new : Option (List ℕ))
     → now_layout ≡ layout → boards ≡ s.numbers
     → ((text numbers : List ℕ) → HasScanned s text numbers → HasScanned t (text ++ b ∷ []) (numbers ++ k ∷ []))
-    → AppendsAll now new (now_layout.board (board_of plan boards k (candidate plan.seed k)))
+    → AppendsAll now new (now_layout.board (board_of plan boards k (candidate_of plan k)))
     → PickedSoFar layout plan s given base now → PickedSoFar layout plan t (given ++ b ∷ []) base new
 picked_board layout now_layout plan s t given b boards k base now new same count scans put p = record {
   numbers = p.numbers ++ k ∷ [];
   scanned = scans given p.numbers p.scanned;
-  bytes = put ∙ ap (λ o. append_known o (now_layout.board (board_of plan boards k (candidate plan.seed k)))) p.bytes
-      ∙ append_known-append base (text_of layout plan p.numbers) (now_layout.board (board_of plan boards k (candidate plan.seed k)))
+  bytes = put ∙ ap (λ o. append_known o (now_layout.board (board_of plan boards k (candidate_of plan k)))) p.bytes
+      ∙ append_known-append base (text_of layout plan p.numbers) (now_layout.board (board_of plan boards k (candidate_of plan k)))
       ∙ ap (append_known base) (sym (more_text layout now_layout plan p.numbers boards k same (count ∙ p.scanned.count)));
 }
 
@@ -49,11 +48,11 @@ picked_none layout plan s t given b base now scans p = record {
 -- the output fails within a board
 part_of_text : (layout now_layout : Layout) (plan : Planned) (numbers later : List ℕ) (refused : Option RefusedLine) (boards k : ℕ) (base now new : Option (List ℕ))
     → now_layout ≡ layout → boards ≡ length numbers → AppendsAll base now (text_of layout plan numbers)
-    → AppendsPart now new (now_layout.board (board_of plan boards k (candidate plan.seed k)))
+    → AppendsPart now new (now_layout.board (board_of plan boards k (candidate_of plan k)))
     → AppendsPart base new (picked_text layout plan (record { numbers = (numbers ++ k ∷ []) ++ later; refused = refused }))
 part_of_text layout now_layout plan numbers later refused boards k base now new same count written part =
     let rest = text_of-append layout plan (numbers ++ k ∷ []) later in
-    let board : List ℕ = now_layout.board (board_of plan boards k (candidate plan.seed k)) in
+    let board : List ℕ = now_layout.board (board_of plan boards k (candidate_of plan k)) in
     let tail : List ℕ = rest.more ++ footer_of layout refused in
     let whole : picked_text layout plan (record { numbers = (numbers ++ k ∷ []) ++ later; refused = refused }) ≡ text_of layout plan numbers ++ board ++ tail =
     ap (λ l. l ++ footer_of layout refused) (rest.is ∙ ap (λ l. l ++ rest.more) (more_text layout now_layout plan numbers boards k same count))
@@ -63,7 +62,7 @@ part_of_text layout now_layout plan numbers later refused boards k base now new 
 pub breaks_board : (layout now_layout : Layout) (plan : Planned) (s t : ScannerView) (given rest : List ℕ) (b boards k : ℕ) (base now new : Option (List ℕ))
     → now_layout ≡ layout → boards ≡ s.numbers
     → ((text numbers : List ℕ) → HasScanned s text numbers → HasScanned t (text ++ b ∷ []) (numbers ++ k ∷ []))
-    → AppendsPart now new (now_layout.board (board_of plan boards k (candidate plan.seed k)))
+    → AppendsPart now new (now_layout.board (board_of plan boards k (candidate_of plan k)))
     → PickedSoFar layout plan s given base now → PicksOf layout plan (given ++ b ∷ rest) (Err Output) base new
 breaks_board layout now_layout plan s t given rest b boards k base now new same count scans part p =
     let says : said (given ++ b ∷ rest) ≡ after (p.numbers ++ k ∷ []) (said_from t rest) =
@@ -91,20 +90,20 @@ all_none layout plan s given boards base now count says p = record {
 
 pub all_number : (layout now_layout : Layout) (plan : Planned) (s : ScannerView) (given : List ℕ) (boards k : ℕ) (base now new : Option (List ℕ)) → now_layout ≡ layout → boards ≡ s.numbers
     → ((text numbers : List ℕ) → HasScanned s text numbers → said text ≡ record { numbers = numbers ++ k ∷ []; refused = None })
-    → AppendsAll now new (now_layout.board (board_of plan boards k (candidate plan.seed k)))
+    → AppendsAll now new (now_layout.board (board_of plan boards k (candidate_of plan k)))
     → PickedSoFar layout plan s given base now → PickedAll layout plan (boards + 1) given base new
 all_number layout now_layout plan s given boards k base now new same count says put p = record {
   numbers = p.numbers ++ k ∷ [];
   says = says given p.numbers p.scanned;
   boards_are = ap (λ n. n + 1) (count ∙ p.scanned.count) ∙ sym (length-append p.numbers (k ∷ []));
-  bytes = put ∙ ap (λ o. append_known o (now_layout.board (board_of plan boards k (candidate plan.seed k)))) p.bytes
-      ∙ append_known-append base (text_of layout plan p.numbers) (now_layout.board (board_of plan boards k (candidate plan.seed k)))
+  bytes = put ∙ ap (λ o. append_known o (now_layout.board (board_of plan boards k (candidate_of plan k)))) p.bytes
+      ∙ append_known-append base (text_of layout plan p.numbers) (now_layout.board (board_of plan boards k (candidate_of plan k)))
       ∙ ap (append_known base) (sym (more_text layout now_layout plan p.numbers boards k same (count ∙ p.scanned.count)));
 }
 
 pub breaks_last : (layout now_layout : Layout) (plan : Planned) (s : ScannerView) (given : List ℕ) (boards k : ℕ) (base now new : Option (List ℕ)) → now_layout ≡ layout → boards ≡ s.numbers
     → ((text numbers : List ℕ) → HasScanned s text numbers → said text ≡ record { numbers = numbers ++ k ∷ []; refused = None })
-    → AppendsPart now new (now_layout.board (board_of plan boards k (candidate plan.seed k)))
+    → AppendsPart now new (now_layout.board (board_of plan boards k (candidate_of plan k)))
     → PickedSoFar layout plan s given base now → PicksOf layout plan given (Err Output) base new
 breaks_last layout now_layout plan s given boards k base now new same count says part p =
     let is = says given p.numbers p.scanned in

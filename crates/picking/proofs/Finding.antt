@@ -8,7 +8,7 @@ use Rattle.std.proofs.lemmas.List.Elements.{All-cons, All-filter, All-take, filt
 use Rattle.boards.specs.Layouts.{Layout}
 use Rattle.boards.specs.Settings.{board_in}
 use Rattle.boards.specs.declared.setting.Setting.{Setting}
-use Rattle.cards.specs.Candidates.{candidate}
+use Rattle.cards.specs.declared.seat.Seat.{Seat}
 use Rattle.cond_lang.specs.Form.{Form}
 use Rattle.cond_lang.specs.Meaning.{holds}
 use Rattle.dealrun.specs.Text.{accepted, accepted_among, board_of, boards_of, limited, text_in}
@@ -16,20 +16,20 @@ use Rattle.number_input.specs.NumberTexts.{said}
 use Rattle.number_input.proofs.ReadBack.{read_back}
 use Rattle.number_lines.specs.Numbers.{number_line, numbers}
 use Rattle.picking.specs.Picked.{picked_text}
-use Rattle.plans.specs.Plans.{Planned}
+use Rattle.plans.specs.Plans.{Planned, candidate_of}
 use Rattle.values.proofs.Ranges.{range_with_len-add}
 
 abbrev line_of : ℕ → List ℕ
 line_of n = decimal n ++ 10 ∷ []
 
-board_line : (plan : Planned) (i n : ℕ) → number_line (board_of plan i n (candidate plan.seed n)) ≡ line_of n
+board_line : (plan : Planned) (i n : ℕ) → number_line (board_of plan i n (candidate_of plan n)) ≡ line_of n
 unfolding board_in
 board_line plan i n = refl
 
-lines_from : (plan : Planned) (i : ℕ) (xs : List ℕ) → flat_map number_line (map (λ p. board_of plan p.0 p.1 (candidate plan.seed p.1)) (enumerate_from i xs)) ≡ flat_map line_of xs
+lines_from : (plan : Planned) (i : ℕ) (xs : List ℕ) → flat_map number_line (map (λ p. board_of plan p.0 p.1 (candidate_of plan p.1)) (enumerate_from i xs)) ≡ flat_map line_of xs
 lines_from plan i [] = refl
 lines_from plan i (x ∷ xs) =
-    ap (λ l. l ++ flat_map number_line (map (λ p. board_of plan p.0 p.1 (candidate plan.seed p.1)) (enumerate_from (i + 1) xs))) (board_line plan i x)
+    ap (λ l. l ++ flat_map number_line (map (λ p. board_of plan p.0 p.1 (candidate_of plan p.1)) (enumerate_from (i + 1) xs))) (board_line plan i x)
     ∙ ap (λ l. line_of x ++ l) (lines_from plan (i + 1) xs)
 
 -- what is found is a line for each number
@@ -65,14 +65,14 @@ limited_short (Some most) n xs h = rw length-take (omega arith)
 accepted_below : (plan : Planned) (form : Form) → plan.first + plan.count ≤ 2 ^ 40 → All (λ k. k < 2 ^ 40) (accepted plan form)
 unfolding accepted_among
 accepted_below plan form h =
-    limited_below plan.limit (2 ^ 40) (filter (λ k. holds form (candidate plan.seed k)) (range_with_len plan.first plan.count))
-    (All-filter (λ k. holds form (candidate plan.seed k)) (λ k. k < 2 ^ 40) (range_with_len plan.first plan.count) (range_below plan.first plan.count (2 ^ 40) h))
+    limited_below plan.limit (2 ^ 40) (filter (λ k. holds form (candidate_of plan k)) (range_with_len plan.first plan.count))
+    (All-filter (λ k. holds form (candidate_of plan k)) (λ k. k < 2 ^ 40) (range_with_len plan.first plan.count) (range_below plan.first plan.count (2 ^ 40) h))
 
 accepted_short : (plan : Planned) (form : Form) → plan.first + plan.count ≤ 2 ^ 40 → length (accepted plan form) ≤ 2 ^ 40
 unfolding accepted_among
 accepted_short plan form h =
-    limited_short plan.limit (2 ^ 40) (filter (λ k. holds form (candidate plan.seed k)) (range_with_len plan.first plan.count))
-    (let few = filter_short (λ k. holds form (candidate plan.seed k)) plan.first plan.count in omega arith)
+    limited_short plan.limit (2 ^ 40) (filter (λ k. holds form (candidate_of plan k)) (range_with_len plan.first plan.count))
+    (let few = filter_short (λ k. holds form (candidate_of plan k)) plan.first plan.count in omega arith)
 
 pub found_is_read : (plan : Planned) (form : Form) → plan.first + plan.count ≤ 2 ^ 40 → said (text_in numbers plan form) ≡ record { numbers = accepted plan form; refused = None }
 found_is_read plan form h = ap said (found_text plan form) ∙ read_back (accepted plan form) (accepted_below plan form h) (accepted_short plan form h)
@@ -83,17 +83,17 @@ found_is_picked layout plan form S B h = ap (picked_text layout plan) (found_is_
 
 -- ---- shards
 
-accepted_two : (seed first : ℕ) (form : Form) (m n : ℕ) → accepted_among seed first form (m + n) ≡ accepted_among seed first form m ++ accepted_among seed (first + m) form n
+accepted_two : (deals : ℕ → List Seat) (first : ℕ) (form : Form) (m n : ℕ) → accepted_among deals first form (m + n) ≡ accepted_among deals first form m ++ accepted_among deals (first + m) form n
 unfolding accepted_among
-accepted_two seed first form m n =
-    ap (filter (λ k. holds form (candidate seed k))) (range_with_len-add first m n)
-    ∙ filter-append (λ k. holds form (candidate seed k)) (range_with_len first m) (range_with_len (first + m) n)
+accepted_two deals first form m n =
+    ap (filter (λ k. holds form (deals k))) (range_with_len-add first m n)
+    ∙ filter-append (λ k. holds form (deals k)) (range_with_len first m) (range_with_len (first + m) n)
 
 pub shards : (plan : Planned) (form : Form) (m n : ℕ) → plan.limit ≡ None → plan.count ≡ m + n
     → text_in numbers plan form ≡ text_in numbers (record plan { count = m }) form ++ text_in numbers (record plan { first = plan.first + m; count = n }) form
 shards plan form m n none all =
     found_text plan form
-    ∙ ap (flat_map line_of) (ap (λ l. limited l (accepted_among plan.seed plan.first form plan.count)) none ∙ ap (accepted_among plan.seed plan.first form) all ∙ accepted_two plan.seed plan.first form m n)
-    ∙ flat_map-append line_of (accepted_among plan.seed plan.first form m) (accepted_among plan.seed (plan.first + m) form n)
-    ∙ ap (λ l. l ++ flat_map line_of (accepted_among plan.seed (plan.first + m) form n)) (sym (found_text (record plan { count = m }) form ∙ ap (λ l. flat_map line_of (limited l (accepted_among plan.seed plan.first form m))) none))
-    ∙ ap (λ l. text_in numbers (record plan { count = m }) form ++ l) (sym (found_text (record plan { first = plan.first + m; count = n }) form ∙ ap (λ l. flat_map line_of (limited l (accepted_among plan.seed (plan.first + m) form n))) none))
+    ∙ ap (flat_map line_of) (ap (λ l. limited l (accepted_among (candidate_of plan) plan.first form plan.count)) none ∙ ap (accepted_among (candidate_of plan) plan.first form) all ∙ accepted_two (candidate_of plan) plan.first form m n)
+    ∙ flat_map-append line_of (accepted_among (candidate_of plan) plan.first form m) (accepted_among (candidate_of plan) (plan.first + m) form n)
+    ∙ ap (λ l. l ++ flat_map line_of (accepted_among (candidate_of plan) (plan.first + m) form n)) (sym (found_text (record plan { count = m }) form ∙ ap (λ l. flat_map line_of (limited l (accepted_among (candidate_of plan) plan.first form m))) none))
+    ∙ ap (λ l. text_in numbers (record plan { count = m }) form ++ l) (sym (found_text (record plan { first = plan.first + m; count = n }) form ∙ ap (λ l. flat_map line_of (limited l (accepted_among (candidate_of plan) (plan.first + m) form n))) none))

@@ -3,15 +3,15 @@
 ghost use Rattle.std.specs.Prelude.{◌≡◌, ◌+◌, ◌-◌, ◌<◌, ◌≤◌, ◌^◌, ◌++◌, ◌∷◌};
 ghost use Rattle.std.specs.Prelude.{[], ℕ, List, Option, Err, take};
 ghost use Rattle.std.specs.Prelude.{length, IfErr, IfOk, MatchResult, OnErr, OnOk};
-ghost use Rattle.cards.specs.Candidates.{candidate};
 ghost use Rattle.dealrun.specs.Text.{board_of};
+ghost use Rattle.plans.specs.Plans.{candidate_of};
 ghost use Rattle.picking.specs.Outcomes.{FaultsOf, InputFaultsOf, Picks, PicksOf};
 ghost use Rattle.picking.specs.internal.Picking.{PickedAll, PickedSoFar};
 ghost use Rattle.sinks.specs.Sinks.{AppendsOrBreaksOff, CountsFault};
 
 use crate::fault::PickFault;
 use boards::Notation;
-use cards::Candidates;
+use cards::{Candidates, Deal};
 use number_input::{MOST_BYTES, Scanner, Source};
 use plans::Plan;
 use sinks::{Sink, SinkFault, put_all};
@@ -21,6 +21,14 @@ const PIECE: usize = 8192;
 
 /// No input gives a byte so often.
 const MOST_READS: u64 = MOST_BYTES + 1;
+
+/// The deal of the candidate of this number.
+fn deal_of(plan: &Plan, number: u64) -> Deal
+    requires { number ≤ 2 ^ 40 }
+    ensures { result ≡ candidate_of plan.now number }
+{
+    Candidates::around(plan.seed(), number, 1, plan.fixed()).next()
+}
 
 /// Writes the board of the candidate of this number, after `boards` of them.
 fn put_board<N: Notation, S: Sink>(
@@ -36,10 +44,10 @@ fn put_board<N: Notation, S: Sink>(
     ensures layout { N.layout notation.new ≡ N.layout notation.old }
     ensures bytes { AppendsOrBreaksOff (S.bytes sink.old) (S.bytes sink.new) result
         ((N.layout notation.old).board
-        (board_of plan.now boards number (candidate plan.now.seed number))) }
+        (board_of plan.now boards number (candidate_of plan.now number))) }
     ensures faults { CountsFault (S.faults sink.old) (S.faults sink.new) result }
 {
-    let deal = Candidates::new(plan.seed(), number, 1).next();
+    let deal = deal_of(plan, number);
     let place = plan.first_board() + boards;
     notation.print(&plan.setting().board(place, number, deal));
     put_all(sink, notation.text())

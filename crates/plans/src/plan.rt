@@ -3,11 +3,12 @@
 ghost use Rattle.std.specs.Prelude.{◌≡◌, ◌+◌, ◌≤◌, ◌<◌, ◌^◌, ◌↔◌, None, Some, IfErr, IfOk, IfSome};
 ghost use Rattle.std.specs.Prelude.{IsErr, IsOk};
 ghost use Rattle.boards.specs.Settings.{by_law};
+ghost use Rattle.cards.specs.Fixed.{IsFixed, none_fixed};
 ghost use Rattle.pbn_text.specs.Games.{no_heading};
 ghost use Rattle.plans.specs.Refusals.{refusal_of};
 
 use boards::Setting;
-use cards::MAX_CANDIDATES;
+use cards::{Fixed, MAX_CANDIDATES};
 use lanes::{MAX_CAPACITY, MAX_WORKERS};
 use pbn_text::Heading;
 use std::marker::Model;
@@ -31,7 +32,7 @@ pub enum PlanError {
 /// A run: the candidates `first` to `first + count - 1` of a seed, tried by `workers` workers, each
 /// at most `capacity` verdicts ahead of the writer; the accepted ones are boards from `first_board`
 /// on, under a heading, `limit` of them at most. Its setting says who deals them, which sides are
-/// vulnerable, and whether deals are turned.
+/// vulnerable, and whether deals are turned. Cards may be fixed at seats before the deals.
 #[derive(Clone, Copy, Debug)]
 pub struct Plan {
     seed: u32,
@@ -43,6 +44,7 @@ pub struct Plan {
     first_board: u64,
     heading: Heading,
     setting: Setting,
+    fixed: Fixed,
 }
 
 impl Model for Plan {
@@ -62,6 +64,7 @@ impl Model for Plan {
       first_board = p.first_board;
       heading = p.heading;
       setting = p.setting;
+      fixed = p.fixed;
     } };
 
     ghost invariant = { λ p. record {
@@ -82,11 +85,12 @@ impl Model for Plan {
       first_board = v.first_board;
       heading = v.heading;
       setting = v.setting;
+      fixed = v.fixed;
     } };
 }
 
 impl Plan {
-    /// A plan without a limit, with boards from 1, by Law 2, and no heading.
+    /// A plan without a limit, with boards from 1, by Law 2, no heading and no fixed card.
     ///
     /// # Errors
     ///
@@ -112,6 +116,7 @@ impl Plan {
           first_board = 1;
           heading = no_heading;
           setting = by_law;
+          fixed = none_fixed;
         }) }
         ensures refused { IfErr result (λ e. e ≡ refusal_of first count workers) }
     {
@@ -135,6 +140,7 @@ impl Plan {
             first_board: 1,
             heading: Heading::none(),
             setting: Setting::by_law(),
+            fixed: Fixed::none(),
         })
     }
 
@@ -181,6 +187,13 @@ impl Plan {
         ensures { result ≡ record self { setting = setting } }
     {
         Plan { setting, ..self }
+    }
+
+    /// The plan with its candidates dealt around these cards.
+    pub fn around(self, fixed: Fixed) -> Plan
+        ensures { result ≡ record self { fixed = fixed } }
+    {
+        Plan { fixed, ..self }
     }
 
     pub fn seed(&self) -> u32
@@ -248,5 +261,15 @@ impl Plan {
         ensures { result.now ≡ self.now.setting }
     {
         &self.setting
+    }
+
+    /// The cards that are fixed before the deals.
+    pub fn fixed(&self) -> &Fixed
+        ensures value { result.now ≡ self.now.fixed }
+        ensures fixed { IsFixed self.now.fixed }
+    {
+        // It is asked for what its contract says: no seat has more than thirteen.
+        let _free = self.fixed.free();
+        &self.fixed
     }
 }

@@ -11,12 +11,12 @@ use Rattle.plans.specs.Refusals.{refusal_of}
 use Rattle.plans.specs.declared.plan.PlanError.{PlanError}
 use Rattle.plans.specs.declared.plan.PlanError.TheVariants.{Range, Workers, Capacity, Boards, FirstBoard}
 use Rattle.requests.specs.Failures.{failure_of, status_of}
-use Rattle.requests.specs.FirstRefusal.{IsConditionDue, IsDueFor, IsDueOf, IsFirstOf, IsPickDue, Meets, of_labels, of_numbers}
-use Rattle.requests.specs.Makings.{HasNumbers, IsPlanned, candidates_of}
+use Rattle.requests.specs.FirstRefusal.{IsConditionDue, IsDueFor, IsDueOf, IsFirstHand, IsFirstOf, IsPickDue, Meets, of_labels, of_numbers}
+use Rattle.requests.specs.Makings.{HasLabels, HasNumbers, IsPlanned, candidates_of}
 use Rattle.requests.specs.Requests.{Making, Wish, conditions, make, pick, stream}
 use Rattle.requests.specs.Wishes.{HasMeaning, IsStatusOf}
 use Rattle.requests.specs.declared.failure.Failure.{Failure}
-use Rattle.requests.specs.declared.failure.Failure.TheVariants.{CommandLine, Plan, Label, Condition, Interrupted, Line, Input}
+use Rattle.requests.specs.declared.failure.Failure.TheVariants.{CommandLine, Plan, Label, Hand, Condition, Interrupted, Line, Input}
 use Rattle.requests.specs.declared.failure.LabelName.TheVariants.{Event, Site, Date}
 use Rattle.requests.specs.internal.Conditions.{IsConditionFailure}
 
@@ -85,6 +85,18 @@ labels_due m f n (inr (event, inl h)) = rw h.0 (after_numbers m (Label Site) n (
 labels_due m f n (inr (event, inr (site, inl h))) = rw h.0 (after_numbers m (Label Date) n (inr (event, inr (site, inl (refl, h.1)))))
 labels_due m f n (inr (event, inr (site, inr h))) = absurd h.1
 
+-- ---- the hands
+
+pub hands_due : (m : Making) (f : Failure) → HasNumbers m → HasLabels m → IsFirstHand m f → IsDueOf m f
+hands_due m (CommandLine text) n l h = absurd h
+hands_due m (Plan error) n l h = absurd h
+hands_due m (Label name) n l h = absurd h
+hands_due m (Hand seat) n l h = (n, l, h)
+hands_due m (Condition error) n l h = absurd h
+hands_due m (Interrupted cause) n l h = absurd h
+hands_due m (Line line) n l h = absurd h
+hands_due m Input n l h = absurd h
+
 -- ---- the condition
 
 pub unread : (o : Option (Bor (List ℕ))) (text : Bor (List ℕ)) (bytes : List ℕ) (e : CondError) → o ≡ Some text → bytes ≡ text.now
@@ -133,11 +145,12 @@ not_interrupted cause.Spawn is = cc
 not_interrupted (cause.Stopped worker) is = cc
 not_interrupted (cause.Unclosed worker) is = cc
 
--- a `pick` whose plan or label is refused
+-- a `pick` whose plan, label or hand is refused
 pub pick_refused : (m : Making) (f : Failure) → status_of f ≡ 2 → IsDueOf m f → IsPickDue m f
 pick_refused m (CommandLine text) is h = h
 pick_refused m (Plan error) is h = h
 pick_refused m (Label name) is h = h
+pick_refused m (Hand seat) is h = h
 pick_refused m (Condition error) is h = absurd cc
 pick_refused m (Interrupted c) is h = absurd (not_interrupted c is)
 pick_refused m (Line line) is h = absurd h
@@ -147,4 +160,4 @@ pick_refused m Input is h = absurd h
 pub ruleset picked = (pick_refused)
 
 -- each way to fail
-pub ruleset failures = (numbers_due, labels_due, condition_due, run_due)
+pub ruleset failures = (numbers_due, labels_due, hands_due, condition_due, run_due)

@@ -1,7 +1,10 @@
--- What helps a person with a plan or a label that is refused: a line below that of the refusal.
+-- What helps a person with a plan, a label or a hand that is refused: a line below that of the
+-- refusal.
 use Rattle.std.specs.Prelude.{◌≡◌, ◌-◌, ◌^◌, ℕ, List, [], ◌++◌, codes, decimal, length}
 use Rattle.std.specs.Prelude.{map, nat_le, nat_lt, take, if◌then◌else◌}
 use Rattle.std.specs.Prelude.{Option, None, Some, unwrap_or}
+use Rattle.cards.specs.declared.seat.Seat.{Seat}
+use Rattle.cards.specs.declared.seat.Seat.TheVariants as seat
 use Rattle.hints.specs.Excerpt.{shown}
 use Rattle.plans.specs.declared.plan.PlanError.{PlanError}
 use Rattle.plans.specs.declared.plan.PlanError.TheVariants as plan
@@ -9,7 +12,7 @@ use Rattle.requests.specs.FirstRefusal.{IsDueOf}
 use Rattle.requests.specs.Makings.{IsPlanned, candidates_of}
 use Rattle.requests.specs.Requests.{Making}
 use Rattle.requests.specs.declared.failure.Failure.{Failure}
-use Rattle.requests.specs.declared.failure.Failure.TheVariants.{Plan, Label}
+use Rattle.requests.specs.declared.failure.Failure.TheVariants.{Plan, Label, Hand}
 use Rattle.requests.specs.declared.failure.LabelName.{LabelName}
 use Rattle.requests.specs.declared.failure.LabelName.TheVariants as label
 
@@ -58,10 +61,22 @@ label_advice m label.Event = text_line (codes "event") m.event label_rule
 label_advice m label.Site = text_line (codes "site") m.site label_rule
 label_advice m label.Date = text_line (codes "date") m.date date_rule
 
--- the line for a failure, none if it is no refusal of a plan or a label
+-- how a hand is written
+abbrev pub hand_rule : List ℕ
+hand_rule = codes "a hand is written as AKQ32.K..A, spades first, three dots, 13 cards at most"
+
+-- what the hand may be
+abbrev pub hand_advice : Making → Seat → List ℕ
+hand_advice m seat.North = text_line (codes "north") m.hands.north hand_rule
+hand_advice m seat.East = text_line (codes "east") m.hands.east hand_rule
+hand_advice m seat.South = text_line (codes "south") m.hands.south hand_rule
+hand_advice m seat.West = text_line (codes "west") m.hands.west hand_rule
+
+-- the line for a failure, none if it is no refusal of a plan, a label or a hand
 abbrev pub advice_of : Making → Failure → Option (List ℕ)
 advice_of m (Plan error) = Some (plan_advice m error)
 advice_of m (Label name) = Some (label_advice m name)
+advice_of m (Hand holder) = Some (hand_advice m holder)
 advice_of m _ = None
 
 -- no line where there is such a plan, and else that of the first refusal

@@ -4,7 +4,7 @@ use Rattle.cond_lang.specs.declared.error.CondError.{CondError}
 use Rattle.cond_lang.specs.declared.error.CondError.TheVariants.{Memory as no_memory}
 use Rattle.dealrun.specs.declared.cause.Cause.TheVariants as cause
 use Rattle.requests.specs.declared.failure.Failure.{Failure}
-use Rattle.requests.specs.declared.failure.Failure.TheVariants.{CommandLine, Plan, Label}
+use Rattle.requests.specs.declared.failure.Failure.TheVariants.{CommandLine, Plan, Label, Hand}
 use Rattle.requests.specs.declared.failure.Failure.TheVariants.{Condition, Interrupted, Line, Input}
 
 -- the exit status of a failure
@@ -12,6 +12,7 @@ abbrev pub status_of : Failure → ℕ
 status_of (CommandLine text) = 2
 status_of (Plan error) = 2
 status_of (Label label) = 2
+status_of (Hand seat) = 2
 status_of (Condition error) = 3
 status_of (Interrupted cause.Output) = 4
 status_of (Interrupted cause.Memory) = 5

@@ -5,13 +5,15 @@ use Rattle.cond_lang.specs.Faults.{IsDue}
 use Rattle.cond_lang.specs.declared.error.CondError.{CondError}
 use Rattle.cond_lang.specs.declared.error.CondError.TheVariants.{Memory as no_memory}
 use Rattle.dealrun.specs.declared.cause.Cause.TheVariants.{Memory, Output}
+use Rattle.hand_texts.specs.HandTexts.{first_refused}
 use Rattle.plans.specs.declared.plan.PlanError.TheVariants.{Range, Workers, Capacity, Boards}
 use Rattle.plans.specs.declared.plan.PlanError.TheVariants.{FirstBoard}
-use Rattle.requests.specs.Makings.{CanDate, CanLabel, IsPlanned, candidates_of}
+use Rattle.requests.specs.Makings.{CanDate, CanLabel, HasLabels, HasNumbers}
+use Rattle.requests.specs.Makings.{IsPlanned, candidates_of}
 use Rattle.requests.specs.Requests.{Making, Wish, conditions, stream, make, pick}
 use Rattle.requests.specs.Wishes.{HasMeaning}
 use Rattle.requests.specs.declared.failure.Failure.{Failure}
-use Rattle.requests.specs.declared.failure.Failure.TheVariants.{CommandLine, Plan, Label}
+use Rattle.requests.specs.declared.failure.Failure.TheVariants.{CommandLine, Plan, Label, Hand}
 use Rattle.requests.specs.declared.failure.Failure.TheVariants.{Condition, Interrupted, Line, Input}
 use Rattle.requests.specs.declared.failure.LabelName.TheVariants.{Event, Site, Date}
 
@@ -49,23 +51,30 @@ pub record IsConditionDue (given : Option (List ℕ)) (error : CondError) : Type
   pub due : IsDue text error
   pub refused : error ≢ no_memory
 
--- why a `make` fails: a refusal of its plan or its labels, the first; else its condition's, or want
--- of memory; else how its run was interrupted
+-- the hand that is refused is the first of them
+abbrev pub IsFirstHand : Making → Failure → Type 0
+IsFirstHand m (Hand seat) = first_refused m.hands ≡ Some seat
+IsFirstHand m _ = ⊥
+
+-- why a `make` fails: a refusal of its plan or its labels, the first; else that of a hand; else its
+-- condition's, or want of memory; else how its run was interrupted
 abbrev pub IsDueOf : Making → Failure → Type 0
 IsDueOf m (CommandLine text) = ⊥
 IsDueOf m (Plan error) = IsFirstOf (of_numbers ++ of_labels) m (Plan error)
 IsDueOf m (Label label) = IsFirstOf (of_numbers ++ of_labels) m (Label label)
+IsDueOf m (Hand seat) = HasNumbers m × HasLabels m × IsFirstHand m (Hand seat)
 IsDueOf m (Condition error) = IsPlanned m × IsConditionDue m.where_text error
 IsDueOf m (Interrupted Memory) = IsPlanned m
 IsDueOf m (Interrupted cause) = IsPlanned m × HasMeaning (make m)
 IsDueOf m (Line line) = ⊥
 IsDueOf m Input = ⊥
 
--- why a `pick` fails: a refusal of its plan or its labels, the first; else want of memory, the
--- output, a line of the input, or the input
+-- why a `pick` fails: a refusal of its plan, its labels or its hands, the first; else want of
+-- memory, the output, a line of the input, or the input
 abbrev pub IsPickDue : Making → Failure → Type 0
 IsPickDue m (Plan error) = IsDueOf m (Plan error)
 IsPickDue m (Label label) = IsDueOf m (Label label)
+IsPickDue m (Hand seat) = IsDueOf m (Hand seat)
 IsPickDue m (Interrupted Memory) = IsPlanned m
 IsPickDue m (Interrupted Output) = IsPlanned m
 IsPickDue m (Line line) = IsPlanned m

@@ -1,5 +1,7 @@
 -- The line that is said of a failure.
 use Rattle.std.specs.Prelude.{ℕ, List, ◌++◌, codes, decimal, string_bytes}
+use Rattle.cards.specs.declared.seat.Seat.{Seat}
+use Rattle.cards.specs.declared.seat.Seat.TheVariants as seat
 use Rattle.cond_lang.specs.declared.error.CondError.{CondError}
 use Rattle.cond_lang.specs.declared.error.CondError.TheVariants as cond
 use Rattle.dealrun.specs.declared.cause.Cause.{Cause}
@@ -25,6 +27,12 @@ abbrev pub label_line : LabelName → List ℕ
 label_line label.Event = codes "label refused: event\n"
 label_line label.Site = codes "label refused: site\n"
 label_line label.Date = codes "label refused: date\n"
+
+abbrev pub hand_line : Seat → List ℕ
+hand_line seat.North = codes "hand refused: north\n"
+hand_line seat.East = codes "hand refused: east\n"
+hand_line seat.South = codes "hand refused: south\n"
+hand_line seat.West = codes "hand refused: west\n"
 
 -- a condition is refused at a byte, counted from 0
 abbrev pub refused_at : ℕ → List ℕ → List ℕ
@@ -60,6 +68,7 @@ abbrev pub line_of : Failure → List ℕ
 line_of (failure.CommandLine text) = string_bytes text
 line_of (failure.Plan error) = plan_line error
 line_of (failure.Label name) = label_line name
+line_of (failure.Hand holder) = hand_line holder
 line_of (failure.Condition error) = condition_line error
 line_of (failure.Interrupted cause) = cause_line cause
 line_of (failure.Line refused) = input_line refused

@@ -4,6 +4,7 @@ use Rattle.std.specs.Prelude.{unwrap_or}
 use Rattle.cond_lang.specs.Form.{Form, compare, number}
 use Rattle.cond_lang.specs.Text.{SpellsTree}
 use Rattle.cond_lang.specs.declared.tree.Op.TheVariants.{Equal}
+use Rattle.hand_texts.specs.HandTexts.{first_refused, fixed_of}
 use Rattle.pbn_text.specs.Labels.{IsDate, IsLabel}
 use Rattle.plans.specs.Plans.{Planned}
 use Rattle.requests.specs.Requests.{Making}
@@ -25,6 +26,7 @@ plan_of m = record {
   first_board = unwrap_or m.first_board 1;
   heading = record { event = m.event; site = m.site; date = m.date };
   setting = record { dealer = m.dealer; vulnerable = m.vulnerable; rotate = m.rotate };
+  fixed = fixed_of m.hands;
 }
 
 -- the plan's numbers are in range
@@ -48,10 +50,15 @@ pub record HasLabels (m : Making) : Type 0 where
   pub site : CanLabel m.site
   pub date : CanDate m.date
 
+-- each text of a hand that is given is a hand, without a card of an earlier one
+abbrev pub HasHands : Making → Type 0
+HasHands m = first_refused m.hands ≡ None
+
 -- there is such a plan
 pub record IsPlanned (m : Making) : Type 0 where
   pub numbers : HasNumbers m
   pub labels : HasLabels m
+  pub hands : HasHands m
 
 -- the text of a condition means this tree; without a text every deal is accepted
 abbrev pub Means : Option (List ℕ) → Form → Type 0

@@ -1,5 +1,6 @@
 -- What a request asks for.
 use Rattle.std.specs.Prelude.{◌≤◌, ◌^◌, option_map}
+use Rattle.hand_texts.specs.HandTexts.{given_by}
 use Rattle.requests.specs.Requests.{Making, Wish, conditions, stream, make, pick}
 use Rattle.requests.specs.declared.make.MakeRequest.{MakeRequest}
 use Rattle.requests.specs.declared.request.Request.{Request}
@@ -18,6 +19,7 @@ making_of r = record {
   event = option_map (λ s. s.now) r.event;
   site = option_map (λ s. s.now) r.site;
   date = option_map (λ s. s.now) r.date;
+  hands = given_by r.hands;
   format = r.format;
   dealer = r.dealer;
   vulnerable = r.vulnerable;

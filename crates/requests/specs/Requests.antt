@@ -2,6 +2,7 @@
 use Rattle.std.specs.Prelude.{ℕ, Bool, List, Option}
 use Rattle.boards.specs.declared.law2.Vul.{Vul}
 use Rattle.cards.specs.declared.seat.Seat.{Seat}
+use Rattle.hand_texts.specs.HandTexts.{GivenHands}
 use Rattle.requests.specs.declared.format.Format.{Format}
 use Rattle.requests.specs.declared.progress.Progress.{Progress}
 
@@ -19,6 +20,8 @@ pub record Making : Type 0 where
   pub event : Option (List ℕ)
   pub site : Option (List ℕ)
   pub date : Option (List ℕ)
+  -- the texts of the options north, east, south and west
+  pub hands : GivenHands
   pub format : Format
   pub dealer : Option Seat
   pub vulnerable : Option Vul
@@ -31,7 +34,7 @@ pub data Wish : Type 0 where
   -- the page of the language
   conditions : Wish
   -- the boards of the candidates whose numbers the input gives: of the making its seed, its first
-  -- board, its labels, its format and what stands in place of Law 2 count
+  -- board, its labels, its hands, its format and what stands in place of Law 2 count
   pick : Making → Wish
   -- the first values of a seed: the seed, and how many
   stream : ℕ → ℕ → Wish

@@ -70,7 +70,7 @@ pub record IsStatusOf (w : Wish) (status : ℕ) : Type 0 where
   -- done, or the output, a thread, a worker or the input failed: all of the wish was accepted
   pub accepted : (status ≡ 0) ⊎ (status ≡ 4) ⊎ (status ≡ 6) ⊎ (status ≡ 7)
       → HasPlan w × HasMeaning w
-  -- the plan or a label is refused
+  -- the plan, a label or a hand is refused
   pub unplanned : status ≡ 2 → HasPlan w → ⊥
   -- the condition is refused, and the plan stands
   pub meaningless : status ≡ 3 → HasPlan w × (HasMeaning w → ⊥)

@@ -1,15 +1,15 @@
-//! What helps a person with a plan or a label that is refused: the option, what it was given, and
-//! what it takes.
+//! What helps a person with a plan, a label or a hand that is refused: the option, what it was
+//! given, and what it takes.
 
 ghost use Rattle.std.specs.Prelude.{◌≡◌, ◌++◌, map, option_map, string_bytes, IfOk, IfSome, OnOk};
-ghost use Rattle.requests.specs.Advice.{Advises, advice_of, label_advice, plan_advice, range_line};
-ghost use Rattle.requests.specs.Advice.{shown_text, text_line};
+ghost use Rattle.requests.specs.Advice.{Advises, advice_of, hand_advice, label_advice, plan_advice};
+ghost use Rattle.requests.specs.Advice.{range_line, shown_text, text_line};
 ghost use Rattle.requests.specs.Makings.{candidates_of};
 ghost use Rattle.requests.specs.Options.{making_of};
 
 use crate::failure::{Failure, LabelName};
 use crate::make::{MakeRequest, candidates_of, planned};
-use cards::MAX_CANDIDATES;
+use cards::{MAX_CANDIDATES, Seat};
 use hints::put_shown;
 use itoa::Buffer;
 use lanes::{MAX_CAPACITY, MAX_WORKERS};
@@ -24,9 +24,9 @@ const PART: usize = 70;
 
 /// Returns what helps a person with a refused request, to stand below the line that names the
 /// refusal: a line with the first option that is refused, what it was given, and what it takes.
-/// Without a refused plan or label there is none.
+/// Without a refused plan, label or hand there is none.
 ///
-/// What a label was given is shown as on a terminal, cut to 72 columns.
+/// What a label or a hand was given is shown as on a terminal, cut to 72 columns.
 ///
 /// # Errors
 /// `AllocError` if an allocation failed.
@@ -38,6 +38,7 @@ pub fn advise(alloc: Global, request: &MakeRequest<'_>) -> Result<Option<String>
         Ok(_) => Ok(None),
         Err(Failure::Plan(error)) => Ok(Some(of_plan(alloc, request, error)?)),
         Err(Failure::Label(name)) => Ok(Some(of_label(alloc, request, name)?)),
+        Err(Failure::Hand(seat)) => Ok(Some(of_hand(alloc, request, seat)?)),
         Err(_) => Ok(None),
     }
 }
@@ -141,6 +142,19 @@ fn of_label(alloc: Global, request: &MakeRequest<'_>, name: LabelName) -> Result
     }
 }
 
+/// The line for a text that is no hand, or has a card of an earlier one.
+fn of_hand(alloc: Global, request: &MakeRequest<'_>, seat: Seat) -> Result<String, AllocError>
+    ensures { IfOk result (λ line.
+        string_bytes line ≡ hand_advice (making_of request.now) seat) }
+{
+    match seat {
+        Seat::North => of_text(alloc, "north", request.hands.north, HAND_RULE),
+        Seat::East => of_text(alloc, "east", request.hands.east, HAND_RULE),
+        Seat::South => of_text(alloc, "south", request.hands.south, HAND_RULE),
+        Seat::West => of_text(alloc, "west", request.hands.west, HAND_RULE),
+    }
+}
+
 // The rule names the length.
 const _: () = prove!(MAX_LABEL_LEN == 100);
 
@@ -149,6 +163,10 @@ const LABEL_RULE: &str = "at most 100 characters of ASCII, from space to ~, with
 
 /// What a date may be.
 const DATE_RULE: &str = "a date is written YYYY.MM.DD, as 2024.05.01";
+
+/// How a hand is written.
+const HAND_RULE: &str =
+    "a hand is written as AKQ32.K..A, spades first, three dots, 13 cards at most";
 
 /// The line for a text that an option doesn't take.
 fn of_text(

@@ -5,12 +5,13 @@ ghost use Rattle.sinks.specs.Appended.{AppendsAll};
 ghost use Rattle.sinks.specs.Sinks.{CountsFault};
 ghost use Rattle.dealrun.specs.declared.cause.Cause.TheVariants.{Memory, Output};
 ghost use Rattle.requests.specs.Failures.{failure_of, status_of};
-ghost use Rattle.requests.specs.Lines.{cause_line, condition_line, fault_text, input_line};
-ghost use Rattle.requests.specs.Lines.{label_line, line_of, plan_line};
+ghost use Rattle.requests.specs.Lines.{cause_line, condition_line, fault_text, hand_line};
+ghost use Rattle.requests.specs.Lines.{input_line, label_line, line_of, plan_line};
 ghost use Rattle.requests.specs.declared.failure.Failure.TheVariants.{Interrupted};
 ghost use Rattle.requests.specs.internal.Messages.{text_of};
 
 use crate::message::Message;
+use cards::Seat;
 use cond_lang::CondError;
 use dealrun::Cause;
 use number_input::{LineFault, RefusedLine};
@@ -34,6 +35,8 @@ pub enum Failure {
     Plan(PlanError),
     /// The label can't be written between the quotes of a tag.
     Label(LabelName),
+    /// The text of this seat's hand is no hand, or has a card of an earlier one.
+    Hand(Seat),
     /// The condition is refused, and not for want of memory.
     Condition(CondError),
     /// The output failed, memory ran out, a thread wasn't started, or a worker ended too soon.
@@ -96,6 +99,17 @@ fn of_label(label: LabelName) -> &'static str
     }
 }
 
+fn of_hand(seat: Seat) -> &'static str
+    ensures { result.now ≡ hand_line seat }
+{
+    match seat {
+        Seat::North => "hand refused: north\n",
+        Seat::East => "hand refused: east\n",
+        Seat::South => "hand refused: south\n",
+        Seat::West => "hand refused: west\n",
+    }
+}
+
 fn of_condition(error: CondError) -> Message<'static>
     ensures { text_of result ≡ condition_line error }
 {
@@ -150,6 +164,7 @@ impl Failure {
     {
         match self {
             Failure::CommandLine(_) | Failure::Plan(_) | Failure::Label(_) => 2,
+            Failure::Hand(_) => 2,
             Failure::Condition(_) => 3,
             Failure::Interrupted(cause) => match cause {
                 Cause::Output => 4,
@@ -167,6 +182,7 @@ impl Failure {
             Failure::CommandLine(text) => Message::plain(text.as_str()),
             Failure::Plan(error) => Message::plain(of_plan(*error)),
             Failure::Label(label) => Message::plain(of_label(*label)),
+            Failure::Hand(seat) => Message::plain(of_hand(*seat)),
             Failure::Condition(error) => of_condition(*error),
             Failure::Interrupted(cause) => of_cause(*cause),
             Failure::Line(refused) => of_line(*refused),

@@ -3,14 +3,16 @@
 ghost use Rattle.std.specs.Prelude.{◌≡◌, ◌⊎◌, ◌-◌, ◌+◌, ◌^◌, ◌<◌, true};
 ghost use Rattle.std.specs.Prelude.{IfErr, IfOk, OnOk, option_map};
 ghost use Rattle.boards.specs.Settings.{by_law};
+ghost use Rattle.cards.specs.Fixed.{none_fixed};
 ghost use Rattle.cond_lang.specs.Form.{Form};
 ghost use Rattle.pbn_text.specs.Games.{no_heading};
 ghost use Rattle.requests.specs.Failures.{faults_in, is_untouched, status_in, status_of};
-ghost use Rattle.requests.specs.FirstRefusal.{IsDueOf, IsFirstOf, of_labels, of_numbers};
+ghost use Rattle.requests.specs.FirstRefusal.{IsDueOf, IsFirstHand, IsFirstOf, of_labels};
+ghost use Rattle.requests.specs.FirstRefusal.{of_numbers};
 ghost use Rattle.requests.specs.Interruptions.{Leaves};
 ghost use Rattle.requests.specs.internal.Conditions.{IsConditionFailure};
-ghost use Rattle.requests.specs.Makings.{CanDate, CanLabel, HasLabels, HasNumbers, IsPlanned};
-ghost use Rattle.requests.specs.Makings.{Means, candidates_of, plan_of};
+ghost use Rattle.requests.specs.Makings.{CanDate, CanLabel, HasHands, HasLabels, HasNumbers};
+ghost use Rattle.requests.specs.Makings.{IsPlanned, Means, candidates_of, plan_of};
 ghost use Rattle.requests.specs.Options.{making_of};
 ghost use Rattle.requests.specs.Reported.{ReportsOf};
 ghost use Rattle.requests.specs.Requests.{make as wish};
@@ -22,8 +24,9 @@ use crate::progress::Progress;
 use crate::report::Report;
 use crate::run::write_as;
 use boards::{Setting, Vul};
-use cards::{MAX_CANDIDATES, Seat};
+use cards::{Fixed, MAX_CANDIDATES, Seat};
 use cond_lang::{Cond, parse};
+use hand_texts::HandTexts;
 use pbn_text::{Date, Heading, Label};
 use plans::{Plan, PlanError};
 use sinks::Sink;
@@ -51,6 +54,8 @@ pub struct MakeRequest<'a> {
     pub event: Option<&'a str>,
     pub site: Option<&'a str>,
     pub date: Option<&'a str>,
+    /// The cards that are fixed at the seats, as texts of hands.
+    pub hands: HandTexts<'a>,
     /// The notation that the boards are written in.
     pub format: Format,
     /// The dealer of every board, in place of Law 2's.
@@ -128,6 +133,7 @@ fn numbers_of(request: &MakeRequest<'_>) -> Result<Plan, PlanError>
         p ≡ record (plan_of (making_of request.now)) {
           heading = no_heading;
           setting = by_law;
+          fixed = none_fixed;
         }) }
     ensures sound { IfOk result (λ _. HasNumbers (making_of request.now)) }
     ensures refused { IfErr result (λ _. HasNumbers (making_of request.now) → ⊥) }
@@ -161,7 +167,22 @@ fn setting_of(request: &MakeRequest<'_>) -> Setting
     }
 }
 
-/// The plan of the options, with its labels and its setting.
+/// The cards that are fixed. The first text that is no hand, or has a card of an earlier one, is
+/// refused.
+fn fixed_of(request: &MakeRequest<'_>) -> Result<Fixed, Failure>
+    ensures made { IfOk result (λ f. f ≡ (plan_of (making_of request.now)).fixed) }
+    ensures sound { IfOk result (λ _. HasHands (making_of request.now)) }
+    ensures refused { IfErr result (λ e.
+        (status_of e ≡ 2) × (HasHands (making_of request.now) → ⊥)) }
+    ensures due { IfErr result (λ e. IsFirstHand (making_of request.now) e) }
+{
+    match request.hands.read() {
+        Ok(fixed) => Ok(fixed),
+        Err(seat) => Err(Failure::Hand(seat)),
+    }
+}
+
+/// The plan of the options, with its labels, its fixed cards and its setting.
 #[tactic(auto, using(crate::proofs::FirstDue::failures))]
 pub(crate) fn planned(request: &MakeRequest<'_>) -> Result<Plan, Failure>
     ensures made { IfOk result (λ p. p ≡ plan_of (making_of request.now)) }
@@ -175,7 +196,8 @@ pub(crate) fn planned(request: &MakeRequest<'_>) -> Result<Plan, Failure>
         Err(error) => return Err(Failure::Plan(error)),
     };
     let heading = heading_of(request)?;
-    Ok(plan.headed(heading).set(setting_of(request)))
+    let fixed = fixed_of(request)?;
+    Ok(plan.headed(heading).set(setting_of(request)).around(fixed))
 }
 
 /// What the condition's text means; without a text every deal is accepted.

@@ -26,7 +26,7 @@ use std::thread::Threads;
 pub enum Request<'a> {
     Make(MakeRequest<'a>),
     /// The boards of the candidates whose numbers the input gives. Of the request its seed, its
-    /// first board, its labels, its format and what stands in place of Law 2 count.
+    /// first board, its labels, its hands, its format and what stands in place of Law 2 count.
     Pick(MakeRequest<'a>),
     /// The page of the language.
     Conditions,

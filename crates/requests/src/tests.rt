@@ -1,7 +1,9 @@
 mod advice;
+mod hands;
 
 use crate::{Failure, Format, MakeRequest, Progress, Request, StreamRequest, serve};
 use dealrun::Cause;
+use hand_texts::HandTexts;
 use number_input::{LineFault, NoBytes, Reader, RefusedLine};
 use sinks::MemSink;
 use std::alloc::Global;
@@ -59,6 +61,7 @@ fn request_of(workers: u32, condition: &str) -> MakeRequest<'_> {
         event: None,
         site: None,
         date: None,
+        hands: HandTexts::none(),
         format: Format::Pbn,
         dealer: None,
         vulnerable: None,

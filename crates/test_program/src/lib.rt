@@ -8,6 +8,8 @@ mod formats;
 #[cfg(test)]
 mod gates;
 #[cfg(test)]
+mod hands;
+#[cfg(test)]
 mod interrupted;
 #[cfg(test)]
 mod make;

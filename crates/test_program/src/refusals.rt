@@ -167,6 +167,50 @@ const LABELS: Refusals = &[
     ),
 ];
 
+/// The first text that is no hand, or has a card of an earlier one.
+const HANDS: Refusals = &[
+    (
+        &["--candidates", "1", "--north", "AK.."],
+        "hand refused: north\n",
+    ),
+    (
+        &["--candidates", "1", "--north", "AA..."],
+        "hand refused: north\n",
+    ),
+    (
+        &["--candidates", "1", "--north", "AKQJT98765432.A.."],
+        "hand refused: north\n",
+    ),
+    (
+        &["--candidates", "1", "--north", "10...", "--east", "x"],
+        "hand refused: north\n",
+    ),
+    (
+        &["--candidates", "1", "--north", "A...", "--east", "A..."],
+        "hand refused: east\n",
+    ),
+    (
+        &["--candidates", "1", "--east", "A...", "--south", ".2..A2."],
+        "hand refused: south\n",
+    ),
+    (
+        &["--candidates", "1", "--west", "ak..."],
+        "hand refused: west\n",
+    ),
+    (
+        &["--candidates", "1", "--west", "ak...", "--where", "x"],
+        "hand refused: west\n",
+    ),
+    (
+        &["--candidates", "1", "--north", "x", "--date", "x"],
+        "label refused: date\n",
+    ),
+    (
+        &["--candidates", "1", "--lane", "0", "--north", "x"],
+        "plan refused: lane capacity\n",
+    ),
+];
+
 const CONDITIONS: Refusals = &[
     (
         &["--candidates", "1", "--where", "hcp(nord)>=15 #"],
@@ -191,9 +235,10 @@ const CONDITIONS: Refusals = &[
 ];
 
 #[test]
-fn refuses_plans_labels_and_conditions(rt: HostRuntime) -> Result<(), Fail> {
+fn refuses_plans_labels_hands_and_conditions(rt: HostRuntime) -> Result<(), Fail> {
     refuses_each(&rt, rt.alloc(), PLANS, 2)?;
     refuses_each(&rt, rt.alloc(), LABELS, 2)?;
+    refuses_each(&rt, rt.alloc(), HANDS, 2)?;
     refuses_each(&rt, rt.alloc(), CONDITIONS, 3)
 }
 

@@ -4,7 +4,7 @@ use lib.Lanes.{mask_l}
 use Rattle.lcg48.specs.Sequence.{state_after}
 use Rattle.cards.specs.declared.seat.Seat.{Seat}
 use Rattle.cards.specs.declared.seat.Seat.TheVariants.{North, East, South, West}
-use Rattle.cards.specs.declared.fixed.Side.{Side}
+use Rattle.cards.specs.declared.around.Side.{Side}
 use Rattle.cards.specs.Shuffle.{traced, card_at}
 use Rattle.cards.specs.Deals.{position_of}
 use Rattle.cards.specs.Fixed.{IsFixed, is_free, is_fixed_at, free_count, free_index, places_for, room}

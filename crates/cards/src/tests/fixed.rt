@@ -5,10 +5,8 @@ use crate::testing::fixed_in;
 
 /// The deal of the candidate of the seed around the fixed cards.
 fn around(seed: u32, candidate: u64, hands: &[u8]) -> Option<Deal> {
-    let mut steps = Steps::new();
-    let jump = Stride::of(51 * (candidate % MAX_CANDIDATES), &mut steps);
-    let mut generator = jump.apply(&Lcg48::seeded(seed));
-    Some(Fixed::new(fixed_in(hands))?.draw(&mut generator))
+    let fixed = Fixed::new(fixed_in(hands))?;
+    Some(Candidates::around(seed, candidate % MAX_CANDIDATES, 1, &fixed).next())
 }
 
 /// A seed, a candidate, what is fixed from North on, and the deal.
@@ -92,12 +90,25 @@ fn fourteen_fixed_cards_are_refused(rt: HostRuntime) {
 
 #[test]
 fn nothing_fixed_is_the_candidate(rt: HostRuntime) {
+    let mut around = Candidates::around(2026, 0, 1, &Fixed::none());
     let mut generator = Lcg48::seeded(2026);
-    let mut again = generator;
     for _ in 0..1_000 {
-        assert!(rt; Fixed::none().draw(&mut again) == Deal::draw(&mut generator));
+        assert!(rt; around.next() == Deal::draw(&mut generator));
     }
-    assert_eq!(rt; generator.state(), again.state());
+}
+
+#[test]
+fn every_sixteenth_candidate_around_a_hand(rt: HostRuntime) -> Result<(), Fail> {
+    let hand = Fixed::new(fixed_in(b"AKQ32.K..A JT5..")).ok_or("fixed")?;
+    let mut each = Candidates::around(7, 3, 1, &hand);
+    let mut sixteenth = Candidates::around(7, 3, 16, &hand);
+    for place in 0..320 {
+        let deal = each.next();
+        if place % 16 == 0 {
+            assert!(rt; sixteenth.next() == deal);
+        }
+    }
+    Ok(())
 }
 
 /// The deal as it is described: the free cards are listed and shuffled, and North takes the first
@@ -144,19 +155,30 @@ fn some_fixed(deal: &Deal, generator: &mut Lcg48) -> [Option<Seat>; 52] {
     fixed
 }
 
+/// Passes over the draws of a candidate.
+fn skip_candidate(generator: &mut Lcg48) {
+    for _ in 0..51 {
+        generator.next();
+    }
+}
+
 #[test]
 fn ten_thousand_sets_by_a_plain_program(rt: HostRuntime) {
     let mut generator = Lcg48::seeded(24);
-    for _ in 0..10_000 {
+    for seed in 0..10_000 {
         let deal = Deal::draw(&mut generator);
         let seats = some_fixed(&deal, &mut generator);
-        let mut again = generator;
-        let plain = Deal::from_seats(&dealt_plainly(&seats, &mut again));
         let fixed = Fixed::new(seats);
         assert!(rt; fixed.is_some());
         if let Some(fixed) = fixed {
-            assert_eq!(rt; Some(fixed.draw(&mut generator)), plain);
-            assert_eq!(rt; generator.state(), again.state());
+            let mut candidates = Candidates::around(seed, 0, 1, &fixed);
+            let mut before = Lcg48::seeded(seed);
+            for _ in 0..2 {
+                let mut plain = before;
+                let wanted = Deal::from_seats(&dealt_plainly(&seats, &mut plain));
+                assert_eq!(rt; Some(candidates.next()), wanted);
+                skip_candidate(&mut before);
+            }
         }
     }
 }

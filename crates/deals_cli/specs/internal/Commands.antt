@@ -1,6 +1,6 @@
 -- How the options of `make`, `find` and `pick` are added to their commands, some at a time.
 use Rattle.std.specs.Prelude.{codes}
-use Rattle.clap.specs.Words.{App, with_rule, with_subcommand}
+use Rattle.clap.specs.Words.{App, Text, with_rule, with_subcommand}
 use Rattle.clap.specs.declared.builder.value_parser.ValueParser.TheVariants.{String}
 use Rattle.deals_cli.specs.CommandLine.{deals_top, find_app, flag_rule, make_app, option_rule, pick_app}
 use Rattle.deals_cli.specs.CommandLine.{required, u32_parser, u64_parser}
@@ -15,6 +15,15 @@ with_search a = with_rule (with_rule (with_rule a
     (option_rule (codes "first") u64_parser))
     (option_rule (codes "workers") u32_parser))
     (option_rule (codes "lane") u32_parser)
+
+abbrev pub with_hand : Text → App → App
+with_hand id a = with_rule a (option_rule id String)
+
+-- the cards that are fixed at the seats
+abbrev pub with_hands : App → App
+with_hands a =
+    with_hand (codes "west") (with_hand (codes "south") (with_hand (codes "east")
+    (with_hand (codes "north") a)))
 
 abbrev pub with_boards : App → App
 with_boards a = with_rule (with_rule a

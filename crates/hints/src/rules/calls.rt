@@ -2,6 +2,7 @@
 
 use crate::kinds::KindSet;
 use crate::parts::{Parts, is, is_measure, is_relation, is_seat, is_suit, is_word};
+use crate::rules::amounts::{Compared, compared_at};
 use crate::said::{Said, first_of, say};
 use cond_lang::Kind;
 use std::alloc::Global;
@@ -126,9 +127,42 @@ fn no_suit(alloc: Global, parts: &Parts) -> Said {
             ],
         );
     }
+    first_of!(compared_inside(alloc, parts));
     say(
         alloc,
         &[b"the suits are spades, hearts, diamonds and clubs"],
+    )
+}
+
+/// `hcp(north,15-17)`
+fn compared_inside(alloc: Global, parts: &Parts) -> Said {
+    let (call, seat) = (parts.call(), parts.back(2));
+    let Some(compared) = compared_at(parts, 0) else {
+        return Ok(None);
+    };
+    if is(call, "len") || !is_seat(seat) {
+        return Ok(None);
+    }
+    let Compared {
+        sign,
+        low,
+        dash,
+        high,
+        ..
+    } = compared;
+    say(
+        alloc,
+        &[
+            b"behind the bracket write: ",
+            call,
+            b"(",
+            seat,
+            b")",
+            sign,
+            low,
+            dash,
+            high,
+        ],
     )
 }
 

@@ -2,6 +2,7 @@
 
 use crate::kinds::KindSet;
 use crate::parts::{Parts, are_ranks, is, is_number, is_relation, is_seat, is_suit, is_word};
+use crate::rules::samples::comparison;
 use crate::said::{Said, first_of, say};
 use cond_lang::Kind;
 use std::alloc::Global;
@@ -12,7 +13,7 @@ pub(crate) fn hint(alloc: Global, parts: &Parts, can: &KindSet) -> Said {
         return no_value(alloc, parts);
     }
     if can.has(Kind::Relation) {
-        first_of!(around_a_sum(alloc, parts), not_inside(alloc, parts));
+        first_of!(around_a_sum(alloc, parts));
         return no_comparison(alloc, parts);
     }
     if can.has(Kind::And) {
@@ -121,29 +122,7 @@ fn around_a_sum(alloc: Global, parts: &Parts) -> Said {
     } else if is_relation(parts.next(1)) && is_number(number) {
         say(alloc, &[WITHOUT, value, parts.next(1), number])
     } else {
-        say(alloc, &[WITHOUT, value, b">=25"])
-    }
-}
-
-/// `hcp(north) not in 15-17`
-fn not_inside(alloc: Global, parts: &Parts) -> Said {
-    let is_range = is(parts.next(0), "not")
-        && is(parts.next(1), "in")
-        && is_number(parts.next(2))
-        && is_number(parts.next(4));
-    match parts.value(1) {
-        Some(value) if is_range => say(
-            alloc,
-            &[
-                b"with \"not\" first write: not ",
-                value,
-                b" in ",
-                parts.next(2),
-                b"-",
-                parts.next(4),
-            ],
-        ),
-        _ => Ok(None),
+        say(alloc, &[WITHOUT, value, comparison(parts, 1)])
     }
 }
 
@@ -154,7 +133,10 @@ fn no_comparison(alloc: Global, parts: &Parts) -> Said {
         return say(alloc, &[b"for \"<>\" write \"!=\""]);
     }
     match parts.value(1) {
-        Some(value) => say(alloc, &[b"to compare it write: ", value, b">=15"]),
+        Some(value) => say(
+            alloc,
+            &[b"to compare it write: ", value, comparison(parts, 1)],
+        ),
         None => Ok(None),
     }
 }

@@ -1,6 +1,8 @@
 //! Ranges and comparisons in ways that aren't in the language.
 
 use crate::parts::{Parts, is, is_number, is_relation};
+use crate::rule::Want::{Any, Call, Is, Measure, NoValue, Number, OneOf, Relation, Value};
+use crate::rule::{Rule, first_in};
 use crate::said::{Said, first_of, say};
 use itoa::Buffer;
 use std::alloc::Global;
@@ -10,18 +12,8 @@ const SOME_VALUE: &[u8] = b"hcp(north)";
 
 /// `15<=hcp(north)<=17`, `hcp(north)==15-17`, and other ways to write a range.
 pub(crate) fn hint(alloc: Global, parts: &Parts) -> Said {
-    first_of!(
-        chained(alloc, parts),
-        continued(alloc, parts),
-        repeated(alloc, parts),
-        with_dash(alloc, parts),
-        with_other_signs(alloc, parts),
-        with_words(alloc, parts),
-        or_more(alloc, parts),
-        one_number(alloc, parts),
-        difference(alloc, parts),
-    );
-    Ok(None)
+    first_of!(chained(alloc, parts), continued(alloc, parts),);
+    first_in(alloc, parts, RANGES)
 }
 
 /// The value that ends so many parts before the fault.
@@ -167,136 +159,133 @@ fn say_twice(
     )
 }
 
-/// `hcp(north)==15 or 16`
-fn repeated(alloc: Global, parts: &Parts) -> Said {
-    let join = parts.back(2);
-    let is_repeated = is_number(parts.back(1))
-        && (is(join, "and") || is(join, "or"))
-        && is_number(parts.back(3))
-        && is_relation(parts.back(4));
-    if !is_repeated {
-        return Ok(None);
-    }
-    say_twice(
-        alloc,
-        value_text(parts, 5),
-        (parts.back(4), parts.back(3)),
-        join,
-        (parts.back(4), parts.back(1)),
-    )
-}
+/// What is taken for a range, before its first number.
+const IN: &[&str] = &["in", "==", "!=", "<", "<=", ">", ">="];
 
-/// `hcp(north)==15-17`, `hcp(north)=15-17` and `hcp(north) 15-17`
-fn with_dash(alloc: Global, parts: &Parts) -> Said {
-    let token = parts.next(0);
-    if is(token, "-")
-        && is_number(parts.back(1))
-        && is_relation(parts.back(2))
-        && is_number(parts.next(1))
-    {
-        return say_range(alloc, value_text(parts, 3), parts.back(1), parts.next(1));
-    }
-    if is(token, "=")
-        && is_number(parts.next(1))
-        && is(parts.next(2), "-")
-        && is_number(parts.next(3))
-    {
-        return say_range(alloc, value_text(parts, 1), parts.next(1), parts.next(3));
-    }
-    let after_value = parts.value(1).is_some();
-    if after_value && is_number(token) && is(parts.next(1), "-") && is_number(parts.next(2)) {
-        return say_range(alloc, value_text(parts, 1), token, parts.next(2));
-    }
-    Ok(None)
-}
+/// What may stand before a number and `+`, and before one and `-`.
+const UP: &[&str] = &["in", "==", ">=", ">"];
 
-/// `in 15 17`, `in 15,17`, `in 15..17`, `in (15-17)` and `in [15,17]`
-fn with_other_signs(alloc: Global, parts: &Parts) -> Said {
-    let token = parts.next(0);
-    if is(parts.back(1), "in") && (is(token, "(") || is(token, "[")) {
-        if is_number(parts.next(1)) && is_number(parts.next(3)) {
-            return say_range(alloc, value_text(parts, 2), parts.next(1), parts.next(3));
-        }
-        return Ok(None);
-    }
-    if !is_number(parts.back(1)) || !(is(parts.back(2), "in") || is_relation(parts.back(2))) {
-        return Ok(None);
-    }
-    let value = value_text(parts, 3);
-    let low = parts.back(1);
-    if is_number(token) {
-        return say_range(alloc, value, low, token);
-    }
-    if (is(token, ",") || is(token, ".")) && is_number(parts.next(1)) {
-        return say_range(alloc, value, low, parts.next(1));
-    }
-    if is(token, ".") && is(parts.next(1), ".") && is_number(parts.next(2)) {
-        return say_range(alloc, value, low, parts.next(2));
-    }
-    Ok(None)
-}
+const DOWN: &[&str] = &["in", "==", "<=", "<"];
 
-/// `between 15 and 17`, `15 to 17`
-fn with_words(alloc: Global, parts: &Parts) -> Said {
-    let token = parts.next(0);
-    if is(token, "between") && is_number(parts.next(1)) && is_number(parts.next(3)) {
-        return say_range(alloc, value_text(parts, 1), parts.next(1), parts.next(3));
-    }
-    let is_to = is(token, "to") || is(token, "bis");
-    if is_to && is_number(parts.back(1)) && is_number(parts.next(1)) {
-        let before = parts.back(2);
-        let last = if is(before, "in") || is_relation(before) {
-            3
-        } else {
-            2
-        };
-        return say_range(alloc, value_text(parts, last), parts.back(1), parts.next(1));
-    }
-    Ok(None)
-}
-
-/// `hcp(north)==15+` and `hcp(north) 15+`
-fn or_more(alloc: Global, parts: &Parts) -> Said {
-    let (value, number) = if is(parts.back(1), "+")
-        && is_number(parts.back(2))
-        && is_relation(parts.back(3))
-    {
-        (value_text(parts, 4), parts.back(2))
-    } else if parts.value(1).is_some() && is_number(parts.next(0)) && is(parts.next(1), "+") {
-        (value_text(parts, 1), parts.next(0))
-    } else {
-        return Ok(None);
-    };
-    say(
-        alloc,
-        &[b"for ", number, b" or more write: ", value, b">=", number],
-    )
-}
-
-/// `hcp(north) in 15` and `hcp(north) 15`
-fn one_number(alloc: Global, parts: &Parts) -> Said {
-    let token = parts.next(0);
-    let ends = is(token, "") || is(token, ")") || is(token, "and") || is(token, "or");
-    let (value, number) = if ends && is_number(parts.back(1)) && is(parts.back(2), "in") {
-        (value_text(parts, 3), parts.back(1))
-    } else if parts.value(1).is_some() && is_number(token) && !is_number(parts.back(1)) {
-        (value_text(parts, 1), token)
-    } else {
-        return Ok(None);
-    };
-    say(alloc, &[b"for one number write: ", value, b"==", number])
-}
-
-/// `hcp(north)-hcp(south)>=5`
-fn difference(alloc: Global, parts: &Parts) -> Said {
-    if is(parts.next(0), "-") && parts.value(1).is_some() {
-        return say(
-            alloc,
-            &[
-                b"there is no \"-\" of values: add to the other side, \
-                  as in hcp(north)>=hcp(south)+5",
-            ],
-        );
-    }
-    Ok(None)
-}
+const RANGES: &[Rule] = &[
+    Rule {
+        before: &[Relation, Number, OneOf(&["and", "or"]), Number],
+        from: &[],
+        hint: "to compare it twice write: %v5%b4%b3 %b2 %v5%b4%b1",
+    },
+    Rule {
+        before: &[Relation, Number],
+        from: &[Is("-"), Number],
+        hint: "for a range write: %v3 in %b1-%n1",
+    },
+    Rule {
+        before: &[],
+        from: &[Is("="), Number, Is("-"), Number],
+        hint: "for a range write: %v1 in %n1-%n3",
+    },
+    Rule {
+        before: &[Value],
+        from: &[Number, Is("-"), Number],
+        hint: "for a range write: %v1 in %n0-%n2",
+    },
+    Rule {
+        before: &[Is("in")],
+        from: &[OneOf(&["(", "["]), Number, Any, Number],
+        hint: "for a range write: %v2 in %n1-%n3",
+    },
+    Rule {
+        before: &[OneOf(IN), Number],
+        from: &[Number],
+        hint: "for a range write: %v3 in %b1-%n0",
+    },
+    Rule {
+        before: &[OneOf(IN), Number],
+        from: &[OneOf(&[",", "."]), Number],
+        hint: "for a range write: %v3 in %b1-%n1",
+    },
+    Rule {
+        before: &[OneOf(IN), Number],
+        from: &[Is("."), Is("."), Number],
+        hint: "for a range write: %v3 in %b1-%n2",
+    },
+    Rule {
+        before: &[],
+        from: &[Is("between"), Number, Any, Number],
+        hint: "for a range write: %v1 in %n1-%n3",
+    },
+    Rule {
+        before: &[OneOf(IN), Number],
+        from: &[OneOf(&["to", "bis"]), Number],
+        hint: "for a range write: %v3 in %b1-%n1",
+    },
+    Rule {
+        before: &[Number],
+        from: &[OneOf(&["to", "bis"]), Number],
+        hint: "for a range write: %v2 in %b1-%n1",
+    },
+    Rule {
+        before: &[OneOf(&["", "and", "or", "not", "("]), Number],
+        from: &[Is("-"), Number, Measure, Is("("), Any, Is(")")],
+        hint: "for a range write: %n2(%n4) in %b1-%n1",
+    },
+    Rule {
+        before: &[OneOf(UP), Number, Is("+")],
+        from: &[NoValue],
+        hint: "for %b2 or more write: %v4>=%b2",
+    },
+    Rule {
+        before: &[OneOf(UP), Number],
+        from: &[Is("+"), NoValue],
+        hint: "for %b1 or more write: %v3>=%b1",
+    },
+    Rule {
+        before: &[],
+        from: &[Is("="), Number, Is("+"), NoValue],
+        hint: "for %n1 or more write: %v1>=%n1",
+    },
+    Rule {
+        before: &[Value],
+        from: &[Number, Is("+"), NoValue],
+        hint: "for %n0 or more write: %v1>=%n0",
+    },
+    Rule {
+        before: &[OneOf(DOWN), Number, Is("-")],
+        from: &[NoValue],
+        hint: "for %b2 or less write: %v4<=%b2",
+    },
+    Rule {
+        before: &[OneOf(DOWN), Number],
+        from: &[Is("-"), NoValue],
+        hint: "for %b1 or less write: %v3<=%b1",
+    },
+    Rule {
+        before: &[],
+        from: &[Is("="), Number, Is("-"), NoValue],
+        hint: "for %n1 or less write: %v1<=%n1",
+    },
+    Rule {
+        before: &[Value],
+        from: &[Number, Is("-"), NoValue],
+        hint: "for %n0 or less write: %v1<=%n0",
+    },
+    Rule {
+        before: &[Is("in"), Number],
+        from: &[OneOf(&["", ")", "and", "or"])],
+        hint: "for one number write: %v3==%b1",
+    },
+    Rule {
+        before: &[Call],
+        from: &[Number],
+        hint: "for one number write: %v1==%n0",
+    },
+    Rule {
+        before: &[Value],
+        from: &[Is("not"), Is("in"), Number, Any, Number],
+        hint: "with \"not\" first write: not %v1 in %n2-%n4",
+    },
+    Rule {
+        before: &[Value],
+        from: &[Is("-")],
+        hint: "there is no \"-\" of values: add to the other side, as in hcp(north)>=hcp(south)+5",
+    },
+];

@@ -21,6 +21,12 @@ pub(crate) fn hint(alloc: Global, parts: &Parts) -> Said {
     if let Some(meant) = meant_by_wide(sign) {
         return say(alloc, &[b"for this sign write \"", meant, b"\""]);
     }
+    if is_quote(sign) {
+        return say(
+            alloc,
+            &[b"in the shell write plain quotes, ' or \", around the whole condition"],
+        );
+    }
     match sign {
         b"*" | b"?" | b"_" if in_shape => say(alloc, &[b"for any length write \"x\""]),
         b"." | b"/" | b":" if in_shape => {
@@ -70,6 +76,14 @@ fn meant_by(sign: &[u8]) -> Option<&[u8]> {
         b"]" | b"}" => Some(b")"),
         _ => None,
     }
+}
+
+/// Whether it is a quotation mark as printers set it, with whatever follows it.
+fn is_quote(sign: &[u8]) -> bool {
+    matches!(
+        sign,
+        [0xE2, 0x80, 0x98..=0x9F, ..] | [0xE2, 0x80, 0xB9 | 0xBA, ..] | [0xC2, 0xAB | 0xBB, ..]
+    )
 }
 
 /// What a person means by a sign in UTF-8, with whatever follows it.

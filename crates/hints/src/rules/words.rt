@@ -1,6 +1,11 @@
 //! Words that aren't in the language.
 
-use crate::parts::{Parts, are_ranks, is, is_measure, is_number, is_word, token_of};
+use crate::parts::{
+    Parts, are_ranks, begins_a_value, is, is_measure, is_number, is_seat, is_word, token_of,
+};
+use crate::rule::first_in;
+use crate::rules::instead::INSTEAD;
+use crate::rules::names::{OTHERS, POINTS, RANKS, SEATS, SUITS, meant_in};
 use crate::said::{Said, first_of, say};
 use cond_lang::{Token, WORDS};
 use std::alloc::{AllocError, Global};
@@ -16,6 +21,8 @@ enum Place {
     Suit,
     Ranks,
     Lengths,
+    /// Before a bracket.
+    Call,
     Other,
 }
 
@@ -35,9 +42,19 @@ pub(crate) fn hint(alloc: Global, parts: &Parts) -> Said {
         small(alloc, written, word, place),
         in_lengths(alloc, parts, word, place),
         ranks_twice(alloc, word, place),
+        first_in(alloc, parts, INSTEAD),
         other_name(alloc, word, place),
         alike(alloc, word, place),
     );
+    if place == Place::Call {
+        return say(
+            alloc,
+            &[
+                b"a hand has hcp, controls, losers, cards, len, longest, shortest, balanced, \
+                shape, pattern",
+            ],
+        );
+    }
     if written == word {
         Ok(None)
     } else {
@@ -50,7 +67,11 @@ fn place_of(parts: &Parts) -> Place {
     let call = parts.call();
     let is_shape = is(call, "shape") || is(call, "pattern");
     if !is_shape && !is_measure(call) && !is(call, "balanced") {
-        return Place::Other;
+        return if is(parts.next(1), "(") {
+            Place::Call
+        } else {
+            Place::Other
+        };
     }
     if is(parts.back(1), "(") {
         return Place::Seat;
@@ -111,103 +132,15 @@ fn other_name(alloc: Global, word: &[u8], place: Place) -> Said {
             None => meant_in(RANKS, word),
         },
         Place::Lengths => None,
-        Place::Other => meant_in(OTHERS, word),
+        Place::Call | Place::Other => match meant_in(POINTS, word) {
+            Some(points) => Some(points),
+            None => meant_in(OTHERS, word),
+        },
     };
     match meant {
         Some(meant) => say(alloc, &[b"write \"", meant, b"\""]),
         None => Ok(None),
     }
-}
-
-/// Words from elsewhere, and the word that is meant by each.
-type Meanings = &'static [(&'static str, &'static str)];
-
-const SEATS: Meanings = &[
-    ("n", "north"),
-    ("nord", "north"),
-    ("e", "east"),
-    ("ost", "east"),
-    ("est", "east"),
-    ("s", "south"),
-    ("sud", "south"),
-    ("sued", "south"),
-    ("w", "west"),
-    ("ouest", "west"),
-];
-
-const SUITS: Meanings = &[
-    ("s", "spades"),
-    ("pik", "spades"),
-    ("pique", "spades"),
-    ("h", "hearts"),
-    ("herz", "hearts"),
-    ("coeur", "hearts"),
-    ("d", "diamonds"),
-    ("karo", "diamonds"),
-    ("carreau", "diamonds"),
-    ("c", "clubs"),
-    ("treff", "clubs"),
-    ("trefle", "clubs"),
-    ("kreuz", "clubs"),
-];
-
-const RANKS: Meanings = &[
-    ("ace", "a"),
-    ("aces", "a"),
-    ("king", "k"),
-    ("kings", "k"),
-    ("queen", "q"),
-    ("queens", "q"),
-    ("jack", "j"),
-    ("jacks", "j"),
-    ("ten", "t"),
-    ("tens", "t"),
-];
-
-const OTHERS: Meanings = &[
-    ("points", "hcp"),
-    ("point", "hcp"),
-    ("pts", "hcp"),
-    ("hp", "hcp"),
-    ("length", "len"),
-    ("lengths", "len"),
-    ("distribution", "shape"),
-    ("dist", "shape"),
-    ("ltc", "losers"),
-    ("und", "and"),
-    ("et", "and"),
-    ("with", "and"),
-    ("oder", "or"),
-    ("ou", "or"),
-    ("no", "not"),
-    ("nicht", "not"),
-    ("is", "=="),
-    ("equals", "=="),
-    ("equal", "=="),
-    ("plus", "+"),
-    ("ace", "cards(north,a)"),
-    ("aces", "cards(north,a)"),
-    ("king", "cards(north,k)"),
-    ("kings", "cards(north,k)"),
-    ("queen", "cards(north,q)"),
-    ("queens", "cards(north,q)"),
-    ("jack", "cards(north,j)"),
-    ("jacks", "cards(north,j)"),
-    ("ten", "cards(north,t)"),
-    ("tens", "cards(north,t)"),
-    ("honours", "cards(north,akq)"),
-    ("honors", "cards(north,akq)"),
-    ("tops", "cards(north,akq)"),
-    ("top", "cards(north,akq)"),
-];
-
-fn meant_in(meanings: Meanings, word: &[u8]) -> Option<&'static [u8]> {
-    for (other, meant) in meanings.iter() {
-        if word == other.as_bytes() {
-            return Some(meant.as_bytes());
-        }
-    }
-    None
 }
 
 /// The word that is most like the given one, of those that can stand at the place.
@@ -247,6 +180,12 @@ fn is_at_home(token: Token, place: Place) -> bool {
     match place {
         Place::Seat => matches!(token, Token::Seat(_)),
         Place::Suit | Place::Ranks => matches!(token, Token::Suit(_)),
+        Place::Call => has_bracket(token),
         Place::Lengths | Place::Other => true,
     }
+}
+
+/// Whether a bracket may stand behind the word, other than around a test.
+fn has_bracket(token: Token) -> bool {
+    begins_a_value(token) || matches!(token, Token::Balanced | Token::Shape | Token::Pattern)
 }

@@ -1,7 +1,8 @@
-//! What is said of each plan and label that is refused.
+//! What is said of each plan, label and hand that is refused.
 
 use super::request_of;
 use crate::{MakeRequest, advise};
+use hand_texts::HandTexts;
 use std::alloc::Global;
 use std::process::Abort;
 use std::test::Fail;
@@ -164,6 +165,57 @@ fn dates_of_another_form(rt: HostRuntime) -> Result<(), Fail> {
         (
             date(""),
             "  --date \"\": a date is written YYYY.MM.DD, as 2024.05.01\n",
+        ),
+    ];
+    check(&rt, rt.alloc(), cases.as_slice())
+}
+
+/// With these hands.
+fn hands(hands: HandTexts<'_>) -> MakeRequest<'_> {
+    MakeRequest { hands, ..sound() }
+}
+
+#[test]
+fn texts_that_are_no_hands(rt: HostRuntime) -> Result<(), Fail> {
+    let none = HandTexts::none();
+    let north = HandTexts {
+        north: Some("AK.."),
+        ..none
+    };
+    let east = HandTexts {
+        north: Some("A..."),
+        east: Some("KA..."),
+        ..none
+    };
+    let south = HandTexts {
+        south: Some("ak..."),
+        west: Some("ak..."),
+        ..none
+    };
+    let west = HandTexts {
+        west: Some(""),
+        ..none
+    };
+    let cases = [
+        (
+            hands(north),
+            "  --north \"AK..\": a hand is written as AKQ32.K..A, \
+            spades first, three dots, 13 cards at most\n",
+        ),
+        (
+            hands(east),
+            "  --east \"KA...\": a hand is written as AKQ32.K..A, \
+            spades first, three dots, 13 cards at most\n",
+        ),
+        (
+            hands(south),
+            "  --south \"ak...\": a hand is written as AKQ32.K..A, \
+            spades first, three dots, 13 cards at most\n",
+        ),
+        (
+            hands(west),
+            "  --west \"\": a hand is written as AKQ32.K..A, \
+            spades first, three dots, 13 cards at most\n",
         ),
     ];
     check(&rt, rt.alloc(), cases.as_slice())

@@ -161,7 +161,7 @@ const CALLS: [Mistake; 25] = [
         "  losers(south,3)
                ^
   expected a suit
-  hint: the suits are spades, hearts, diamonds and clubs
+  hint: behind the bracket write: losers(south)==3
 ",
     ),
     (

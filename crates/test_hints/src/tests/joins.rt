@@ -121,7 +121,7 @@ const JOINS: [Mistake; 30] = [
         "  balanced(north)==1
                  ^^
   expected \"and\", \"or\" or the end
-  hint: this test is whole, and needs no comparison
+  hint: without a comparison write: balanced(north)
 ",
     ),
     (
@@ -235,7 +235,9 @@ const JOINS: [Mistake; 30] = [
     ),
     (
         b"",
-        "  \n  ^\n  expected a condition such as balanced(north)\n",
+        "  \n  ^\n  expected a condition such as balanced(north)
+  hint: for 15 points or more with North write: hcp(north)>=15
+",
     ),
 ];
 

@@ -6,7 +6,9 @@ use super::*;
 const LINES: [Mistake; 8] = [
     (
         b"",
-        "  \n  ^\n  expected a condition such as balanced(north)\n",
+        "  \n  ^\n  expected a condition such as balanced(north)
+  hint: for 15 points or more with North write: hcp(north)>=15
+",
     ),
     (
         b"hcp(north)>=15 # one\r\nand\tbalanced(noth)\r\nor hcp(south)>=1\r\n",
@@ -27,6 +29,7 @@ const LINES: [Mistake; 8] = [
         "  # all comment
                ^
   expected a condition such as balanced(north)
+  hint: for 15 points or more with North write: hcp(north)>=15
 ",
     ),
     (

@@ -36,7 +36,7 @@ const WORDS: [Mistake; 32] = [
         b"len(north,spade)>=5",
         "  len(north,spade)>=5
             ^^^^^
-  hint: did you mean \"spades\"?
+  hint: write \"spades\"
 ",
     ),
     (
@@ -64,7 +64,7 @@ const WORDS: [Mistake; 32] = [
         b"cards(east,heart,k)==1",
         "  cards(east,heart,k)==1
              ^^^^^
-  hint: did you mean \"hearts\"?
+  hint: write \"hearts\"
 ",
     ),
     (
@@ -215,7 +215,7 @@ const WORDS: [Mistake; 32] = [
         b"Hand(north)>=15",
         "  Hand(north)>=15
   ^
-  hint: did you mean \"and\"?
+  hint: a hand has hcp, controls, losers, cards, len, longest, shortest, balanced, shape, pattern
 ",
     ),
     (

@@ -1,7 +1,7 @@
 use Rattle.std.proofs.Common.{◌≡◌, ◌<◌, ◌∙◌, ap, sym, arith, map, get_or, length, subst, vec_len, List, false}
 use Rattle.std.proofs.lemmas.List.{get_or-map, get_or-take, get_or-set_other}
 use Rattle.std.proofs.Math.Seq.{map-set_same}
-use Rattle.lanes.specs.Jobs.{verdicts_of}
+use Rattle.lanes.specs.Jobs.{verdicts_around}
 use Rattle.lanes.specs.declared.verdict.Verdict.{Verdict}
 use Rattle.lanes.specs.declared.worker.WorkEnd.{WorkEnd}
 use Rattle.std.specs.declared.thread.PromisedHandle.{PromisedHandle}
@@ -34,10 +34,10 @@ loop-handle-preserved g c =
     let new = c.join_one-end.new.lane in
     let same = c.join_one-end.ensures.same in
     let h = c.in-Some.handle in
-    let all = verdicts_of h.promise.job.value in
+    let all = verdicts_around h.promise.job.value in
     let short : w < length hs = drop_short hs _ w h rest in
     let inside : w < length c.loop-handle.lanes.items = omega (arith, short, c.args.handles.ok.0, c.loop-handle.lanes.ok.0, i.len.1, c.requires.counts.0) in
-    let f = λ (x : PromisedHandle WorkEnd EndsAsAssigned). verdicts_of x.promise.job.value in
+    let f = λ (x : PromisedHandle WorkEnd EndsAsAssigned). verdicts_around x.promise.job.value in
     let at : (d : List Verdict) → get_or (map f hs) w d ≡ all = λ d. get_or-map f hs w h d short ∙ ap f (drop_head hs _ w h rest h) in
     let old : lane.settled ≡ false = ap (λ v. v.settled) c.index_mut-lane.ensures.value ∙ i.unsettled w _ (omega arith) (omega (arith, inside, c.loop-handle.lanes.ok.0)) in record {
       len = (omega (arith, i.len.0, c.in-Some.ensures.steps.1), i.len.1);
@@ -53,4 +53,4 @@ returns-clause-joined g c =
     let i = c.loop-handle.invariant in
     let hs = c.args.handles.items in
     let done : c.loop-handle.worker ≡ vec_len c.args.handles = omega (arith, i.len.0, c.in-None.ensures.steps.0) in
-    subst (λ n. JoinedAs n (map (λ h. verdicts_of h.promise.job.value) hs) c.loop-handle.lanes.items c.loop-handle.joined.stopped c.loop-handle.joined.unclosed) done i.joined
+    subst (λ n. JoinedAs n (map (λ h. verdicts_around h.promise.job.value) hs) c.loop-handle.lanes.items c.loop-handle.joined.stopped c.loop-handle.joined.unclosed) done i.joined

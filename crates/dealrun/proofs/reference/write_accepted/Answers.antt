@@ -15,7 +15,9 @@ loop-place-init g c =
     record {
       layout = refl;
       running = running_none (g.N.Notation.layout c.args.notation.now) c.args.plan.now c.args.cond.now _ _ _ c.header.ensures (at_ok _ _ c.put_all.result c.if-is_err.ensures.value c.put_all.ensures.bytes);
-      next = subst (λ n. GoesOnAt c.new-candidates.result c.args.plan.now.seed n 1) first (subst (λ seed. GoesOnAt c.new-candidates.result seed c.first-first.result 1) c.seed.ensures c.new-candidates.ensures);
+      next = subst (λ n. GoesOnAt c.around-candidates.result c.args.plan.now.fixed c.args.plan.now.seed n 1) first
+          (subst (λ seed. GoesOnAt c.around-candidates.result c.args.plan.now.fixed seed c.first-first.result 1) c.seed.ensures
+          (subst (λ fixed. GoesOnAt c.around-candidates.result fixed c.seed.result c.first-first.result 1) c.fixed.ensures.value c.around-candidates.ensures));
       faults = at_ok _ _ c.put_all.result c.if-is_err.ensures.value c.put_all.ensures.faults;
     }
 
@@ -29,7 +31,7 @@ returns-then-is_full-clause-boards g c =
 
 pub returns-then-is_err-2-clause-bytes : goal.returns-then-is_err-2-clause-bytes
 returns-then-is_err-2-clause-bytes g c =
-    let deal = c.next-deal.ensures.deal c.args.plan.now.seed (c.args.plan.now.first + c.loop-place.place) 1 c.loop-place.invariant.next in
+    let deal = c.next-deal.ensures.deal c.args.plan.now.fixed c.args.plan.now.seed (c.args.plan.now.first + c.loop-place.place) 1 c.loop-place.invariant.next in
     breaks_board (g.N.Notation.layout c.args.notation.now) (g.N.Notation.layout c.loop-place.notation) c.args.plan.now c.args.cond.now c.loop-place.place _ c.loop-place.boards _ _ _ c.next-deal.result deal (sym c.if-holds.true ∙ c.holds.ensures)
     (λ e. let full : c.is_full.result ≡ true = c.is_full.ensures.1 e in let not_full = c.if-is_full.false in absurd cc)
     (omega (arith, c.count-place-end.ensures.value)) c.loop-place.invariant.layout (ap (λ n. n + c.loop-place.place) c.first-first.ensures.value) c.loop-place.invariant.running
@@ -37,10 +39,10 @@ returns-then-is_err-2-clause-bytes g c =
 
 pub loop-place-preserved : goal.loop-place-preserved
 loop-place-preserved g c =
-    let deal = c.next-deal.ensures.deal c.args.plan.now.seed (c.args.plan.now.first + c.loop-place.place) 1 c.loop-place.invariant.next in
+    let deal = c.next-deal.ensures.deal c.args.plan.now.fixed c.args.plan.now.seed (c.args.plan.now.first + c.loop-place.place) 1 c.loop-place.invariant.next in
     let after : c.args.plan.now.first + c.loop-place.place + 1 ≡ c.args.plan.now.first + (c.loop-place.place + 1) = omega arith in
-    let next = subst (λ n. GoesOnAt c.next-deal.new.self c.args.plan.now.seed n 1) after
-    (c.next-deal.ensures.moved c.args.plan.now.seed (c.args.plan.now.first + c.loop-place.place) 1 c.loop-place.invariant.next) in
+    let next = subst (λ n. GoesOnAt c.next-deal.new.self c.args.plan.now.fixed c.args.plan.now.seed n 1) after
+    (c.next-deal.ensures.moved c.args.plan.now.fixed c.args.plan.now.seed (c.args.plan.now.first + c.loop-place.place) 1 c.loop-place.invariant.next) in
     elim c.if-holds.branch [
       | then-holds+else-is_err-2 w ↦ record {
         layout = ap g.N.Notation.layout w.notation-is ∙ w.put_board.ensures.layout ∙ c.loop-place.invariant.layout;

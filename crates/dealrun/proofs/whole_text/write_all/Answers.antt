@@ -3,7 +3,7 @@ use Rattle.std.proofs.lemmas.List.{length-map}
 use Rattle.std.proofs.lemmas.Result.{err_from_is_err_and}
 use Rattle.std.specs.declared.thread.PromisedHandle.{PromisedHandle}
 use Rattle.lanes.specs.Views.{OutView}
-use Rattle.lanes.specs.Jobs.{verdicts_of}
+use Rattle.lanes.specs.Jobs.{verdicts_around}
 use Rattle.lanes.specs.declared.verdict.Verdict.{Verdict}
 use Rattle.lanes.specs.declared.worker.WorkEnd.{WorkEnd}
 use Rattle.dealrun.specs.declared.start.EndsAsAssigned.{EndsAsAssigned}
@@ -14,7 +14,7 @@ use Rattle.dealrun.proofs.whole_text.write_all.Goals as goal
 
 -- what the workers with these handles owe
 abbrev owed : List (PromisedHandle WorkEnd EndsAsAssigned) → List (List Verdict)
-owed handles = map (λ h. verdicts_of h.promise.job.value) handles
+owed handles = map (λ h. verdicts_around h.promise.job.value) handles
 
 pub join_all-joined-requires-clause-unsettled : goal.join_all-joined-requires-clause-unsettled
 join_all-joined-requires-clause-unsettled g c k d lt =

@@ -29,7 +29,7 @@ returns-clause-closes g c =
     if_written c.put_all.result _ _ _ (λ at form base parts begun.
     let kept = parts_kept p form c.args.lanes.now.items w.lanes.items long e.kept parts in
     let done = complete layout p form w.lanes.items w.progress.taken w.progress.boards base mid c.requires.some e.counts (e.written base begun) (λ k d lt. (kept k d lt).0) (λ k d lt _. (kept k d lt).1) e.end in
-    closed layout p form w.lanes.items w.progress.boards base mid new done (at ∙ ap (append_known mid) footer)) c.put_all.ensures.bytes
+    closed layout p form w.lanes.items w.progress.boards base mid new done c.fixed-fixed.ensures.fixed (at ∙ ap (append_known mid) footer)) c.put_all.ensures.bytes
 
 pub returns-clause-ends : goal.returns-clause-ends
 returns-clause-ends g c =

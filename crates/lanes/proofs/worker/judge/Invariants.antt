@@ -1,11 +1,11 @@
 use Rattle.std.proofs.Common.{◌≡◌, ◌+◌, ◌*◌, ◌++◌, length, take}
 use Rattle.cards.specs.CandidateWalks.{GoesOnAt}
-use Rattle.lanes.specs.Jobs.{verdicts_of}
+use Rattle.lanes.specs.Jobs.{verdicts_around}
 use Rattle.lanes.proofs.worker.judge.Given as goal
 
 abbrev pub invariant-loop-i : goal.invariant-loop-i
 invariant-loop-i l = record {
   len : length l.block ≡ length l.initial.block;
-  next : GoesOnAt l.candidates l.job.seed (l.job.share.first + l.job.share.worker + (l.place + l.i) * l.job.share.workers) l.job.share.workers;
-  judged : take l.place (verdicts_of l.job) ++ take l.i l.block ≡ take (l.place + l.i) (verdicts_of l.job);
+  next : GoesOnAt l.candidates l.job.fixed l.job.seed (l.job.share.first + l.job.share.worker + (l.place + l.i) * l.job.share.workers) l.job.share.workers;
+  judged : take l.place (verdicts_around l.job) ++ take l.i l.block ≡ take (l.place + l.i) (verdicts_around l.job);
 }

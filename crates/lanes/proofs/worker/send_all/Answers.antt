@@ -1,5 +1,6 @@
 use Rattle.std.proofs.Common.{◌+◌, ◌*◌, ◌∙◌, ◌≡◌, refl, sym, subst, arith}
 use Rattle.cards.specs.CandidateWalks.{GoesOnAt}
+use Rattle.cards.specs.Fixed.{candidate_around}
 use Rattle.lanes.proofs.VerdictLists.{length-verdicts}
 use Rattle.lanes.proofs.worker.send_all.Goals as goal
 
@@ -11,8 +12,8 @@ loop-place-init g c =
     record {
       ring = refl;
       sent = c.requires;
-      next = subst (λ n. GoesOnAt c.new-candidates.result j.seed n s.workers) first c.new-candidates.ensures;
-      count = c.len-count.ensures ∙ sym (length-verdicts j.seed s.first s.count j.cond s.workers s.worker);
+      next = subst (λ n. GoesOnAt c.around-candidates.result j.fixed j.seed n s.workers) first c.around-candidates.ensures;
+      count = c.len-count.ensures ∙ sym (length-verdicts (candidate_around j.fixed j.seed) s.first s.count j.cond s.workers s.worker);
       turns = c.len-count.ensures;
       within = omega arith;
     }

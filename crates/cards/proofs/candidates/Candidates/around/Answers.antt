@@ -1,0 +1,5 @@
+use Rattle.std.proofs.Common.{arith}
+use Rattle.cards.proofs.candidates.Candidates.around.Goals as goal
+
+pub of-requires : goal.of-requires
+of-requires c = omega (arith, c.of-jump.ensures.few 64 (omega arith))

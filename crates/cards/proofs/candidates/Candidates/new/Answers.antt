@@ -1,5 +1,0 @@
-use Rattle.std.proofs.Common.{arith}
-use Rattle.cards.proofs.candidates.Candidates.new.Goals as goal
-
-pub of-requires : goal.of-requires
-of-requires c = omega (arith, c.of-jump.ensures.few 64 (omega arith))

@@ -1,0 +1,5 @@
+pub mod Apart
+pub mod Cards
+pub mod Chains
+pub mod Faults
+pub mod Room

@@ -1,0 +1,2 @@
+pub mod HandTexts
+pub mod HandFaults

@@ -1,0 +1,44 @@
+-- The least and the greatest number that a value of any deal is.
+use Rattle.std.specs.Prelude.{ℕ, ◌+◌, ◌*◌, cond}
+use Rattle.cards.specs.declared.honours.Honours.{Honours}
+use Rattle.cards.specs.declared.measure.Measure.{Measure}
+use Rattle.cards.specs.declared.measure.Measure.TheVariants.{Hcp, Controls, Losers}
+use Rattle.cond_lang.specs.Form.{Amount, cards_held, longest, number, points, shortest}
+use Rattle.cond_lang.specs.Form.{suit_cards_held, suit_length, suit_points, suit_total, total}
+use Rattle.cond_lang.specs.Form.{sum as plus}
+
+-- how many ranks these are
+abbrev pub rank_count : Honours → ℕ
+rank_count h =
+    cond h.ace 1 0 + cond h.king 1 0 + cond h.queen 1 0 + cond h.jack 1 0 + cond h.ten 1 0
+
+-- the most that a hand counts by a measure, and that its cards of one suit count
+abbrev pub most_of : Measure → ℕ
+most_of Hcp = 37
+most_of Controls = 12
+most_of Losers = 12
+
+abbrev pub most_in : Measure → ℕ
+most_in Hcp = 10
+most_in Controls = 3
+most_in Losers = 3
+
+-- the least and the greatest that a value is, as far as each of its parts says
+abbrev pub least_of : Amount → ℕ
+least_of (plus a b) = least_of a + least_of b
+least_of (number n) = n
+least_of (longest q) = 4
+least_of _ = 0
+
+abbrev pub greatest_of : Amount → ℕ
+greatest_of (plus a b) = greatest_of a + greatest_of b
+greatest_of (number n) = n
+greatest_of (points q) = 37
+greatest_of (suit_points q s) = 10
+greatest_of (total m q) = most_of m
+greatest_of (suit_total m q s) = most_in m
+greatest_of (cards_held q h) = 4 * rank_count h
+greatest_of (suit_cards_held q s h) = rank_count h
+greatest_of (suit_length q s) = 13
+greatest_of (longest q) = 13
+greatest_of (shortest q) = 3

@@ -1,0 +1,77 @@
+//! The least and the greatest number that a value of any deal is.
+
+ghost use Rattle.std.specs.Prelude.{◌≡◌, ◌*◌, ◌≤◌};
+ghost use Rattle.cond_lang.specs.Form.{amount_of};
+ghost use Rattle.cond_lang.specs.Limits.{atoms_of};
+ghost use Rattle.hints.specs.Limits.{greatest_of, least_of, most_in, most_of, rank_count};
+
+use cards::{Honours, Measure};
+use cond_lang::Value;
+
+/// The least that the value is.
+pub(crate) fn least(value: &Value) -> u32
+    requires { atoms_of (amount_of value.now) ≤ 1024 }
+    ensures value { result ≡ least_of (amount_of value.now) }
+    ensures most { result ≤ 65535 * atoms_of (amount_of value.now) }
+{
+    match value {
+        Value::Sum(left, right) => least(left) + least(right),
+        Value::Number(number) => u32::from(*number),
+        Value::Longest(_) => 4,
+        _ => 0,
+    }
+}
+
+/// The greatest that the value is.
+pub(crate) fn greatest(value: &Value) -> u32
+    requires { atoms_of (amount_of value.now) ≤ 1024 }
+    ensures value { result ≡ greatest_of (amount_of value.now) }
+    ensures most { result ≤ 65535 * atoms_of (amount_of value.now) }
+{
+    match value {
+        Value::Sum(left, right) => greatest(left) + greatest(right),
+        Value::Number(number) => u32::from(*number),
+        Value::Points(_) => 37,
+        Value::SuitPoints(..) => 10,
+        Value::Total(measure, _) => most_of(*measure),
+        Value::SuitTotal(measure, _, _) => most_in(*measure),
+        Value::Cards(_, ranks) => 4 * rank_count(*ranks),
+        Value::SuitCards(_, _, ranks) => rank_count(*ranks),
+        Value::Length(..) | Value::Longest(_) => 13,
+        Value::Shortest(_) => 3,
+    }
+}
+
+/// The most that a hand counts by the measure.
+fn most_of(measure: Measure) -> u32
+    ensures value { result ≡ most_of measure }
+    ensures few { result ≤ 37 }
+{
+    match measure {
+        Measure::Hcp => 37,
+        Measure::Controls | Measure::Losers => 12,
+    }
+}
+
+/// The most that the cards of one suit count by the measure.
+fn most_in(measure: Measure) -> u32
+    ensures value { result ≡ most_in measure }
+    ensures few { result ≤ 10 }
+{
+    match measure {
+        Measure::Hcp => 10,
+        Measure::Controls | Measure::Losers => 3,
+    }
+}
+
+/// How many ranks these are.
+fn rank_count(ranks: Honours) -> u32
+    ensures value { result ≡ rank_count ranks }
+    ensures few { result ≤ 5 }
+{
+    u32::from(ranks.ace)
+        + u32::from(ranks.king)
+        + u32::from(ranks.queen)
+        + u32::from(ranks.jack)
+        + u32::from(ranks.ten)
+}

@@ -1,0 +1,162 @@
+//! Several suits where one is wanted.
+
+use crate::parts::{Parts, is, is_measure, is_number, is_relation, is_suit};
+use crate::rules::amounts::{Compared, compared_at};
+use crate::rules::samples::suit_comparison;
+use crate::said::{Said, say};
+use std::alloc::Global;
+
+/// A call with two suits, and what stands behind them.
+#[derive(Clone, Copy)]
+struct Pair<'t> {
+    first: &'t [u8],
+    second: &'t [u8],
+    join: &'t [u8],
+    /// How many parts before the fault its seat stands, and behind it what follows the suits.
+    seat: usize,
+    behind: usize,
+}
+
+/// `len(north,clubs or diamonds)`, `len(north,minor)`, `len(north,clubs+diamonds)`
+pub(crate) fn hint(alloc: Global, parts: &Parts) -> Said {
+    let call = parts.call();
+    let has_suit = is_measure(call) && !is(call, "longest") && !is(call, "shortest");
+    let Some(pair) = pair_at(parts) else {
+        return Ok(None);
+    };
+    if !has_suit || !is(parts.back(pair.seat.saturating_sub(1)), ",") {
+        return Ok(None);
+    }
+    if is(call, "cards") {
+        return say(alloc, &[b"name one suit, and join two tests with \"or\""]);
+    }
+    if is(pair.join, "+") {
+        return added(alloc, call, parts.back(pair.seat), &pair);
+    }
+    joined(alloc, parts, call, &pair)
+}
+
+/// The two suits at the fault.
+fn pair_at<'t>(parts: &Parts<'t>) -> Option<Pair<'t>> {
+    let token = parts.next(0);
+    let named = match token {
+        b"minor" | b"minors" => Some((b"clubs".as_slice(), b"diamonds".as_slice())),
+        b"major" | b"majors" => Some((b"spades".as_slice(), b"hearts".as_slice())),
+        _ => None,
+    };
+    if let Some((first, second)) = named {
+        return Some(Pair {
+            first,
+            second,
+            join: b"or",
+            seat: 2,
+            behind: 1,
+        });
+    }
+    let join = match token {
+        b"or" | b"/" | b"|" | b"||" => b"or".as_slice(),
+        b"and" | b"&" | b"&&" => b"and",
+        b"+" => b"+",
+        _ => return None,
+    };
+    let (first, second) = (parts.back(1), parts.next(1));
+    if !is_suit(first) || !is_suit(second) {
+        return None;
+    }
+    Some(Pair {
+        first,
+        second,
+        join,
+        seat: 3,
+        behind: 2,
+    })
+}
+
+/// `len(north,clubs+diamonds)`
+fn added(alloc: Global, call: &[u8], seat: &[u8], pair: &Pair) -> Said {
+    say(
+        alloc,
+        &[
+            b"write \"",
+            call,
+            b"(",
+            seat,
+            b",",
+            pair.first,
+            b")+",
+            call,
+            b"(",
+            seat,
+            b",",
+            pair.second,
+            b")\"",
+        ],
+    )
+}
+
+/// What both suits are compared with: what is written, if it is one number.
+fn comparison<'t>(parts: &Parts<'t>, call: &[u8], at: usize) -> Compared<'t> {
+    let sign = parts.next(at);
+    let other = Compared {
+        sign: suit_comparison(call).as_bytes(),
+        low: b"",
+        dash: b"",
+        high: b"",
+        count: 0,
+    };
+    if is_relation(sign) || is(sign, "=") || is_number(sign) {
+        compared_at(parts, at).unwrap_or(other)
+    } else {
+        other
+    }
+}
+
+/// `len(north,clubs or diamonds)>=5`
+fn joined<'t>(alloc: Global, parts: &Parts<'t>, call: &'t [u8], pair: &Pair<'t>) -> Said {
+    let seat = parts.back(pair.seat);
+    let compared = comparison(parts, call, pair.behind.saturating_add(1));
+    let Compared {
+        sign,
+        low,
+        dash,
+        high,
+        count,
+    } = compared;
+    let is_all = is(parts.back(pair.seat.saturating_add(3)), "")
+        && is(
+            parts.next(pair.behind.saturating_add(1).saturating_add(count)),
+            "",
+        );
+    let (open, close) = if is_all { ("", "") } else { ("(", ")") };
+    say(
+        alloc,
+        &[
+            b"with one suit in each test write: ",
+            open.as_bytes(),
+            call,
+            b"(",
+            seat,
+            b",",
+            pair.first,
+            b")",
+            sign,
+            low,
+            dash,
+            high,
+            b" ",
+            pair.join,
+            b" ",
+            call,
+            b"(",
+            seat,
+            b",",
+            pair.second,
+            b")",
+            sign,
+            low,
+            dash,
+            high,
+            close.as_bytes(),
+        ],
+    )
+}
