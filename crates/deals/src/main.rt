@@ -6,6 +6,8 @@
 //! are found, and its counts are shown.
 #![tactic(auto)]
 
+mod advice;
+
 ghost use Rattle.std.specs.Prelude.{◌≡◌, IfOk};
 
 use cond_lang::parse;
@@ -127,32 +129,12 @@ fn start(rt: &HostRuntime) -> Result<(Vec<String>, Output, Said)>
     Ok((words, out, err))
 }
 
-/// The line of clap's that a seed is missing.
-const NO_SEED: &str = "\n  --seed <S>\n";
-
-/// How to come to a seed for new boards.
-const HOW_TO_SEED: &str = "  hint: for a lesson any number is a good seed: --seed 7
-  hint: for a club draw one that nobody can guess: od -An -N4 -tu4 /dev/urandom
-";
-
-/// What helps with these refused words, if they deal from a seed and have none. For `pick` none
-/// helps but the one that its numbers come from.
-fn seed_advice(alloc: Global, words: &[String]) -> Option<String> {
-    if !matches!(words.get(1)?.as_str(), "make" | "find") {
-        return None;
-    }
-    let refusal = read_words(alloc, words).err()?.to_string(alloc).ok()?;
-    if refusal.as_str().contains(NO_SEED) {
-        return String::from_str(alloc, HOW_TO_SEED).ok();
-    }
-    None
-}
-
-/// What helps with these refused words, or their refused plan or label; none where memory runs out.
+/// What helps with these refused words, or their refused plan, label or hand; none where memory
+/// runs out.
 fn advice(alloc: Global, words: &[String]) -> Option<String> {
     match planned_in(alloc, words) {
         Some(request) => advise(alloc, &request).unwrap_or(None),
-        None => seed_advice(alloc, words),
+        None => advice::of_words(alloc, words),
     }
 }
 

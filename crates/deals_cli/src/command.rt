@@ -53,6 +53,12 @@ const PICK_EXAMPLES: &str = "Examples:
 Reads the numbers of candidates, as find prints them, from standard input, one per line; lines \
     without any are skipped.";
 
+const CONDITIONS_EXAMPLES: &str = "Examples:
+  Page by page:
+    deals conditions | less
+  A condition at work, in quotes behind --where:
+    deals make --seed 7 --boards 12 --where 'hcp(north) in 15-17 and balanced(north)'";
+
 const STREAM_EXAMPLES: &str = "Example:
   deals stream --seed 0 --count 3";
 
@@ -382,9 +388,9 @@ fn conditions_command<'a>(alloc: Global) -> Command<'a>
     ensures app { app_of result ≡ conditions_app }
     ensures local { (fields_of result).has_globals ≡ false }
 {
-    Command::new(alloc, "conditions").about(
-        "Prints all that --where understands, with ten examples",
-    )
+    Command::new(alloc, "conditions")
+        .about("Prints all that --where understands, with ten examples")
+        .after_help(CONDITIONS_EXAMPLES)
 }
 
 fn stream_command<'a>(alloc: Global) -> Result<Command<'a>, AllocError>

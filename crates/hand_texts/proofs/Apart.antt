@@ -1,14 +1,16 @@
 -- Texts that aren't refused are hands, and each card is at the seat whose text has it.
-use Rattle.std.proofs.Common.{◌≡◌, ◌∙◌, ℕ, ◌<◌, ◌&&◌, ◌||◌, Bool, true, false, List, get_or, map, ap, sym, refl, arith}
+use Rattle.std.proofs.Common.{◌≡◌, ◌∙◌, ℕ, ◌<◌, ◌&&◌, ◌||◌, Bool, true, false, List, [], ◌∷◌, get_or, map, ap, sym, refl, arith}
 use Rattle.std.specs.Prelude.{Option, Some, None, is_some, not, if◌then◌else◌}
+use Rattle.std.specs.List.{find}
 use Rattle.std.proofs.lemmas.List.FromFn.{get_or-map-range_with_len}
 use Rattle.cards.specs.declared.seat.Seat.{Seat}
 use Rattle.cards.specs.declared.seat.Seat.TheVariants.{North, East, South, West}
+use Rattle.cards.specs.Deals.{all_seats}
 use Rattle.cards.specs.Fixed.{is_fixed_at}
 use Rattle.cards.specs.Shuffle.{pack}
 use Rattle.hand_texts.specs.HandTexts.{AreHands, GivenHands, IsFixedBy, before, first_refused}
 use Rattle.hand_texts.specs.HandTexts.{fixed_of, given_at, has_card, has_given, is_hand}
-use Rattle.hand_texts.specs.HandTexts.{is_refused, seat_given, shares}
+use Rattle.hand_texts.specs.HandTexts.{is_refused, is_refused_at, seat_given, shares}
 use Rattle.hand_texts.proofs.Cards.{some_card}
 use Rattle.hand_texts.proofs.Room.{first_of, has_at, not_refused, of_seat}
 
@@ -25,6 +27,22 @@ hand_given earlier (Some t) text e h =
 
 pub are_hands : (hands : GivenHands) → first_refused hands ≡ None → AreHands hands
 are_hands hands h = λ seat text e. (hand_given (before seat hands) (given_at hands seat) text e (not_refused seat hands h)).0
+
+-- ---- the first that is refused
+
+found_at : {X : Type 0} (p : X → Bool) (y x : X) (rest : Option X) (b : Bool) → p y ≡ b → (rest ≡ Some x → p x ≡ true) → (if b then Some y else rest) ≡ Some x → p x ≡ true
+found_at p y x rest true h behind e =
+    let same : y ≡ x = cc in
+    rw (← same) h
+found_at p y x rest false h behind e = behind e
+
+found : {X : Type 0} (p : X → Bool) (xs : List X) (x : X) → find p xs ≡ Some x → p x ≡ true
+found p [] x e = absurd cc
+found p (y ∷ ys) x e = found_at p y x (find p ys) (p y) refl (found p ys x) e
+
+pub refused_first : (hands : GivenHands) (seat : Seat) → first_refused hands ≡ Some seat → is_refused_at hands seat ≡ true
+unfolding first_refused
+refused_first hands seat e = found (is_refused_at hands) all_seats seat e
 
 -- ---- no card of an earlier text
 

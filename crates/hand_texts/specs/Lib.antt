@@ -1,2 +1,3 @@
 pub mod HandTexts
 pub mod HandFaults
+pub mod HandRules

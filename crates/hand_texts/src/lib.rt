@@ -6,6 +6,7 @@
 
 mod fault;
 mod hand;
+mod rule;
 mod texts;
 
 pub use fault::HandFault;

@@ -3,6 +3,7 @@
 use super::*;
 use cards::testing::{IN_ORDER, WORKED, fixed_in};
 use cards::{Card, Seat};
+use std::alloc::Global;
 use std::process::Abort;
 use std::test::Fail;
 
@@ -202,6 +203,77 @@ fn faults_that_name_a_card(rt: HostRuntime) -> Result<(), Fail> {
     assert_eq!(rt;
         held.fault_at(Seat::West),
         Some(HandFault::Held(deuce, Seat::East))
+    );
+    Ok(())
+}
+
+/// What is said of North's text.
+const RULES: [(&str, &str); 7] = [
+    (
+        "ak...",
+        "ranks are capital letters, A K Q J T 9 8 7 6 5 4 3 2",
+    ),
+    ("10...", "a ten is written T"),
+    (
+        "Ax...",
+        "write A K Q J T 9 8 7 6 5 4 3 2 and dots, and leave open cards out",
+    ),
+    (
+        "AKQ32",
+        "three dots part spades, hearts, diamonds and clubs, as AKQ32.K..A",
+    ),
+    ("..KQK.", "the king of diamonds stands there twice"),
+    ("...3422", "the two of clubs stands there twice"),
+    ("AKQJT98765432.A..", "a hand has 13 cards at most"),
+];
+
+#[test]
+fn rules_for_a_text(rt: HostRuntime) -> Result<(), Fail> {
+    for (text, rule) in RULES.iter() {
+        let fault = texts([Some(*text), None, None, None]).fault_at(Seat::North);
+        assert_eq!(rt; said(rt.alloc(), fault)?.as_str(), *rule);
+    }
+    Ok(())
+}
+
+/// What is said of a fault.
+fn said(alloc: Global, fault: Option<HandFault>) -> Result<String, Fail> {
+    let mut line = String::new(alloc);
+    fault.ok_or("a fault")?.put_rule(&mut line)?;
+    Ok(line)
+}
+
+/// West's hand has each card of spades in turn, and another hand has it too.
+#[test]
+fn rules_name_the_card_and_its_holder(rt: HostRuntime) -> Result<(), Fail> {
+    let ranks = [
+        ("A...", "the ace of spades is north's"),
+        ("K...", "the king of spades is north's"),
+        ("Q...", "the queen of spades is north's"),
+        ("J...", "the jack of spades is north's"),
+        ("T...", "the ten of spades is north's"),
+        ("9...", "the nine of spades is north's"),
+        ("8...", "the eight of spades is north's"),
+        ("7...", "the seven of spades is north's"),
+        ("6...", "the six of spades is north's"),
+        ("5...", "the five of spades is north's"),
+        ("4...", "the four of spades is north's"),
+        ("3...", "the three of spades is north's"),
+        ("2...", "the two of spades is north's"),
+    ];
+    for (text, rule) in ranks.iter() {
+        let fault = texts([Some("AKQJT98765432..."), None, None, Some(*text)]).fault_at(Seat::West);
+        assert_eq!(rt; said(rt.alloc(), fault)?.as_str(), *rule);
+    }
+    let suits = [None, Some(".A.."), Some("...2"), Some(".A..")];
+    assert_eq!(rt;
+        said(rt.alloc(), texts(suits).fault_at(Seat::West))?.as_str(),
+        "the ace of hearts is east's"
+    );
+    let clubs = [None, None, Some("...2"), Some("...2")];
+    assert_eq!(rt;
+        said(rt.alloc(), texts(clubs).fault_at(Seat::West))?.as_str(),
+        "the two of clubs is south's"
     );
     Ok(())
 }

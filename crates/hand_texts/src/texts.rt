@@ -75,8 +75,8 @@ impl<'a> HandTexts<'a> {
         self.before(seat).refuses(self.given_at(seat))
     }
 
-    /// The text of the seat.
-    pub(crate) fn given_at(&self, seat: Seat) -> Option<&'a str>
+    /// The text of the seat, if it is given.
+    pub fn given_at(&self, seat: Seat) -> Option<&'a str>
         ensures { bytes_of result ≡ given_at (given_by self.now) seat }
     {
         match seat {

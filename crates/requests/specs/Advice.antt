@@ -5,6 +5,10 @@ use Rattle.std.specs.Prelude.{map, nat_le, nat_lt, take, if◌then◌else◌}
 use Rattle.std.specs.Prelude.{Option, None, Some, unwrap_or}
 use Rattle.cards.specs.declared.seat.Seat.{Seat}
 use Rattle.cards.specs.declared.seat.Seat.TheVariants as seat
+use Rattle.hand_texts.specs.HandFaults.{IsFaultOf}
+use Rattle.hand_texts.specs.HandRules.{rule_of}
+use Rattle.hand_texts.specs.HandTexts.{before, given_at}
+use Rattle.hand_texts.specs.declared.fault.HandFault.{HandFault}
 use Rattle.hints.specs.Excerpt.{shown}
 use Rattle.plans.specs.declared.plan.PlanError.{PlanError}
 use Rattle.plans.specs.declared.plan.PlanError.TheVariants as plan
@@ -41,11 +45,14 @@ shown_text text =
     if nat_le (length text) 72 then map shown text
     else map shown (take 70 text) ++ codes ".."
 
+-- an option and the text that it was given
+abbrev pub given_text : List ℕ → List ℕ → List ℕ
+given_text option text =
+    codes "  --" ++ option ++ codes " \"" ++ shown_text text ++ codes "\": "
+
 -- a text that an option was given, and what it takes
 abbrev pub text_line : List ℕ → Option (List ℕ) → List ℕ → List ℕ
-text_line option text rule =
-    codes "  --" ++ option ++ codes " \"" ++ shown_text (unwrap_or text []) ++ codes "\": "
-    ++ rule ++ codes "\n"
+text_line option text rule = given_text option (unwrap_or text []) ++ rule ++ codes "\n"
 
 -- what an event and a site may be
 abbrev pub label_rule : List ℕ
@@ -61,25 +68,29 @@ label_advice m label.Event = text_line (codes "event") m.event label_rule
 label_advice m label.Site = text_line (codes "site") m.site label_rule
 label_advice m label.Date = text_line (codes "date") m.date date_rule
 
--- how a hand is written
-abbrev pub hand_rule : List ℕ
-hand_rule = codes "a hand is written as AKQ32.K..A, spades first, three dots, 13 cards at most"
+-- the option of a seat's hand
+abbrev pub seat_option : Seat → List ℕ
+seat_option seat.North = codes "north"
+seat_option seat.East = codes "east"
+seat_option seat.South = codes "south"
+seat_option seat.West = codes "west"
 
--- what the hand may be
-abbrev pub hand_advice : Making → Seat → List ℕ
-hand_advice m seat.North = text_line (codes "north") m.hands.north hand_rule
-hand_advice m seat.East = text_line (codes "east") m.hands.east hand_rule
-hand_advice m seat.South = text_line (codes "south") m.hands.south hand_rule
-hand_advice m seat.West = text_line (codes "west") m.hands.west hand_rule
+-- a line that names a fault of the text that is given for a seat's hand
+pub record IsHandAdvice (m : Making) (holder : Seat) (line : List ℕ) : Type 0 where
+  pub text : List ℕ
+  pub given : given_at m.hands holder ≡ Some text
+  pub fault : HandFault
+  pub is_fault : IsFaultOf (before holder m.hands) text fault
+  pub says : line ≡ given_text (seat_option holder) text ++ rule_of fault ++ codes "\n"
 
--- the line for a failure, none if it is no refusal of a plan, a label or a hand
-abbrev pub advice_of : Making → Failure → Option (List ℕ)
-advice_of m (Plan error) = Some (plan_advice m error)
-advice_of m (Label name) = Some (label_advice m name)
-advice_of m (Hand holder) = Some (hand_advice m holder)
-advice_of m _ = None
+-- the line for the refusal of a plan, a label or a hand
+abbrev pub IsAdviceOn : Making → Failure → List ℕ → Type 0
+IsAdviceOn m (Plan error) line = line ≡ plan_advice m error
+IsAdviceOn m (Label name) line = line ≡ label_advice m name
+IsAdviceOn m (Hand holder) line = IsHandAdvice m holder line
+IsAdviceOn m _ line = ⊥
 
 -- no line where there is such a plan, and else that of the first refusal
 abbrev pub Advises : Making → Option (List ℕ) → Type 0
 Advises m None = IsPlanned m
-Advises m (Some line) = (failure : Failure) × IsDueOf m failure × (advice_of m failure ≡ Some line)
+Advises m (Some line) = (failure : Failure) × IsDueOf m failure × IsAdviceOn m failure line

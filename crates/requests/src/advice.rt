@@ -1,11 +1,13 @@
 //! What helps a person with a plan, a label or a hand that is refused: the option, what it was
 //! given, and what it takes.
 
-ghost use Rattle.std.specs.Prelude.{◌≡◌, ◌++◌, map, option_map, string_bytes, IfOk, IfSome, OnOk};
-ghost use Rattle.requests.specs.Advice.{Advises, advice_of, hand_advice, label_advice, plan_advice};
-ghost use Rattle.requests.specs.Advice.{range_line, shown_text, text_line};
+ghost use Rattle.std.specs.Prelude.{◌≡◌, ◌++◌, [], map, option_map, string_bytes, unwrap_or};
+ghost use Rattle.std.specs.Prelude.{IfOk, IfSome, OnOk};
+ghost use Rattle.requests.specs.Advice.{Advises, given_text, label_advice, plan_advice, range_line};
+ghost use Rattle.requests.specs.Advice.{seat_option, shown_text, text_line};
 ghost use Rattle.requests.specs.Makings.{candidates_of};
 ghost use Rattle.requests.specs.Options.{making_of};
+ghost use Rattle.requests.specs.internal.Hands.{SaysOfHand};
 
 use crate::failure::{Failure, LabelName};
 use crate::make::{MakeRequest, candidates_of, planned};
@@ -38,7 +40,7 @@ pub fn advise(alloc: Global, request: &MakeRequest<'_>) -> Result<Option<String>
         Ok(_) => Ok(None),
         Err(Failure::Plan(error)) => Ok(Some(of_plan(alloc, request, error)?)),
         Err(Failure::Label(name)) => Ok(Some(of_label(alloc, request, name)?)),
-        Err(Failure::Hand(seat)) => Ok(Some(of_hand(alloc, request, seat)?)),
+        Err(Failure::Hand(seat)) => Ok(of_hand(alloc, request, seat)?),
         Err(_) => Ok(None),
     }
 }
@@ -142,16 +144,37 @@ fn of_label(alloc: Global, request: &MakeRequest<'_>, name: LabelName) -> Result
     }
 }
 
-/// The line for a text that is no hand, or has a card of an earlier one.
-fn of_hand(alloc: Global, request: &MakeRequest<'_>, seat: Seat) -> Result<String, AllocError>
+/// The line for a text that is no hand, or has a card of an earlier one; none if it is a hand.
+fn of_hand(
+    alloc: Global,
+    request: &MakeRequest<'_>,
+    seat: Seat,
+) -> Result<Option<String>, AllocError>
     ensures { IfOk result (λ line.
-        string_bytes line ≡ hand_advice (making_of request.now) seat) }
+        SaysOfHand (making_of request.now) seat (option_map string_bytes line)) }
+{
+    let Some(text) = request.hands.given_at(seat) else {
+        return Ok(None);
+    };
+    let Some(fault) = request.hands.fault_at(seat) else {
+        return Ok(None);
+    };
+    let mut line = String::new(alloc);
+    put_given(&mut line, option_of(seat), text)?;
+    fault.put_rule(&mut line)?;
+    line.push_str("\n")?;
+    Ok(Some(line))
+}
+
+/// The option of the seat's hand.
+fn option_of(seat: Seat) -> &'static str
+    ensures { result.now ≡ seat_option seat }
 {
     match seat {
-        Seat::North => of_text(alloc, "north", request.hands.north, HAND_RULE),
-        Seat::East => of_text(alloc, "east", request.hands.east, HAND_RULE),
-        Seat::South => of_text(alloc, "south", request.hands.south, HAND_RULE),
-        Seat::West => of_text(alloc, "west", request.hands.west, HAND_RULE),
+        Seat::North => "north",
+        Seat::East => "east",
+        Seat::South => "south",
+        Seat::West => "west",
     }
 }
 
@@ -164,10 +187,6 @@ const LABEL_RULE: &str = "at most 100 characters of ASCII, from space to ~, with
 /// What a date may be.
 const DATE_RULE: &str = "a date is written YYYY.MM.DD, as 2024.05.01";
 
-/// How a hand is written.
-const HAND_RULE: &str =
-    "a hand is written as AKQ32.K..A, spades first, three dots, 13 cards at most";
-
 /// The line for a text that an option doesn't take.
 fn of_text(
     alloc: Global,
@@ -179,14 +198,31 @@ fn of_text(
         ≡ text_line option.now (option_map (λ s. s.now) text.entry) rule.now) }
 {
     let mut line = String::new(alloc);
-    line.push_str("  --")?;
-    line.push_str(option)?;
-    line.push_str(" \"")?;
-    put_text(&mut line, text.unwrap_or("").as_bytes())?;
-    line.push_str("\": ")?;
+    put_given(&mut line, option, text_or_empty(text))?;
     line.push_str(rule)?;
     line.push_str("\n")?;
     Ok(line)
+}
+
+fn text_or_empty<'a>(text: Option<&'a str>) -> &'a str
+    ensures { result.now ≡ unwrap_or (option_map (λ s. s.now) text.entry) [] }
+{
+    match text {
+        Some(text) => text,
+        None => "",
+    }
+}
+
+/// Appends the option, and the text that it was given.
+fn put_given(line: &mut String, option: &str, text: &str) -> Result<(), AllocError>
+    ensures { OnOk result
+        (string_bytes line.new ≡ string_bytes line.old ++ given_text option.now text.now) }
+{
+    line.push_str("  --")?;
+    line.push_str(option)?;
+    line.push_str(" \"")?;
+    put_text(line, text.as_bytes())?;
+    line.push_str("\": ")
 }
 
 /// Appends a text as it is shown, cut if it is long.

@@ -193,30 +193,24 @@ fn texts_that_are_no_hands(rt: HostRuntime) -> Result<(), Fail> {
         ..none
     };
     let west = HandTexts {
-        west: Some(""),
+        west: Some("A.10.K.K"),
         ..none
     };
     let cases = [
         (
             hands(north),
-            "  --north \"AK..\": a hand is written as AKQ32.K..A, \
-            spades first, three dots, 13 cards at most\n",
+            "  --north \"AK..\": three dots part spades, hearts, diamonds and clubs, \
+            as AKQ32.K..A\n",
         ),
         (
             hands(east),
-            "  --east \"KA...\": a hand is written as AKQ32.K..A, \
-            spades first, three dots, 13 cards at most\n",
+            "  --east \"KA...\": the ace of spades is north's\n",
         ),
         (
             hands(south),
-            "  --south \"ak...\": a hand is written as AKQ32.K..A, \
-            spades first, three dots, 13 cards at most\n",
+            "  --south \"ak...\": ranks are capital letters, A K Q J T 9 8 7 6 5 4 3 2\n",
         ),
-        (
-            hands(west),
-            "  --west \"\": a hand is written as AKQ32.K..A, \
-            spades first, three dots, 13 cards at most\n",
-        ),
+        (hands(west), "  --west \"A.10.K.K\": a ten is written T\n"),
     ];
     check(&rt, rt.alloc(), cases.as_slice())
 }
