@@ -13,7 +13,34 @@ use lcg48::Lcg48;
 
 /// Runs the exchanges for so many positions below `end`, and returns the mask of the cards left
 /// there, which no later exchange touches.
+#[inline(always)]
 pub(crate) fn settle(cards: &mut [u8; 52], generator: &mut Lcg48, end: usize, count: usize) -> u64
+    requires some { count ≤ end }
+    requires inside { end ≤ 52 }
+    requires cards { AreCards cards.old }
+    ensures cards { AreCards cards.new }
+    ensures dealing { (fixed : List (Option ASeat)) (free : List ℕ) (x : ℕ)
+        → end ≤ free_count fixed
+        → IsDealingAround fixed free x generator.old cards.old end
+        → IsDealingAround fixed free x generator.new cards.new (end - count) }
+    ensures mask { (fixed : List (Option ASeat)) (free : List ℕ) (x : ℕ)
+        → end ≤ free_count fixed
+        → IsDealingAround fixed free x generator.old cards.old end
+        → result
+        ≡ mask_l
+        (map
+        (settles_within fixed (places_for (free_count fixed) x) (end - count) end)
+        pack_in_order) }
+{
+    if count == 13 {
+        settle_thirteen(cards, generator, end)
+    } else {
+        settle_some(cards, generator, end, count)
+    }
+}
+
+/// The exchanges for any count.
+fn settle_some(cards: &mut [u8; 52], generator: &mut Lcg48, end: usize, count: usize) -> u64
     requires some { count ≤ end }
     requires inside { end ≤ 52 }
     requires cards { AreCards cards.old }
@@ -44,8 +71,38 @@ pub(crate) fn settle(cards: &mut [u8; 52], generator: &mut Lcg48, end: usize, co
     mask
 }
 
-/// The exchanges at a position and at the one below it, and the cards that stay there. Two draws at
-/// a time are quicker than one after the other.
+/// The exchanges for a seat of which nothing is fixed: thirteen, in a loop without a branch.
+#[inline(always)]
+fn settle_thirteen(cards: &mut [u8; 52], generator: &mut Lcg48, end: usize) -> u64
+    requires some { 13 ≤ end }
+    requires inside { end ≤ 52 }
+    requires cards { AreCards cards.old }
+    ensures cards { AreCards cards.new }
+    ensures dealing { (fixed : List (Option ASeat)) (free : List ℕ) (x : ℕ)
+        → end ≤ free_count fixed
+        → IsDealingAround fixed free x generator.old cards.old end
+        → IsDealingAround fixed free x generator.new cards.new (end - 13) }
+    ensures mask { (fixed : List (Option ASeat)) (free : List ℕ) (x : ℕ)
+        → end ≤ free_count fixed
+        → IsDealingAround fixed free x generator.old cards.old end
+        → result
+        ≡ mask_l
+        (map
+        (settles_within fixed (places_for (free_count fixed) x) (end - 13) end)
+        pack_in_order) }
+{
+    let mut mask = 0;
+    for pair in 0..6 {
+        let (upper, lower) = exchange_pair(cards, generator, end - 1 - 2 * pair);
+        mask |= 1 << upper;
+        mask |= 1 << lower;
+    }
+    let card = exchange(cards, generator, end - 13);
+    mask |= 1 << card;
+    mask
+}
+
+/// The exchanges at a position and at the one below it, and the cards that stay there.
 fn exchange_two(cards: &mut [u8; 52], generator: &mut Lcg48, position: usize) -> (u8, u8)
     requires above { 0 < position }
     requires inside { position < 52 }
@@ -68,6 +125,28 @@ fn exchange_two(cards: &mut [u8; 52], generator: &mut Lcg48, position: usize) ->
         let lower = exchange(cards, generator, 0);
         return (upper, lower);
     }
+    exchange_pair(cards, generator, position)
+}
+
+/// The same above position 1, where both need a draw: two at a time are quicker than one after the
+/// other.
+fn exchange_pair(cards: &mut [u8; 52], generator: &mut Lcg48, position: usize) -> (u8, u8)
+    requires above { 1 < position }
+    requires inside { position < 52 }
+    requires cards { AreCards cards.old }
+    ensures cards { AreCards cards.new }
+    ensures below { (result.0 < 52) × (result.1 < 52) }
+    ensures dealing { (fixed : List (Option ASeat)) (free : List ℕ) (x : ℕ)
+        → position < free_count fixed
+        → IsDealingAround fixed free x generator.old cards.old (position + 1)
+        → IsDealingAround fixed free x generator.new cards.new (position - 1) }
+    ensures taken { (fixed : List (Option ASeat)) (free : List ℕ) (x : ℕ)
+        → position < free_count fixed
+        → IsDealingAround fixed free x generator.old cards.old (position + 1)
+        → (result.0 ≡ slice_index free (card_at (places_for (free_count fixed) x) position))
+        × (result.1 ≡ slice_index free
+        (card_at (places_for (free_count fixed) x) (position - 1))) }
+{
     let (first, second) = generator.next_two();
     let upper = exchange_with(cards, first, position);
     let lower = exchange_with(cards, second, position - 1);

@@ -6,7 +6,7 @@
 //! are found, and its counts are shown.
 #![tactic(auto)]
 
-mod advice;
+mod refused_words;
 
 ghost use Rattle.std.specs.Prelude.{◌≡◌, IfOk};
 
@@ -134,7 +134,7 @@ fn start(rt: &HostRuntime) -> Result<(Vec<String>, Output, Said)>
 fn advice(alloc: Global, words: &[String]) -> Option<String> {
     match planned_in(alloc, words) {
         Some(request) => advise(alloc, &request).unwrap_or(None),
-        None => advice::of_words(alloc, words),
+        None => refused_words::hint(alloc, words),
     }
 }
 

@@ -4,7 +4,7 @@ use Rattle.std.specs.Int.{bit_at}
 use Rattle.cards.specs.declared.seat.Seat.{Seat}
 use Rattle.cards.specs.Fixed.{free_count, places_for}
 use Rattle.cards.specs.internal.Around.{AreCards, IsDealingAround, settles_within}
-use Rattle.cards.proofs.settle.settle.Given as goal
+use Rattle.cards.proofs.settle.settle_some.Given as goal
 
 abbrev pub invariant-loop-pair : goal.invariant-loop-pair
 invariant-loop-pair l = record {

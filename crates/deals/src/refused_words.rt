@@ -48,7 +48,7 @@ const INSTEAD: [(&str, &str); 16] = [
 ];
 
 /// What helps with these refused words, if anything does; none where memory runs out.
-pub fn of_words(alloc: Global, words: &[String]) -> Option<String> {
+pub fn hint(alloc: Global, words: &[String]) -> Option<String> {
     let refusal = read_words(alloc, words).err()?.to_string(alloc).ok()?;
     let hint = hint_for(words.get(1)?.as_str(), refusal.as_str())?;
     String::from_str(alloc, hint).ok()

@@ -2,7 +2,7 @@ use Rattle.std.proofs.Common.{◌≡◌, ◌+◌, ◌-◌, ◌∙◌, sym, ap, a
 use Rattle.lcg48.specs.Sequence.{step}
 use Rattle.cards.specs.internal.Around.{IsDealingAround}
 use Rattle.cards.proofs.FreeCards.{dealing_around_at}
-use Rattle.cards.proofs.settle.exchange_two.Goals as goal
+use Rattle.cards.proofs.settle.exchange_pair.Goals as goal
 
 pub returns-clause-dealing : goal.returns-clause-dealing
 returns-clause-dealing c fixed free x below before =
