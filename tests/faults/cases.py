@@ -121,6 +121,30 @@ def without_seed(command, more):
     return Case(f"{command}, no seed", [command, *words], 2, err=said.encode(), line=line.encode())
 
 
+# What stands below an option that isn't there, and below words whose command was left out.
+COMMAND_FIRST = "  hint: the command comes first: deals make --seed 7 --boards 36\n"
+TO_A_FILE = "  hint: boards go to standard output, and so into a file: deals make .. > boards.pbn\n"
+BY_WHERE = "  hint: a condition stands behind --where, in quotes: --where 'hcp(north)>=15'\n"
+HOW_MANY = "  hint: --boards 36 says how many boards, --candidates 1000 how many deals are tried\n"
+
+
+def unexpected(words, option, usage, hint):
+    """clap's text, and what to write in the place of the option."""
+    line = f"error: unexpected argument '{option}' found\n\n{usage}\n\n{MORE_INFORMATION}"
+    return Case(f"words, {option}", words, 2, err=(line + hint).encode(), line=line.encode())
+
+
+def of_tried_options():
+    usage = "Usage: deals make --seed <S> --boards <M>"
+    boards = ["make", "--seed", "7", "--boards", "12"]
+    yield unexpected(["--seed", "7", "--boards", "12"], "--seed", "Usage: deals <COMMAND>", COMMAND_FIRST)
+    tip = "  tip: a similar argument exists: '--south'\n\n"
+    yield unexpected([*boards, "--output", "x"], "--output", f"{tip}{usage} --south <HAND>", TO_A_FILE)
+    yield unexpected([*boards, "--condition", "hcp(north)>9"], "--condition", usage, BY_WHERE)
+    yield unexpected([*boards, "-n", "12"], "-n", usage, HOW_MANY)
+    yield unexpected([*boards, "--nothing-like-it"], "--nothing-like-it", usage, "")
+
+
 def of_refusals():
     for words in (
         [],
@@ -138,6 +162,7 @@ def of_refusals():
     for command, more in (("make", "--boards <M>"), ("find", "--where <TEXT> --boards <M>"), ("pick", "--rotate")):
         yield without_seed(command, more)
     yield Case("words: no text", ["make", b"\xff"], 2, err=b"")
+    yield from of_tried_options()
     for more, line, advice in (
         (["--first", "1099511627776"], "plan refused: range", "--candidates 1: 0 to 0 from this --first on"),
         (["--first", "1099511627777"], "plan refused: range", "--first 1099511627777: 0 to 1099511627776"),
@@ -148,6 +173,12 @@ def of_refusals():
         (["--event", 'a"b'], "label refused: event", f'--event "a"b": {LABEL}'),
         (["--site", "a\\bc" * 30], "label refused: site", f'--site "{SHOWN}..": {LABEL}'),
         (["--date", "2024-05-01"], "label refused: date", f'--date "2024-05-01": {DATE}'),
+        (["--west", "A10..."], "hand refused: west", '--west "A10...": a ten is written T'),
+        (
+            ["--north", "A...", "--east", "KA..."],
+            "hand refused: east",
+            '--east "KA...": the ace of spades is north\'s',
+        ),
     ):
         line += "\n"
         said = f"{line}  {advice}\n".encode()
