@@ -64,6 +64,9 @@ impl Around {
     /// The deal of the next draws around the fixed cards. Of m free cards the first m - 1 draws
     /// shuffle the list by rising number; North has the first of it until it has thirteen cards,
     /// then East, South and West.
+    ///
+    /// It is kept apart, so that the candidates of a run without fixed cards stay a few lines.
+    #[inline(never)]
     pub(crate) fn draw(&self, generator: &mut Lcg48) -> Deal
         ensures value { result
             ≡ dealt_around self.now (places_for (free_count self.now) generator.old) }
