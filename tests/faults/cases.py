@@ -137,18 +137,18 @@ def unexpected(words, option, usage, hint):
 def of_tried_options():
     usage = "Usage: deals make --seed <S> --boards <M>"
     boards = ["make", "--seed", "7", "--boards", "12"]
-    yield unexpected(["--seed", "7", "--boards", "12"], "--seed", "Usage: deals <COMMAND>", COMMAND_FIRST)
+    for words in (["--seed", "7", "--boards", "12"], ["--frist"]):
+        yield unexpected(words, words[0], "Usage: deals <COMMAND>", COMMAND_FIRST)
     tip = "  tip: a similar argument exists: '--south'\n\n"
     yield unexpected([*boards, "--output", "x"], "--output", f"{tip}{usage} --south <HAND>", TO_A_FILE)
     yield unexpected([*boards, "--condition", "hcp(north)>9"], "--condition", usage, BY_WHERE)
-    yield unexpected([*boards, "-n", "12"], "-n", usage, HOW_MANY)
+    yield unexpected([*boards, "-n", "12"], "-n", "Usage: deals make [OPTIONS] --seed <S>", HOW_MANY)
     yield unexpected([*boards, "--nothing-like-it"], "--nothing-like-it", usage, "")
 
 
 def of_refusals():
     for words in (
         [],
-        ["--frist"],
         ["deal"],
         ["stream"],
         ["stream", "--seed", "0"],
