@@ -1,5 +1,5 @@
 -- The deal around fixed cards: a partition, with the masks of what is fixed and what is dealt.
-use Rattle.std.proofs.Common.{◌≡◌, ℕ, zero, suc, ◌+◌, ◌-◌, ◌^◌, ◌<◌, ◌≤◌, ◌==◌, ◌&&◌, max, Bool, true, false, cond, List, [], ◌∷◌, length, take, get_or, map, refl, sym, ap, ◌∙◌, arith, inl, inr}
+use Rattle.std.proofs.Common.{◌≡◌, ℕ, zero, suc, ◌+◌, ◌-◌, ◌^◌, ◌<◌, ◌≤◌, ◌≢◌, ◌==◌, ◌&&◌, max, Bool, true, false, cond, List, [], ◌∷◌, length, take, get_or, map, refl, sym, ap, ◌∙◌, arith, inl, inr}
 use Rattle.std.specs.Prelude.{Option, Some, None, nat_le, ltb, unwrap_or, if◌then◌else◌}
 use Rattle.std.specs.List.{count_by}
 use Rattle.std.proofs.lemmas.Bool.{cases_lt}
@@ -7,11 +7,11 @@ use Rattle.std.proofs.lemmas.Bool.Decides.{nat_tests}
 use Rattle.std.proofs.lemmas.List.{get_or-map, length-map, take_all}
 use Rattle.std.proofs.lemmas.List.FromFn.{get_or-map-range_with_len, length-map-range_with_len}
 use Rattle.std.proofs.lemmas.Nat.{or_lt}
-use Rattle.std.proofs.lemmas.Nat.Bits.{bit_at_or}
+use Rattle.std.proofs.lemmas.Nat.Bits.{bit_at_or, bit_at-zero}
 use Rattle.std.proofs.lemmas.Simd.{bit_mask_l, mask_l-lt}
 use lib.Lanes.{mask_l}
 use Rattle.std.specs.Int.{bit_at}
-use Rattle.std.specs.Int.Bits.{bit_or}
+use Rattle.std.specs.Int.Bits.{bit_or, or_zero_r}
 use Rattle.std.proofs.lemmas.List.Sums.{sum_by-cons, count_by-le-length, count_by_more_no, count_by_more_yes}
 use Rattle.std.proofs.lemmas.List.Sorted.{sum_by-IsPermutation}
 use Rattle.cards.specs.declared.seat.Seat.{Seat}
@@ -21,7 +21,7 @@ use Rattle.cards.specs.Shuffle.{card_at, pack}
 use Rattle.cards.specs.Deals.{IsPartition, position_of}
 use Rattle.cards.specs.Fixed.{IsFixed, dealt_around, free_count, free_index, held, is_fixed_at, is_free, open_seat, places_for, room, seat_around}
 use Rattle.cards.specs.declared.around.Side.{Side}
-use Rattle.cards.specs.internal.Around.{IsSide, fixed_at, fixed_mask, settles_within}
+use Rattle.cards.specs.internal.Around.{IsSide, draws_around, fixed_at, fixed_mask, settles_within}
 use Rattle.cards.specs.internal.Masks.{IsMasks, seat_mask, seats_of_masks}
 use Rattle.cards.specs.internal.MaskBits.{bit_at_pack, mask-pack-lt, same_masks}
 use Rattle.cards.proofs.DealMasks.{bit_at_seat, masks_view, seat_mask-lt}
@@ -29,7 +29,7 @@ use Rattle.cards.proofs.FullMasks.{masks_of_partition}
 use Rattle.cards.proofs.Dealing.{position_of-card_at}
 use Rattle.cards.proofs.Partitions.{positions_whole}
 use Rattle.cards.proofs.FewPlaces.{are_places, is_less, isn't_less, position_above, position_below}
-use Rattle.cards.proofs.FreeCards.{index_more, index_rises}
+use Rattle.cards.proofs.FreeCards.{index_more, index_rises, mask_settles_around, none_settles}
 use Rattle.cards.proofs.Totals.{total, total_of_map, total_more, total_cut, total_same, total_of_interval}
 
 -- each card is fixed at one seat, or free
@@ -275,21 +275,58 @@ settled_mask fixed x low high = mask_l (map (settles_within fixed (places_for (f
 same_settled : (fixed : List (Option Seat)) (x mask a b c d : ℕ) → mask ≡ settled_mask fixed x a b → a ≡ c → b ≡ d → mask ≡ settled_mask fixed x c d
 same_settled fixed x mask a b c d is p q = is ∙ rw (p, q) refl
 
--- the masks of what is fixed and of what settled, West's positions first
-pub drawn_around : (fixed : List (Option Seat)) (x : ℕ) (n e s w : Side) (n' e' s' w' m : ℕ) → IsFixed fixed
+-- the deal of the free cards' draws
+abbrev pub drawn_deal : List (Option Seat) → ℕ → List Seat
+drawn_deal fixed x = dealt_around fixed (places_for (free_count fixed) x)
+
+-- South's and West's masks, whose positions are drawn first
+pub south_and_west : (fixed : List (Option Seat)) (x : ℕ) (n e s w : Side) (s' w' m : ℕ) → IsFixed fixed
     → IsSide fixed North n → IsSide fixed East e → IsSide fixed South s → IsSide fixed West w → m ≡ free_count fixed
     → w' ≡ settled_mask fixed x (m - w.room) m → s' ≡ settled_mask fixed x (m - w.room - s.room) (m - w.room)
-    → e' ≡ settled_mask fixed x (m - w.room - s.room - e.room) (m - w.room - s.room) → n' ≡ settled_mask fixed x (m - w.room - s.room - e.room - n.room) (m - w.room - s.room - e.room)
-    → (IsMasks (bit_or n.mask n') (bit_or e.mask e') (bit_or s.mask s') (bit_or w.mask w'))
-    × (seats_of_masks (bit_or n.mask n') (bit_or e.mask e') (bit_or s.mask s') ≡ dealt_around fixed (places_for (free_count fixed) x))
-drawn_around fixed x n e s w n' e' s' w' m ok north east south west all wests souths easts norths =
+    → (bit_or s.mask s' ≡ seat_mask (drawn_deal fixed x) South) × (bit_or w.mask w' ≡ seat_mask (drawn_deal fixed x) West)
+south_and_west fixed x n e s w s' w' m ok north east south west all wests souths =
+    let sum = rooms_together fixed ok in (
+      seat_mask_around fixed x South s.mask s' ok south.mask
+          (same_settled fixed x s' _ _ _ _ souths (omega (arith, sum, all, north.room, east.room, south.room, west.room)) (omega (arith, sum, all, north.room, east.room, south.room, west.room))),
+      seat_mask_around fixed x West w.mask w' ok west.mask
+          (same_settled fixed x w' _ _ _ _ wests (omega (arith, sum, all, north.room, east.room, south.room, west.room)) (omega (arith, sum, all, north.room, east.room, south.room, west.room))),
+    )
+
+-- East's mask, whose positions are drawn next
+pub then_east : (fixed : List (Option Seat)) (x : ℕ) (n e s w : Side) (e' m : ℕ) → IsFixed fixed
+    → IsSide fixed North n → IsSide fixed East e → IsSide fixed South s → IsSide fixed West w → m ≡ free_count fixed
+    → e' ≡ settled_mask fixed x (m - w.room - s.room - e.room) (m - w.room - s.room)
+    → bit_or e.mask e' ≡ seat_mask (drawn_deal fixed x) East
+then_east fixed x n e s w e' m ok north east south west all easts =
     let sum = rooms_together fixed ok in
-    masks_of_around fixed x _ _ _ _ ok
-    (seat_mask_around fixed x North n.mask n' ok north.mask
-    (same_settled fixed x n' _ _ _ _ norths (omega (arith, sum, all, north.room, east.room, south.room, west.room)) (omega (arith, sum, all, north.room, east.room, south.room, west.room))))
-    (seat_mask_around fixed x East e.mask e' ok east.mask
-    (same_settled fixed x e' _ _ _ _ easts (omega (arith, sum, all, north.room, east.room, south.room, west.room)) (omega (arith, sum, all, north.room, east.room, south.room, west.room))))
-    (seat_mask_around fixed x South s.mask s' ok south.mask
-    (same_settled fixed x s' _ _ _ _ souths (omega (arith, sum, all, north.room, east.room, south.room, west.room)) (omega (arith, sum, all, north.room, east.room, south.room, west.room))))
-    (seat_mask_around fixed x West w.mask w' ok west.mask
-    (same_settled fixed x w' _ _ _ _ wests (omega (arith, sum, all, north.room, east.room, south.room, west.room)) (omega (arith, sum, all, north.room, east.room, south.room, west.room))))
+    seat_mask_around fixed x East e.mask e' ok east.mask
+    (same_settled fixed x e' _ _ _ _ easts (omega (arith, sum, all, north.room, east.room, south.room, west.room)) (omega (arith, sum, all, north.room, east.room, south.room, west.room)))
+
+-- a hand that is fixed whole
+pub whole_north : (fixed : List (Option Seat)) (x : ℕ) (n : Side) → IsFixed fixed → IsSide fixed North n → n.room ≡ 0 → n.mask ≡ seat_mask (drawn_deal fixed x) North
+whole_north fixed x n ok north full =
+    let places : List ℕ = places_for (free_count fixed) x in
+    let none : 0 ≡ settled_mask fixed x 0 (0 + room fixed North) =
+    mask_settles_around fixed places 0 0 (0 + room fixed North) (omega arith)
+    (λ c h. bit_at-zero c ∙ ap (λ b. cond b 1 0) (sym (none_settles fixed places 0 (0 + room fixed North) c (omega (arith, full, north.room))))) in
+    sym (or_zero_r n.mask) ∙ seat_mask_around fixed x North n.mask 0 ok north.mask none
+
+chosen_east : (a b : ℕ) → a ≡ 0 → (if a == 0 then b else a) ≡ b
+chosen_east a b e = rw e refl
+
+chosen_north : (a b : ℕ) → a ≢ 0 → (if a == 0 then b else a) ≡ a
+chosen_north a b ne = grind (arith, nat_tests)
+
+-- the draws that are made where East has the rest
+pub draws_without_east : (fixed : List (Option Seat)) (n e s w : Side) (m : ℕ) → IsFixed fixed
+    → IsSide fixed North n → IsSide fixed East e → IsSide fixed South s → IsSide fixed West w → m ≡ free_count fixed → n.room ≡ 0
+    → free_count fixed - 1 - (m - w.room - s.room - 1) ≡ draws_around fixed
+draws_without_east fixed n e s w m ok north east south west all full =
+    omega (arith, rooms_together fixed ok, all, full, north.room, east.room, south.room, west.room, chosen_east (room fixed North) (room fixed East) (omega (arith, full, north.room)))
+
+-- and where North has it
+pub draws_without_north : (fixed : List (Option Seat)) (n e s w : Side) (m : ℕ) → IsFixed fixed
+    → IsSide fixed North n → IsSide fixed East e → IsSide fixed South s → IsSide fixed West w → m ≡ free_count fixed → n.room ≢ 0
+    → free_count fixed - 1 - (m - w.room - s.room - e.room - 1) ≡ draws_around fixed
+draws_without_north fixed n e s w m ok north east south west all some =
+    omega (arith, rooms_together fixed ok, all, north.room, east.room, south.room, west.room, chosen_north (room fixed North) (room fixed East) (λ z. some (north.room ∙ z)))

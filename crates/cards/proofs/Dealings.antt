@@ -12,9 +12,13 @@ use Rattle.cards.specs.Shuffle.{IsPlaces, place_of, drawn_places, pack}
 use Rattle.cards.specs.Deals.{dealt, IsPartition}
 use Rattle.cards.specs.internal.Exchanges.{IsDealing, stands_within}
 use Rattle.cards.specs.internal.Masks.{IsMasks, seats_of_masks}
+use Rattle.cards.specs.internal.PackedMasks.{rest_of}
+use Rattle.cards.specs.declared.seat.Seat.TheVariants.{East, South, West}
 use Rattle.cards.proofs.Drawing.{state_after-zero, state_after-more}
 use Rattle.cards.proofs.Tracing.{get_or-pack, length-pack}
-use Rattle.cards.proofs.Settling.{traced_at_first, traced_on, dealt_is_partition, masks_of_dealt}
+use Rattle.cards.proofs.Settling.{traced_at_first, traced_on, dealt_is_partition, mask_of_positions, masks_of_dealt}
+use Rattle.cards.proofs.Partitions.{dealt_partition}
+use Rattle.cards.proofs.FullMasks.{rest_to_north}
 
 -- the cards of a pack are below 52
 pub card-below : (cards : List ℕ) (i : ℕ) → IsPermutation pack cards → i < 52 → get_or cards i 0 < 52
@@ -69,3 +73,13 @@ drawn_deal x state cards n e s w done a b c d =
     let whole = dealt_is_partition (drawn_places x) cards 0 (omega arith) done.traced in
     let masks = masks_of_dealt (drawn_places x) n e s w (drawn_ok x) whole a b c d in
     (masks.0, masks.1, whole, done.drawn)
+
+-- the same once the three hands of East, South and West are there: North has the rest
+pub drawn_three : (x state : ℕ) (cards : List ℕ) (e s w : ℕ) → IsDealing x state cards 12
+    → e ≡ mask_l (map (stands_within (drawn_places x) 13 25) pack) → s ≡ mask_l (map (stands_within (drawn_places x) 26 38) pack) → w ≡ mask_l (map (stands_within (drawn_places x) 39 51) pack)
+    → (IsMasks (rest_of e s w) e s w) × (seats_of_masks (rest_of e s w) e s ≡ dealt (drawn_places x)) × (state ≡ state_after x 39)
+drawn_three x state cards e s w done b c d =
+    let places : List ℕ = drawn_places x in
+    let ok = drawn_ok x in
+    let masks = rest_to_north (dealt places) e s w (dealt_partition places ok) (mask_of_positions places East e ok b) (mask_of_positions places South s ok c) (mask_of_positions places West w ok d) in
+    (masks.0, masks.1, done.drawn)

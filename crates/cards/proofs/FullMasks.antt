@@ -1,11 +1,11 @@
 -- Four hands of a deal as masks: no bit twice, together all 52, thirteen each.
-use Rattle.std.proofs.Common.{◌≡◌, ℕ, ◌-◌, ◌^◌, ◌<◌, ◌==◌, ◌≢◌, max, min, Bool, cond, List, map, get_or, refl, sym, ◌∙◌, ap, arith, subst}
+use Rattle.std.proofs.Common.{◌≡◌, ℕ, ◌+◌, ◌-◌, ◌^◌, ◌<◌, ◌==◌, ◌≢◌, max, min, Bool, cond, List, map, get_or, refl, sym, ◌∙◌, ap, arith, subst}
 use Rattle.std.specs.Int.{bit_at}
 use Rattle.std.specs.Int.RustNames.{bit_and, bit_or, count_ones}
 use Rattle.std.specs.List.{count_by}
 use Rattle.std.proofs.lemmas.Bool.Decides.{nat_tests}
 use lib.Lanes.{mask_l}
-use Rattle.std.proofs.lemmas.Nat.{or_lt, and_le_l}
+use Rattle.std.proofs.lemmas.Nat.{or_lt, and_le_l, and_comm, and_or_apart, or_disjoint}
 use Rattle.std.proofs.lemmas.Nat.Bits.{same_from_bits_below, bit_at_and, bit_at_or, bit_at_ones, bit_at-zero}
 use Rattle.std.proofs.lemmas.Simd.{ones-mask_l}
 use Rattle.cards.specs.declared.seat.Seat.{Seat}
@@ -13,6 +13,7 @@ use Rattle.cards.specs.declared.seat.Seat.TheVariants.{North, East, South, West}
 use Rattle.cards.specs.Pack.{seat_number}
 use Rattle.cards.specs.Deals.{IsPartition}
 use Rattle.cards.specs.internal.Masks.{seat_mask, seats_of_masks, IsFull, IsMasks}
+use Rattle.cards.specs.internal.PackedMasks.{rest_of}
 use Rattle.cards.proofs.DealMasks.{bit_at_seat, seat_mask-lt, masks_view}
 
 -- the bit of one seat at a card of another's
@@ -69,6 +70,19 @@ full_masks deal ok = record {
   thirteen = (thirteen deal North ok, thirteen deal East ok, thirteen deal South ok, thirteen deal West ok);
 }
 
+apart_from_both : (a s w : ℕ) → bit_and a s ≡ 0 → bit_and a w ≡ 0 → bit_and a (bit_or s w) ≡ 0
+apart_from_both a s w p q =
+    and_comm a (bit_or s w) ∙ and_or_apart a s w (and_comm w a ∙ q) ∙ and_comm s a ∙ p
+
+-- no bit twice and together all 52: so they add up
+pub sum_of_full : (n e s w : ℕ) → IsFull n e s w → n + e + s + w ≡ 2 ^ 52 - 1
+sum_of_full n e s w full =
+    let (ne, ns, nw, es, ew, sw) = full.apart in
+    let none : bit_and (bit_or n e) (bit_or s w) ≡ 0 =
+    and_or_apart (bit_or s w) n e (apart_from_both e s w es ew) ∙ apart_from_both n s w ns nw in
+    let all : bit_or (bit_or n e) (bit_or s w) ≡ 2 ^ 52 - 1 = full.together in
+    omega (arith, or_disjoint n e ne, or_disjoint s w sw, or_disjoint (bit_or n e) (bit_or s w) none, all)
+
 -- the masks of a partition are those of a deal
 pub masks_of_partition : (deal : List Seat) (n e s w : ℕ) → IsPartition deal → n ≡ seat_mask deal North → e ≡ seat_mask deal East → s ≡ seat_mask deal South → w ≡ seat_mask deal West → IsMasks n e s w
 masks_of_partition deal n e s w ok en ee es ew =
@@ -81,3 +95,19 @@ masks_of_partition deal n e s w ok en ee es ew =
       south = es ∙ ap (λ d. seat_mask d South) (sym view);
       west = ew ∙ ap (λ d. seat_mask d West) (sym view);
     }
+
+-- North has what the three other hands of a deal leave
+pub rest_to_north : (deal : List Seat) (e s w : ℕ) → IsPartition deal → e ≡ seat_mask deal East → s ≡ seat_mask deal South → w ≡ seat_mask deal West
+    → (IsMasks (rest_of e s w) e s w) × (seats_of_masks (rest_of e s w) e s ≡ deal)
+rest_to_north deal e s w ok ee es ew =
+    let sum = sum_of_full _ _ _ _ (full_masks deal ok) in
+    let en : rest_of e s w ≡ seat_mask deal North = omega (arith, sum, ee, es, ew) in
+    (masks_of_partition deal (rest_of e s w) e s w ok en ee es ew, masks_view deal (rest_of e s w) e s ok en ee es)
+
+-- and East what the three others leave
+pub rest_to_east : (deal : List Seat) (n s w : ℕ) → IsPartition deal → n ≡ seat_mask deal North → s ≡ seat_mask deal South → w ≡ seat_mask deal West
+    → (IsMasks n (rest_of n s w) s w) × (seats_of_masks n (rest_of n s w) s ≡ deal)
+rest_to_east deal n s w ok en es ew =
+    let sum = sum_of_full _ _ _ _ (full_masks deal ok) in
+    let ee : rest_of n s w ≡ seat_mask deal East = omega (arith, sum, en, es, ew) in
+    (masks_of_partition deal n (rest_of n s w) s w ok en ee es ew, masks_view deal n (rest_of n s w) s ok en ee es)

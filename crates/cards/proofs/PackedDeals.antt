@@ -1,7 +1,5 @@
 -- A deal and a flag in three words.
-use Rattle.std.proofs.Common.{◌≡◌, ℕ, ◌+◌, ◌-◌, ◌*◌, ◌^◌, ◌<◌, Bool, true, false, List, refl, sym, ◌∙◌, ap, arith}
-use Rattle.std.specs.Int.RustNames.{bit_and, bit_or}
-use Rattle.std.proofs.lemmas.Nat.{and_comm, and_or_apart, or_disjoint}
+use Rattle.std.proofs.Common.{◌≡◌, ℕ, ◌+◌, ◌*◌, ◌^◌, ◌<◌, Bool, true, false, List, refl, sym, ◌∙◌, ap, arith}
 use Rattle.std.proofs.lemmas.Bool.Decides.{nat_tests}
 use mir.Val.{bool_byte}
 use Rattle.cards.specs.declared.seat.Seat.{Seat}
@@ -10,7 +8,7 @@ use Rattle.cards.specs.Deals.{IsPartition}
 use Rattle.cards.specs.internal.Masks.{IsFull, seat_mask, seats_of_masks}
 use Rattle.cards.specs.internal.PackedMasks.{IsPacked, flag_in, north_in, rest_of, word_of}
 use Rattle.cards.proofs.DealMasks.{masks_view, seat_mask-lt}
-use Rattle.cards.proofs.FullMasks.{full_masks, masks_of_partition}
+use Rattle.cards.proofs.FullMasks.{full_masks, masks_of_partition, sum_of_full}
 
 north_back : (north : ℕ) (flag : Bool) → north < 2 ^ 52 → north_in (word_of north flag) ≡ north
 north_back north true below = omega arith
@@ -30,18 +28,9 @@ word_made : (flag : Bool) (north number : ℕ) → number ≡ bool_byte flag
 word_made true north number is = rw is refl
 word_made false north number is = rw is refl
 
-apart_from_both : (a s w : ℕ) → bit_and a s ≡ 0 → bit_and a w ≡ 0 → bit_and a (bit_or s w) ≡ 0
-apart_from_both a s w p q =
-    and_comm a (bit_or s w) ∙ and_or_apart a s w (and_comm w a ∙ q) ∙ and_comm s a ∙ p
-
 -- what three hands leave is West's
 west_is_rest : (n e s w : ℕ) → IsFull n e s w → w ≡ rest_of n e s
-west_is_rest n e s w full =
-    let (ne, ns, nw, es, ew, sw) = full.apart in
-    let none : bit_and (bit_or n e) (bit_or s w) ≡ 0 =
-    and_or_apart (bit_or s w) n e (apart_from_both e s w es ew) ∙ apart_from_both n s w ns nw in
-    let all : bit_or (bit_or n e) (bit_or s w) ≡ 2 ^ 52 - 1 = full.together in
-    omega (arith, or_disjoint n e ne, or_disjoint s w sw, or_disjoint (bit_or n e) (bit_or s w) none, all)
+west_is_rest n e s w full = omega (arith, sum_of_full n e s w full)
 
 -- the masks of a deal and a flag are packed
 pub is_packed : (deal : List Seat) (flag : Bool) (north number east south : ℕ) → IsPartition deal

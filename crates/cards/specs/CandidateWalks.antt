@@ -1,14 +1,13 @@
 -- What `Candidates` goes through: every step-th candidate of a seed, dealt around fixed cards.
-use Rattle.std.specs.Prelude.{◌≡◌, ℕ, ◌-◌, ◌*◌, ◌≤◌, List, Option}
+use Rattle.std.specs.Prelude.{◌≡◌, ℕ, ◌*◌, ◌≤◌, List, Option}
 use Rattle.cards.specs.declared.seat.Seat.{Seat}
 use Rattle.cards.specs.Candidates.{state_before}
-use Rattle.cards.specs.Fixed.{free_count}
 
--- what contracts see of `Candidates`: the state, how many draws are passed over after those that a
--- deal takes, and the fixed cards
+-- what contracts see of `Candidates`: the state, how many draws it is from one candidate to the
+-- next, and the fixed cards
 pub record CandidatesView : Type 0 where
   pub state : ℕ
-  pub gap : ℕ
+  pub stride : ℕ
   pub fixed : List (Option Seat)
 
 -- the next deal is that of candidate k around the fixed cards, then come those of k + step,
@@ -17,5 +16,5 @@ pub record GoesOnAt (candidates : CandidatesView) (around : List (Option Seat)) 
     : Type 0 where
   pub before : candidates.state ≡ state_before seed k
   pub some : 1 ≤ step
-  pub others : candidates.gap ≡ 51 * step - (free_count around - 1)
+  pub stride_is : candidates.stride ≡ 51 * step
   pub fixed_are : candidates.fixed ≡ around

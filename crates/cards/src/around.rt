@@ -1,10 +1,10 @@
 //! Dealing around fixed cards: what is prepared of them once, and each deal.
 
-ghost use Rattle.std.specs.Prelude.{◌≡◌, ◌-◌, ◌≤◌};
+ghost use Rattle.std.specs.Prelude.{◌≡◌, ◌≤◌};
 ghost use Rattle.lcg48.specs.Sequence.{state_after};
 ghost use Rattle.cards.specs.Deals.{IsPartition};
 ghost use Rattle.cards.specs.Fixed.{IsFixed, dealt_around, free_count, is_fixed_at, places_for};
-ghost use Rattle.cards.specs.internal.Around.{IsListed, IsSide, fixed_mask};
+ghost use Rattle.cards.specs.internal.Around.{IsListed, IsSide, draws_around, fixed_mask};
 
 use crate::fixed::{Fixed, held_by, is_open};
 use crate::settle::settle;
@@ -62,8 +62,9 @@ impl Around {
     }
 
     /// The deal of the next draws around the fixed cards. Of m free cards the first m - 1 draws
-    /// shuffle the list by rising number; North has the first of it until it has thirteen cards,
-    /// then East, South and West.
+    /// shuffle the list by rising number; North has the first of it until he has thirteen cards,
+    /// then East, South and West. So the last draws decide what North has, and as he has what the
+    /// others leave, they need not be made; nor need East's if all of North's cards are fixed.
     ///
     /// It is kept apart, so that the candidates of a run without fixed cards stay a few lines.
     #[inline(never)]
@@ -71,24 +72,33 @@ impl Around {
         ensures value { result
             ≡ dealt_around self.now (places_for (free_count self.now) generator.old) }
         ensures partition { IsPartition result }
-        ensures stepped { generator.new
-            ≡ state_after generator.old (free_count self.now - 1) }
-        ensures few { free_count self.now ≤ 52 }
+        ensures stepped { generator.new ≡ state_after generator.old (draws_around self.now) }
     {
         let mut cards = self.free;
         let south_end = self.count - self.west.room;
         let east_end = south_end - self.south.room;
-        let north_end = east_end - self.east.room;
         let west = settle(&mut cards, generator, self.count, self.west.room);
+        let west = self.west.mask | west;
         let south = settle(&mut cards, generator, south_end, self.south.room);
+        let south = self.south.mask | south;
+        if self.north.room == 0 {
+            return Deal::with_rest_to_east(self.north.mask, south, west);
+        }
         let east = settle(&mut cards, generator, east_end, self.east.room);
-        let north = settle(&mut cards, generator, north_end, self.north.room);
-        Deal::of_masks(
-            self.north.mask | north,
-            self.east.mask | east,
-            self.south.mask | south,
-            self.west.mask | west,
-        )
+        Deal::with_rest_to_north(self.east.mask | east, south, west)
+    }
+
+    /// How many draws a deal takes.
+    pub(crate) fn draws(&self) -> u64
+        ensures value { result ≡ draws_around self.now }
+        ensures few { result ≤ 51 }
+    {
+        let rest = if self.north.room == 0 {
+            self.east.room
+        } else {
+            self.north.room
+        };
+        (self.count.saturating_sub(1) - rest.saturating_sub(1)) as u64
     }
 }
 

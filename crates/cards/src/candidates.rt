@@ -7,7 +7,7 @@ ghost use Rattle.cards.specs.Deals.{IsPartition};
 ghost use Rattle.cards.specs.Fixed.{candidate_around, dealt_around, free_count, none_fixed};
 ghost use Rattle.cards.specs.Fixed.{places_for};
 ghost use Rattle.cards.specs.declared.seat.Seat.{Seat as ASeat};
-ghost use Rattle.cards.specs.internal.DealtFrom.{fixed_in};
+ghost use Rattle.cards.specs.internal.DealtFrom.{draws_taken, fixed_in};
 
 use crate::around::Around;
 use crate::{Deal, Fixed};
@@ -17,14 +17,19 @@ use std::marker::Model;
 /// The draws of one candidate: one for each exchange of the 52 cards.
 const DRAWS: u64 = 51;
 
+/// Those of them that decide the hands of West, South and East. North has the rest.
+const DRAWS_OF_THREE_HANDS: u64 = 39;
+
 /// How many candidates of a seed are told apart by their numbers, 0 to 2^40 - 1.
 ///
 /// They take 51 draws each. 51 * 2^40 is below 2^48, the number of states, so no draw comes twice.
 pub const MAX_CANDIDATES: u64 = 1 << 40;
 
 /// Every `step`-th candidate of a seed around fixed cards, from one on. Contracts see the
-/// generator's state before the next candidate's draws, how many draws are passed over after those
-/// that it takes, and the fixed cards.
+/// generator's state before the next candidate's draws, how many draws it is from there to those of
+/// the candidate after it, and the fixed cards.
+///
+/// A deal need not take all draws of its candidate. The gap is what it leaves up to the next one.
 #[derive(Drop)]
 pub struct Candidates {
     generator: Lcg48,
@@ -40,14 +45,15 @@ enum Dealing {
 }
 
 impl Model for Candidates {
+    ghost use Rattle.std.specs.Prelude.{◌+◌};
     ghost use Rattle.cards.specs.CandidateWalks.{CandidatesView};
-    ghost use Rattle.cards.specs.internal.DealtFrom.{fixed_in};
+    ghost use Rattle.cards.specs.internal.DealtFrom.{draws_taken, fixed_in};
 
     ghost Value = { CandidatesView };
 
     ghost view = { λ c. record {
       state = c.generator;
-      gap = c.gap;
+      stride = draws_taken c.dealing + c.gap;
       fixed = fixed_in c.dealing;
     } };
 }
@@ -72,11 +78,12 @@ impl Candidates {
     {
         let mut steps = Steps::new();
         let jump = Stride::of(DRAWS * first, &mut steps);
-        let taken = fixed.free().saturating_sub(1) as u64;
+        let dealing = Dealing::of(fixed);
+        let gap = DRAWS * u64::from(step) - dealing.draws();
         Candidates {
             generator: jump.apply(&Lcg48::seeded(seed)),
-            gap: Stride::of(DRAWS * u64::from(step) - taken, &mut steps),
-            dealing: Dealing::of(fixed),
+            gap: Stride::of(gap, &mut steps),
+            dealing,
         }
     }
 
@@ -107,6 +114,17 @@ impl Dealing {
         Dealing::Around(Around::of(fixed))
     }
 
+    /// How many draws a deal takes.
+    fn draws(&self) -> u64
+        ensures value { result ≡ draws_taken self.now }
+        ensures few { result ≤ 51 }
+    {
+        match self {
+            Dealing::Pack => DRAWS_OF_THREE_HANDS,
+            Dealing::Around(around) => around.draws(),
+        }
+    }
+
     /// The deal of the next draws.
     #[inline]
     fn draw(&self, generator: &mut Lcg48) -> Deal
@@ -114,12 +132,10 @@ impl Dealing {
             ≡ dealt_around (fixed_in self.now)
             (places_for (free_count (fixed_in self.now)) generator.old) }
         ensures partition { IsPartition result }
-        ensures stepped { generator.new
-            ≡ state_after generator.old (free_count (fixed_in self.now) - 1) }
-        ensures few { free_count (fixed_in self.now) ≤ 52 }
+        ensures stepped { generator.new ≡ state_after generator.old (draws_taken self.now) }
     {
         match self {
-            Dealing::Pack => Deal::draw(generator),
+            Dealing::Pack => Deal::draw_three(generator),
             Dealing::Around(around) => around.draw(generator),
         }
     }

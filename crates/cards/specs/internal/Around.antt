@@ -1,5 +1,5 @@
 -- What holds between two exchanges of the free cards, and of the masks of the fixed ones.
-use Rattle.std.specs.Prelude.{◌≡◌, ℕ, ◌+◌, ◌-◌, ◌<◌, ◌≤◌, ◌&&◌, ltb, nat_le, Bool, true, List, length, map, slice_index_or, slice_index, Option, None}
+use Rattle.std.specs.Prelude.{◌≡◌, ℕ, ◌+◌, ◌-◌, ◌<◌, ◌≤◌, ◌&&◌, ◌==◌, ltb, nat_le, Bool, true, List, length, map, slice_index_or, slice_index, Option, None, if◌then◌else◌}
 use lib.Lanes.{mask_l}
 use Rattle.lcg48.specs.Sequence.{state_after}
 use Rattle.cards.specs.declared.seat.Seat.{Seat}
@@ -46,6 +46,15 @@ settles_within fixed places low high c =
     is_free (fixed_at fixed c)
     && (nat_le low (position_of places (free_index fixed c))
     && ltb (position_of places (free_index fixed c)) high)
+
+-- how many positions are not drawn for: the first seat that gets free cards, North or else East, has
+-- what the others leave
+abbrev pub rest_count : List (Option Seat) → ℕ
+rest_count fixed = if room fixed North == 0 then room fixed East else room fixed North
+
+-- how many draws a deal around fixed cards takes
+abbrev pub draws_around : List (Option Seat) → ℕ
+draws_around fixed = free_count fixed - 1 - (rest_count fixed - 1)
 
 -- what is kept of one seat's fixed cards
 pub record IsSide (fixed : List (Option Seat)) (seat : Seat) (side : Side) : Type 0 where

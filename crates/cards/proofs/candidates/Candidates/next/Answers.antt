@@ -1,7 +1,7 @@
 use Rattle.std.proofs.Common.{◌∙◌, ap}
 use Rattle.cards.specs.Candidates.{state_before}
 use Rattle.cards.specs.Fixed.{dealt_around, free_count, places_for}
-use Rattle.cards.specs.internal.DealtFrom.{fixed_in}
+use Rattle.cards.specs.internal.DealtFrom.{draws_taken, fixed_in}
 use Rattle.cards.proofs.Jumps.{past}
 use Rattle.cards.proofs.candidates.Candidates.next.Goals as goal
 
@@ -13,5 +13,5 @@ returns-clause-deal c fixed seed k step at =
 
 pub returns-clause-moved : goal.returns-clause-moved
 returns-clause-moved c fixed seed k step at =
-    past fixed seed k step c.args.self.now c.self.inside.generator c.draw-deal.new.generator c.apply-self-inside.result c.self.inside.gap (fixed_in c.self.inside.dealing) at
-    (ap (λ v. v.state) c.self.view_is) (ap (λ v. v.gap) c.self.view_is) (ap (λ v. v.fixed) c.self.view_is) c.draw-deal.ensures.few c.draw-deal.ensures.stepped c.apply-self-inside.ensures
+    past fixed seed k step c.args.self.now c.self.inside.generator c.draw-deal.new.generator c.apply-self-inside.result (draws_taken c.self.inside.dealing) c.self.inside.gap (fixed_in c.self.inside.dealing) at
+    (ap (λ v. v.state) c.self.view_is) (ap (λ v. v.stride) c.self.view_is) (ap (λ v. v.fixed) c.self.view_is) c.draw-deal.ensures.stepped c.apply-self-inside.ensures

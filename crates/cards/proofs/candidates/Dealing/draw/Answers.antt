@@ -6,5 +6,5 @@ use Rattle.cards.proofs.candidates.Dealing.draw.Goals as goal
 
 pub returns-in-Pack-clause-value : goal.returns-in-Pack-clause-value
 returns-in-Pack-clause-value c =
-    c.draw.ensures.value ∙ sym (nothing_around c.args.generator.now)
+    c.draw_three.ensures.value ∙ sym (nothing_around c.args.generator.now)
     ∙ ap (λ d. dealt_around (fixed_in d) (places_for (free_count (fixed_in d)) c.args.generator.now)) (sym c.in-Pack.is)
