@@ -4,11 +4,7 @@
 #[cfg(test)]
 mod beside;
 #[cfg(test)]
-mod formats;
-#[cfg(test)]
 mod gates;
-#[cfg(test)]
-mod hands;
 #[cfg(test)]
 mod interrupted;
 #[cfg(test)]
@@ -17,10 +13,6 @@ mod make;
 mod notations;
 #[cfg(test)]
 mod plain;
-#[cfg(test)]
-mod refusals;
-#[cfg(test)]
-mod reports;
 #[cfg(test)]
 mod stream;
 #[cfg(test)]

@@ -71,20 +71,6 @@ pub fn failed_outcome_of<R: Threads + Wait + Clone + Send + 'static>(
     Ok(FailedOutcome { status, out, err })
 }
 
-/// Runs `make --seed 0` with these options.
-pub fn make_of<R: Threads + Wait + Clone + Send + 'static>(
-    rt: &R,
-    alloc: Global,
-    options: &[&str],
-) -> Result<Outcome, AllocError> {
-    outcome_of(
-        rt,
-        alloc,
-        ["deals", "make", "--seed", "0"].as_slice(),
-        options,
-    )
-}
-
 /// Runs a plan over lanes, with every deal a board.
 pub fn run_all<
     R: Threads + Wait + Clone + Send + 'static,
