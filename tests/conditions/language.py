@@ -6,6 +6,10 @@ A hand is a list of card numbers, 13 times the suit (spades 0 to clubs 3) plus t
 import itertools
 import operator
 import re
+import sys
+
+# 1,024 bytes have 510 brackets around a test, and three rules read each.
+sys.setrecursionlimit(5_000)
 
 SEATS = ["north", "east", "south", "west"]
 SUITS = ["spades", "hearts", "diamonds", "clubs"]
@@ -86,14 +90,14 @@ class Reader:
         while self.sees("or"):
             self.next()
             parts.append(self.both())
-        return lambda hands: any(part(hands) for part in parts)
+        return parts[0] if len(parts) == 1 else lambda hands: any(part(hands) for part in parts)
 
     def both(self):
         parts = [self.unit()]
         while self.sees("and"):
             self.next()
             parts.append(self.unit())
-        return lambda hands: all(part(hands) for part in parts)
+        return parts[0] if len(parts) == 1 else lambda hands: all(part(hands) for part in parts)
 
     def unit(self):
         if self.sees("not"):
