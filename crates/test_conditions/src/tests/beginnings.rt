@@ -67,16 +67,20 @@ const EXPECTED: [(&str, &[Kind]); 19] = [
 #[test]
 fn what_could_stand_there(rt: HostRuntime) -> Result<(), Fail> {
     for (text, expected) in EXPECTED.iter() {
-        let beginning = Beginning::of(rt.alloc(), text.as_bytes())?;
-        for kind in Kind::ALL {
-            let is_expected = expected.contains(&listed(kind));
-            assert_eq!(rt; beginning.allows(kind)?, is_expected, "{text}");
+        assert!(rt; is_expected(rt.alloc(), text, expected)?, "{text}");
+    }
+    Ok(())
+}
+
+/// Whether exactly these kinds could stand there.
+fn is_expected(alloc: Global, text: &str, expected: &[Kind]) -> Result<bool, CondError> {
+    let beginning = Beginning::of(alloc, text.as_bytes())?;
+    for kind in Kind::ALL {
+        if beginning.allows(kind)? != expected.contains(&listed(kind)) {
+            return Ok(false);
         }
     }
-    assert_eq!(rt; refusal(rt.alloc(), b"hcp(nort"), Some(CondError::Word { at: 4 }));
-    assert_eq!(rt; refusal(rt.alloc(), b"1==1)12345"), Some(CondError::Number { at: 5 }));
-    assert_eq!(rt; refusal(rt.alloc(), &[b' '; 1025]), Some(CondError::TooLong));
-    Ok(())
+    Ok(true)
 }
 
 /// The kind as the sets have it.
@@ -87,7 +91,16 @@ fn listed(kind: Kind) -> Kind {
     }
 }
 
-/// Why a text has no tokens, if it has none.
-fn refusal(alloc: Global, text: &[u8]) -> Option<CondError> {
-    Beginning::of(alloc, text).err()
+/// Texts that have no tokens, and why.
+const REFUSALS: [(&[u8], CondError); 3] = [
+    (b"hcp(nort", CondError::Word { at: 4 }),
+    (b"1==1)12345", CondError::Number { at: 5 }),
+    (&[b' '; 1025], CondError::TooLong),
+];
+
+#[test]
+fn refused_before_its_tokens_are_read(rt: HostRuntime) {
+    for (text, wanted) in REFUSALS.iter() {
+        assert_eq!(rt; Beginning::of(rt.alloc(), text).err(), Some(*wanted));
+    }
 }

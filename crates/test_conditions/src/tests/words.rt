@@ -14,16 +14,31 @@ const RUNS: [(&[u8], usize, usize); 7] = [
     (b" 1", 0, 0),
 ];
 
+/// Measures, and what each is called.
+const MEASURES: [(Measure, &str); 3] = [
+    (Measure::Hcp, "hcp"),
+    (Measure::Controls, "controls"),
+    (Measure::Losers, "losers"),
+];
+
 #[test]
 fn words_and_runs(rt: HostRuntime) {
     for (text, letters, digits) in RUNS.iter() {
-        assert_eq!(rt; letter_run_len(text), *letters);
-        assert_eq!(rt; digit_run_len(text), *digits);
+        let runs = [letter_run_len(text), digit_run_len(text)];
+        assert_eq!(rt; runs, [*letters, *digits]);
     }
+    for (measure, word) in MEASURES.iter() {
+        assert_eq!(rt; measure_word(*measure), *word);
+    }
+    assert!(rt; are_in_order());
+}
+
+/// Whether each kind stands at its place.
+fn are_in_order() -> bool {
     for (i, kind) in Kind::ALL.iter().enumerate() {
-        assert_eq!(rt; kind.place(), i);
+        if kind.place() != i {
+            return false;
+        }
     }
-    assert_eq!(rt; measure_word(Measure::Hcp), "hcp");
-    assert_eq!(rt; measure_word(Measure::Controls), "controls");
-    assert_eq!(rt; measure_word(Measure::Losers), "losers");
+    true
 }
