@@ -6,6 +6,7 @@ whole hands, so that there is one deal, and writes its board or none. `make` jud
 """
 
 import pathlib
+import re
 import subprocess
 
 import harness
@@ -56,6 +57,5 @@ def complaint(deal, condition, truth):
     ended = subprocess.run([harness.PROGRAM, *words], capture_output=True, text=True)
     if ended.returncode != 0 or ended.stderr:
         return f"status {ended.returncode}, {ended.stderr!r}"
-    if (f'[Deal "N:{deal}"]' in ended.stdout) != truth or bool(ended.stdout) != truth:
-        return f"wrote {ended.stdout!r}"
-    return None
+    found = re.findall(r'^\[Deal "N:([^"]+)"\]$', ended.stdout, re.M)
+    return None if found == ([deal] if truth else []) else f"the deals {found}"
