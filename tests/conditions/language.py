@@ -160,9 +160,9 @@ class Reader:
             choose = max if word == "longest" else min
             return lambda hands: choose(lengths(hands[seat]))
         suits = range(4)
-        if self.sees(","):
-            self.next()
-            if self.tokens[0] in SUITS:
+        if word in ("len", "cards") or self.sees(","):
+            self.expect(",")
+            if word != "cards" or self.sees(*SUITS):
                 suits = [self.one_of(SUITS)]
                 if word == "cards":
                     self.expect(",")
