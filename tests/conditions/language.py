@@ -6,6 +6,10 @@ A hand is a list of card numbers, 13 times the suit (spades 0 to clubs 3) plus t
 import itertools
 import operator
 import re
+import sys
+
+# 1,024 bytes have 510 brackets around a test, and three rules read each.
+sys.setrecursionlimit(5_000)
 
 SEATS = ["north", "east", "south", "west"]
 SUITS = ["spades", "hearts", "diamonds", "clubs"]
@@ -86,14 +90,14 @@ class Reader:
         while self.sees("or"):
             self.next()
             parts.append(self.both())
-        return lambda hands: any(part(hands) for part in parts)
+        return parts[0] if len(parts) == 1 else lambda hands: any(part(hands) for part in parts)
 
     def both(self):
         parts = [self.unit()]
         while self.sees("and"):
             self.next()
             parts.append(self.unit())
-        return lambda hands: all(part(hands) for part in parts)
+        return parts[0] if len(parts) == 1 else lambda hands: all(part(hands) for part in parts)
 
     def unit(self):
         if self.sees("not"):
@@ -156,9 +160,9 @@ class Reader:
             choose = max if word == "longest" else min
             return lambda hands: choose(lengths(hands[seat]))
         suits = range(4)
-        if self.sees(","):
-            self.next()
-            if self.tokens[0] in SUITS:
+        if word in ("len", "cards") or self.sees(","):
+            self.expect(",")
+            if word != "cards" or self.sees(*SUITS):
                 suits = [self.one_of(SUITS)]
                 if word == "cards":
                     self.expect(",")

@@ -1,52 +1,96 @@
-//! Mistakes, with all that is said of each.
+//! The functions of hints, each with values from outside. All that is said of mistakes, the notes
+//! and the page of the language are asked of the built program: by tests/mistakes.
 
-mod amounts;
-mod bytes;
-mod calls;
-mod expected;
-mod joins;
-mod language;
-mod lines;
-mod never;
-mod ranges;
-mod samples;
-mod sentences;
-mod shapes;
-mod suits;
-mod texts;
-mod truths;
-mod words;
-
-use cond_lang::{CondError, parse};
-use hints::{explain, is_never};
+use cond_lang::{Cond, CondError, parse};
+use hints::{LANGUAGE, explain, is_never, note, put_shown};
 use std::alloc::Global;
-use std::process::Abort;
 use std::test::Fail;
 
-/// A text, and all that is said of it.
-type Mistake = (&'static [u8], &'static str);
+/// Texts, how they are refused, and all that is said of that. The error of the last one isn't the
+/// text's own: it is explained as well as it can be.
+const MISTAKES: [(&[u8], CondError, &str); 6] = [
+    (
+        b"",
+        CondError::Syntax { at: 0 },
+        "  \n  ^\n  expected a condition such as balanced(north)
+  hint: for 15 points or more with North write: hcp(north)>=15
+",
+    ),
+    (
+        b"hcp(nor\x1B[2Jth)>=15",
+        CondError::Word { at: 4 },
+        "  hcp(nor?[2Jth)>=15
+      ^^^
+  hint: did you mean \"north\"?
+",
+    ),
+    (
+        b"15<=hcp(north)<=17",
+        CondError::Syntax { at: 14 },
+        "  15<=hcp(north)<=17
+                ^^
+  expected \"+\", \"and\", \"or\" or the end
+  hint: for a range write: hcp(north) in 15-17
+",
+    ),
+    (
+        &[0xff; 1025],
+        CondError::TooLong,
+        "  hint: a condition has at most 1024 bytes, and this one has 1025\n",
+    ),
+    (b"hcp(north)>=15", CondError::Memory, ""),
+    (
+        b"hcp(north)=15",
+        CondError::Syntax { at: 400 },
+        "  hcp(north)=15\n               ^\n",
+    ),
+];
 
-/// Compares what is said of each text, and reads again what is suggested: a condition that a deal
-/// may meet.
-fn check(rt: &impl Abort, alloc: Global, mistakes: &[Mistake]) -> Result<(), Fail> {
-    for (text, wanted) in mistakes {
-        let told = told_of(alloc, text)?;
+#[test]
+fn what_is_said(rt: HostRuntime) -> Result<(), Fail> {
+    for (text, error, wanted) in MISTAKES.iter() {
+        let told = explain(rt.alloc(), text, *error)?;
         assert_eq!(rt; told.as_str(), *wanted);
-        if let Some((_, suggestion)) = told.as_str().split_once("write: ") {
-            let suggested = suggestion.strip_suffix("\n").ok_or("no line")?;
-            let condition = parse(alloc, suggested.as_bytes())?;
-            assert!(rt; !is_never(&condition), "{suggested}");
-        }
+    }
+    let shown = shown(rt.alloc(), b"a\tb\r\x7f~\xE2\x89\xA5")?;
+    assert_eq!(rt; shown.as_str(), "a b??~???");
+    assert_eq!(rt; LANGUAGE.len(), 3);
+    Ok(())
+}
+
+/// The bytes as they are shown on a terminal.
+fn shown(alloc: Global, bytes: &[u8]) -> Result<String, Fail> {
+    let mut out = String::new(alloc);
+    put_shown(&mut out, bytes)?;
+    Ok(out)
+}
+
+const PLAIN: &str = "note: no deal meets this condition, by its numbers alone\n";
+
+const TURNED: &str =
+    "note: no deal meets this condition: in 14-12 has its ends turned; write in 12-14\n";
+
+/// Conditions, and the note on each; none: whether no deal meets it isn't known.
+const NOTES: [(&str, &str); 5] = [
+    ("hcp(north)>=15 and hcp(south) in 14-12", TURNED),
+    ("hcp(north)>=15 and hcp(north)<=12", PLAIN),
+    ("shape(north,5-3-3-3)", PLAIN),
+    ("hcp(south) in 14-12 or balanced(south)", ""),
+    ("hcp(north)>=37", ""),
+];
+
+#[test]
+fn notes(rt: HostRuntime) -> Result<(), Fail> {
+    for (text, wanted) in NOTES.iter() {
+        let condition = parse(rt.alloc(), text.as_bytes())?;
+        assert_eq!(rt; is_never(&condition), *wanted != "", "{text}");
+        let said = said_of(rt.alloc(), &condition)?;
+        assert_eq!(rt; said.as_str(), *wanted, "{text}");
     }
     Ok(())
 }
 
-/// All that is said of a text that is refused.
-fn told_of(alloc: Global, text: &[u8]) -> Result<String, Fail> {
-    let error = parse(alloc, text).err().ok_or("it is no mistake")?;
-    Ok(explain(alloc, text, error)?)
-}
-
-fn is_condition(alloc: Global, text: &str) -> bool {
-    parse(alloc, text.as_bytes()).is_ok()
+/// The note on the condition; empty where there is none.
+fn said_of(alloc: Global, condition: &Cond) -> Result<String, Fail> {
+    Ok(note(alloc, condition)?.unwrap_or(String::new(alloc)))
 }

@@ -1,0 +1,44 @@
+"""Random texts: sentences that go wrong somewhere or nowhere, lists of words and signs, and bytes."""
+
+import grammar
+
+# Words and signs of each kind.
+SPELLED = {
+    **{kind: [word for word, meant in grammar.WORDS.items() if meant == kind] for kind in grammar.WORDS.values()},
+    **{kind: [sign for sign, meant in grammar.SYMBOLS.items() if meant == kind] for kind in grammar.SYMBOLS.values()},
+    "number": ["0", "13", "9999"],
+    "ranks": ["a", "kqt", "jtakq"],
+}
+# The words and signs of the language, some ranks, numbers and comments, and whole tests, so that more than the first
+# token is read.
+PIECES = [
+    *grammar.WORDS,
+    *grammar.SYMBOLS,
+    *["akq", "t", "# and\n", "\r", "0", "15", "9999", "1+2", "0==0 and", "hcp(north)>=15 or", "not ("],
+    *["hcp(north)", "len(south,clubs)", "hcp(east,hearts)", "controls(east)", "losers(east,hearts)", "cards(north,ak)"],
+    *["hcp(north) in", "balanced(west)", "shape(west,4-3-3-3)", "shape(west,x-x-3-3)", "pattern(north,5-4-3-1)"],
+]
+
+
+def sentence(dice):
+    """Tokens that mostly may follow those before them."""
+    machine, is_sound, words = grammar.Machine(), True, []
+    for _ in range(dice.randrange(30)):
+        allowed = sorted(machine.kinds() & SPELLED.keys())
+        kind = dice.choice(allowed if allowed and dice.randrange(16) else list(SPELLED))
+        is_sound = is_sound and kind in allowed
+        if is_sound:
+            machine.take(kind)
+        words.append(dice.choice(SPELLED[kind]))
+    return "".join(f"{word} " for word in words)
+
+
+def pieces(dice):
+    """Any words and signs, one list in a hundred a long one."""
+    most = 250 if dice.randrange(100) == 0 else 12
+    return "".join(f"{dice.choice(PIECES)} " for _ in range(dice.randrange(most)))
+
+
+def characters(dice):
+    """Any characters of ASCII but the first, which no word of a command line has."""
+    return "".join(chr(dice.randrange(1, 128)) for _ in range(dice.randrange(40)))
