@@ -47,8 +47,8 @@ settles_within fixed places low high c =
     && (nat_le low (position_of places (free_index fixed c))
     && ltb (position_of places (free_index fixed c)) high)
 
--- how many positions are not drawn for: the first seat that gets free cards, North or else East, has
--- what the others leave
+-- how many positions are not drawn for: the first seat that gets free cards, North or else East,
+-- has what the others leave
 abbrev pub rest_count : List (Option Seat) → ℕ
 rest_count fixed = if room fixed North == 0 then room fixed East else room fixed North
 
