@@ -65,9 +65,7 @@ impl Around {
     /// shuffle the list by rising number; North has the first of it until he has thirteen cards,
     /// then East, South and West. So the last draws decide what North has, and as he has what the
     /// others leave, they need not be made; nor need East's if all of North's cards are fixed.
-    ///
-    /// It is kept apart, so that the candidates of a run without fixed cards stay a few lines.
-    #[inline(never)]
+    #[inline]
     pub(crate) fn draw(&self, generator: &mut Lcg48) -> Deal
         ensures value { result
             ≡ dealt_around self.now (places_for (free_count self.now) generator.old) }
