@@ -14,6 +14,3 @@ pub use board::Board;
 pub use law2::{Vul, dealer, vulnerable};
 pub use notation::Notation;
 pub use setting::Setting;
-
-#[cfg(test)]
-mod tests;

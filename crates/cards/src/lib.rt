@@ -34,6 +34,3 @@ pub use packed::PackedDeal;
 pub use places::Places;
 pub use seat::Seat;
 pub use suit::Suit;
-
-#[cfg(test)]
-mod tests;

@@ -12,6 +12,3 @@ mod printer;
 mod record;
 
 pub use printer::HandsPrinter;
-
-#[cfg(test)]
-mod tests;

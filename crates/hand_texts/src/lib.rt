@@ -11,6 +11,3 @@ mod texts;
 
 pub use fault::HandFault;
 pub use texts::HandTexts;
-
-#[cfg(test)]
-mod tests;

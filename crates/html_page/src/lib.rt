@@ -12,6 +12,3 @@ mod printer;
 mod style;
 
 pub use printer::HtmlPrinter;
-
-#[cfg(test)]
-mod tests;

@@ -6,6 +6,3 @@
 mod printer;
 
 pub use printer::LinPrinter;
-
-#[cfg(test)]
-mod tests;

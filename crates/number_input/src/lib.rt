@@ -15,6 +15,3 @@ mod source;
 pub use refusal::{LineFault, RefusedLine};
 pub use scanner::Scanner;
 pub use source::{MOST_BYTES, NoBytes, Reader, Source, SourceFault};
-
-#[cfg(test)]
-mod tests;

@@ -6,6 +6,3 @@
 mod printer;
 
 pub use printer::NumberPrinter;
-
-#[cfg(test)]
-mod tests;

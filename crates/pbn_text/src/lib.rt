@@ -23,6 +23,3 @@ pub use heading::{Date, Heading, Label, MAX_LABEL_LEN};
 pub use lines::HEADER;
 pub use printer::Printer;
 pub use reference::{Reference, deal_text, game};
-
-#[cfg(test)]
-mod tests;

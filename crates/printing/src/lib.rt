@@ -7,6 +7,3 @@ mod suit_letters;
 
 pub use buffer::{CAPACITY, TextBuffer};
 pub use suit_letters::SuitLetters;
-
-#[cfg(test)]
-mod tests;

@@ -1,6 +1,6 @@
-//! Law 2's table, a board that follows it, and boards of a setting.
+//! Law 2's table, and boards of a setting.
 
-use super::*;
+use boards::{Board, Setting, Vul, dealer, vulnerable};
 use cards::{Candidates, Card, Seat};
 use std::process::Abort;
 
@@ -24,65 +24,55 @@ const BOARDS: [(Seat, Vul); 16] = [
     (Seat::West, Vul::EastWest),
 ];
 
+/// The largest number that a `u64` has, but one.
+const LARGEST: u64 = 18_446_744_073_709_551_614;
+
 #[test]
 fn every_board_of_the_cycle(rt: HostRuntime) {
     for (i, (seat, sides)) in BOARDS.iter().enumerate() {
         let board = i as u64 + 1;
-        assert_eq!(rt; dealer(board), *seat);
-        assert_eq!(rt; vulnerable(board), *sides);
+        assert_eq!(rt; (dealer(board), vulnerable(board)), (*seat, *sides));
     }
-    assert_eq!(rt; dealer(17), Seat::North);
-    assert_eq!(rt; vulnerable(17), Vul::Neither);
-    assert_eq!(rt; dealer(32), Seat::West);
-    assert_eq!(rt; vulnerable(32), Vul::EastWest);
-}
-
-#[test]
-fn a_board_by_the_law(rt: HostRuntime) {
+    assert_eq!(rt; (dealer(17), vulnerable(17)), (Seat::North, Vul::Neither));
+    assert_eq!(rt; (dealer(32), vulnerable(32)), (Seat::West, Vul::EastWest));
+    assert_eq!(rt;
+        (dealer(LARGEST), vulnerable(LARGEST)),
+        (Seat::East, Vul::Neither)
+    );
     let deal = Candidates::new(0, 0, 1).next();
     let board = Board::by_law(23, 4_811, deal);
-    assert_eq!(rt; board.number, 23);
-    assert_eq!(rt; board.candidate, 4_811);
-    assert_eq!(rt; board.dealer, Seat::South);
-    assert_eq!(rt; board.vulnerable, Vul::Both);
-    assert!(rt; board.deal == deal);
-}
-
-#[test]
-fn a_board_with_what_is_set(rt: HostRuntime) {
-    let deal = Candidates::new(0, 0, 1).next();
-    let setting = Setting {
-        dealer: Some(Seat::West),
-        vulnerable: Some(Vul::NorthSouth),
-        rotate: false,
-    };
-    let board = setting.board(23, 4_811, deal);
-    assert_eq!(rt; board.number, 23);
-    assert_eq!(rt; board.candidate, 4_811);
-    assert_eq!(rt; board.dealer, Seat::West);
-    assert_eq!(rt; board.vulnerable, Vul::NorthSouth);
-    assert!(rt; board.deal == deal);
-    let board = Setting::by_law().board(23, 4_811, deal);
-    assert_eq!(rt; board.dealer, Seat::South);
-    assert_eq!(rt; board.vulnerable, Vul::Both);
+    assert_eq!(rt; (board.number, board.candidate), (23, 4_811));
+    assert_eq!(rt; (board.dealer, board.vulnerable), (Seat::South, Vul::Both));
     assert!(rt; board.deal == deal);
 }
 
 /// East has the ace of spades, card 0, in the first candidate of seed 0. Turned to a dealer, the
 /// seat after the dealer has it.
 #[test]
-fn a_board_turned_to_its_dealer(rt: HostRuntime) {
+fn boards_of_a_setting(rt: HostRuntime) {
     let deal = Candidates::new(0, 0, 1).next();
+    let mut setting = Setting::by_law();
+    for (dealer, sides, found) in [
+        (
+            Some(Seat::West),
+            Some(Vul::NorthSouth),
+            (Seat::West, Vul::NorthSouth),
+        ),
+        (None, None, (Seat::South, Vul::Both)),
+    ] {
+        setting.dealer = dealer;
+        setting.vulnerable = sides;
+        let board = setting.board(23, 4_811, deal);
+        assert_eq!(rt; (board.number, board.candidate), (23, 4_811));
+        assert_eq!(rt; (board.dealer, board.vulnerable), found);
+        assert!(rt; board.deal == deal);
+    }
     let Some(ace) = Card::new(0) else {
         return assert!(rt; false);
     };
     assert_eq!(rt; deal.holder(ace), Seat::East);
+    setting.rotate = true;
     for (i, (dealer, _)) in BOARDS.iter().take(4).enumerate() {
-        let setting = Setting {
-            dealer: None,
-            vulnerable: None,
-            rotate: true,
-        };
         let board = setting.board(i as u64 + 1, 0, deal);
         assert_eq!(rt; board.dealer, *dealer);
         assert_eq!(rt; board.deal.holder(ace), dealer.next());

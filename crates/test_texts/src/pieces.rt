@@ -1,7 +1,7 @@
 //! A text piece by piece, and suits written by hand.
 
-use super::*;
 use cards::{Candidates, Seat, Suit};
+use printing::{SuitLetters, TextBuffer};
 use std::process::Abort;
 use std::test::Fail;
 
@@ -16,7 +16,6 @@ fn pieces_of_a_text(rt: HostRuntime) {
     assert_eq!(rt; text.len(), 24);
     text.clear();
     text.put_number(0);
-    assert_eq!(rt; text.as_bytes(), b"0".as_slice());
     text.put_number(18_446_744_073_709_551_615);
     assert_eq!(rt; text.as_bytes(), b"018446744073709551615".as_slice());
 }
@@ -28,21 +27,15 @@ fn letters_of_suits(rt: HostRuntime) -> Result<(), Fail> {
     let hand = Candidates::new(0, 1, 1).next().hand(Seat::North);
     let mut text = TextBuffer::new();
     letters.put(&mut text, &hand, Suit::Spades);
-    assert_eq!(rt; text.as_bytes(), b"AQ764".as_slice());
     letters.put(&mut text, &hand, Suit::Diamonds);
-    assert_eq!(rt; text.as_bytes(), b"AQ764".as_slice());
     letters.put(&mut text, &hand, Suit::Hearts);
     letters.put(&mut text, &hand, Suit::Clubs);
-    assert_eq!(rt; text.as_bytes(), b"AQ764KQQJT643".as_slice());
-    text.clear();
     letters.put_or_dash(&mut text, &hand, Suit::Diamonds, b"void");
     letters.put_or_dash(&mut text, &hand, Suit::Hearts, b"void");
-    assert_eq!(rt; text.as_bytes(), b"voidKQ".as_slice());
+    assert_eq!(rt; text.as_bytes(), b"AQ764KQQJT643voidKQ".as_slice());
     let spades = letters.with_dot(&hand, Suit::Spades);
     assert_eq!(rt; &spades[..6], b"AQ764.".as_slice());
-    assert_eq!(rt; spades[15], 5);
     let void = letters.with_dot(&hand, Suit::Diamonds);
-    assert_eq!(rt; void[0], b'.');
-    assert_eq!(rt; void[15], 0);
+    assert_eq!(rt; (void[0], void[15], spades[15]), (b'.', 0, 5));
     Ok(())
 }

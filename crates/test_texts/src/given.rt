@@ -1,8 +1,8 @@
-//! Texts written by hand, and many against a plain reading.
+//! Texts of hands written by hand, and many against a plain reading.
 
-use super::*;
-use cards::testing::{IN_ORDER, WORKED, fixed_in};
-use cards::{Card, Seat};
+use cards::testing::fixed_in;
+use cards::{Candidates, Card, Deal, Fixed, Seat};
+use hand_texts::{HandFault, HandTexts};
 use std::alloc::Global;
 use std::process::Abort;
 use std::test::Fail;
@@ -19,10 +19,22 @@ fn texts<'a>(given: [Option<&'a str>; 4]) -> HandTexts<'a> {
     }
 }
 
-/// The seats of the cards, or the seat of the text that is refused.
-fn read(texts: &HandTexts<'_>) -> Result<[Option<Seat>; 52], Seat> {
-    texts.read()?;
-    Ok(texts.seats())
+/// How many cards are free, and two deals around the others: this tells what is fixed.
+type Around = (usize, [Deal; 2]);
+
+fn around(fixed: &Fixed) -> Around {
+    let mut each = Candidates::around(2026, 0, 1, fixed);
+    (fixed.free(), [each.next(), each.next()])
+}
+
+/// What the texts fix, or the seat of the text that is refused.
+fn read(texts: &HandTexts<'_>) -> Result<Around, Seat> {
+    Ok(around(&texts.read()?))
+}
+
+/// These cards at their seats.
+fn fixes(seats: [Option<Seat>; 52]) -> Option<Around> {
+    Some(around(&Fixed::new(seats)?))
 }
 
 /// What North holds by the text, as cards are written for tests.
@@ -71,51 +83,6 @@ const NO_HANDS: [&str; 26] = [
     "A.K.Q.J\n",
 ];
 
-#[test]
-fn hands_written_by_hand(rt: HostRuntime) {
-    for text in HANDS.iter() {
-        let wanted = fixed_in(text.as_bytes());
-        assert_eq!(rt; read(&texts([Some(*text), None, None, None])), Ok(wanted));
-        let as_west = read(&texts([None, None, None, Some(*text)]));
-        assert_eq!(rt; as_west, Ok(wanted.map(|seat| seat.map(|_| Seat::West))));
-    }
-}
-
-#[test]
-fn texts_that_are_no_hands(rt: HostRuntime) {
-    for text in NO_HANDS.iter() {
-        let text = Some(*text);
-        assert_eq!(rt; read(&texts([text, None, None, None])), Err(Seat::North));
-        assert_eq!(rt; read(&texts([None, text, None, None])), Err(Seat::East));
-        assert_eq!(rt; read(&texts([None, None, text, None])), Err(Seat::South));
-        assert_eq!(rt; read(&texts([None, None, None, text])), Err(Seat::West));
-        assert_eq!(rt;
-            read(&texts([Some("A..."), text, Some("A..."), text])),
-            Err(Seat::East)
-        );
-    }
-}
-
-#[test]
-fn cards_of_an_earlier_hand(rt: HostRuntime) {
-    let ace = Some("A...");
-    let king = Some("K...");
-    assert_eq!(rt; read(&texts([ace, ace, None, None])), Err(Seat::East));
-    assert_eq!(rt; read(&texts([ace, None, ace, None])), Err(Seat::South));
-    assert_eq!(rt; read(&texts([ace, king, ace, king])), Err(Seat::South));
-    assert_eq!(rt; read(&texts([None, ace, king, ace])), Err(Seat::West));
-    assert_eq!(rt;
-        read(&texts([ace, Some(".A.."), Some("..A."), Some("...A")])),
-        Ok(fixed_in(b"A... .A.. ..A. ...A"))
-    );
-}
-
-#[test]
-fn no_text(rt: HostRuntime) {
-    assert_eq!(rt; read(&HandTexts::none()), Ok([None; 52]));
-    assert_eq!(rt; read(&texts([Some("..."); 4])), Ok([None; 52]));
-}
-
 /// The texts of a deal's hands, that are parted by spaces.
 fn hands_of(deal: &str) -> [Option<&str>; 4] {
     let mut hands = deal.split(' ');
@@ -129,14 +96,61 @@ const DEALS: [&str; 4] = [
     "KQ432.A93.AJ.JT8 6.865.6.AQ976532 A985.KJ742.KQ32. JT7.QT.T98754.K4",
 ];
 
+/// The texts of four hands, and the seat whose text is refused.
+type Refused = ([Option<&'static str>; 4], Seat);
+
+const ACE: Option<&str> = Some("A...");
+
+const KING: Option<&str> = Some("K...");
+
+/// A hand with a card of an earlier one.
+const TAKEN: [Refused; 4] = [
+    ([ACE, ACE, None, None], Seat::East),
+    ([ACE, None, ACE, None], Seat::South),
+    ([ACE, KING, ACE, KING], Seat::South),
+    ([None, ACE, KING, ACE], Seat::West),
+];
+
 #[test]
-fn whole_deals(rt: HostRuntime) {
-    assert_eq!(rt; DEALS[0].as_bytes(), IN_ORDER);
-    assert_eq!(rt; DEALS[1].as_bytes(), WORKED);
+fn texts_of_hands(rt: HostRuntime) {
+    for text in HANDS.iter() {
+        let north = fixed_in(text.as_bytes());
+        let west = north.map(|seat| seat.map(|_| Seat::West));
+        assert_eq!(rt;
+            read(&texts([Some(*text), None, None, None])).ok(),
+            fixes(north)
+        );
+        assert_eq!(rt;
+            read(&texts([None, None, None, Some(*text)])).ok(),
+            fixes(west)
+        );
+    }
+    assert_eq!(rt; read(&HandTexts::none()).ok(), fixes([None; 52]));
+    assert_eq!(rt; read(&texts([Some("..."); 4])).ok(), fixes([None; 52]));
     for deal in DEALS.iter() {
-        let fixed = read(&texts(hands_of(deal)));
-        assert_eq!(rt; fixed, Ok(fixed_in(deal.as_bytes())));
-        assert!(rt; fixed.is_ok_and(|seats| seats.iter().all(|seat| seat.is_some())));
+        let seats = fixed_in(deal.as_bytes());
+        assert_eq!(rt; read(&texts(hands_of(deal))).ok(), fixes(seats));
+    }
+    let apart = texts([ACE, Some(".A.."), Some("..A."), Some("...A")]);
+    assert_eq!(rt; read(&apart).ok(), fixes(fixed_in(b"A... .A.. ..A. ...A")));
+}
+
+#[test]
+fn texts_that_are_no_hands(rt: HostRuntime) {
+    for text in NO_HANDS.iter() {
+        let text = Some(*text);
+        for (given, seat) in [
+            ([text, None, None, None], Seat::North),
+            ([None, text, None, None], Seat::East),
+            ([None, None, text, None], Seat::South),
+            ([None, None, None, text], Seat::West),
+            ([ACE, text, ACE, text], Seat::East),
+        ] {
+            assert_eq!(rt; read(&texts(given)).err(), Some(seat));
+        }
+    }
+    for (given, seat) in TAKEN.iter() {
+        assert_eq!(rt; read(&texts(*given)).err(), Some(*seat));
     }
 }
 
@@ -166,44 +180,31 @@ const FAULTS: [(&str, HandFault); 20] = [
 ];
 
 #[test]
-fn faults_of_a_text(rt: HostRuntime) {
+fn faults_of_texts(rt: HostRuntime) -> Result<(), Fail> {
     for (text, fault) in FAULTS.iter() {
         let text = Some(*text);
-        assert_eq!(rt;
-            texts([text, None, None, None]).fault_at(Seat::North),
-            Some(*fault)
-        );
-        assert_eq!(rt;
-            texts([None, None, None, text]).fault_at(Seat::West),
-            Some(*fault)
-        );
+        let (north, west) = ([text, None, None, None], [None, None, None, text]);
+        assert_eq!(rt; texts(north).fault_at(Seat::North), Some(*fault));
+        assert_eq!(rt; texts(west).fault_at(Seat::West), Some(*fault));
     }
     for text in HANDS.iter() {
-        assert_eq!(rt;
-            texts([Some(*text), None, None, None]).fault_at(Seat::North),
-            None
-        );
+        let north = [Some(*text), None, None, None];
+        assert_eq!(rt; texts(north).fault_at(Seat::North), None);
     }
     assert_eq!(rt; HandTexts::none().fault_at(Seat::South), None);
-}
-
-#[test]
-fn faults_that_name_a_card(rt: HostRuntime) -> Result<(), Fail> {
     let ace = Card::new(0).ok_or("ace of spades")?;
     let deuce = Card::new(51).ok_or("two of clubs")?;
     let twice = texts([Some("AKA..."), Some("...3422"), None, None]);
-    assert_eq!(rt; twice.fault_at(Seat::North), Some(HandFault::Twice(ace)));
-    assert_eq!(rt; twice.fault_at(Seat::East), Some(HandFault::Twice(deuce)));
-    let held = texts([Some("A..."), Some("...2"), Some("KA..."), Some("Q...32")]);
-    assert_eq!(rt; held.fault_at(Seat::East), None);
-    assert_eq!(rt;
-        held.fault_at(Seat::South),
-        Some(HandFault::Held(ace, Seat::North))
-    );
-    assert_eq!(rt;
-        held.fault_at(Seat::West),
-        Some(HandFault::Held(deuce, Seat::East))
-    );
+    let held = texts([ACE, Some("...2"), Some("KA..."), Some("Q...32")]);
+    for (given, seat, fault) in [
+        (twice, Seat::North, Some(HandFault::Twice(ace))),
+        (twice, Seat::East, Some(HandFault::Twice(deuce))),
+        (held, Seat::East, None),
+        (held, Seat::South, Some(HandFault::Held(ace, Seat::North))),
+        (held, Seat::West, Some(HandFault::Held(deuce, Seat::East))),
+    ] {
+        assert_eq!(rt; given.fault_at(seat), fault);
+    }
     Ok(())
 }
 
@@ -227,14 +228,34 @@ const RULES: [(&str, &str); 7] = [
     ("AKQJT98765432.A..", "a hand has 13 cards at most"),
 ];
 
-#[test]
-fn rules_for_a_text(rt: HostRuntime) -> Result<(), Fail> {
-    for (text, rule) in RULES.iter() {
-        let fault = texts([Some(*text), None, None, None]).fault_at(Seat::North);
-        assert_eq!(rt; said(rt.alloc(), fault)?.as_str(), *rule);
-    }
-    Ok(())
-}
+/// What is said of West's text, when North has all spades.
+const RANKS: [(&str, &str); 13] = [
+    ("A...", "the ace of spades is north's"),
+    ("K...", "the king of spades is north's"),
+    ("Q...", "the queen of spades is north's"),
+    ("J...", "the jack of spades is north's"),
+    ("T...", "the ten of spades is north's"),
+    ("9...", "the nine of spades is north's"),
+    ("8...", "the eight of spades is north's"),
+    ("7...", "the seven of spades is north's"),
+    ("6...", "the six of spades is north's"),
+    ("5...", "the five of spades is north's"),
+    ("4...", "the four of spades is north's"),
+    ("3...", "the three of spades is north's"),
+    ("2...", "the two of spades is north's"),
+];
+
+/// Texts of which West's has another hand's card, and what is said of it.
+const SUITS: [([Option<&str>; 4], &str); 2] = [
+    (
+        [None, Some(".A.."), Some("...2"), Some(".A..")],
+        "the ace of hearts is east's",
+    ),
+    (
+        [None, None, Some("...2"), Some("...2")],
+        "the two of clubs is south's",
+    ),
+];
 
 /// What is said of a fault.
 fn said(alloc: Global, fault: Option<HandFault>) -> Result<String, Fail> {
@@ -243,38 +264,20 @@ fn said(alloc: Global, fault: Option<HandFault>) -> Result<String, Fail> {
     Ok(line)
 }
 
-/// West's hand has each card of spades in turn, and another hand has it too.
 #[test]
-fn rules_name_the_card_and_its_holder(rt: HostRuntime) -> Result<(), Fail> {
-    let ranks = [
-        ("A...", "the ace of spades is north's"),
-        ("K...", "the king of spades is north's"),
-        ("Q...", "the queen of spades is north's"),
-        ("J...", "the jack of spades is north's"),
-        ("T...", "the ten of spades is north's"),
-        ("9...", "the nine of spades is north's"),
-        ("8...", "the eight of spades is north's"),
-        ("7...", "the seven of spades is north's"),
-        ("6...", "the six of spades is north's"),
-        ("5...", "the five of spades is north's"),
-        ("4...", "the four of spades is north's"),
-        ("3...", "the three of spades is north's"),
-        ("2...", "the two of spades is north's"),
-    ];
-    for (text, rule) in ranks.iter() {
+fn rules_for_texts(rt: HostRuntime) -> Result<(), Fail> {
+    for (text, rule) in RULES.iter() {
+        let fault = texts([Some(*text), None, None, None]).fault_at(Seat::North);
+        assert_eq!(rt; said(rt.alloc(), fault)?.as_str(), *rule);
+    }
+    for (text, rule) in RANKS.iter() {
         let fault = texts([Some("AKQJT98765432..."), None, None, Some(*text)]).fault_at(Seat::West);
         assert_eq!(rt; said(rt.alloc(), fault)?.as_str(), *rule);
     }
-    let suits = [None, Some(".A.."), Some("...2"), Some(".A..")];
-    assert_eq!(rt;
-        said(rt.alloc(), texts(suits).fault_at(Seat::West))?.as_str(),
-        "the ace of hearts is east's"
-    );
-    let clubs = [None, None, Some("...2"), Some("...2")];
-    assert_eq!(rt;
-        said(rt.alloc(), texts(clubs).fault_at(Seat::West))?.as_str(),
-        "the two of clubs is south's"
-    );
+    for (given, rule) in SUITS.iter() {
+        let fault = texts(*given).fault_at(Seat::West);
+        assert_eq!(rt; said(rt.alloc(), fault)?.as_str(), *rule);
+    }
     Ok(())
 }
 
@@ -400,13 +403,15 @@ fn four_thousand_texts_by_a_plain_reading(rt: HostRuntime) {
             some_text(&mut dice, &hands[2], lengths[2]),
             some_text(&mut dice, &hands[3], lengths[3]),
         ];
-        let seats = read(&texts(given));
-        assert_eq!(rt; seats, plain_seats(given));
-        if let Err(seat) = seats {
-            assert!(rt; texts(given).fault_at(seat).is_some());
-        }
-        if seats.is_ok() {
-            read_well = (read_well % 2_000) + 1;
+        match plain_seats(given) {
+            Ok(seats) => {
+                assert_eq!(rt; read(&texts(given)).ok(), fixes(seats));
+                read_well = (read_well % 2_000) + 1;
+            }
+            Err(seat) => {
+                assert_eq!(rt; read(&texts(given)).err(), Some(seat));
+                assert!(rt; texts(given).fault_at(seat).is_some());
+            }
         }
     }
     // Enough of both.

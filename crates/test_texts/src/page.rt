@@ -1,11 +1,8 @@
-//! Sections and headers that a second program wrote, of the pack in order, of a worked deal and of
-//! two candidates.
+//! Pages that a second program wrote, of two candidates, of the pack in order and of a worked deal.
 
-use super::*;
-use boards::{Board, Notation, Vul};
-use cards::testing::{IN_ORDER, WORKED, deal};
-use cards::{Candidates, Seat};
-use pbn_text::{Date, Heading, Label};
+use crate::support::{Labels, heading_of, sample_boards, writes};
+use html_page::HtmlPrinter;
+use pbn_text::Heading;
 use std::alloc::Global;
 use std::process::Abort;
 use std::test::Fail;
@@ -118,81 +115,85 @@ const WORKED_TEXT: &str = "\
     </b>J6542<br><i>♣</i>85</div>\n\
     </section>\n";
 
-#[test]
-fn sections_of_deals(rt: HostRuntime) -> Result<(), Fail> {
-    let mut candidates = Candidates::new(0, 0, 1);
-    let mut printer = HtmlPrinter::new(rt.alloc(), &Heading::none())?;
-    assert_eq!(rt; printer.text(), b"".as_slice());
-    printer.print(&Board::by_law(1, 0, candidates.next()));
-    assert_eq!(rt; printer.text(), FIRST.as_bytes());
-    printer.print(&Board::by_law(2, 1, candidates.next()));
-    assert_eq!(rt; printer.text(), SECOND.as_bytes());
-    printer.print(&Board::by_law(4, 0, deal(IN_ORDER)?));
-    assert_eq!(rt; printer.text(), IN_ORDER_TEXT.as_bytes());
-    Ok(())
-}
+/// What stands before the number of a board of the worked deal.
+const WORKED_FRONT: &str = "<section class=\"board\">\n<h2 class=\"EW\">Board ";
 
-/// The worked deal with another dealer and vulnerability than Law 2's, under a short number and the
-/// longest one.
+/// What stands after all sections.
+const FOOTER: &str = "</main>\n</body>\n</html>\n";
+
+const NUMBERS: [&str; 5] = ["9", "10", "99999999999", "100000000000", "1099511627776"];
+
 #[test]
-fn numbers_of_boards(rt: HostRuntime) -> Result<(), Fail> {
-    let mut printer = HtmlPrinter::new(rt.alloc(), &Heading::none())?;
-    for (number, digits) in [(9, "9"), (1_099_511_627_776, "1099511627776")] {
-        printer.print(&Board {
-            number,
-            candidate: 7,
-            dealer: Seat::South,
-            vulnerable: Vul::EastWest,
-            deal: deal(WORKED)?,
-        });
-        let front = "<section class=\"board\">\n<h2 class=\"EW\">Board ";
-        let text = [front, digits, WORKED_TEXT].concat(rt.alloc())?;
-        assert_eq!(rt; printer.text(), text.as_bytes());
+fn a_page_of_boards(rt: HostRuntime) -> Result<(), Fail> {
+    let header = [BEFORE, "Boards", BETWEEN, "Boards</h1>\n"];
+    let mut text = header.concat(rt.alloc())?;
+    for piece in [FIRST, SECOND, IN_ORDER_TEXT] {
+        text.push_str(piece)?;
     }
-    Ok(())
+    for number in NUMBERS.iter() {
+        text.push_str(WORKED_FRONT)?;
+        text.push_str(number)?;
+        text.push_str(WORKED_TEXT)?;
+    }
+    text.push_str(FOOTER)?;
+    let mut printer = HtmlPrinter::new(rt.alloc(), &Heading::none())?;
+    let boards = sample_boards()?;
+    writes(
+        &rt,
+        rt.alloc(),
+        &mut printer,
+        boards.as_slice(),
+        text.as_bytes(),
+    )
 }
 
-/// The header under these labels has this title, and this heading; and the footer is always the
-/// same.
-fn check_title(rt: &impl Abort, alloc: Global, heading: &Heading, title: &str) -> Result<(), Fail> {
-    let printer = HtmlPrinter::new(alloc, heading)?;
-    let header = [BEFORE, title, BETWEEN, title, "</h1>\n"].concat(alloc)?;
-    assert_eq!(rt; printer.header(), header.as_bytes());
-    assert_eq!(rt; printer.footer(), b"</main>\n</body>\n</html>\n".as_slice());
-    Ok(())
+/// The page of no board under these labels has this title, and this heading.
+fn has_title(rt: &impl Abort, alloc: Global, labels: &Labels, title: &str) -> Result<(), Fail> {
+    let mut printer = HtmlPrinter::new(alloc, &heading_of(labels))?;
+    let page = [BEFORE, title, BETWEEN, title, "</h1>\n", FOOTER].concat(alloc)?;
+    writes(rt, alloc, &mut printer, &[], page.as_bytes())
 }
+
+/// Labels, and their title. Signs that HTML reads are written as it has them.
+const TITLES: [(Labels, &str); 7] = [
+    ([None, Some(b"Club"), None], "Club"),
+    (
+        [None, Some(b"Club"), Some(b"2024.05.01")],
+        "Club, 2024.05.01",
+    ),
+    (
+        [Some(b"Club night"), Some(b"Club"), Some(b"2024.05.01")],
+        "Club night, Club, 2024.05.01",
+    ),
+    (
+        [Some(b"Club night"), Some(b""), Some(b"2024.05.01")],
+        "Club night, 2024.05.01",
+    ),
+    ([Some(b"  "), Some(b""), Some(b"2024.05.01")], "2024.05.01"),
+    ([Some(b"  "), Some(b""), None], "Boards"),
+    (
+        [Some(b" A & <B>'s; &amp;"), None, None],
+        " A &amp; &lt;B&gt;'s; &amp;amp;",
+    ),
+];
+
+const LONG: &[u8] = &[b'&'; 100];
+
+/// The longest labels.
+const LONGEST: Labels = [Some(LONG), Some(LONG), Some(b"2024.05.01")];
 
 #[test]
 fn titles(rt: HostRuntime) -> Result<(), Fail> {
-    let mut heading = Heading::none();
-    check_title(&rt, rt.alloc(), &heading, "Boards")?;
-    heading.site = Label::new(b"Club");
-    check_title(&rt, rt.alloc(), &heading, "Club")?;
-    heading.date = Date::new(b"2024.05.01");
-    check_title(&rt, rt.alloc(), &heading, "Club, 2024.05.01")?;
-    heading.event = Label::new(b"Club night");
-    check_title(&rt, rt.alloc(), &heading, "Club night, Club, 2024.05.01")?;
-    heading.site = Label::new(b"");
-    check_title(&rt, rt.alloc(), &heading, "Club night, 2024.05.01")?;
-    heading.event = Label::new(b"  ");
-    check_title(&rt, rt.alloc(), &heading, "2024.05.01")?;
-    heading.date = None;
-    check_title(&rt, rt.alloc(), &heading, "Boards")?;
-    Ok(())
-}
-
-/// Signs that HTML reads are written as it has them, in the longest labels too.
-#[test]
-fn escaped_labels(rt: HostRuntime) -> Result<(), Fail> {
-    let mut heading = Heading::none();
-    heading.event = Label::new(b" A & <B>'s; &amp;");
-    let title = " A &amp; &lt;B&gt;'s; &amp;amp;";
-    check_title(&rt, rt.alloc(), &heading, title)?;
-    heading.event = Label::new(&[b'&'; 100]);
-    heading.site = heading.event;
-    heading.date = Date::new(b"2024.05.01");
+    for (labels, title) in TITLES.iter() {
+        has_title(&rt, rt.alloc(), labels, title)?;
+    }
     let hundred = ["&amp;"; 100].concat(rt.alloc())?;
     let title = [hundred.as_str(), hundred.as_str(), "2024.05.01"].join(rt.alloc(), ", ")?;
-    check_title(&rt, rt.alloc(), &heading, title.as_str())?;
-    Ok(())
+    let long = Some([b'&'; 100].as_slice());
+    has_title(
+        &rt,
+        rt.alloc(),
+        &[long, long, Some(b"2024.05.01")],
+        title.as_str(),
+    )
 }

@@ -1,0 +1,167 @@
+//! Cards, places and deals, and the shuffle against a plain program.
+
+use cards::testing::{IN_ORDER, WORKED, deal as deal_of, seats_of};
+use cards::{
+    Candidates, Card, Deal, MAX_CANDIDATES, Measure, PackedDeal, Places, Seat, Suit, laws,
+};
+use lcg48::{Lcg48, Steps, Stride};
+use std::process::Abort;
+use std::test::Fail;
+
+/// The first two candidates of seed 0, the first of which docs/SEQUENCE.md deals by hand.
+const OF_SEED_ZERO: [&[u8]; 2] = [
+    b"72.AT64.75.AT872 AK985.85.A6.Q654 QJ43.Q732.QT3.K9 T6.KJ9.KJ9842.J3",
+    b"AQ764.KQ..QJT643 K853.954.QJ53.A2 JT2.AJT.T964.K95 9.87632.AK872.87",
+];
+
+/// The pack when all places are zero.
+const TURNED_PACK: &[u8] = b"KQJT98765432.A.. .KQJT98765432.A. ..KQJT98765432.A A...KQJT98765432";
+
+/// As the pack in order, but for two cards of East and South.
+const ALMOST_IN_ORDER: &[u8] =
+    b"AKQJT98765432... .AKQJT9876543.2. .2.AKQJT9876543. ...AKQJT98765432";
+
+#[test]
+fn cards_and_places(rt: HostRuntime) -> Result<(), Fail> {
+    let card = Card::new(51).ok_or("card 51")?;
+    assert_eq!(rt;
+        (card.number(), card.suit(), card.rank()),
+        (51, Suit::Clubs, 12)
+    );
+    assert!(rt; Card::new(52).is_none());
+    assert_eq!(rt;
+        (Seat::North.next(), Seat::West.next()),
+        (Seat::East, Seat::North)
+    );
+    let measures = [Measure::Hcp, Measure::Controls, Measure::Losers];
+    assert_eq!(rt; measures.map(|measure| measure.place()), [0, 1, 2]);
+    let drawn = Places::draw(&mut Lcg48::seeded(0));
+    assert_eq!(rt; drawn.place(52), 8);
+    assert_eq!(rt; drawn.place(51), 38);
+    assert_eq!(rt; drawn.place(50), 4);
+    assert_eq!(rt; drawn.place(49), 42);
+    let mut places = [0; 51];
+    for (first, last, is_sound) in [(52, 0, false), (51, 0, true), (51, 2, false)] {
+        places[0] = first;
+        places[50] = last;
+        assert_eq!(rt; Places::new(places).is_some(), is_sound);
+    }
+    Ok(())
+}
+
+/// The places that leave the pack as it is: for j the position j - 1.
+fn places_that_stay() -> [u8; 51] {
+    let mut places = [0; 51];
+    for i in 0..51u8 {
+        places[usize::from(i)] = 51 - i;
+    }
+    places
+}
+
+#[test]
+fn deals_of_places(rt: HostRuntime) -> Result<(), Fail> {
+    let in_order = deal_of(IN_ORDER)?;
+    let turned = deal_of(TURNED_PACK)?;
+    let other = deal_of(ALMOST_IN_ORDER)?;
+    let stay = Places::new(places_that_stay()).map(|places| Deal::shuffled(&places));
+    assert_eq!(rt; stay, Some(in_order));
+    let zero = Places::new([0; 51]).map(|places| Deal::shuffled(&places));
+    assert_eq!(rt; zero, Some(turned));
+    let ace_of_spades = Card::new(0).ok_or("card 0")?;
+    assert_eq!(rt; turned.holder(ace_of_spades), Seat::West);
+    assert!(rt; laws::equality(&in_order, &deal_of(IN_ORDER)?));
+    assert!(rt; !laws::equality(&in_order, &other));
+    assert!(rt; !laws::equality(&other, &turned));
+    let mut seats = seats_of(WORKED);
+    assert!(rt; Deal::from_seats(&seats).is_some());
+    seats[0] = Seat::North;
+    assert!(rt; Deal::from_seats(&seats).is_none());
+    for deal in [in_order, deal_of(WORKED)?] {
+        for flag in [false, true] {
+            let packed = PackedDeal::new(&deal, flag);
+            assert_eq!(rt; (packed.deal(), packed.flag()), (deal, flag));
+        }
+    }
+    Ok(())
+}
+
+/// The first deal, turned so that North's hand is each seat's in turn.
+const TURNED: [(Seat, &[u8]); 4] = [
+    (
+        Seat::North,
+        b"72.AT64.75.AT872 AK985.85.A6.Q654 QJ43.Q732.QT3.K9 T6.KJ9.KJ9842.J3",
+    ),
+    (
+        Seat::East,
+        b"T6.KJ9.KJ9842.J3 72.AT64.75.AT872 AK985.85.A6.Q654 QJ43.Q732.QT3.K9",
+    ),
+    (
+        Seat::South,
+        b"QJ43.Q732.QT3.K9 T6.KJ9.KJ9842.J3 72.AT64.75.AT872 AK985.85.A6.Q654",
+    ),
+    (
+        Seat::West,
+        b"AK985.85.A6.Q654 QJ43.Q732.QT3.K9 T6.KJ9.KJ9842.J3 72.AT64.75.AT872",
+    ),
+];
+
+/// At the limit is the last candidate that a run may have, and the one after the last share of
+/// sixteen workers.
+#[test]
+fn candidates(rt: HostRuntime) -> Result<(), Fail> {
+    let mut each = Candidates::new(0, 0, 1);
+    for hands in OF_SEED_ZERO.iter() {
+        assert_eq!(rt; each.next(), deal_of(hands)?);
+    }
+    let mut from_one = Candidates::new(0, 1, 16);
+    assert_eq!(rt; from_one.next(), deal_of(OF_SEED_ZERO[1])?);
+    let mut steps = Steps::new();
+    let before = Stride::of(51 * (MAX_CANDIDATES - 1), &mut steps);
+    let mut generator = before.apply(&Lcg48::seeded(1));
+    let mut last = Candidates::new(1, MAX_CANDIDATES - 1, 1);
+    assert_eq!(rt; last.next(), Deal::draw(&mut generator));
+    let mut after = Candidates::new(1, MAX_CANDIDATES, 16);
+    assert_eq!(rt; after.next(), Deal::draw(&mut generator));
+    let deal = deal_of(OF_SEED_ZERO[0])?;
+    for (to, hands) in TURNED.iter() {
+        assert_eq!(rt; deal.turned(*to), deal_of(hands)?);
+    }
+    Ok(())
+}
+
+/// Algorithm P as it is written: cards exchanged for 52, 51, .., 2, then cut into four hands.
+fn dealt_downwards(places: &Places) -> [Seat; 52] {
+    let mut pack = [0; 52];
+    for (card, item) in pack.iter_mut().enumerate() {
+        *item = card;
+    }
+    for i in 0..51u8 {
+        let j = 52 - i;
+        pack.swap(usize::from(j - 1), usize::from(places.place(j)));
+    }
+    let order = [Seat::North, Seat::East, Seat::South, Seat::West];
+    let mut seats = [Seat::North; 52];
+    for (hand, seat) in pack.chunks(13).zip(order) {
+        for card in hand {
+            seats[*card % 52] = seat;
+        }
+    }
+    seats
+}
+
+/// The shuffle, the draw and every third candidate from the fifth on.
+#[test]
+fn ten_thousand_deals_by_a_plain_program(rt: HostRuntime) {
+    let mut generator = Lcg48::seeded(2026);
+    let mut again = generator;
+    let mut thirds = Candidates::new(2026, 5, 3);
+    for number in 0..10_000 {
+        let places = Places::draw(&mut generator);
+        let plain = Deal::from_seats(&dealt_downwards(&places));
+        assert_eq!(rt; plain, Some(Deal::shuffled(&places)));
+        assert_eq!(rt; plain, Some(Deal::draw(&mut again)));
+        if number >= 5 && number % 3 == 2 {
+            assert_eq!(rt; plain, Some(thirds.next()));
+        }
+    }
+}

@@ -1,0 +1,159 @@
+//! What hands are counted to have.
+
+use cards::testing::{WORKED, deal};
+use cards::{Honours, Measure, Seat, Suit};
+use std::process::Abort;
+use std::test::Fail;
+
+/// Candidates 0 and 1 of seed 0.
+const FIRST: &[u8] = b"72.AT64.75.AT872 AK985.85.A6.Q654 QJ43.Q732.QT3.K9 T6.KJ9.KJ9842.J3";
+
+const SECOND: &[u8] = b"AQ764.KQ..QJT643 K853.954.QJ53.A2 JT2.AJT.T964.K95 9.87632.AK872.87";
+
+/// Hands of each balanced shape, and one that is none.
+const EVEN: &[u8] = b"AKQJ.987.432.AKQ T987.AKQJ.AK.JT9 6543.T65.QJT98.8 2.432.765.765432";
+
+const LONG_CLUBS: &[u8] = b"AK.987.432.AKQJT T987.AKQJ.AK.987 6543.T65.QJT9.65 QJ2.432.8765.432";
+
+/// A deal, and of each seat the points, the controls, the losers and the shape. Losers were counted
+/// by an independent program, those of the worked deal suit by suit by hand too, and the rest by
+/// hand.
+type Counted = (&'static [u8], [(u8, u8, u8, [u8; 4]); 4]);
+
+const COUNTED: [Counted; 3] = [
+    (
+        WORKED,
+        [
+            (13, 5, 4, [0, 2, 6, 5]),
+            (12, 3, 6, [5, 3, 1, 4]),
+            (5, 1, 8, [4, 6, 1, 2]),
+            (10, 3, 7, [4, 2, 5, 2]),
+        ],
+    ),
+    (
+        FIRST,
+        [
+            (8, 4, 8, [2, 4, 2, 5]),
+            (13, 5, 6, [5, 2, 2, 4]),
+            (10, 1, 7, [4, 4, 3, 2]),
+            (9, 2, 8, [2, 3, 6, 2]),
+        ],
+    ),
+    (
+        SECOND,
+        [
+            (14, 3, 4, [5, 2, 0, 6]),
+            (10, 3, 8, [4, 3, 4, 2]),
+            (9, 3, 10, [3, 3, 4, 3]),
+            (7, 3, 7, [1, 5, 5, 2]),
+        ],
+    ),
+];
+
+const SEATS: [Seat; 4] = [Seat::North, Seat::East, Seat::South, Seat::West];
+
+#[test]
+fn counts_of_hands(rt: HostRuntime) -> Result<(), Fail> {
+    for (hands, counts) in COUNTED.iter() {
+        let deal = deal(hands)?;
+        for (seat, (points, controls, losers, shape)) in SEATS.iter().zip(counts.iter()) {
+            let hand = deal.hand(*seat);
+            let found = (hand.points(), hand.total(Measure::Controls), hand.losers());
+            assert_eq!(rt; found, (*points, *controls, *losers));
+            assert_eq!(rt; hand.shape(), *shape);
+            assert_eq!(rt; hand.total(Measure::Hcp), *points);
+            assert_eq!(rt; hand.total(Measure::Losers), *losers);
+        }
+    }
+    Ok(())
+}
+
+/// A deal, which of its seats are balanced, and the longest and shortest suits of North and South.
+type Shapes = (&'static [u8], [bool; 4], (u8, u8), (u8, u8));
+
+const SHAPES: [Shapes; 5] = [
+    (WORKED, [false, false, false, false], (6, 0), (6, 1)),
+    (FIRST, [false, false, true, false], (5, 2), (4, 2)),
+    (SECOND, [false, true, true, false], (6, 0), (4, 3)),
+    (EVEN, [true, true, false, false], (4, 3), (5, 1)),
+    (LONG_CLUBS, [true, true, true, true], (5, 2), (4, 2)),
+];
+
+#[test]
+fn shapes_of_hands(rt: HostRuntime) -> Result<(), Fail> {
+    for (hands, balanced, of_north, of_south) in SHAPES.iter() {
+        let deal = deal(hands)?;
+        assert_eq!(rt; SEATS.map(|seat| deal.hand(seat).balanced()), *balanced);
+        let (north, south) = (deal.hand(Seat::North), deal.hand(Seat::South));
+        assert_eq!(rt; (north.longest(), north.shortest()), *of_north);
+        assert_eq!(rt; (south.longest(), south.shortest()), *of_south);
+    }
+    Ok(())
+}
+
+/// Of the worked deal a seat, a suit, and its length, points, controls and losers.
+const SUITS: [(Seat, Suit, u8, u8, u8, u8); 8] = [
+    (Seat::North, Suit::Spades, 0, 0, 0, 0),
+    (Seat::North, Suit::Hearts, 2, 0, 0, 2),
+    (Seat::North, Suit::Diamonds, 6, 9, 3, 0),
+    (Seat::North, Suit::Clubs, 5, 4, 2, 2),
+    (Seat::South, Suit::Spades, 4, 1, 0, 3),
+    (Seat::South, Suit::Hearts, 6, 1, 0, 3),
+    (Seat::South, Suit::Diamonds, 1, 0, 0, 1),
+    (Seat::South, Suit::Clubs, 2, 3, 1, 1),
+];
+
+#[test]
+fn counts_of_suits(rt: HostRuntime) -> Result<(), Fail> {
+    let deal = deal(WORKED)?;
+    for (seat, suit, length, points, controls, losers) in SUITS.iter() {
+        let hand = deal.hand(*seat);
+        assert_eq!(rt;
+            (hand.length(*suit), hand.points_in(*suit)),
+            (*length, *points)
+        );
+        assert_eq!(rt; hand.total_in(Measure::Hcp, *suit), *points);
+        assert_eq!(rt; hand.total_in(Measure::Controls, *suit), *controls);
+        assert_eq!(rt; hand.total_in(Measure::Losers, *suit), *losers);
+        assert_eq!(rt; hand.losers_in(*suit), *losers);
+    }
+    let north = deal.hand(Seat::North);
+    let (t, f) = (true, false);
+    let diamonds = [t, t, t, f, f, t, t, t, f, f, f, f, f];
+    assert_eq!(rt; north.ranks(Suit::Diamonds), diamonds);
+    assert_eq!(rt; north.rank_set(Suit::Diamonds), 0b0_0000_1110_0111);
+    assert_eq!(rt; north.rank_set(Suit::Spades), 0);
+    Ok(())
+}
+
+/// Honours by the ace, king, queen, jack and ten.
+fn honours([ace, king, queen, jack, ten]: [bool; 5]) -> Honours {
+    Honours {
+        ace,
+        king,
+        queen,
+        jack,
+        ten,
+    }
+}
+
+#[test]
+fn honours_of_the_worked_deal(rt: HostRuntime) -> Result<(), Fail> {
+    let deal = deal(WORKED)?;
+    let (t, f) = (true, false);
+    for (seat, counted, count) in [
+        (Seat::North, [t, t, t, f, f], 4),
+        (Seat::South, [f, f, f, t, t], 2),
+        (Seat::East, [t, t, t, t, t], 7),
+        (Seat::East, [f, f, f, f, f], 0),
+    ] {
+        assert_eq!(rt; deal.hand(seat).honours(honours(counted)), count);
+    }
+    for (seat, suit, counted, count) in [
+        (Seat::North, Suit::Diamonds, [t, t, t, f, f], 3),
+        (Seat::West, Suit::Spades, [f, t, t, f, t], 3),
+    ] {
+        assert_eq!(rt; deal.hand(seat).honours_in(honours(counted), suit), count);
+    }
+    Ok(())
+}

@@ -1,0 +1,155 @@
+//! Games of Portable Bridge Notation, written by hand where no example gives them, and labels.
+
+use crate::support::{Labels, heading_of, writes};
+use boards::{Board, Notation};
+use cards::Seat;
+use cards::testing::{IN_ORDER, WORKED, deal};
+use pbn_text::{Date, HEADER, Heading, Label, Printer, Reference, Vul, deal_text, game};
+use std::process::Abort;
+use std::test::Fail;
+
+/// The game of the pack in order at board 1.
+const FIRST: &[u8] = b"[Board \"1\"]\n[Dealer \"N\"]\n[Vulnerable \"None\"]\n\
+    [Deal \"N:AKQJT98765432... .AKQJT98765432.. ..AKQJT98765432. ...AKQJT98765432\"]\n\n";
+
+/// The game of the worked deal at board 2.
+const SECOND: &[u8] = b"[Board \"2\"]\n[Dealer \"E\"]\n[Vulnerable \"NS\"]\n\
+    [Deal \"N:.63.AKQ987.A9732 A8654.KQ5.T.QJT6 J973.J98742.3.K4 KQT2.AT.J6542.85\"]\n\n";
+
+/// The text of `boards_by_hand`.
+const BY_HAND: &[u8] = b"% PBN 2.1\n\
+    [Board \"0\"]\n[Dealer \"W\"]\n[Vulnerable \"All\"]\n\
+    [Deal \"N:AKQJT98765432... .AKQJT98765432.. ..AKQJT98765432. ...AKQJT98765432\"]\n\n\
+    [Board \"10\"]\n[Dealer \"S\"]\n[Vulnerable \"EW\"]\n\
+    [Deal \"N:.63.AKQ987.A9732 A8654.KQ5.T.QJT6 J973.J98742.3.K4 KQT2.AT.J6542.85\"]\n\n";
+
+/// A board 0, and a board 10 with another dealer and vulnerability than Law 2's.
+fn boards_by_hand() -> Result<[Board; 2], Fail> {
+    Ok([
+        Board {
+            number: 0,
+            candidate: 3,
+            dealer: Seat::West,
+            vulnerable: Vul::Both,
+            deal: deal(IN_ORDER)?,
+        },
+        Board {
+            number: 10,
+            candidate: 2,
+            dealer: Seat::South,
+            vulnerable: Vul::EastWest,
+            deal: deal(WORKED)?,
+        },
+    ])
+}
+
+/// A board, the hands of its deal, and its game.
+const GAMES: [(u64, &[u8], &[u8]); 3] = [
+    (1, IN_ORDER, FIRST),
+    (2, WORKED, SECOND),
+    (1, IN_ORDER, FIRST),
+];
+
+#[test]
+fn games_of_two_deals(rt: HostRuntime) -> Result<(), Fail> {
+    assert_eq!(rt; HEADER.as_slice(), b"% PBN 2.1\n".as_slice());
+    let mut printer = Printer::new(rt.alloc(), &Heading::none())?;
+    for (number, hands, text) in GAMES.iter() {
+        let number = (*number).max(1);
+        let deal = deal(hands)?;
+        assert_eq!(rt; game(number, &Heading::none(), &deal).as_slice(), *text);
+        let spelled = deal_text(&deal);
+        assert!(rt; spelled.as_slice().starts_with(b"N:") && spelled.as_slice().ends_with(hands));
+        assert_eq!(rt; spelled.len(), 69);
+        printer.print(&Board::by_law(number, 7, deal));
+        assert_eq!(rt; printer.text(), *text);
+    }
+    Ok(())
+}
+
+#[test]
+fn a_text_of_boards(rt: HostRuntime) -> Result<(), Fail> {
+    let boards = boards_by_hand()?;
+    let mut printer = Printer::new(rt.alloc(), &Heading::none())?;
+    writes(&rt, rt.alloc(), &mut printer, boards.as_slice(), BY_HAND)?;
+    let mut reference = Reference::new(&Heading::none());
+    writes(&rt, rt.alloc(), &mut reference, boards.as_slice(), BY_HAND)
+}
+
+/// Labels, and how the game of the pack in order at board 16 begins.
+const FRONTS: [(Labels, &[u8]); 3] = [
+    (
+        [Some(b"Club night"), None, Some(b"2024.05.01")],
+        b"[Event \"Club night\"]\n[Date \"2024.05.01\"]\n[Board \"16\"]\n\
+            [Dealer \"W\"]\n[Vulnerable \"EW\"]\n[Deal \"N:AKQJT98765432... ",
+    ),
+    (
+        [Some(b"Club night"), Some(b""), Some(b"2024.05.01")],
+        b"[Event \"Club night\"]\n[Site \"\"]\n[Date \"2024.05.01\"]\n[Board \"16\"]\n",
+    ),
+    (
+        [None, Some(b"Room 3"), None],
+        b"[Site \"Room 3\"]\n[Board \"16\"]\n",
+    ),
+];
+
+/// The longest board number of a game.
+const LARGEST: u64 = 18_446_744_073_709_551_614;
+
+/// The longest label.
+const LONG: &[u8] = &[b'~'; 100];
+
+/// Labels, and the length of the longest game under them.
+const LENGTHS: [(Labels, usize); 2] = [
+    ([None, None, None], 144),
+    ([Some(LONG), Some(LONG), Some(b"2024.05.01")], 385),
+];
+
+#[test]
+fn games_under_headings(rt: HostRuntime) -> Result<(), Fail> {
+    let deal = deal(IN_ORDER)?;
+    for (labels, front) in FRONTS.iter() {
+        let heading = heading_of(labels);
+        let mut printer = Printer::new(rt.alloc(), &heading)?;
+        printer.print(&Board::by_law(16, 0, deal));
+        let mut reference = Reference::new(&heading);
+        reference.print(&Board::by_law(16, 0, deal));
+        assert!(rt; game(16, &heading, &deal).as_slice().starts_with(front));
+        assert!(rt; reference.text().starts_with(front));
+        assert!(rt; printer.text().starts_with(front));
+    }
+    for (labels, length) in LENGTHS.iter() {
+        let heading = heading_of(labels);
+        let mut printer = Printer::new(rt.alloc(), &heading)?;
+        printer.print(&Board::by_law(LARGEST, 0, deal));
+        assert_eq!(rt; game(LARGEST, &heading, &deal).len(), *length);
+        assert_eq!(rt; printer.text().len(), *length);
+    }
+    Ok(())
+}
+
+const NO_LABELS: [&[u8]; 6] = [
+    &[b'a'; 101],
+    b"say \"hello\"",
+    b"back\\slash",
+    b"two\nlines",
+    b"\x7F",
+    b"caf\xC3\xA9",
+];
+
+const NO_DATES: [&[u8]; 4] = [b"2024-05-01", b"2024.5.01", b"2024.05.011", b"2O24.05.01"];
+
+#[test]
+fn labels_and_dates(rt: HostRuntime) -> Result<(), Fail> {
+    for text in NO_LABELS.iter() {
+        assert!(rt; Label::new(text).is_none());
+    }
+    for text in NO_DATES.iter() {
+        assert!(rt; Date::new(text).is_none());
+    }
+    let label = Label::new(b" !#[]~").ok_or("label")?;
+    assert_eq!(rt; label.as_bytes(), b" !#[]~".as_slice());
+    let date = Date::new(b"0000.99.99").ok_or("date")?;
+    assert_eq!(rt; date.as_bytes(), b"0000.99.99".as_slice());
+    Ok(())
+}

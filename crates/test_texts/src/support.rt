@@ -1,0 +1,79 @@
+//! Boards that each notation writes, and labels.
+
+use boards::{Board, Notation, Vul};
+use cards::testing::{IN_ORDER, WORKED, deal};
+use cards::{Deal, Seat};
+use pbn_text::{Date, Heading, Label};
+use std::alloc::Global;
+use std::process::Abort;
+use std::test::Fail;
+
+/// Candidates 0 and 1 of seed 0.
+const OF_SEED_ZERO: [&[u8]; 2] = [
+    b"72.AT64.75.AT872 AK985.85.A6.Q654 QJ43.Q732.QT3.K9 T6.KJ9.KJ9842.J3",
+    b"AQ764.KQ..QJT643 K853.954.QJ53.A2 JT2.AJT.T964.K95 9.87632.AK872.87",
+];
+
+/// The worked deal with another dealer and vulnerability than Law 2's.
+fn worked(number: u64, candidate: u64, deal: Deal) -> Board {
+    Board {
+        number,
+        candidate,
+        dealer: Seat::South,
+        vulnerable: Vul::EastWest,
+        deal,
+    }
+}
+
+/// Boards by Law 2 of the first two candidates and of the pack in order, and the worked deal under
+/// numbers that grow to the largest of a run.
+pub fn sample_boards() -> Result<[Board; 8], Fail> {
+    let last = deal(WORKED)?;
+    Ok([
+        Board::by_law(1, 0, deal(OF_SEED_ZERO[0])?),
+        Board::by_law(2, 1, deal(OF_SEED_ZERO[1])?),
+        Board::by_law(4, 0, deal(IN_ORDER)?),
+        worked(9, 7, last),
+        worked(10, 4_812, last),
+        worked(99_999_999_999, 1_099_511_627_775, last),
+        worked(100_000_000_000, 7, last),
+        worked(1_099_511_627_776, 7, last),
+    ])
+}
+
+/// The notation writes the boards as this text, the header before them and the footer after them.
+pub fn writes<N: Notation>(
+    rt: &impl Abort,
+    alloc: Global,
+    notation: &mut N,
+    boards: &[Board],
+    text: &[u8],
+) -> Result<(), Fail> {
+    assert!(rt; notation.text().is_empty());
+    let mut written = Vec::from_slice(alloc, notation.header())?;
+    for board in boards {
+        notation.print(board);
+        written.extend_from_slice(notation.text())?;
+    }
+    written.extend_from_slice(notation.footer())?;
+    assert_eq!(rt; written.as_slice(), text);
+    Ok(())
+}
+
+/// The event, the site and the date of a heading.
+pub type Labels = [Option<&'static [u8]>; 3];
+
+/// The heading that has these labels.
+pub fn heading_of([event, site, date]: &Labels) -> Heading {
+    let mut heading = Heading::none();
+    if let Some(event) = event {
+        heading.event = Label::new(event);
+    }
+    if let Some(site) = site {
+        heading.site = Label::new(site);
+    }
+    if let Some(date) = date {
+        heading.date = Date::new(date);
+    }
+    heading
+}
