@@ -2,9 +2,30 @@
 
 use crate::parts::{Parts, is, is_measure, is_number, is_relation, is_suit};
 use crate::rules::amounts::{Compared, compared_at};
+use crate::rules::names::{Meanings, meant_in};
 use crate::rules::samples::suit_comparison;
 use crate::said::{Said, say};
 use std::alloc::Global;
+
+/// Words for two suits, and the suits.
+const NAMED: [(&str, &str, &str); 4] = [
+    ("minor", "clubs", "diamonds"),
+    ("minors", "clubs", "diamonds"),
+    ("major", "spades", "hearts"),
+    ("majors", "spades", "hearts"),
+];
+
+/// What a person joins two suits with, and what is meant by it.
+const JOINS: Meanings = &[
+    ("or", "or"),
+    ("/", "or"),
+    ("|", "or"),
+    ("||", "or"),
+    ("and", "and"),
+    ("&", "and"),
+    ("&&", "and"),
+    ("+", "+"),
+];
 
 /// A call with two suits, and what stands behind them.
 #[derive(Clone, Copy)]
@@ -39,37 +60,38 @@ pub(crate) fn hint(alloc: Global, parts: &Parts) -> Said {
 /// The two suits at the fault.
 fn pair_at<'t>(parts: &Parts<'t>) -> Option<Pair<'t>> {
     let token = parts.next(0);
-    let named = match token {
-        b"minor" | b"minors" => Some((b"clubs".as_slice(), b"diamonds".as_slice())),
-        b"major" | b"majors" => Some((b"spades".as_slice(), b"hearts".as_slice())),
-        _ => None,
-    };
-    if let Some((first, second)) = named {
-        return Some(Pair {
-            first,
-            second,
-            join: b"or",
-            seat: 2,
-            behind: 1,
-        });
+    match named_by(token) {
+        Some(pair) => Some(pair),
+        None => around(parts, meant_in(JOINS, token)?),
     }
-    let join = match token {
-        b"or" | b"/" | b"|" | b"||" => b"or".as_slice(),
-        b"and" | b"&" | b"&&" => b"and",
-        b"+" => b"+",
-        _ => return None,
-    };
-    let (first, second) = (parts.back(1), parts.next(1));
-    if !is_suit(first) || !is_suit(second) {
-        return None;
+}
+
+/// The two suits that the word is for, if it is for two.
+fn named_by<'t>(word: &[u8]) -> Option<Pair<'t>> {
+    for (name, first, second) in NAMED.iter() {
+        if word == name.as_bytes() {
+            return Some(Pair {
+                first: first.as_bytes(),
+                second: second.as_bytes(),
+                join: b"or",
+                seat: 2,
+                behind: 1,
+            });
+        }
     }
-    Some(Pair {
-        first,
-        second,
+    None
+}
+
+/// The suits before and behind the fault, which joins them, if both are suits.
+fn around<'t>(parts: &Parts<'t>, join: &'t [u8]) -> Option<Pair<'t>> {
+    let pair = Pair {
+        first: parts.back(1),
+        second: parts.next(1),
         join,
         seat: 3,
         behind: 2,
-    })
+    };
+    (is_suit(pair.first) && is_suit(pair.second)).then_some(pair)
 }
 
 /// `len(north,clubs+diamonds)`
