@@ -4,8 +4,8 @@ use crate::parts::{Parts, is, is_measure, is_number, is_relation, is_suit};
 use crate::rules::amounts::{Compared, compared_at};
 use crate::rules::names::{Meanings, meant_in};
 use crate::rules::samples::suit_comparison;
-use crate::said::{Said, say};
-use std::alloc::Global;
+use crate::said::{self, Said, say};
+use std::alloc::{AllocError, Global};
 
 /// Words for two suits, and the suits.
 const NAMED: [(&str, &str, &str); 4] = [
@@ -133,52 +133,75 @@ fn comparison<'t>(parts: &Parts<'t>, call: &[u8], at: usize) -> Compared<'t> {
     }
 }
 
+/// A test of the one suit.
+fn test_of<'t>(
+    alloc: Global,
+    call: &'t [u8],
+    seat: &'t [u8],
+    suit: &'t [u8],
+    compared: &Compared<'t>,
+) -> Result<Vec<u8>, AllocError> {
+    said::joined(
+        alloc,
+        &[
+            call,
+            b"(",
+            seat,
+            b",",
+            suit,
+            b")",
+            compared.sign,
+            compared.low,
+            compared.dash,
+            compared.high,
+        ],
+    )
+}
+
 /// `len(north,clubs or diamonds)>=5`
 fn joined<'t>(alloc: Global, parts: &Parts<'t>, call: &'t [u8], pair: &Pair<'t>) -> Said {
     let seat = parts.back(pair.seat);
     let compared = comparison(parts, call, pair.behind.saturating_add(1));
-    let Compared {
-        sign,
-        low,
-        dash,
-        high,
-        count,
-    } = compared;
-    let is_all = is(parts.back(pair.seat.saturating_add(3)), "")
-        && is(
-            parts.next(pair.behind.saturating_add(1).saturating_add(count)),
-            "",
-        );
-    let (open, close) = if is_all { ("", "") } else { ("(", ")") };
+    let one = test_of(alloc, call, seat, pair.first, &compared)?;
+    let other = test_of(alloc, call, seat, pair.second, &compared)?;
+    if is_all(parts, pair, compared.count) {
+        return say_tests(alloc, b"", one.as_slice(), pair.join, other.as_slice(), b"");
+    }
+    say_tests(
+        alloc,
+        b"(",
+        one.as_slice(),
+        pair.join,
+        other.as_slice(),
+        b")",
+    )
+}
+
+/// Whether nothing stands before the call, and nothing behind its comparison of so many parts.
+fn is_all(parts: &Parts, pair: &Pair, count: usize) -> bool {
+    let behind = pair.behind.saturating_add(1).saturating_add(count);
+    is(parts.back(pair.seat.saturating_add(3)), "") && is(parts.next(behind), "")
+}
+
+fn say_tests(
+    alloc: Global,
+    open: &[u8],
+    one: &[u8],
+    join: &[u8],
+    other: &[u8],
+    close: &[u8],
+) -> Said {
     say(
         alloc,
         &[
             b"with one suit in each test write: ",
-            open.as_bytes(),
-            call,
-            b"(",
-            seat,
-            b",",
-            pair.first,
-            b")",
-            sign,
-            low,
-            dash,
-            high,
+            open,
+            one,
             b" ",
-            pair.join,
+            join,
             b" ",
-            call,
-            b"(",
-            seat,
-            b",",
-            pair.second,
-            b")",
-            sign,
-            low,
-            dash,
-            high,
-            close.as_bytes(),
+            other,
+            close,
         ],
     )
 }
