@@ -16,7 +16,7 @@ use clap::ArgMatches;
 use requests::{Format, Progress};
 
 /// A word that is none of its option's values.
-#[derive(Clone, Copy, Debug)]
+#[derive(Clone, Copy)]
 pub struct Unknown<'a> {
     pub word: &'a str,
     pub option: &'static str,

@@ -8,7 +8,6 @@ use Rattle.cond_lang.specs.Form.{Amount, Form, all_of, any_of, compare, longest,
 use Rattle.cond_lang.specs.Form.{suit_length, suit_points, suit_total, total, within}
 use Rattle.cond_lang.specs.declared.tree.Op.{Op}
 use Rattle.cond_lang.specs.declared.tree.Op.TheVariants.{AtLeast, AtMost, Equal, Less, More}
-use Rattle.cond_lang.specs.declared.tree.Op.TheVariants.{NotEqual}
 use Rattle.hints.specs.Limits.{greatest_of, least_of}
 
 -- ---- the same value

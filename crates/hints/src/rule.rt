@@ -47,12 +47,20 @@ pub(crate) struct Rule {
 
 /// What the first rule says whose parts stand there.
 pub(crate) fn first_in(alloc: Global, parts: &Parts, rules: &[Rule]) -> Said {
+    match hint_in(parts, rules) {
+        Some(hint) => Ok(Some(filled(alloc, parts, hint)?)),
+        None => Ok(None),
+    }
+}
+
+/// The hint of the first rule whose parts stand there, as it is in the table.
+fn hint_in(parts: &Parts, rules: &[Rule]) -> Option<&'static str> {
     for rule in rules {
         if fits(parts, rule) {
-            return Ok(Some(filled(alloc, parts, rule.hint)?));
+            return Some(rule.hint);
         }
     }
-    Ok(None)
+    None
 }
 
 /// Whether the parts stand around the fault.
@@ -92,10 +100,12 @@ fn is_wanted(part: &[u8], want: Want) -> bool {
 
 /// Whether a value ends so many parts before the fault, if one is wanted there.
 fn has_value(parts: &Parts, back: usize, want: Want) -> bool {
-    match want {
-        Want::Value | Want::Call => parts.value(back).is_some(),
-        _ => true,
-    }
+    !ends_a_value(want) || parts.value(back).is_some()
+}
+
+/// Whether a value is wanted that ends there.
+fn ends_a_value(want: Want) -> bool {
+    matches!(want, Want::Value | Want::Call)
 }
 
 /// The hint with the parts in it.

@@ -7,11 +7,16 @@ pub(crate) type Said = Result<Option<Vec<u8>>, AllocError>;
 
 /// The hint of these pieces.
 pub(crate) fn say(alloc: Global, pieces: &[&[u8]]) -> Said {
-    let mut hint = Vec::new(alloc);
+    Ok(Some(joined(alloc, pieces)?))
+}
+
+/// The pieces, one behind the other.
+pub(crate) fn joined(alloc: Global, pieces: &[&[u8]]) -> Result<Vec<u8>, AllocError> {
+    let mut text = Vec::new(alloc);
     for piece in pieces {
-        hint.extend_from_slice(piece)?;
+        text.extend_from_slice(piece)?;
     }
-    Ok(Some(hint))
+    Ok(text)
 }
 
 /// Returns the first hint that one of the rules gives.

@@ -4,6 +4,7 @@ ghost use Rattle.std.specs.Prelude.{◌≡◌, ◌≤◌};
 ghost use Rattle.cards.specs.Hands.{is_same};
 ghost use Rattle.cond_lang.specs.Form.{amount_of, form_of};
 ghost use Rattle.cond_lang.specs.Limits.{HasAtMostAtoms, atoms_of};
+ghost use Rattle.hints.specs.Limits.{greatest_of};
 ghost use Rattle.hints.specs.Torn.{code_of, greatest_related, greatest_with, is_same_value};
 ghost use Rattle.hints.specs.Torn.{is_torn, is_torn_at, least_related, least_with, turned};
 
@@ -62,20 +63,33 @@ fn greatest_with(tree: &Tree, value: &Value) -> u32
     requires value { atoms_of (amount_of value.now) ≤ 1024 }
     ensures { result ≡ greatest_with (form_of tree.now) (amount_of value.now) }
 {
+    greatest_up_to(tree, value, greatest(value))
+}
+
+/// The greatest that the value is in a deal that meets the tree, if it is `most` in any deal.
+fn greatest_up_to(tree: &Tree, value: &Value, most: u32) -> u32
+    requires tree { HasAtMostAtoms 1024 (form_of tree.now) }
+    requires most { most ≡ greatest_of (amount_of value.now) }
+    ensures { result ≡ greatest_with (form_of tree.now) (amount_of value.now) }
+{
     match tree {
-        Tree::AnyOf(left, right) => greatest_with(left, value).max(greatest_with(right, value)),
-        Tree::AllOf(left, right) => greatest_with(left, value).min(greatest_with(right, value)),
+        Tree::AnyOf(left, right) => {
+            greatest_up_to(left, value, most).max(greatest_up_to(right, value, most))
+        }
+        Tree::AllOf(left, right) => {
+            greatest_up_to(left, value, most).min(greatest_up_to(right, value, most))
+        }
         Tree::Compare { left, op, right } => {
             if is_same_value(left, value) {
-                greatest_related(*op, greatest(right), greatest(value))
+                greatest_related(*op, greatest(right), most)
             } else if is_same_value(right, value) {
-                greatest_related(turned(*op), greatest(left), greatest(value))
+                greatest_related(turned(*op), greatest(left), most)
             } else {
-                greatest(value)
+                most
             }
         }
         Tree::Within(tested, _, last) if is_same_value(tested, value) => u32::from(*last),
-        _ => greatest(value),
+        _ => most,
     }
 }
 

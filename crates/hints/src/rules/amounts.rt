@@ -16,35 +16,41 @@ pub(crate) struct Compared<'t> {
 
 /// The number from the part on that stands so many parts behind the fault.
 pub(crate) fn compared_at<'t>(parts: &Parts<'t>, at: usize) -> Option<Compared<'t>> {
-    let sign = parts.next(at);
-    if is_relation(sign) || is(sign, "=") {
-        let low = parts.next(at.saturating_add(1));
-        let sign = if is(sign, "=") {
-            b"==".as_slice()
-        } else {
-            sign
-        };
-        return one(sign, low, 2);
-    }
+    let first = parts.next(at);
     let behind = parts.next(at.saturating_add(1));
-    let high = parts.next(at.saturating_add(2));
-    if is(behind, "+") && !is_number(high) {
-        return one(b">=", sign, 2);
+    if is_relation(first) {
+        return one(first, behind, 2);
     }
-    if is(behind, "-") && is_number(high) {
-        let range = Compared {
-            sign: b" in ",
-            low: sign,
-            dash: b"-",
-            high,
-            count: 3,
-        };
-        return is_number(sign).then_some(range);
+    if is(first, "=") {
+        return one(b"==", behind, 2);
     }
-    if is(behind, "-") {
-        return one(b"<=", sign, 2);
+    signed_behind(first, behind, parts.next(at.saturating_add(2)))
+}
+
+/// The number with what stands behind it: `15+`, `15-`, `15-17`, or it alone.
+fn signed_behind<'t>(low: &'t [u8], sign: &[u8], high: &'t [u8]) -> Option<Compared<'t>> {
+    if is(sign, "-") {
+        return down(low, high);
     }
-    one(b"==", sign, 1)
+    if is(sign, "+") && !is_number(high) {
+        return one(b">=", low, 2);
+    }
+    one(b"==", low, 1)
+}
+
+/// The range up to the number, if there is one behind the dash: else at most the first.
+fn down<'t>(low: &'t [u8], high: &'t [u8]) -> Option<Compared<'t>> {
+    if !is_number(high) {
+        return one(b"<=", low, 2);
+    }
+    let range = Compared {
+        sign: b" in ",
+        low,
+        dash: b"-",
+        high,
+        count: 3,
+    };
+    is_number(low).then_some(range)
 }
 
 /// The one number, if it is one.

@@ -183,16 +183,11 @@ fn no_ranks(alloc: Global, parts: &Parts, can: &KindSet) -> Said {
             ],
         );
     }
-    let missing = match call {
-        b"len" => b"a suit".as_slice(),
-        b"cards" => b"ranks".as_slice(),
-        _ => b"four lengths".as_slice(),
-    };
     say(
         alloc,
         &[
             b"name ",
-            missing,
+            missing_in(call),
             b" too, as in ",
             call,
             b"(",
@@ -200,6 +195,17 @@ fn no_ranks(alloc: Global, parts: &Parts, can: &KindSet) -> Said {
             rest_of(call),
         ],
     )
+}
+
+/// What is missing behind the word and a seat.
+fn missing_in(call: &[u8]) -> &[u8] {
+    if is(call, "len") {
+        return b"a suit";
+    }
+    if is(call, "cards") {
+        return b"ranks";
+    }
+    b"four lengths"
 }
 
 /// `hcp(north>=15`

@@ -18,10 +18,7 @@ pub(crate) fn hint(alloc: Global, parts: &Parts) -> Said {
 
 /// The value that ends so many parts before the fault.
 fn value_text<'t>(parts: &Parts<'t>, last: usize) -> &'t [u8] {
-    match parts.value(last) {
-        Some(value) => value,
-        None => SOME_VALUE,
-    }
+    parts.value(last).unwrap_or(SOME_VALUE)
 }
 
 fn say_range(alloc: Global, value: &[u8], low: &[u8], high: &[u8]) -> Said {
@@ -49,16 +46,33 @@ fn bounds(first: (&[u8], &[u8]), second: (&[u8], &[u8])) -> Option<(u16, u16)> {
     } else {
         (second, first)
     };
-    let least = match low.0 {
-        b">=" => number(low.1),
-        b">" => number(low.1).saturating_add(1),
-        _ => return None,
-    };
-    let most = match high.0 {
-        b"<=" => number(high.1),
-        b"<" => number(high.1).checked_sub(1)?,
-        _ => return None,
-    };
+    within_four_digits(least_of(low.0, low.1)?, most_of(high.0, high.1)?)
+}
+
+/// The least that the comparison with the number leaves, if it leaves one.
+fn least_of(relation: &[u8], digits: &[u8]) -> Option<u16> {
+    if is(relation, ">=") {
+        Some(number(digits))
+    } else if is(relation, ">") {
+        Some(number(digits).saturating_add(1))
+    } else {
+        None
+    }
+}
+
+/// The most that the comparison with the number leaves, if it leaves one.
+fn most_of(relation: &[u8], digits: &[u8]) -> Option<u16> {
+    if is(relation, "<=") {
+        Some(number(digits))
+    } else if is(relation, "<") {
+        number(digits).checked_sub(1)
+    } else {
+        None
+    }
+}
+
+/// Both, if the first has at most four digits.
+fn within_four_digits(least: u16, most: u16) -> Option<(u16, u16)> {
     if least <= 9999 {
         Some((least, most))
     } else {

@@ -1,8 +1,58 @@
 //! Signs that aren't in the language.
 
 use crate::parts::{Parts, is, is_seat};
+use crate::rules::names::{Meanings, meant_in};
 use crate::said::{Said, say};
 use std::alloc::Global;
+
+/// ASCII signs, and what a person means by each.
+const ASCII: Meanings = &[
+    ("=", "=="),
+    ("===", "=="),
+    ("=>", ">="),
+    (">==", ">="),
+    ("=<", "<="),
+    ("<==", "<="),
+    ("<>", "!="),
+    ("><", "!="),
+    ("=!", "!="),
+    ("!==", "!="),
+    ("&&", "and"),
+    ("&", "and"),
+    (";", "and"),
+    ("||", "or"),
+    ("|", "or"),
+    ("!", "not"),
+    ("~", "not"),
+    ("[", "("),
+    ("{", "("),
+    ("]", ")"),
+    ("}", ")"),
+];
+
+/// Signs that aren't ASCII, and what a person means by each.
+const WIDE: Meanings = &[
+    ("\u{2265}", ">="),
+    ("\u{2264}", "<="),
+    ("\u{2260}", "!="),
+    ("\u{2660}", "spades"),
+    ("\u{2665}", "hearts"),
+    ("\u{2666}", "diamonds"),
+    ("\u{2663}", "clubs"),
+    ("\u{2013}", "-"),
+    ("\u{2014}", "-"),
+    ("\u{2212}", "-"),
+    ("\u{2227}", "and"),
+    ("\u{2228}", "or"),
+    ("\u{AC}", "not"),
+    ("\u{A0}", " "),
+];
+
+/// Comparisons that an equals sign ends, by what stands before it.
+const ENDED: Meanings = &[("<", "<="), (">", ">="), ("=", "==")];
+
+/// Comparisons that an equals sign begins, by what stands behind it.
+const BEGUN: Meanings = &[("=", "=="), (">", ">="), ("<", "<=")];
 
 /// `=`, `=>`, `&&`, `!`, brackets of other kinds, signs that aren't ASCII, and quotes.
 pub(crate) fn hint(alloc: Global, parts: &Parts) -> Said {
@@ -48,34 +98,24 @@ pub(crate) fn hint(alloc: Global, parts: &Parts) -> Said {
 }
 
 /// A comparison that stands in two parts.
-fn parted<'t>(parts: &Parts<'t>) -> Option<&'t [u8]> {
+fn parted(parts: &Parts) -> Option<&'static [u8]> {
     let sign = parts.next(0);
-    match (parts.back(1), sign, parts.next(1)) {
-        (b"<", b"=", _) => Some(b"<="),
-        (b">", b"=", _) => Some(b">="),
-        (b"=", b"=", _) => Some(b"=="),
-        (_, b"=", b"=") => Some(b"=="),
-        (_, b"!", b"=") => Some(b"!="),
-        (_, b"=", b">") => Some(b">="),
-        (_, b"=", b"<") => Some(b"<="),
-        _ => None,
+    if is(sign, "=") {
+        return match meant_in(ENDED, parts.back(1)) {
+            Some(whole) => Some(whole),
+            None => meant_in(BEGUN, parts.next(1)),
+        };
+    }
+    if is(sign, "!") && is(parts.next(1), "=") {
+        Some(b"!=")
+    } else {
+        None
     }
 }
 
 /// What a person means by an ASCII sign.
 fn meant_by(sign: &[u8]) -> Option<&[u8]> {
-    match sign {
-        b"=" | b"===" => Some(b"=="),
-        b"=>" | b">==" => Some(b">="),
-        b"=<" | b"<==" => Some(b"<="),
-        b"<>" | b"><" | b"=!" | b"!==" => Some(b"!="),
-        b"&&" | b"&" | b";" => Some(b"and"),
-        b"||" | b"|" => Some(b"or"),
-        b"!" | b"~" => Some(b"not"),
-        b"[" | b"{" => Some(b"("),
-        b"]" | b"}" => Some(b")"),
-        _ => None,
-    }
+    meant_in(ASCII, sign)
 }
 
 /// Whether it is a quotation mark as printers set it, with whatever follows it.
@@ -88,19 +128,10 @@ fn is_quote(sign: &[u8]) -> bool {
 
 /// What a person means by a sign in UTF-8, with whatever follows it.
 fn meant_by_wide(sign: &[u8]) -> Option<&[u8]> {
-    match sign {
-        [0xE2, 0x89, 0xA5, ..] => Some(b">="),
-        [0xE2, 0x89, 0xA4, ..] => Some(b"<="),
-        [0xE2, 0x89, 0xA0, ..] => Some(b"!="),
-        [0xE2, 0x99, 0xA0, ..] => Some(b"spades"),
-        [0xE2, 0x99, 0xA5, ..] => Some(b"hearts"),
-        [0xE2, 0x99, 0xA6, ..] => Some(b"diamonds"),
-        [0xE2, 0x99, 0xA3, ..] => Some(b"clubs"),
-        [0xE2, 0x80, 0x93, ..] | [0xE2, 0x80, 0x94, ..] | [0xE2, 0x88, 0x92, ..] => Some(b"-"),
-        [0xE2, 0x88, 0xA7, ..] => Some(b"and"),
-        [0xE2, 0x88, 0xA8, ..] => Some(b"or"),
-        [0xC2, 0xAC, ..] => Some(b"not"),
-        [0xC2, 0xA0, ..] => Some(b" "),
-        _ => None,
+    for (wide, meant) in WIDE.iter() {
+        if sign.starts_with(wide.as_bytes()) {
+            return Some(meant.as_bytes());
+        }
     }
+    None
 }

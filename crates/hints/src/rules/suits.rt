@@ -2,9 +2,30 @@
 
 use crate::parts::{Parts, is, is_measure, is_number, is_relation, is_suit};
 use crate::rules::amounts::{Compared, compared_at};
+use crate::rules::names::{Meanings, meant_in};
 use crate::rules::samples::suit_comparison;
-use crate::said::{Said, say};
-use std::alloc::Global;
+use crate::said::{self, Said, say};
+use std::alloc::{AllocError, Global};
+
+/// Words for two suits, and the suits.
+const NAMED: [(&str, &str, &str); 4] = [
+    ("minor", "clubs", "diamonds"),
+    ("minors", "clubs", "diamonds"),
+    ("major", "spades", "hearts"),
+    ("majors", "spades", "hearts"),
+];
+
+/// What a person joins two suits with, and what is meant by it.
+const JOINS: Meanings = &[
+    ("or", "or"),
+    ("/", "or"),
+    ("|", "or"),
+    ("||", "or"),
+    ("and", "and"),
+    ("&", "and"),
+    ("&&", "and"),
+    ("+", "+"),
+];
 
 /// A call with two suits, and what stands behind them.
 #[derive(Clone, Copy)]
@@ -39,37 +60,38 @@ pub(crate) fn hint(alloc: Global, parts: &Parts) -> Said {
 /// The two suits at the fault.
 fn pair_at<'t>(parts: &Parts<'t>) -> Option<Pair<'t>> {
     let token = parts.next(0);
-    let named = match token {
-        b"minor" | b"minors" => Some((b"clubs".as_slice(), b"diamonds".as_slice())),
-        b"major" | b"majors" => Some((b"spades".as_slice(), b"hearts".as_slice())),
-        _ => None,
-    };
-    if let Some((first, second)) = named {
-        return Some(Pair {
-            first,
-            second,
-            join: b"or",
-            seat: 2,
-            behind: 1,
-        });
+    match named_by(token) {
+        Some(pair) => Some(pair),
+        None => around(parts, meant_in(JOINS, token)?),
     }
-    let join = match token {
-        b"or" | b"/" | b"|" | b"||" => b"or".as_slice(),
-        b"and" | b"&" | b"&&" => b"and",
-        b"+" => b"+",
-        _ => return None,
-    };
-    let (first, second) = (parts.back(1), parts.next(1));
-    if !is_suit(first) || !is_suit(second) {
-        return None;
+}
+
+/// The two suits that the word is for, if it is for two.
+fn named_by<'t>(word: &[u8]) -> Option<Pair<'t>> {
+    for (name, first, second) in NAMED.iter() {
+        if word == name.as_bytes() {
+            return Some(Pair {
+                first: first.as_bytes(),
+                second: second.as_bytes(),
+                join: b"or",
+                seat: 2,
+                behind: 1,
+            });
+        }
     }
-    Some(Pair {
-        first,
-        second,
+    None
+}
+
+/// The suits before and behind the fault, which joins them, if both are suits.
+fn around<'t>(parts: &Parts<'t>, join: &'t [u8]) -> Option<Pair<'t>> {
+    let pair = Pair {
+        first: parts.back(1),
+        second: parts.next(1),
         join,
         seat: 3,
         behind: 2,
-    })
+    };
+    (is_suit(pair.first) && is_suit(pair.second)).then_some(pair)
 }
 
 /// `len(north,clubs+diamonds)`
@@ -111,52 +133,75 @@ fn comparison<'t>(parts: &Parts<'t>, call: &[u8], at: usize) -> Compared<'t> {
     }
 }
 
+/// A test of the one suit.
+fn test_of<'t>(
+    alloc: Global,
+    call: &'t [u8],
+    seat: &'t [u8],
+    suit: &'t [u8],
+    compared: &Compared<'t>,
+) -> Result<Vec<u8>, AllocError> {
+    said::joined(
+        alloc,
+        &[
+            call,
+            b"(",
+            seat,
+            b",",
+            suit,
+            b")",
+            compared.sign,
+            compared.low,
+            compared.dash,
+            compared.high,
+        ],
+    )
+}
+
 /// `len(north,clubs or diamonds)>=5`
 fn joined<'t>(alloc: Global, parts: &Parts<'t>, call: &'t [u8], pair: &Pair<'t>) -> Said {
     let seat = parts.back(pair.seat);
     let compared = comparison(parts, call, pair.behind.saturating_add(1));
-    let Compared {
-        sign,
-        low,
-        dash,
-        high,
-        count,
-    } = compared;
-    let is_all = is(parts.back(pair.seat.saturating_add(3)), "")
-        && is(
-            parts.next(pair.behind.saturating_add(1).saturating_add(count)),
-            "",
-        );
-    let (open, close) = if is_all { ("", "") } else { ("(", ")") };
+    let one = test_of(alloc, call, seat, pair.first, &compared)?;
+    let other = test_of(alloc, call, seat, pair.second, &compared)?;
+    if is_all(parts, pair, compared.count) {
+        return say_tests(alloc, b"", one.as_slice(), pair.join, other.as_slice(), b"");
+    }
+    say_tests(
+        alloc,
+        b"(",
+        one.as_slice(),
+        pair.join,
+        other.as_slice(),
+        b")",
+    )
+}
+
+/// Whether nothing stands before the call, and nothing behind its comparison of so many parts.
+fn is_all(parts: &Parts, pair: &Pair, count: usize) -> bool {
+    let behind = pair.behind.saturating_add(1).saturating_add(count);
+    is(parts.back(pair.seat.saturating_add(3)), "") && is(parts.next(behind), "")
+}
+
+fn say_tests(
+    alloc: Global,
+    open: &[u8],
+    one: &[u8],
+    join: &[u8],
+    other: &[u8],
+    close: &[u8],
+) -> Said {
     say(
         alloc,
         &[
             b"with one suit in each test write: ",
-            open.as_bytes(),
-            call,
-            b"(",
-            seat,
-            b",",
-            pair.first,
-            b")",
-            sign,
-            low,
-            dash,
-            high,
+            open,
+            one,
             b" ",
-            pair.join,
+            join,
             b" ",
-            call,
-            b"(",
-            seat,
-            b",",
-            pair.second,
-            b")",
-            sign,
-            low,
-            dash,
-            high,
-            close.as_bytes(),
+            other,
+            close,
         ],
     )
 }

@@ -1,6 +1,6 @@
-use Rattle.std.proofs.Common.{◌-◌, drop, refl, slice_range, string_bytes}
-use Rattle.hints.specs.Excerpt.{IsExcerpt, IsLineAt, excerpt, token_len, without_return}
-use Rattle.hints.proofs.Appending.{appends, no_end_between}
+use Rattle.std.proofs.Common.{string_bytes}
+use Rattle.hints.specs.Excerpt.{IsLineAt}
+use Rattle.hints.proofs.Appending.{no_end_between, puts_excerpt}
 use Rattle.hints.proofs.excerpt.put_excerpt.Goals as goal
 
 pub returns : goal.returns
@@ -17,15 +17,6 @@ returns c =
       one = no_end_between text start place end c.line_start-start.ensures.one c.line_end-end.ensures.one;
       ends = c.line_end-end.ensures.ends;
     } in
-    appends c.put_line_and_carets.result (IsExcerpt text c.args.at) (string_bytes c.args.out.now)
-    (string_bytes c.put_line_and_carets.new.out)
-    (excerpt (without_return (slice_range text start end)) (place - start) (token_len (drop c.args.at text)))
-    (rw (← c.without_return-line.ensures, ← c.width_at.ensures) c.put_line_and_carets.ensures)
-    (record {
-      place = place;
-      is_place = c.place_of-place.ensures.place;
-      start = start;
-      end = end;
-      is_line = is_line;
-      is = refl;
-    })
+    puts_excerpt c.put_line_and_carets.result text c.args.at place start end c.without_return-line.result.now
+    c.width_at.result (string_bytes c.args.out.now) (string_bytes c.put_line_and_carets.new.out)
+    c.place_of-place.ensures.place is_line c.without_return-line.ensures c.width_at.ensures c.put_line_and_carets.ensures
