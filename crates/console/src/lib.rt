@@ -15,6 +15,3 @@ pub use over_line::{Drawn, OverLine};
 pub use prompt::{GATHERED_MILLIS, Prompt, millis};
 pub use style::Style;
 pub use tally::{Tally, tally_line};
-
-#[cfg(test)]
-mod tests;

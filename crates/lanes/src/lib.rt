@@ -24,6 +24,3 @@ pub use turns::Turns;
 pub use verdict::Verdict;
 pub use wait::Pace;
 pub use worker::{WorkEnd, work, work_around};
-
-#[cfg(test)]
-mod tests;

@@ -8,6 +8,3 @@ mod picked;
 
 pub use fault::PickFault;
 pub use picked::pick;
-
-#[cfg(test)]
-mod tests;

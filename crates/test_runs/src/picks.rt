@@ -1,8 +1,8 @@
-//! Lines of LIN that were worked out by hand, of two candidates of seed 0.
+//! Lines of LIN that were worked out by hand, of two candidates of seed 0, picked by their numbers.
 
-use super::*;
 use lin_text::LinPrinter;
 use number_input::{LineFault, NoBytes, Reader, RefusedLine};
+use picking::{PickFault, pick};
 use plans::Plan;
 use sinks::{Fuse, MemSink};
 use std::alloc::AllocGlobal;
@@ -60,60 +60,43 @@ fn check<R: Read + Drop>(
     Ok(())
 }
 
+/// The input's third line is no number.
+const THIRD: PickFault = PickFault::Refused(RefusedLine {
+    line: 3,
+    fault: LineFault::NotANumber,
+});
+
+/// The numbers of both candidates, a byte at a time.
+fn dropping(fails: bool) -> Drops<'static> {
+    Drops {
+        rest: b"0\n1",
+        interrupted: false,
+        fails,
+    }
+}
+
+/// Each end of the input, and the boards before it.
 #[test]
-fn numbers_are_dealt_in_order(rt: HostRuntime) -> std::result::Result<(), Fail> {
+fn picks_to_the_end(rt: HostRuntime) -> std::result::Result<(), Fail> {
     check(&rt, b"0\r\n\n 1".as_slice(), Ok(2), BOTH)?;
-    check(&rt, b"".as_slice(), Ok(0), b"")
+    check(&rt, b"".as_slice(), Ok(0), b"")?;
+    check(&rt, b"0\n\none\n1\n".as_slice(), Err(THIRD), FIRST)?;
+    check(&rt, dropping(false), Ok(2), BOTH)?;
+    check(&rt, dropping(true), Err(PickFault::Input), FIRST)?;
+    Ok(())
 }
 
 #[test]
-fn boards_before_a_refused_line_stay(rt: HostRuntime) -> std::result::Result<(), Fail> {
-    let line = RefusedLine {
-        line: 3,
-        fault: LineFault::NotANumber,
-    };
-    check(
-        &rt,
-        b"0\n\none\n1\n".as_slice(),
-        Err(PickFault::Refused(line)),
-        FIRST,
-    )
-}
-
-#[test]
-fn pieces_of_the_input_are_joined(rt: HostRuntime) -> std::result::Result<(), Fail> {
-    let whole = Drops {
-        rest: b"0\n1",
-        interrupted: false,
-        fails: false,
-    };
-    check(&rt, whole, Ok(2), BOTH)?;
-    let broken = Drops {
-        rest: b"0\n1",
-        interrupted: false,
-        fails: true,
-    };
-    check(&rt, broken, Err(PickFault::Input), FIRST)
-}
-
-#[test]
-fn an_output_may_fail(rt: HostRuntime) -> std::result::Result<(), Fail> {
+fn picks_nothing_and_into_an_output_that_fails(rt: HostRuntime) -> std::result::Result<(), Fail> {
     let plan = Plan::new(0, 0, 0, 1, 64)?;
     let mut printer = LinPrinter::new(rt.alloc())?;
+    let mut none = MemSink::new(rt.alloc());
+    assert_eq!(rt; pick(&plan, &mut printer, &mut NoBytes, &mut none), Ok(0));
+    assert!(rt; none.bytes().is_empty());
     let mut sink = Fuse::new(MemSink::new(rt.alloc()), 2, 1000, true);
     let mut input = Reader::new(b"0\n1\n".as_slice());
     let ended = pick(&plan, &mut printer, &mut input, &mut sink);
     assert_eq!(rt; ended, Err(PickFault::Output));
     assert_eq!(rt; sink.bytes(), FIRST);
-    Ok(())
-}
-
-#[test]
-fn without_an_input_there_is_no_board(rt: HostRuntime) -> std::result::Result<(), Fail> {
-    let plan = Plan::new(0, 0, 0, 1, 64)?;
-    let mut printer = LinPrinter::new(rt.alloc())?;
-    let mut sink = MemSink::new(rt.alloc());
-    assert_eq!(rt; pick(&plan, &mut printer, &mut NoBytes, &mut sink), Ok(0));
-    assert!(rt; sink.bytes().is_empty());
     Ok(())
 }

@@ -1,12 +1,11 @@
 //! What stands on the output and on the terminal, by a clock that is set by hand.
 
-use crate::{Counts, Drawn, GATHERED_MILLIS, OverLine, Prompt, Style};
+use console::{Counts, Drawn, GATHERED_MILLIS, OverLine, Prompt, Style};
 use sinks::{Sink, put_all};
 use std::alloc::Global;
 use std::cell::{Cell, RefCell};
 use std::io;
 use std::io::{ErrorKind, Write};
-use std::process::Abort;
 use std::test::Fail;
 use std::time::{Clock, Duration};
 

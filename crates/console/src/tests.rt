@@ -1,4 +1,0 @@
-//! Tests of what a person sees.
-
-mod showing;
-mod tallies;

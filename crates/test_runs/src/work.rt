@@ -1,0 +1,66 @@
+//! Shares that are worked to their end, and shares that are stopped.
+
+use crate::verdicts::take_all;
+use cond_lang::Cond;
+use lanes::{Gate, Job, LaneOut, OpenGate, Pace, Share, WorkEnd, lane, lane_in_blocks, work};
+use std::alloc::Global;
+use std::sync::Arc;
+use std::sync::atomic::{AtomicBool, Ordering};
+use std::test::Fail;
+
+/// Stops at a number.
+#[derive(Drop)]
+struct StopsAt(u64);
+
+impl Gate for StopsAt {
+    fn pass(&self, _worker: u32, number: u64) -> bool {
+        number != self.0
+    }
+}
+
+/// The work on every candidate of a share.
+fn job(alloc: Global, [first, count]: [u64; 2], [workers, worker]: [u32; 2]) -> Result<Job, Fail> {
+    Ok(Job {
+        seed: 0,
+        share: Share::new(first, count, workers, worker).ok_or("a share")?,
+        cond: Cond::any(alloc),
+    })
+}
+
+/// Takes accepted verdicts on these candidates and no more, and says whether they came so.
+fn takes_all_of(taker: &mut LaneOut, numbers: &[u64]) -> bool {
+    for number in numbers {
+        if !matches!(taker.take(), Some(taken) if taken.number == *number && taken.accepted) {
+            return false;
+        }
+    }
+    taker.take().is_none()
+}
+
+#[test]
+fn a_whole_share(rt: HostRuntime) -> Result<(), Fail> {
+    let (sender, mut taker) = lane(rt.alloc(), 4)?;
+    let gate = Arc::new(rt.alloc(), OpenGate)?;
+    let stop = Arc::new(rt.alloc(), AtomicBool::new(false))?;
+    let job = job(rt.alloc(), [5, 10], [4, 1])?;
+    let end = work(&rt, job, sender, gate, Arc::try_clone(&stop)?);
+    assert!(rt; matches!(&end, WorkEnd::Done(_)));
+    assert!(rt; !stop.load(Ordering::SeqCst));
+    assert!(rt; takes_all_of(&mut taker, &[6, 10, 14]));
+    Ok(())
+}
+
+/// The share ends before the 21st verdict, whose block has begun and is not sent to its end.
+#[test]
+fn a_share_stopped_within_a_block(rt: HostRuntime) -> Result<(), Fail> {
+    let (sender, mut taker) = lane_in_blocks(rt.alloc(), 64, Pace::Spins)?;
+    let gate = Arc::new(rt.alloc(), StopsAt(25))?;
+    let stop = Arc::new(rt.alloc(), AtomicBool::new(false))?;
+    let job = job(rt.alloc(), [5, 30], [1, 0])?;
+    let end = work(&rt, job, sender, gate, Arc::try_clone(&stop)?);
+    assert!(rt; matches!(&end, WorkEnd::Stopped(_)));
+    assert!(rt; stop.load(Ordering::SeqCst));
+    assert!(rt; take_all(&mut taker, 5..25));
+    assert!(rt; taker.take().is_none());
+    Ok(())
+}
