@@ -30,6 +30,3 @@ pub use progress::Progress;
 pub use report::Report;
 pub use request::{Request, serve};
 pub use stream::StreamRequest;
-
-#[cfg(test)]
-mod tests;
