@@ -1,5 +1,5 @@
-//! Tests of the parts of a run: shares, lanes, workers, the model of their events, and what a person
-//! sees while it lasts.
+//! Tests of the parts of a run: shares, lanes, workers, the model of their events, and what a
+//! person sees while it lasts.
 #![tactic(auto)]
 
 #[cfg(test)]
