@@ -26,8 +26,14 @@ fn texts_of_hands(rt: HostRuntime) -> Result<(), Fail> {
     assert_eq!(rt; given.given_at(Seat::North), Some("AKQ32.K..A"));
     assert_eq!(rt; given.given_at(Seat::East), None);
     let cards = Fixed::new(fixed_in(b"AKQ32.K..A")).ok_or("thirteen at most")?;
-    assert_eq!(rt; given.read().ok().map(|fixed| around(&fixed)), Some(around(&cards)));
-    assert_eq!(rt; HandTexts::none().read().ok().map(|fixed| fixed.free()), Some(52));
+    assert_eq!(rt;
+        given.read().ok().map(|fixed| around(&fixed)),
+        Some(around(&cards))
+    );
+    assert_eq!(rt;
+        HandTexts::none().read().ok().map(|fixed| fixed.free()),
+        Some(52)
+    );
     assert_eq!(rt; texts("A...", "A...").read().err(), Some(Seat::South));
     assert_eq!(rt; texts("AK", "A...").read().err(), Some(Seat::North));
     Ok(())
@@ -38,9 +44,18 @@ fn faults_of_texts(rt: HostRuntime) -> Result<(), Fail> {
     let ace = Card::new(0).ok_or("the ace of spades")?;
     let held = texts("A...", "KA...");
     assert_eq!(rt; held.fault_at(Seat::North), None);
-    assert_eq!(rt; held.fault_at(Seat::South), Some(HandFault::Held(ace, Seat::North)));
-    assert_eq!(rt; texts("AKA...", "").fault_at(Seat::North), Some(HandFault::Twice(ace)));
-    assert_eq!(rt; texts("A.1.0.", "").fault_at(Seat::North), Some(HandFault::Unknown(2)));
+    assert_eq!(rt;
+        held.fault_at(Seat::South),
+        Some(HandFault::Held(ace, Seat::North))
+    );
+    assert_eq!(rt;
+        texts("AKA...", "").fault_at(Seat::North),
+        Some(HandFault::Twice(ace))
+    );
+    assert_eq!(rt;
+        texts("A.1.0.", "").fault_at(Seat::North),
+        Some(HandFault::Unknown(2))
+    );
     let mut line = String::new(rt.alloc());
     HandFault::Held(ace, Seat::North).put_rule(&mut line)?;
     assert_eq!(rt; line.as_str(), "the ace of spades is north's");
