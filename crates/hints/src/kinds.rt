@@ -8,6 +8,7 @@ ghost use Rattle.cond_lang.specs.Continuations.{CanFollow};
 ghost use Rattle.hints.specs.internal.Kinds.{in_set};
 
 use cond_lang::{Beginning, CondError, Kind};
+use hint_rules::Kinds;
 
 /// A set of kinds.
 #[derive(Clone, Copy)]
@@ -34,5 +35,10 @@ impl KindSet {
         ensures { result ≡ in_set self.now kind }
     {
         self.holds[kind.place()]
+    }
+
+    /// The same kinds, as the rules for hints take them.
+    pub(crate) fn kinds(&self) -> Kinds {
+        Kinds { holds: self.holds }
     }
 }

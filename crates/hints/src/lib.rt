@@ -4,16 +4,11 @@
 
 mod excerpt;
 mod expected;
-mod hint;
 mod kinds;
 mod language;
 mod limits;
 mod never;
-mod parts;
 mod refusal;
-mod rule;
-mod rules;
-mod said;
 mod shown;
 mod torn;
 mod unmet;

@@ -8,11 +8,10 @@ ghost use Rattle.hints.specs.internal.Appends.{Appends};
 
 use crate::excerpt::put_excerpt;
 use crate::expected::put_expected;
-use crate::hint::{of_piece, of_syntax};
 use crate::kinds::KindSet;
-use crate::said::Said;
 use crate::shown::put_shown;
 use cond_lang::{Beginning, CondError};
+use hint_rules::{Said, of_piece, of_syntax};
 use itoa::Buffer;
 use std::alloc::{AllocError, Global};
 
@@ -64,7 +63,7 @@ fn put_syntax(alloc: Global, out: &mut String, text: &[u8], at: usize) -> Result
         return Err(AllocError);
     };
     put_expected(alloc, out, &can)?;
-    put_hint(out, of_syntax(alloc, text, at, &can))
+    put_hint(out, of_syntax(alloc, text, at, &can.kinds()))
 }
 
 /// The beginning of the text, if it has tokens.

@@ -1,6 +1,6 @@
 //! How tests are joined, brackets, and values where tests are wanted.
 
-use crate::kinds::KindSet;
+use crate::kinds::Kinds;
 use crate::parts::{Parts, are_ranks, is, is_number, is_relation, is_seat, is_suit, is_word};
 use crate::rules::samples::comparison;
 use crate::said::{Said, first_of, say};
@@ -8,7 +8,7 @@ use cond_lang::Kind;
 use std::alloc::Global;
 
 /// Missing brackets, `and` and comparisons, and what can't begin a test.
-pub(crate) fn hint(alloc: Global, parts: &Parts, can: &KindSet) -> Said {
+pub(crate) fn hint(alloc: Global, parts: &Parts, can: &Kinds) -> Said {
     if can.has(Kind::Number) {
         return no_value(alloc, parts);
     }
@@ -142,7 +142,7 @@ fn no_comparison(alloc: Global, parts: &Parts) -> Said {
 }
 
 /// A `)` that is missing, or one too many.
-fn bracket(alloc: Global, parts: &Parts, can: &KindSet) -> Said {
+fn bracket(alloc: Global, parts: &Parts, can: &Kinds) -> Said {
     let token = parts.next(0);
     if is(token, ")") && can.has(Kind::End) {
         return say(alloc, &[b"this \")\" closes nothing"]);
@@ -151,7 +151,7 @@ fn bracket(alloc: Global, parts: &Parts, can: &KindSet) -> Said {
 }
 
 /// The text ends in brackets.
-fn no_close(alloc: Global, parts: &Parts, can: &KindSet) -> Said {
+fn no_close(alloc: Global, parts: &Parts, can: &Kinds) -> Said {
     if is(parts.next(0), "") && parts.open_brackets() > 0 && !can.has(Kind::End) {
         return say(alloc, &[b"a \")\" is missing at the end"]);
     }
@@ -159,7 +159,7 @@ fn no_close(alloc: Global, parts: &Parts, can: &KindSet) -> Said {
 }
 
 /// `balanced(north)==1`
-fn compared_test(alloc: Global, parts: &Parts, can: &KindSet) -> Said {
+fn compared_test(alloc: Global, parts: &Parts, can: &Kinds) -> Said {
     if is_relation(parts.next(0)) && !can.has(Kind::Plus) {
         return say(alloc, &[b"this test is whole, and needs no comparison"]);
     }

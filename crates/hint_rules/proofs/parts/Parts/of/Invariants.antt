@@ -1,5 +1,5 @@
 use Rattle.std.proofs.Common.{◌≡◌, ◌+◌, length}
-use Rattle.hints.proofs.parts.Parts.of.Given as goal
+use Rattle.hint_rules.proofs.parts.Parts.of.Given as goal
 
 abbrev pub invariant-loop-rest : goal.invariant-loop-rest
 invariant-loop-rest l = l.start + length l.rest ≡ length l.text

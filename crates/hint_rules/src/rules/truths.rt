@@ -14,7 +14,7 @@ const EQUAL: &[&str] = &["=", "==", "===", "is"];
 const UNEQUAL: &[&str] = &["!=", "<>"];
 
 /// `balanced(south)==1`, `balanced(south)=false`
-pub(crate) const TRUTHS: &[Rule] = &[
+pub(crate) static TRUTHS: [Rule; 8] = [
     Rule {
         before: &[Is("balanced"), Is("("), Seat, Is(")")],
         from: &[OneOf(EQUAL), OneOf(SO)],

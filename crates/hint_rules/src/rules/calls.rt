@@ -1,6 +1,6 @@
 //! What stands in the brackets behind a word: seat, suit, ranks.
 
-use crate::kinds::KindSet;
+use crate::kinds::Kinds;
 use crate::parts::{Parts, is, is_measure, is_relation, is_seat, is_suit, is_word};
 use crate::rules::amounts::{Compared, compared_at};
 use crate::said::{Said, first_of, say};
@@ -8,7 +8,7 @@ use cond_lang::Kind;
 use std::alloc::Global;
 
 /// `hcp north`, `hcp(spades)`, `len(north)`, `cards(north,10)`, `hcp(north>=15`.
-pub(crate) fn hint(alloc: Global, parts: &Parts, can: &KindSet) -> Said {
+pub(crate) fn hint(alloc: Global, parts: &Parts, can: &Kinds) -> Said {
     if can.has(Kind::Open) && !can.has(Kind::Not) {
         return no_bracket(alloc, parts);
     }
@@ -167,7 +167,7 @@ fn compared_inside(alloc: Global, parts: &Parts) -> Said {
 }
 
 /// `len(north)`, `cards(north)`, `cards(north,spades)`, `shape(north)`
-fn no_ranks(alloc: Global, parts: &Parts, can: &KindSet) -> Said {
+fn no_ranks(alloc: Global, parts: &Parts, can: &Kinds) -> Said {
     let call = parts.call();
     let is_short = can.has(Kind::Comma) && !can.has(Kind::Close);
     if !is_short || !is(parts.next(0), ")") {
@@ -209,7 +209,7 @@ fn missing_in(call: &[u8]) -> &[u8] {
 }
 
 /// `hcp(north>=15`
-fn not_closed(alloc: Global, parts: &Parts, can: &KindSet) -> Said {
+fn not_closed(alloc: Global, parts: &Parts, can: &Kinds) -> Said {
     let is_open = can.has(Kind::Close) && !can.has(Kind::And);
     let token = parts.next(0);
     let goes_on = is_relation(token)
@@ -224,7 +224,7 @@ fn not_closed(alloc: Global, parts: &Parts, can: &KindSet) -> Said {
 }
 
 /// `cards(north,a,k)`, `cards(north,a k)`
-fn ranks_apart(alloc: Global, parts: &Parts, can: &KindSet) -> Said {
+fn ranks_apart(alloc: Global, parts: &Parts, can: &Kinds) -> Said {
     let is_open = can.has(Kind::Close) && !can.has(Kind::And);
     if is_open && is(parts.call(), "cards") {
         return say(alloc, &[b"write all ranks as one word, as in akq"]);
@@ -233,7 +233,7 @@ fn ranks_apart(alloc: Global, parts: &Parts, can: &KindSet) -> Said {
 }
 
 /// `longest(south,clubs)`
-fn seat_alone(alloc: Global, parts: &Parts, can: &KindSet) -> Said {
+fn seat_alone(alloc: Global, parts: &Parts, can: &Kinds) -> Said {
     let is_open = can.has(Kind::Close) && !can.has(Kind::And);
     if is_open && is(parts.next(0), ",") && is_seat(parts.back(1)) {
         return say(

@@ -12,8 +12,23 @@ const SOME_VALUE: &[u8] = b"hcp(north)";
 
 /// `15<=hcp(north)<=17`, `hcp(north)==15-17`, and other ways to write a range.
 pub(crate) fn hint(alloc: Global, parts: &Parts) -> Said {
-    first_of!(chained(alloc, parts), continued(alloc, parts),);
-    first_in(alloc, parts, RANGES)
+    first_of!(
+        chained(alloc, parts),
+        continued(alloc, parts),
+        range(alloc, parts),
+        more_or_less(alloc, parts),
+    );
+    first_in(alloc, parts, &OTHERS)
+}
+
+/// `hcp(north)==15-17`
+fn range(alloc: Global, parts: &Parts) -> Said {
+    first_in(alloc, parts, &RANGES)
+}
+
+/// `15+`
+fn more_or_less(alloc: Global, parts: &Parts) -> Said {
+    first_in(alloc, parts, &MORE_OR_LESS)
 }
 
 /// The value that ends so many parts before the fault.
@@ -181,7 +196,7 @@ const UP: &[&str] = &["in", "==", ">=", ">"];
 
 const DOWN: &[&str] = &["in", "==", "<=", "<"];
 
-const RANGES: &[Rule] = &[
+static RANGES: [Rule; 12] = [
     Rule {
         before: &[Relation, Number, OneOf(&["and", "or"]), Number],
         from: &[],
@@ -242,6 +257,10 @@ const RANGES: &[Rule] = &[
         from: &[Is("-"), Number, Measure, Is("("), Any, Is(")")],
         hint: "for a range write: %n2(%n4) in %b1-%n1",
     },
+];
+
+/// `15+`, `15-`
+static MORE_OR_LESS: [Rule; 8] = [
     Rule {
         before: &[OneOf(UP), Number, Is("+")],
         from: &[NoValue],
@@ -282,6 +301,10 @@ const RANGES: &[Rule] = &[
         from: &[Number, Is("-"), NoValue],
         hint: "for %n0 or less write: %v1<=%n0",
     },
+];
+
+/// One number behind `in`, `not in`, and a difference.
+static OTHERS: [Rule; 4] = [
     Rule {
         before: &[Is("in"), Number],
         from: &[OneOf(&["", ")", "and", "or"])],

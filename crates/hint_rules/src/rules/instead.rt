@@ -4,7 +4,7 @@ use crate::rule::Rule;
 use crate::rule::Want::{Is, OneOf, Seat};
 
 /// `unbalanced(south)`, `opens(north)`
-pub(crate) const INSTEAD: &[Rule] = &[
+pub(crate) static INSTEAD: [Rule; 16] = [
     Rule {
         before: &[Seat],
         from: &[Is("unbalanced")],

@@ -3,7 +3,7 @@
 use std::alloc::{AllocError, Global};
 
 /// A hint's bytes, if there is one.
-pub(crate) type Said = Result<Option<Vec<u8>>, AllocError>;
+pub type Said = Result<Option<Vec<u8>>, AllocError>;
 
 /// The hint of these pieces.
 pub(crate) fn say(alloc: Global, pieces: &[&[u8]]) -> Said {

@@ -36,16 +36,27 @@ pub(crate) fn hint(alloc: Global, parts: &Parts) -> Said {
     for letter in written {
         word.push(letter.to_ascii_lowercase())?;
     }
-    let word = word.as_slice();
+    of_word(alloc, parts, written, word.as_slice())
+}
+
+/// The hint for a word as it is written, by its small letters.
+fn of_word(alloc: Global, parts: &Parts, written: &[u8], word: &[u8]) -> Said {
     let place = place_of(parts);
     first_of!(
         small(alloc, written, word, place),
         in_lengths(alloc, parts, word, place),
         ranks_twice(alloc, word, place),
-        first_in(alloc, parts, INSTEAD),
+    );
+    first_of!(
+        first_in(alloc, parts, &INSTEAD),
         other_name(alloc, word, place),
         alike(alloc, word, place),
     );
+    unlike(alloc, written, word, place)
+}
+
+/// The hint for a word that is like none.
+fn unlike(alloc: Global, written: &[u8], word: &[u8], place: Place) -> Said {
     if place == Place::Call {
         return say(
             alloc,
@@ -125,16 +136,16 @@ fn ranks_twice(alloc: Global, word: &[u8], place: Place) -> Said {
 /// What a person means by a name from elsewhere, by the place.
 fn other_name(alloc: Global, word: &[u8], place: Place) -> Said {
     let meant = match place {
-        Place::Seat => meant_in(SEATS, word),
-        Place::Suit => meant_in(SUITS, word),
-        Place::Ranks => match meant_in(SUITS, word) {
+        Place::Seat => meant_in(&SEATS, word),
+        Place::Suit => meant_in(&SUITS, word),
+        Place::Ranks => match meant_in(&SUITS, word) {
             Some(suit) => Some(suit),
-            None => meant_in(RANKS, word),
+            None => meant_in(&RANKS, word),
         },
         Place::Lengths => None,
-        Place::Call | Place::Other => match meant_in(POINTS, word) {
+        Place::Call | Place::Other => match meant_in(&POINTS, word) {
             Some(points) => Some(points),
-            None => meant_in(OTHERS, word),
+            None => meant_in(&OTHERS, word),
         },
     };
     match meant {

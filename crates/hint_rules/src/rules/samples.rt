@@ -13,7 +13,7 @@ enum Kind {
 }
 
 /// For each word that counts a comparison for a hand, for one suit, for hands and for suits.
-const SAMPLES: [(&str, &str, &str, &str, &str); 7] = [
+static SAMPLES: [(&str, &str, &str, &str, &str); 7] = [
     ("hcp", ">=15", ">=5", ">=25", ">=10"),
     ("controls", ">=4", ">=2", ">=10", ">=4"),
     ("losers", "<=7", "<=1", "<=14", "<=3"),

@@ -4,7 +4,7 @@ use crate::rule::Rule;
 use crate::rule::Want::{Is, Nothing, OneOf, Word};
 
 /// An empty text, `@strong.cond`, `examples/strong.cond`
-pub(crate) const TEXTS: &[Rule] = &[
+pub(crate) static TEXTS: [Rule; 5] = [
     Rule {
         before: &[Nothing],
         from: &[Nothing],

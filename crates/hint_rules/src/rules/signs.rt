@@ -1,12 +1,12 @@
 //! Signs that aren't in the language.
 
 use crate::parts::{Parts, is, is_seat};
-use crate::rules::names::{Meanings, meant_in};
-use crate::said::{Said, say};
+use crate::rules::names::meant_in;
+use crate::said::{Said, first_of, say};
 use std::alloc::Global;
 
 /// ASCII signs, and what a person means by each.
-const ASCII: Meanings = &[
+static ASCII: [(&str, &str); 21] = [
     ("=", "=="),
     ("===", "=="),
     ("=>", ">="),
@@ -31,7 +31,7 @@ const ASCII: Meanings = &[
 ];
 
 /// Signs that aren't ASCII, and what a person means by each.
-const WIDE: Meanings = &[
+static WIDE: [(&str, &str); 14] = [
     ("\u{2265}", ">="),
     ("\u{2264}", "<="),
     ("\u{2260}", "!="),
@@ -49,51 +49,77 @@ const WIDE: Meanings = &[
 ];
 
 /// Comparisons that an equals sign ends, by what stands before it.
-const ENDED: Meanings = &[("<", "<="), (">", ">="), ("=", "==")];
+static ENDED: [(&str, &str); 3] = [("<", "<="), (">", ">="), ("=", "==")];
 
 /// Comparisons that an equals sign begins, by what stands behind it.
-const BEGUN: Meanings = &[("=", "=="), (">", ">="), ("<", "<=")];
+static BEGUN: [(&str, &str); 3] = [("=", "=="), (">", ">="), ("<", "<=")];
+
+const PART_LENGTHS: &[u8] = b"part the lengths with \"-\", as in 5-3-3-2";
 
 /// `=`, `=>`, `&&`, `!`, brackets of other kinds, signs that aren't ASCII, and quotes.
 pub(crate) fn hint(alloc: Global, parts: &Parts) -> Said {
-    let sign = parts.next(0);
+    let in_lengths = is(parts.call(), "shape") || is(parts.call(), "pattern");
+    first_of!(
+        equals(alloc, parts, in_lengths),
+        meant(alloc, parts.next(0)),
+        behind_a_seat(alloc, parts, in_lengths),
+    );
+    match text_of(parts.next(0), parts.next(1), in_lengths) {
+        Some(text) => say(alloc, &[text]),
+        None => Ok(None),
+    }
+}
+
+/// `> =`, and `=` between lengths.
+fn equals(alloc: Global, parts: &Parts, in_lengths: bool) -> Said {
     if let Some(whole) = parted(parts) {
         return say(alloc, &[b"write \"", whole, b"\" without a space"]);
     }
-    let call = parts.call();
-    let in_shape = is(call, "shape") || is(call, "pattern");
-    if in_shape && is(sign, "=") {
-        return say(alloc, &[b"part the lengths with \"-\", as in 5-3-3-2"]);
+    if in_lengths && is(parts.next(0), "=") {
+        return say(alloc, &[PART_LENGTHS]);
     }
+    Ok(None)
+}
+
+/// What a person means by the sign.
+fn meant(alloc: Global, sign: &[u8]) -> Said {
     if let Some(meant) = meant_by(sign) {
         return say(alloc, &[b"for \"", sign, b"\" write \"", meant, b"\""]);
     }
-    if let Some(meant) = meant_by_wide(sign) {
-        return say(alloc, &[b"for this sign write \"", meant, b"\""]);
+    match meant_by_wide(sign) {
+        Some(meant) => say(alloc, &[b"for this sign write \"", meant, b"\""]),
+        None => Ok(None),
     }
+}
+
+/// `north.hcp`
+fn behind_a_seat(alloc: Global, parts: &Parts, in_lengths: bool) -> Said {
+    let seat = parts.back(1);
+    if in_lengths || !is(parts.next(0), ".") || !is_seat(seat) {
+        return Ok(None);
+    }
+    say(
+        alloc,
+        &[
+            b"begin with what you ask of the seat, as in hcp(",
+            seat,
+            b")",
+        ],
+    )
+}
+
+/// What is said of a sign, by itself and by what stands behind it.
+fn text_of(sign: &[u8], behind: &[u8], in_lengths: bool) -> Option<&'static [u8]> {
     if is_quote(sign) {
-        return say(
-            alloc,
-            &[b"in the shell write plain quotes, ' or \", around the whole condition"],
-        );
+        return Some(b"in the shell write plain quotes, ' or \", around the whole condition");
     }
     match sign {
-        b"*" | b"?" | b"_" if in_shape => say(alloc, &[b"for any length write \"x\""]),
-        b"." | b"/" | b":" if in_shape => {
-            say(alloc, &[b"part the lengths with \"-\", as in 5-3-3-2"])
-        }
-        b"." if is_seat(parts.back(1)) => say(
-            alloc,
-            &[
-                b"begin with what you ask of the seat, as in hcp(",
-                parts.back(1),
-                b")",
-            ],
-        ),
-        b"*" => say(alloc, &[b"values are added up with \"+\" alone"]),
-        b"/" if is(parts.next(1), "/") => say(alloc, &[b"for a comment write \"#\""]),
-        b"\"" | b"'" | b"`" => say(alloc, &[b"leave the quotes out"]),
-        _ => Ok(None),
+        b"*" | b"?" | b"_" if in_lengths => Some(b"for any length write \"x\""),
+        b"." | b"/" | b":" if in_lengths => Some(PART_LENGTHS),
+        b"*" => Some(b"values are added up with \"+\" alone"),
+        b"/" if is(behind, "/") => Some(b"for a comment write \"#\""),
+        b"\"" | b"'" | b"`" => Some(b"leave the quotes out"),
+        _ => None,
     }
 }
 
@@ -101,9 +127,9 @@ pub(crate) fn hint(alloc: Global, parts: &Parts) -> Said {
 fn parted(parts: &Parts) -> Option<&'static [u8]> {
     let sign = parts.next(0);
     if is(sign, "=") {
-        return match meant_in(ENDED, parts.back(1)) {
+        return match meant_in(&ENDED, parts.back(1)) {
             Some(whole) => Some(whole),
-            None => meant_in(BEGUN, parts.next(1)),
+            None => meant_in(&BEGUN, parts.next(1)),
         };
     }
     if is(sign, "!") && is(parts.next(1), "=") {
@@ -115,7 +141,7 @@ fn parted(parts: &Parts) -> Option<&'static [u8]> {
 
 /// What a person means by an ASCII sign.
 fn meant_by(sign: &[u8]) -> Option<&[u8]> {
-    meant_in(ASCII, sign)
+    meant_in(&ASCII, sign)
 }
 
 /// Whether it is a quotation mark as printers set it, with whatever follows it.

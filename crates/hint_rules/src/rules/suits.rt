@@ -2,13 +2,13 @@
 
 use crate::parts::{Parts, is, is_measure, is_number, is_relation, is_suit};
 use crate::rules::amounts::{Compared, compared_at};
-use crate::rules::names::{Meanings, meant_in};
+use crate::rules::names::meant_in;
 use crate::rules::samples::suit_comparison;
 use crate::said::{self, Said, say};
 use std::alloc::{AllocError, Global};
 
 /// Words for two suits, and the suits.
-const NAMED: [(&str, &str, &str); 4] = [
+static NAMED: [(&str, &str, &str); 4] = [
     ("minor", "clubs", "diamonds"),
     ("minors", "clubs", "diamonds"),
     ("major", "spades", "hearts"),
@@ -16,7 +16,7 @@ const NAMED: [(&str, &str, &str); 4] = [
 ];
 
 /// What a person joins two suits with, and what is meant by it.
-const JOINS: Meanings = &[
+static JOINS: [(&str, &str); 8] = [
     ("or", "or"),
     ("/", "or"),
     ("|", "or"),
@@ -62,7 +62,7 @@ fn pair_at<'t>(parts: &Parts<'t>) -> Option<Pair<'t>> {
     let token = parts.next(0);
     match named_by(token) {
         Some(pair) => Some(pair),
-        None => around(parts, meant_in(JOINS, token)?),
+        None => around(parts, meant_in(&JOINS, token)?),
     }
 }
 

@@ -1,11 +1,11 @@
 //! Words from elsewhere, and what a person means by each.
 
-/// Words, and what is meant by each.
-pub(crate) type Meanings = &'static [(&'static str, &'static str)];
-
 /// What is meant by the word, if the table has it.
-pub(crate) fn meant_in(meanings: Meanings, word: &[u8]) -> Option<&'static [u8]> {
-    for (other, meant) in meanings.iter() {
+pub(crate) fn meant_in(
+    meanings: &'static [(&'static str, &'static str)],
+    word: &[u8],
+) -> Option<&'static [u8]> {
+    for (other, meant) in meanings {
         if word == other.as_bytes() {
             return Some(meant.as_bytes());
         }
@@ -13,7 +13,7 @@ pub(crate) fn meant_in(meanings: Meanings, word: &[u8]) -> Option<&'static [u8]>
     None
 }
 
-pub(crate) const SEATS: Meanings = &[
+pub(crate) static SEATS: [(&str, &str); 10] = [
     ("n", "north"),
     ("nord", "north"),
     ("e", "east"),
@@ -26,7 +26,7 @@ pub(crate) const SEATS: Meanings = &[
     ("ouest", "west"),
 ];
 
-pub(crate) const SUITS: Meanings = &[
+pub(crate) static SUITS: [(&str, &str); 17] = [
     ("s", "spades"),
     ("spade", "spades"),
     ("pik", "spades"),
@@ -46,7 +46,7 @@ pub(crate) const SUITS: Meanings = &[
     ("kreuz", "clubs"),
 ];
 
-pub(crate) const RANKS: Meanings = &[
+pub(crate) static RANKS: [(&str, &str); 10] = [
     ("ace", "a"),
     ("aces", "a"),
     ("king", "k"),
@@ -60,14 +60,14 @@ pub(crate) const RANKS: Meanings = &[
 ];
 
 /// Words for points.
-pub(crate) const POINTS: Meanings = &[
+pub(crate) static POINTS: [(&str, &str); 4] = [
     ("points", "hcp"),
     ("point", "hcp"),
     ("pts", "hcp"),
     ("hp", "hcp"),
 ];
 
-pub(crate) const OTHERS: Meanings = &[
+pub(crate) static OTHERS: [(&str, &str); 30] = [
     ("length", "len"),
     ("lengths", "len"),
     ("distribution", "shape"),
@@ -101,7 +101,7 @@ pub(crate) const OTHERS: Meanings = &[
 ];
 
 /// What a person says that a hand has: the word that counts it, and what stands behind the seat.
-pub(crate) const COUNTED: &[(&str, &str, &str)] = &[
+pub(crate) static COUNTED: [(&str, &str, &str); 22] = [
     ("spade", "len", ",spades"),
     ("spades", "len", ",spades"),
     ("heart", "len", ",hearts"),

@@ -11,7 +11,7 @@ use std::alloc::Global;
 /// What a person writes between a seat and what its hand has.
 const HAS: &[&str] = &["has", "have", "holds", "with", "is", "hat", "mit"];
 
-const BALANCED: &[Rule] = &[
+static BALANCED: [Rule; 4] = [
     Rule {
         before: &[Seat],
         from: &[OneOf(HAS), Is("balanced")],
@@ -36,7 +36,7 @@ const BALANCED: &[Rule] = &[
 
 /// `south has 5 spades`, `south 15-17 hcp`, `south is balanced`
 pub(crate) fn hint(alloc: Global, parts: &Parts) -> Said {
-    first_of!(first_in(alloc, parts, BALANCED));
+    first_of!(first_in(alloc, parts, &BALANCED));
     let token = parts.next(0);
     if is_seat(parts.back(1)) && is_one_of(token, HAS) && !is(parts.back(2), "(") {
         return of_seat(alloc, parts, parts.back(1));

@@ -1,0 +1,19 @@
+//! The kinds of tokens that could stand at a fault.
+
+use cond_lang::Kind;
+
+/// Kinds of tokens, as a set.
+#[derive(Clone, Copy)]
+pub struct Kinds {
+    /// Of each kind in [`Kind::ALL`], in that order, whether it is in the set.
+    ///
+    /// [`Kind::ALL`]: cond_lang::Kind::ALL
+    pub holds: [bool; Kind::COUNT],
+}
+
+impl Kinds {
+    /// Whether the kind is in the set.
+    pub(crate) fn has(&self, kind: Kind) -> bool {
+        self.holds[kind.place()]
+    }
+}
