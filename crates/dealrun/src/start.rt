@@ -33,14 +33,20 @@ impl Promise<WorkEnd> for EndsAsAssigned {
 /// The handle of a worker that was started.
 pub(crate) type Started = PromisedHandle<WorkEnd, EndsAsAssigned>;
 
+/// What a worker has of the run that all have.
+#[derive(Drop)]
+struct Lent<R, G> {
+    rt: R,
+    gate: Arc<G, Global>,
+    stop: Arc<AtomicBool, Global>,
+}
+
 /// All that a worker starts with.
 #[derive(Drop)]
 pub(crate) struct Assignment<R, G> {
-    rt: R,
     job: JobAround,
     lane: LaneIn,
-    gate: Arc<G, Global>,
-    stop: Arc<AtomicBool, Global>,
+    lent: Lent<R, G>,
     ghost fresh: { lane.sent ≡ [] },
 }
 
@@ -52,6 +58,37 @@ fn pace_of<R: Threads>(rt: &R, plan: &Plan) -> Pace {
         Err(_) => 1,
     };
     Pace::of(plan.workers(), cores)
+}
+
+/// The job of one worker. `Err` only if an allocation failed.
+fn job_of(plan: &Plan, cond: &Cond, worker: u32) -> Result<JobAround, AllocError>
+    requires { worker < plan.now.workers }
+    ensures { IfOk result (λ job. verdicts_around job ≡ verdicts_for plan.now cond.now worker) }
+{
+    let Ok(cond) = cond.try_clone() else {
+        return Err(AllocError);
+    };
+    let share = Share {
+        first: plan.first(),
+        count: plan.count(),
+        workers: plan.workers(),
+        worker,
+    };
+    let seed = plan.seed();
+    Ok(Job { seed, share, cond }.around(*plan.fixed()))
+}
+
+/// What a worker is lent. `Err` only if it can't be cloned.
+fn lend<R: Clone, G: Drop>(
+    rt: &R,
+    gate: &Arc<G, Global>,
+    stop: &Arc<AtomicBool, Global>,
+) -> Result<Lent<R, G>, AllocError> {
+    Ok(Lent {
+        rt: rt.clone()?,
+        gate: Arc::try_clone(gate)?,
+        stop: Arc::try_clone(stop)?,
+    })
 }
 
 /// The assignment of one worker, and the other end of its lane, whose ends wait at this pace. `Err`
@@ -72,27 +109,12 @@ fn assign<R: Clone, G: Drop>(
     ensures ring { IfOk result (λ r. r.0.lane.ring ≡ r.1.ring) }
     ensures taker { IfOk result (λ r. (r.1.taken ≡ []) × (r.1.settled ≡ false)) }
 {
-    let share = Share {
-        first: plan.first(),
-        count: plan.count(),
-        workers: plan.workers(),
-        worker,
-    };
-    let Ok(cond) = cond.try_clone() else {
+    let job = job_of(plan, cond, worker)?;
+    let Ok((lane, taker)) = lane_in_blocks(alloc, plan.capacity(), pace) else {
         return Err(AllocError);
     };
-    let Ok((sender, taker)) = lane_in_blocks(alloc, plan.capacity(), pace) else {
-        return Err(AllocError);
-    };
-    let seed = plan.seed();
-    let assignment = Assignment {
-        rt: rt.clone()?,
-        job: Job { seed, share, cond }.around(*plan.fixed()),
-        lane: sender,
-        gate: Arc::try_clone(gate)?,
-        stop: Arc::try_clone(stop)?,
-    };
-    Ok((assignment, taker))
+    let lent = lend(rt, gate, stop)?;
+    Ok((Assignment { job, lane, lent }, taker))
 }
 
 /// The assignments of all workers of a plan, and the other ends of their lanes. `Err` only if an
@@ -134,13 +156,12 @@ fn start<T: Threads, R: Wait + Drop + Send + 'static, G: Gate + Drop + Send + Sy
         ≡ verdicts_around assignment.job) }
     ensures ring { IfSome result (λ h. h.promise.lane.value.ring ≡ assignment.lane.ring) }
 {
-    let Assignment {
+    let Assignment { job, lane, lent } = assignment;
+    let Lent {
         rt: mine,
-        job,
-        lane,
         gate,
         stop,
-    } = assignment;
+    } = lent;
     let promise = EndsAsAssigned {
         job: Snapshot::of(&job),
         lane: Snapshot::of(&lane),

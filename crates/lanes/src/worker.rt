@@ -1,12 +1,13 @@
 //! A worker: it judges its share of the candidates and sends the verdicts into its lane.
 
-ghost use Rattle.std.specs.Prelude.{◌≡◌, ◌+◌, ◌*◌, ◌^◌, ◌<◌, ◌≤◌, [], ◌∷◌, ◌++◌, MatchBool, length, take};
-ghost use Rattle.std.specs.Prelude.{true, false};
+ghost use Rattle.std.specs.Prelude.{◌≡◌, ◌+◌, ◌*◌, ◌^◌, ◌<◌, ◌≤◌, [], ◌∷◌, ◌++◌, List, MatchBool, length};
+ghost use Rattle.std.specs.Prelude.{true, false, take};
 ghost use Rattle.cards.specs.CandidateWalks.{GoesOnAt};
 ghost use Rattle.lanes.specs.Jobs.{verdicts_around, verdicts_of};
 ghost use Rattle.lanes.specs.Prefixes.{IsProperPrefix};
 ghost use Rattle.lanes.specs.Verdicts.{turns};
 ghost use Rattle.lanes.specs.Work.{Ends};
+ghost use Rattle.lanes.specs.declared.verdict.Verdict.{Verdict as AVerdict};
 
 use crate::block::MAX_BLOCK;
 use crate::ends::{Closed, LaneIn};
@@ -58,16 +59,43 @@ pub fn work_around<R: Wait + Drop, G: Gate + Drop>(
     ensures { Ends (verdicts_around job) lane.ring result }
 {
     let mut lane = lane;
-    let all = send_all(&rt, &job, &mut lane, &*gate, &stop);
-    if !all {
-        // A store to the stop flag is the core's Stop.
-        stop.store(true, Ordering::SeqCst);
-    }
+    let all = send_or_stop(&rt, &job, &mut lane, &*gate, &stop);
+    ended(lane, all)
+}
+
+/// Closes the lane, in which the whole share was sent or a part of it.
+fn ended(lane: LaneIn, all: bool) -> WorkEnd
+    ensures { (verdicts : List AVerdict)
+        → MatchBool all (lane.sent ≡ verdicts) (IsProperPrefix lane.sent verdicts)
+        → Ends verdicts lane.ring result }
+{
     match lane.close() {
         Some(closed) if all => WorkEnd::Done(closed),
         Some(closed) => WorkEnd::Stopped(closed),
         None => WorkEnd::Unclosed,
     }
+}
+
+/// Sends the whole share and returns true, or raises the stop flag.
+fn send_or_stop<R: Wait, G: Gate>(
+    rt: &R,
+    job: &JobAround,
+    lane: &mut LaneIn,
+    gate: &G,
+    stop: &AtomicBool,
+) -> bool
+    requires { lane.old.sent ≡ [] }
+    ensures ring { lane.new.ring ≡ lane.old.ring }
+    ensures sent { MatchBool result
+        (lane.new.sent ≡ verdicts_around job.now)
+        (IsProperPrefix lane.new.sent (verdicts_around job.now)) }
+{
+    let all = send_all(rt, job, lane, gate, stop);
+    if !all {
+        // A store to the stop flag is the core's Stop.
+        stop.store(true, Ordering::SeqCst);
+    }
+    all
 }
 
 /// Returns true when the whole share was sent.
