@@ -90,13 +90,25 @@ fn picks_to_the_end(rt: HostRuntime) -> std::result::Result<(), Fail> {
 fn picks_nothing_and_into_an_output_that_fails(rt: HostRuntime) -> std::result::Result<(), Fail> {
     let plan = Plan::new(0, 0, 0, 1, 64)?;
     let mut printer = LinPrinter::new(rt.alloc())?;
-    let mut none = MemSink::new(rt.alloc());
-    assert_eq!(rt; pick(&plan, &mut printer, &mut NoBytes, &mut none), Ok(0));
-    assert!(rt; none.bytes().is_empty());
+    picks_nothing(&rt, &plan, &mut printer);
+    picks_until_the_output_fails(&rt, &plan, &mut printer);
+    Ok(())
+}
+
+fn picks_nothing(rt: &(impl Abort + AllocGlobal), plan: &Plan, printer: &mut LinPrinter) {
+    let mut sink = MemSink::new(rt.alloc());
+    assert_eq!(rt; pick(plan, printer, &mut NoBytes, &mut sink), Ok(0));
+    assert!(rt; sink.bytes().is_empty());
+}
+
+fn picks_until_the_output_fails(
+    rt: &(impl Abort + AllocGlobal),
+    plan: &Plan,
+    printer: &mut LinPrinter,
+) {
     let mut sink = Fuse::new(MemSink::new(rt.alloc()), 2, 1000, true);
     let mut input = Reader::new(b"0\n1\n".as_slice());
-    let ended = pick(&plan, &mut printer, &mut input, &mut sink);
+    let ended = pick(plan, printer, &mut input, &mut sink);
     assert_eq!(rt; ended, Err(PickFault::Output));
     assert_eq!(rt; sink.bytes(), FIRST);
-    Ok(())
 }

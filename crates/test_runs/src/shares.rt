@@ -6,6 +6,18 @@ use std::test::Fail;
 /// The candidates from 5 on that each of four workers has of ten.
 const SHARES: [&[u64]; 4] = [&[5, 9, 13], &[6, 10, 14], &[7, 11], &[8, 12]];
 
+#[test]
+fn shares_leave_nothing_out(rt: HostRuntime) -> Result<(), Fail> {
+    for (worker, numbers) in SHARES.iter().enumerate() {
+        let share = Share::new(5, 10, 4, worker as u32).ok_or("a share")?;
+        assert_eq!(rt; share.len(), numbers.len() as u64);
+        for i in 0..share.len() {
+            assert_eq!(rt; Some(&share.at(i)), numbers.get(i as usize));
+        }
+    }
+    Ok(())
+}
+
 /// First candidate, count, workers and worker of a share, and whether there is one.
 const RANGES: [(u64, u64, u32, u32, bool); 5] = [
     ((1 << 40) - 1, 1, 1, 0, true),
@@ -16,18 +28,26 @@ const RANGES: [(u64, u64, u32, u32, bool); 5] = [
 ];
 
 #[test]
-fn shares_leave_nothing_out(rt: HostRuntime) -> Result<(), Fail> {
-    for (worker, numbers) in SHARES.iter().enumerate() {
-        let share = Share::new(5, 10, 4, worker as u32).ok_or("a share")?;
-        assert_eq!(rt; share.len(), numbers.len() as u64);
-        for i in 0..share.len() {
-            assert_eq!(rt; Some(&share.at(i)), numbers.get(i as usize));
-        }
-    }
+fn shares_within_the_numbers(rt: HostRuntime) -> Result<(), Fail> {
     for (first, count, workers, worker, is_share) in RANGES.iter() {
         let share = Share::new(*first, *count, *workers, *worker);
         assert_eq!(rt; share.is_some(), *is_share);
     }
+    Ok(())
+}
+
+#[test]
+fn turns(rt: HostRuntime) -> Result<(), Fail> {
+    let mut turns = Turns::new(3).ok_or("turns")?;
+    assert_eq!(rt; turns.lane(), 0);
+    turns.advance();
+    assert_eq!(rt; turns.lane(), 1);
+    turns.advance();
+    assert_eq!(rt; turns.lane(), 2);
+    turns.advance();
+    assert_eq!(rt; turns.lane(), 0);
+    assert_eq!(rt; Turns::at_start(16).lane(), 0);
+    assert!(rt; Turns::new(0).is_none() && Turns::new(17).is_none());
     Ok(())
 }
 
@@ -53,17 +73,7 @@ const PACES: [(u32, usize, bool); 16] = [
 ];
 
 #[test]
-fn turns_and_paces(rt: HostRuntime) -> Result<(), Fail> {
-    let mut turns = Turns::new(3).ok_or("turns")?;
-    assert_eq!(rt; turns.lane(), 0);
-    turns.advance();
-    assert_eq!(rt; turns.lane(), 1);
-    turns.advance();
-    assert_eq!(rt; turns.lane(), 2);
-    turns.advance();
-    assert_eq!(rt; turns.lane(), 0);
-    assert_eq!(rt; Turns::at_start(16).lane(), 0);
-    assert!(rt; Turns::new(0).is_none() && Turns::new(17).is_none());
+fn paces(rt: HostRuntime) -> Result<(), Fail> {
     for (workers, cores, spins) in PACES.iter() {
         assert_eq!(rt; matches!(Pace::of(*workers, *cores), Pace::Spins), *spins);
     }

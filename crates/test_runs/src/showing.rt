@@ -6,6 +6,7 @@ use std::alloc::Global;
 use std::cell::{Cell, RefCell};
 use std::io;
 use std::io::{ErrorKind, Write};
+use std::process::Abort;
 use std::test::Fail;
 use std::time::{Clock, Duration};
 
@@ -116,114 +117,140 @@ fn flush(prompt: &mut OnDesk<'_>) -> bool {
     prompt.fault_count() < u64::MAX && prompt.flush().is_ok()
 }
 
-/// What stands on a paper; it is empty then.
-fn read(paper: &RefCell<Vec<u8>>, alloc: Global) -> Result<Vec<u8>, Fail> {
-    let mut text = Vec::new(alloc);
-    let mut stands = paper.try_borrow_mut()?;
-    text.extend_from_slice(stands.as_slice())?;
-    stands.clear();
-    Ok(text)
+/// Looks at the clock when there are so many candidates and boards.
+fn watch_at(desk: &Desk, prompt: &mut OnDesk<'_>, millis: u64, candidates: u64, boards: u64) {
+    desk.millis.set(millis);
+    prompt.watch(candidates, boards);
+}
+
+/// Aborts unless just this stands on a paper, which is empty then.
+fn stands(rt: &impl Abort, paper: &RefCell<Vec<u8>>, text: &[u8]) -> Result<(), Fail> {
+    let mut paper = paper.try_borrow_mut()?;
+    assert_eq!(rt; paper.as_slice(), text);
+    paper.clear();
+    Ok(())
 }
 
 #[test]
 fn a_board_is_passed_on_after_a_fifth_of_a_second(rt: HostRuntime) -> Result<(), Fail> {
-    let alloc = rt.alloc();
-    let desk = Desk::new(alloc);
-    let mut prompt = desk.prompt(alloc, Style::Never, Drawn::new(alloc)?);
-    assert!(rt; put(&mut prompt, b"one"));
-    assert_eq!(rt; read(&desk.out, alloc)?.as_slice(), b"".as_slice());
-    prompt.watch(10, 1);
-    assert_eq!(rt; read(&desk.out, alloc)?.as_slice(), b"one".as_slice());
-    assert!(rt; put(&mut prompt, b"two"));
-    desk.millis.set(5199);
-    prompt.watch(20, 2);
-    assert_eq!(rt; read(&desk.out, alloc)?.as_slice(), b"".as_slice());
-    desk.millis.set(5200);
-    prompt.watch(30, 2);
-    assert_eq!(rt; read(&desk.out, alloc)?.as_slice(), b"two".as_slice());
-    assert_eq!(rt; read(&desk.err, alloc)?.as_slice(), b"".as_slice());
-    Ok(())
+    let desk = Desk::new(rt.alloc());
+    let mut prompt = desk.prompt(rt.alloc(), Style::Never, Drawn::new(rt.alloc())?);
+    passes_on(&rt, &desk, &mut prompt)
 }
+
+/// The first board is passed on at once, and the next one only in its time.
+fn passes_on(rt: &impl Abort, desk: &Desk, prompt: &mut OnDesk<'_>) -> Result<(), Fail> {
+    assert!(rt; put(prompt, b"one"));
+    stands(rt, &desk.out, b"")?;
+    prompt.watch(10, 1);
+    stands(rt, &desk.out, b"one")?;
+    assert!(rt; put(prompt, b"two"));
+    watch_at(desk, prompt, 5199, 20, 2);
+    stands(rt, &desk.out, b"")?;
+    watch_at(desk, prompt, 5200, 30, 2);
+    stands(rt, &desk.out, b"two")?;
+    stands(rt, &desk.err, b"")
+}
+
+/// Milliseconds, candidates and boards, and the line that is drawn then.
+const DRAWN: [(u64, u64, u64, &[u8]); 4] = [
+    (5999, 100, 0, b""),
+    (
+        6000,
+        200,
+        1,
+        b"\r\x1b[?7l20%  200 of 1,000 candidates  1 board  200 /s  4 s left\x1b[K\x1b[?7h",
+    ),
+    (6249, 210, 1, b""),
+    (
+        6250,
+        250,
+        2,
+        b"\r\x1b[?7l25%  250 of 1,000 candidates  2 boards  200 /s  4 s left\x1b[K\x1b[?7h",
+    ),
+];
 
 #[test]
 fn counts_are_drawn_and_wiped(rt: HostRuntime) -> Result<(), Fail> {
-    let alloc = rt.alloc();
-    let desk = Desk::new(alloc);
-    let mut prompt = desk.prompt(alloc, Style::Redrawn, Drawn::new(alloc)?);
-    desk.millis.set(5999);
-    prompt.watch(100, 0);
-    assert_eq!(rt; read(&desk.err, alloc)?.as_slice(), b"".as_slice());
-    desk.millis.set(6000);
-    prompt.watch(200, 1);
-    let first = b"\r\x1b[?7l20%  200 of 1,000 candidates  1 board  200 /s  4 s left\x1b[K\x1b[?7h";
-    assert_eq!(rt; read(&desk.err, alloc)?.as_slice(), first.as_slice());
-    desk.millis.set(6249);
-    prompt.watch(210, 1);
-    assert_eq!(rt; read(&desk.err, alloc)?.as_slice(), b"".as_slice());
-    desk.millis.set(6250);
-    prompt.watch(250, 2);
-    let second =
-        b"\r\x1b[?7l25%  250 of 1,000 candidates  2 boards  200 /s  4 s left\x1b[K\x1b[?7h";
-    assert_eq!(rt; read(&desk.err, alloc)?.as_slice(), second.as_slice());
-    assert!(rt; flush(&mut prompt));
-    assert_eq!(rt; read(&desk.err, alloc)?.as_slice(), b"\r\x1b[K".as_slice());
-    assert!(rt; flush(&mut prompt));
-    assert_eq!(rt; read(&desk.err, alloc)?.as_slice(), b"".as_slice());
+    let desk = Desk::new(rt.alloc());
+    let mut prompt = desk.prompt(rt.alloc(), Style::Redrawn, Drawn::new(rt.alloc())?);
+    draws(&rt, &desk, &mut prompt)?;
+    wipes_once(&rt, &desk, &mut prompt)
+}
+
+fn draws(rt: &impl Abort, desk: &Desk, prompt: &mut OnDesk<'_>) -> Result<(), Fail> {
+    for (millis, candidates, boards, line) in DRAWN.iter() {
+        watch_at(desk, prompt, *millis, *candidates, *boards);
+        stands(rt, &desk.err, line)?;
+    }
     Ok(())
+}
+
+fn wipes_once(rt: &impl Abort, desk: &Desk, prompt: &mut OnDesk<'_>) -> Result<(), Fail> {
+    assert!(rt; flush(prompt));
+    stands(rt, &desk.err, b"\r\x1b[K")?;
+    assert!(rt; flush(prompt));
+    stands(rt, &desk.err, b"")
 }
 
 #[test]
 fn a_line_a_second_without_a_terminal(rt: HostRuntime) -> Result<(), Fail> {
-    let alloc = rt.alloc();
-    let desk = Desk::new(alloc);
-    let mut prompt = desk.prompt(alloc, Style::Lines, Drawn::new(alloc)?);
+    let desk = Desk::new(rt.alloc());
+    let mut prompt = desk.prompt(rt.alloc(), Style::Lines, Drawn::new(rt.alloc())?);
     for millis in 50..80 {
-        desk.millis.set(millis * 100);
-        prompt.watch(millis, 0);
+        watch_at(&desk, &mut prompt, millis * 100, millis, 0);
     }
     assert!(rt; flush(&mut prompt));
     let lines = b"6%  60 of 1,000 candidates  0 boards  60 /s  16 s left\n\
         7%  70 of 1,000 candidates  0 boards  35 /s  27 s left\n";
-    assert_eq!(rt; read(&desk.err, alloc)?.as_slice(), lines.as_slice());
-    Ok(())
+    stands(&rt, &desk.err, lines)
 }
 
 #[test]
 fn what_is_said_wipes_the_line(rt: HostRuntime) -> Result<(), Fail> {
-    let alloc = rt.alloc();
-    let desk = Desk::new(alloc);
-    let drawn = Drawn::new(alloc)?;
+    let desk = Desk::new(rt.alloc());
+    let drawn = Drawn::new(rt.alloc())?;
     let mut err = OverLine::new(Pen { paper: &desk.err }, drawn.try_clone()?);
-    let mut prompt = desk.prompt(alloc, Style::Redrawn, drawn);
-    err.write_all(b"before\n")?;
-    desk.millis.set(6000);
-    prompt.watch(0, 0);
-    err.write_all(b"worker 1 not closed\n")?;
-    err.write_all(b"more\n")?;
+    let mut prompt = desk.prompt(rt.alloc(), Style::Redrawn, drawn);
+    say_around_a_line(&desk, &mut prompt, &mut err)?;
     let text = b"before\n\r\x1b[?7l0%  0 of 1,000 candidates  0 boards  0 /s  16 min 40 s left\
         \x1b[K\x1b[?7h\r\x1b[Kworker 1 not closed\nmore\n";
-    assert_eq!(rt; read(&desk.err, alloc)?.as_slice(), text.as_slice());
-    Ok(())
+    stands(&rt, &desk.err, text)
+}
+
+/// Says something before a line of counts is drawn, and twice after it.
+fn say_around_a_line(
+    desk: &Desk,
+    prompt: &mut OnDesk<'_>,
+    err: &mut OverLine<Pen<'_>>,
+) -> io::Result<()> {
+    err.write_all(b"before\n")?;
+    watch_at(desk, prompt, 6000, 0, 0);
+    err.write_all(b"worker 1 not closed\n")?;
+    err.write_all(b"more\n")
 }
 
 #[test]
 fn a_failure_is_told_by_the_next_call(rt: HostRuntime) -> Result<(), Fail> {
-    let alloc = rt.alloc();
-    let desk = Desk::new(alloc);
-    let mut prompt = desk.prompt(alloc, Style::Redrawn, Drawn::new(alloc)?);
-    assert!(rt; put(&mut prompt, b"one"));
+    let desk = Desk::new(rt.alloc());
+    let mut prompt = desk.prompt(rt.alloc(), Style::Redrawn, Drawn::new(rt.alloc())?);
+    fails_once(&rt, &desk, &mut prompt)?;
+    stands(&rt, &desk.out, b"onethree")?;
+    let line = b"\r\x1b[?7l0%  1 of 1,000 candidates  1 board  0 /s  16 min 39 s left\
+        \x1b[K\x1b[?7h\r\x1b[K";
+    stands(&rt, &desk.err, line)
+}
+
+/// The writer fails within a watch, and goes on once the next call has told it.
+fn fails_once(rt: &impl Abort, desk: &Desk, prompt: &mut OnDesk<'_>) -> Result<(), Fail> {
+    assert!(rt; put(prompt, b"one"));
     desk.broken.set(true);
-    desk.millis.set(7000);
-    prompt.watch(1, 1);
-    assert!(rt; !put(&mut prompt, b"two"));
+    watch_at(desk, prompt, 7000, 1, 1);
+    assert!(rt; !put(prompt, b"two"));
     let told = prompt.reason().ok_or("a reason")?.kind();
     assert!(rt; told == ErrorKind::StorageFull);
     desk.broken.set(false);
-    assert!(rt; put(&mut prompt, b"three"));
-    assert!(rt; flush(&mut prompt));
-    assert_eq!(rt; read(&desk.out, alloc)?.as_slice(), b"onethree".as_slice());
-    let line = b"\r\x1b[?7l0%  1 of 1,000 candidates  1 board  0 /s  16 min 39 s left\
-        \x1b[K\x1b[?7h\r\x1b[K";
-    assert_eq!(rt; read(&desk.err, alloc)?.as_slice(), line.as_slice());
+    assert!(rt; put(prompt, b"three"));
+    assert!(rt; flush(prompt));
     Ok(())
 }

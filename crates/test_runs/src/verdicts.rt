@@ -1,9 +1,12 @@
 //! Verdicts through a lane, one by one and in blocks.
 
+ghost use Rattle.std.specs.Prelude.{◌≡◌};
+
 use cards::{Deal, Places};
 use lanes::{LaneError, LaneIn, LaneOut, Pace, Verdict, lane, lane_in_blocks};
 use lcg48::Lcg48;
 use std::ops::Range;
+use std::process::Abort;
 use std::sync::atomic::{AtomicBool, Ordering};
 use std::test::Fail;
 
@@ -15,6 +18,58 @@ fn verdict(number: u64) -> Verdict {
         accepted: true,
         deal: Deal::shuffled(&places),
     }
+}
+
+/// Sends the verdict on this candidate, and says whether there was room for it.
+fn sends(sender: &mut LaneIn, number: u64) -> bool
+    ensures { sender.new.ring ≡ sender.old.ring }
+{
+    sender.try_send(verdict(number)).is_ok()
+}
+
+/// Whether the verdict on this candidate comes back, for want of room.
+fn sends_back(sender: &mut LaneIn, number: u64) -> bool
+    ensures { sender.new.ring ≡ sender.old.ring }
+{
+    matches!(sender.try_send(verdict(number)), Err(back) if back.number == number)
+}
+
+/// Takes a verdict, and says whether it is the one on this candidate.
+fn takes(taker: &mut LaneOut, number: u64) -> bool
+    ensures { taker.new.ring ≡ taker.old.ring }
+{
+    matches!(taker.take(), Some(taken) if taken.number == number)
+}
+
+/// Sends the verdicts on these candidates, and says whether there was room for all.
+fn send_all(sender: &mut LaneIn, numbers: Range<u64>) -> bool {
+    for number in numbers {
+        if !sends(sender, number) {
+            return false;
+        }
+    }
+    true
+}
+
+/// Takes the verdicts on these candidates, and says whether they came in this order.
+pub fn take_all(taker: &mut LaneOut, numbers: Range<u64>) -> bool {
+    for number in numbers {
+        if !takes(taker, number) {
+            return false;
+        }
+    }
+    true
+}
+
+#[test]
+fn refused_capacities(rt: HostRuntime) -> Result<(), Fail> {
+    for capacity in [0, 4097] {
+        let plain = lane(rt.alloc(), capacity);
+        assert!(rt; matches!(plain, Err(LaneError::Capacity)));
+        let in_blocks = lane_in_blocks(rt.alloc(), capacity, Pace::Spins);
+        assert!(rt; matches!(in_blocks, Err(LaneError::Capacity)));
+    }
+    Ok(())
 }
 
 /// A capacity, and the room between the two blocks.
@@ -30,11 +85,6 @@ const ROOMS: [(u32, usize); 7] = [
 
 #[test]
 fn capacities(rt: HostRuntime) -> Result<(), Fail> {
-    for capacity in [0, 4097] {
-        assert!(rt; matches!(lane(rt.alloc(), capacity), Err(LaneError::Capacity)));
-        let in_blocks = lane_in_blocks(rt.alloc(), capacity, Pace::Spins);
-        assert!(rt; matches!(in_blocks, Err(LaneError::Capacity)));
-    }
     assert!(rt; lane(rt.alloc(), 4096).is_ok());
     for (capacity, room) in ROOMS.iter() {
         let (mut sender, _taker) = lane_in_blocks(rt.alloc(), *capacity, Pace::Spins)?;
@@ -46,13 +96,13 @@ fn capacities(rt: HostRuntime) -> Result<(), Fail> {
 #[test]
 fn a_lane_of_one_verdict(rt: HostRuntime) -> Result<(), Fail> {
     let (mut sender, mut taker) = lane(rt.alloc(), 1)?;
-    assert!(rt; sender.try_send(verdict(3)).is_ok());
-    assert!(rt; matches!(sender.try_send(verdict(4)), Err(back) if back.number == 4));
+    assert!(rt; sends(&mut sender, 3));
+    assert!(rt; sends_back(&mut sender, 4));
     let mut closed = sender.close().ok_or("a closed lane")?;
     assert!(rt; !taker.is_settled());
     assert_eq!(rt; taker.settle(&mut closed), 1);
     assert!(rt; taker.is_settled());
-    assert!(rt; matches!(taker.take(), Some(taken) if taken.number == 3));
+    assert!(rt; takes(&mut taker, 3));
     assert!(rt; taker.take().is_none());
     Ok(())
 }
@@ -62,46 +112,36 @@ fn what_is_known_to_wait(rt: HostRuntime) -> Result<(), Fail> {
     let (mut sender, mut taker) = lane(rt.alloc(), 2)?;
     assert!(rt; !taker.has_verdict());
     assert_eq!(rt; sender.count_room(), 2);
+    fills(&rt, &mut sender);
+    assert_eq!(rt; (sender.count_room(), taker.count_verdicts()), (0, 2));
+    empties(&rt, &mut taker);
+    assert_eq!(rt; (sender.count_room(), taker.count_verdicts()), (2, 0));
+    Ok(())
+}
+
+/// Fills a lane of two verdicts.
+fn fills(rt: &impl Abort, sender: &mut LaneIn) {
     for number in [3, 4] {
         assert!(rt; sender.has_room());
         sender.send_reserved(verdict(number));
     }
     assert!(rt; !sender.has_room());
-    assert_eq!(rt; (sender.count_room(), taker.count_verdicts()), (0, 2));
+}
+
+/// Takes the two verdicts that wait.
+fn empties(rt: &impl Abort, taker: &mut LaneOut) {
     for number in [3, 4] {
         assert!(rt; taker.has_verdict());
         assert_eq!(rt; taker.take_known().number, number);
     }
     assert!(rt; !taker.has_verdict());
-    assert_eq!(rt; (sender.count_room(), taker.count_verdicts()), (2, 0));
-    Ok(())
-}
-
-/// Sends the verdicts on these candidates, and says whether there was room for all.
-fn send_all(sender: &mut LaneIn, numbers: Range<u64>) -> bool {
-    for number in numbers {
-        if sender.try_send(verdict(number)).is_err() {
-            return false;
-        }
-    }
-    true
-}
-
-/// Takes the verdicts on these candidates, and says whether they came in this order.
-pub fn take_all(taker: &mut LaneOut, numbers: Range<u64>) -> bool {
-    for number in numbers {
-        if !matches!(taker.take(), Some(taken) if taken.number == number) {
-            return false;
-        }
-    }
-    true
 }
 
 #[test]
 fn blocks_of_a_lane(rt: HostRuntime) -> Result<(), Fail> {
     let (mut sender, mut taker) = lane_in_blocks(rt.alloc(), 64, Pace::Spins)?;
     assert!(rt; send_all(&mut sender, 0..32));
-    assert!(rt; sender.try_send(verdict(32)).is_err());
+    assert!(rt; !sends(&mut sender, 32));
     // The writer has a block out of the ring, and then there is room for as much.
     assert!(rt; take_all(&mut taker, 0..1));
     assert_eq!(rt; (sender.count_room(), taker.count_verdicts()), (16, 31));
@@ -115,14 +155,11 @@ fn blocks_of_a_lane(rt: HostRuntime) -> Result<(), Fail> {
 #[test]
 fn a_settled_lane_with_a_block(rt: HostRuntime) -> Result<(), Fail> {
     let (mut sender, mut taker) = lane_in_blocks(rt.alloc(), 8, Pace::Spins)?;
-    assert!(rt; sender.try_send(verdict(3)).is_ok());
-    assert!(rt; sender.try_send(verdict(4)).is_ok());
-    assert!(rt; sender.try_send(verdict(5)).is_ok());
-    assert!(rt; matches!(taker.take(), Some(taken) if taken.number == 3));
+    assert!(rt; sends(&mut sender, 3) && sends(&mut sender, 4) && sends(&mut sender, 5));
+    assert!(rt; takes(&mut taker, 3));
     let mut closed = sender.close().ok_or("a closed lane")?;
     assert_eq!(rt; taker.settle(&mut closed), 2);
-    assert!(rt; matches!(taker.take(), Some(taken) if taken.number == 4));
-    assert!(rt; matches!(taker.take(), Some(taken) if taken.number == 5));
+    assert!(rt; take_all(&mut taker, 4..6));
     assert!(rt; taker.take().is_none());
     Ok(())
 }
@@ -131,14 +168,14 @@ fn a_settled_lane_with_a_block(rt: HostRuntime) -> Result<(), Fail> {
 fn a_wait_for_a_verdict(rt: HostRuntime) -> Result<(), Fail> {
     let stop = AtomicBool::new(false);
     let (mut sender, mut taker) = lane(rt.alloc(), 2)?;
-    assert!(rt; sender.try_send(verdict(3)).is_ok());
+    assert!(rt; sends(&mut sender, 3));
     assert!(rt; taker.wait_for_verdict(&rt, &stop));
     stop.store(true, Ordering::SeqCst);
     assert!(rt; taker.wait_for_verdict(&rt, &stop));
-    assert!(rt; matches!(taker.take(), Some(taken) if taken.number == 3));
+    assert!(rt; takes(&mut taker, 3));
     assert!(rt; !taker.wait_for_verdict(&rt, &stop));
-    assert!(rt; sender.try_send(verdict(4)).is_ok());
+    assert!(rt; sends(&mut sender, 4));
     assert!(rt; taker.wait_for_verdict(&rt, &stop));
-    assert!(rt; matches!(taker.take(), Some(taken) if taken.number == 4));
+    assert!(rt; takes(&mut taker, 4));
     Ok(())
 }

@@ -1,11 +1,15 @@
 //! Shares that are worked to their end, and shares that are stopped.
 
+ghost use Rattle.std.specs.Prelude.{◌≡◌, []};
+
 use crate::verdicts::take_all;
 use cond_lang::Cond;
-use lanes::{Gate, Job, LaneOut, OpenGate, Pace, Share, WorkEnd, lane, lane_in_blocks, work};
+use lanes::{
+    Gate, Job, LaneIn, LaneOut, OpenGate, Pace, Share, WorkEnd, lane, lane_in_blocks, work,
+};
 use std::alloc::Global;
-use std::sync::Arc;
 use std::sync::atomic::{AtomicBool, Ordering};
+use std::sync::{Arc, Wait};
 use std::test::Fail;
 
 /// Stops at a number.
@@ -37,15 +41,29 @@ fn takes_all_of(taker: &mut LaneOut, numbers: &[u64]) -> bool {
     taker.take().is_none()
 }
 
+/// Works a share. Returns how it ended, and whether the stop flag is up then.
+fn works<G: Gate + Drop>(
+    rt: &impl Wait,
+    alloc: Global,
+    job: Job,
+    sender: LaneIn,
+    gate: G,
+) -> Result<(WorkEnd, bool), Fail>
+    requires { sender.sent ≡ [] }
+{
+    let gate = Arc::new(alloc, gate)?;
+    let stop = Arc::new(alloc, AtomicBool::new(false))?;
+    let end = work(rt, job, sender, gate, Arc::try_clone(&stop)?);
+    Ok((end, stop.load(Ordering::SeqCst)))
+}
+
 #[test]
 fn a_whole_share(rt: HostRuntime) -> Result<(), Fail> {
     let (sender, mut taker) = lane(rt.alloc(), 4)?;
-    let gate = Arc::new(rt.alloc(), OpenGate)?;
-    let stop = Arc::new(rt.alloc(), AtomicBool::new(false))?;
     let job = job(rt.alloc(), [5, 10], [4, 1])?;
-    let end = work(&rt, job, sender, gate, Arc::try_clone(&stop)?);
+    let (end, stopped) = works(&rt, rt.alloc(), job, sender, OpenGate)?;
     assert!(rt; matches!(&end, WorkEnd::Done(_)));
-    assert!(rt; !stop.load(Ordering::SeqCst));
+    assert!(rt; !stopped);
     assert!(rt; takes_all_of(&mut taker, &[6, 10, 14]));
     Ok(())
 }
@@ -54,12 +72,10 @@ fn a_whole_share(rt: HostRuntime) -> Result<(), Fail> {
 #[test]
 fn a_share_stopped_within_a_block(rt: HostRuntime) -> Result<(), Fail> {
     let (sender, mut taker) = lane_in_blocks(rt.alloc(), 64, Pace::Spins)?;
-    let gate = Arc::new(rt.alloc(), StopsAt(25))?;
-    let stop = Arc::new(rt.alloc(), AtomicBool::new(false))?;
     let job = job(rt.alloc(), [5, 30], [1, 0])?;
-    let end = work(&rt, job, sender, gate, Arc::try_clone(&stop)?);
+    let (end, stopped) = works(&rt, rt.alloc(), job, sender, StopsAt(25))?;
     assert!(rt; matches!(&end, WorkEnd::Stopped(_)));
-    assert!(rt; stop.load(Ordering::SeqCst));
+    assert!(rt; stopped);
     assert!(rt; take_all(&mut taker, 5..25));
     assert!(rt; taker.take().is_none());
     Ok(())
