@@ -17,7 +17,8 @@ use Rattle.clap.specs.declared.error.kind.ErrorKind.TheVariants.{InvalidValue, M
 use Rattle.clap.specs.declared.parser.matches.ArgMatches.{ArgMatches}
 use Rattle.clap.specs.declared.parser.matches.ArgMatches.TheViews.{out-ArgMatches, out-SubCommand}
 use Rattle.clap.specs.declared.parser.matches.SubCommand.{SubCommand}
-use Rattle.deals_cli.specs.CommandLine.{asked, deals, end_kinds, further_kinds, has_no_end, has_unknown, kinds_by, kinds_for, made_by, making_in, stream_wish, unless_fault, wish_by, wish_in}
+use Rattle.commands.specs.Commands.{deals}
+use Rattle.deals_cli.specs.CommandLine.{asked, end_kinds, further_kinds, has_no_end, has_unknown, kinds_by, kinds_for, made_by, making_in, stream_wish, unless_fault, wish_by, wish_in}
 use Rattle.deals_cli.specs.internal.Readings.{MakeValues, StreamValues}
 use Rattle.requests.specs.Requests.{Wish, conditions}
 use Rattle.deals_cli.proofs.Commands.{conditions_built, find_built, find_values, make_built, make_values, pick_built, pick_values, stream_built, stream_values}

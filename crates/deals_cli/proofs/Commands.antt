@@ -6,7 +6,7 @@ use Rattle.clap.specs.Walk.{Row, Rule, Text, nothing_held, one_of, rows_after, v
 use Rattle.clap.specs.declared.builder.value_parser.ValueParser.{ValueParser}
 use Rattle.clap.specs.declared.builder.value_parser.ValueParser.TheVariants.{Unsigned}
 use Rattle.clap.proofs.ValueTestLemmas.{accepts-Accepts}
-use Rattle.deals_cli.specs.CommandLine.{count_parser, deals, flag_rule, option_rule, required, u32_parser}
+use Rattle.commands.specs.Commands.{count_parser, deals, flag_rule, option_rule, required, u32_parser}
 use Rattle.deals_cli.specs.internal.Readings.{Gives32, GivesUpTo, HasValue, MakeValues, MayGive32, MayGive64, StreamValues}
 use Rattle.deals_cli.proofs.Walks.{PlainRules, absent_value, given_value, level_checked, level_passing, passed_value, required_given}
 

@@ -1,4 +1,3 @@
-pub mod Builders
 pub mod Walks
 pub mod Help
 pub mod Entered

@@ -1,4 +1,3 @@
 -- What only bodies and lemmas use: no public clause names any of it.
 pub mod Readings
 pub mod Kinds
-pub mod Commands

@@ -2,9 +2,9 @@
 #![tactic(auto)]
 
 mod choices;
-mod command;
 mod entry;
 pub mod laws;
+mod refusals;
 mod words;
 
 pub use entry::{program, program_with_input};

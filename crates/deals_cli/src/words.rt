@@ -10,9 +10,10 @@ ghost use Rattle.requests.specs.Options.{IsInRange, making_of, wish_of};
 ghost use Rattle.deals_cli.specs.internal.Readings.{MakeValues, MayGive32, MayGive64, StreamValues};
 
 use crate::choices::{dealer_in, format_in, progress_in, sides_in, unknown_in};
-use crate::command::{command, invalid_value, missing_end};
+use crate::refusals::{invalid_value, missing_end};
 use clap::error::ErrorKind;
 use clap::{ArgMatches, Error};
+use commands::command;
 use hand_texts::HandTexts;
 use requests::{Format, MakeRequest, Progress, Request, StreamRequest};
 use std::alloc::Global;

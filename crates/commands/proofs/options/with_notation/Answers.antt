@@ -1,9 +1,9 @@
 use Rattle.std.proofs.Common.{rules, ◌≡◌, ◌∙◌, ap, codes}
 use Rattle.clap.specs.Words.{App, app_of, rule_of, with_rule}
 use Rattle.clap.specs.declared.builder.value_parser.ValueParser.TheVariants.{String}
-use Rattle.deals_cli.specs.CommandLine.{option_rule}
-use Rattle.deals_cli.proofs.Builders.{one_more}
-use Rattle.deals_cli.proofs.command.with_notation.Goals as goal
+use Rattle.commands.specs.Commands.{option_rule}
+use Rattle.commands.proofs.Builders.{one_more}
+use Rattle.commands.proofs.options.with_notation.Goals as goal
 
 pub returns-clause-app : goal.returns-clause-app
 returns-clause-app c =

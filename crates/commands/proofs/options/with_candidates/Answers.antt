@@ -1,8 +1,8 @@
 use Rattle.std.proofs.Common.{rules, ◌≡◌, ◌∙◌, ap, codes}
 use Rattle.clap.specs.Words.{app_of, rule_of, with_rule}
-use Rattle.deals_cli.specs.CommandLine.{option_rule, required, u32_parser, u64_parser}
-use Rattle.deals_cli.proofs.Builders.{one_more}
-use Rattle.deals_cli.proofs.command.with_candidates.Goals as goal
+use Rattle.commands.specs.Commands.{option_rule, required, u32_parser, u64_parser}
+use Rattle.commands.proofs.Builders.{one_more}
+use Rattle.commands.proofs.options.with_candidates.Goals as goal
 
 pub returns-clause-app : goal.returns-clause-app
 returns-clause-app c =

@@ -1,19 +1,18 @@
 //! The commands and options of the program, as `clap` knows them.
 
 ghost use Rattle.std.specs.Prelude.{◌≡◌, false, IfOk};
-ghost use Rattle.clap.specs.Words.{app_of, kind_of, rule_of, with_rule};
+ghost use Rattle.clap.specs.Words.{app_of, rule_of, with_rule, with_subcommand};
 ghost use Rattle.clap.specs.declared.Command.TheViews.{out-Command as fields_of};
-ghost use Rattle.deals_cli.specs.CommandLine.{conditions_app, deals, find_app, flag_rule, make_app};
-ghost use Rattle.deals_cli.specs.CommandLine.{option_rule, pick_app, required, stream_app};
-ghost use Rattle.deals_cli.specs.internal.Commands.{with_boards, with_candidates, with_counts, with_dealers};
-ghost use Rattle.deals_cli.specs.internal.Commands.{with_first_board, with_form, with_hand, with_hands};
-ghost use Rattle.deals_cli.specs.internal.Commands.{with_heading, with_labels, with_makers, with_notation, with_rotate};
-ghost use Rattle.deals_cli.specs.internal.Commands.{with_search};
+ghost use Rattle.commands.specs.Commands.{conditions_app, deals, deals_top, find_app, flag_rule};
+ghost use Rattle.commands.specs.Commands.{make_app, option_rule, pick_app, required, stream_app};
+ghost use Rattle.commands.specs.internal.Steps.{with_boards, with_candidates, with_counts};
+ghost use Rattle.commands.specs.internal.Steps.{with_dealers, with_first_board, with_form};
+ghost use Rattle.commands.specs.internal.Steps.{with_hand, with_hands, with_heading, with_labels};
+ghost use Rattle.commands.specs.internal.Steps.{with_makers, with_notation, with_rotate};
+ghost use Rattle.commands.specs.internal.Steps.{with_search, with_tried};
 
-use crate::choices::Unknown;
 use clap::builder::ValueParser;
-use clap::error::ErrorKind;
-use clap::{Arg, ArgAction, Command, Error, value_parser};
+use clap::{Arg, ArgAction, Command, value_parser};
 use std::alloc::{AllocError, Global};
 
 /// The most values that `stream` prints: the same as the most candidates of a seed.
@@ -85,9 +84,6 @@ const COUNT: &str = "How many values, 0 to 1099511627776";
 
 const CANDIDATES: &str = "How many candidates are tried; first + N is at most 1099511627776 \
     [default: all from the first on, where --boards is given]";
-
-const NO_END: &str = "the following required arguments were not provided:
-  --candidates <N> or --boards <M>";
 
 const FIRST: &str = "The number of the first candidate [default: 0]";
 
@@ -257,6 +253,18 @@ fn with_boards<'a>(alloc: Global, command: Command<'a>) -> Result<Command<'a>, A
     with_option(command, boards)
 }
 
+/// The command with the options of what is tried, and what of it is kept.
+fn with_tried<'a>(alloc: Global, command: Command<'a>) -> Result<Command<'a>, AllocError>
+    ensures app { IfOk result (λ c. app_of c ≡ with_tried (app_of command.entry)) }
+    ensures local { IfOk result (λ c. (fields_of c).has_globals
+        ≡ (fields_of command.entry).has_globals) }
+{
+    let command = with_candidates(alloc, command)?;
+    let command = with_search(alloc, command)?;
+    let command = with_hands(alloc, command)?;
+    with_boards(alloc, command)
+}
+
 /// The command with the options of the labels.
 fn with_labels<'a>(alloc: Global, command: Command<'a>) -> Result<Command<'a>, AllocError>
     ensures app { IfOk result (λ c. app_of c ≡ with_labels (app_of command.entry)) }
@@ -349,10 +357,7 @@ fn make_command<'a>(alloc: Global) -> Result<Command<'a>, AllocError>
     let command = Command::new(alloc, "make")
         .about("Writes bridge deals in Portable Bridge Notation, as hand records, LIN or a page")
         .after_help(MAKE_EXAMPLES);
-    let command = with_candidates(alloc, command)?;
-    let command = with_search(alloc, command)?;
-    let command = with_hands(alloc, command)?;
-    let command = with_boards(alloc, command)?;
+    let command = with_tried(alloc, command)?;
     let command = with_form(alloc, command)?;
     with_counts(alloc, command)
 }
@@ -364,10 +369,7 @@ fn find_command<'a>(alloc: Global) -> Result<Command<'a>, AllocError>
     let command = Command::new(alloc, "find")
         .about("Prints the numbers of the deals that make would write, one per line")
         .after_help(FIND_EXAMPLES);
-    let command = with_candidates(alloc, command)?;
-    let command = with_search(alloc, command)?;
-    let command = with_hands(alloc, command)?;
-    let command = with_boards(alloc, command)?;
+    let command = with_tried(alloc, command)?;
     with_counts(alloc, command)
 }
 
@@ -408,7 +410,10 @@ fn stream_command<'a>(alloc: Global) -> Result<Command<'a>, AllocError>
 }
 
 /// The command `make`, or `find` or `pick` if it has that name, as clap names it in a refusal.
-fn named_command<'a>(alloc: Global, name: &str) -> Result<Command<'a>, AllocError> {
+///
+/// # Errors
+/// `AllocError` if an allocation failed.
+pub fn named_command<'a>(alloc: Global, name: &str) -> Result<Command<'a>, AllocError> {
     if name == "find" {
         return find_command(alloc)?.bin_name("deals find");
     }
@@ -418,26 +423,24 @@ fn named_command<'a>(alloc: Global, name: &str) -> Result<Command<'a>, AllocErro
     make_command(alloc)?.bin_name("deals make")
 }
 
-/// clap's refusal of a `make` or a `find` whose end is not given.
-pub fn missing_end(alloc: Global, name: &str) -> Result<Error, AllocError>
-    ensures { IfOk result (λ e. kind_of e ≡ ErrorKind.MissingRequiredArgument) }
+/// The program's name, without subcommands.
+fn top<'a>(alloc: Global) -> Command<'a>
+    ensures app { app_of result ≡ deals_top }
+    ensures local { (fields_of result).has_globals ≡ false }
 {
-    let mut command = named_command(alloc, name)?;
-    command.error(ErrorKind::MissingRequiredArgument, NO_END)
+    Command::new(alloc, "deals")
+        .version("0.2.0")
+        .about(ABOUT)
+        .after_help(LANGUAGE_AND_STATUSES)
+        .subcommand_required(true)
 }
 
-/// clap's refusal of a word that is none of an option's values.
-pub fn invalid_value(alloc: Global, name: &str, unknown: &Unknown<'_>) -> Result<Error, AllocError>
-    ensures { IfOk result (λ e. kind_of e ≡ ErrorKind.InvalidValue) }
+/// The program's name with the subcommand that makes boards.
+fn with_make<'a>(alloc: Global) -> Result<Command<'a>, AllocError>
+    ensures app { IfOk result (λ c. app_of c ≡ with_subcommand deals_top make_app.top) }
+    ensures local { IfOk result (λ c. (fields_of c).has_globals ≡ false) }
 {
-    let word = unknown.word;
-    let option = unknown.option;
-    let values = unknown.values;
-    let message = format!(in alloc;
-        "invalid value '{word}' for '{option}'\n  [possible values: {values}]"
-    )?;
-    let mut command = named_command(alloc, name)?;
-    command.error(ErrorKind::InvalidValue, message.as_str())
+    top(alloc).subcommand(make_command(alloc)?)
 }
 
 /// The program's name with the subcommands that try candidates.
@@ -445,13 +448,7 @@ fn with_makers<'a>(alloc: Global) -> Result<Command<'a>, AllocError>
     ensures app { IfOk result (λ c. app_of c ≡ with_makers) }
     ensures local { IfOk result (λ c. (fields_of c).has_globals ≡ false) }
 {
-    Command::new(alloc, "deals")
-        .version("0.2.0")
-        .about(ABOUT)
-        .after_help(LANGUAGE_AND_STATUSES)
-        .subcommand_required(true)
-        .subcommand(make_command(alloc)?)?
-        .subcommand(find_command(alloc)?)
+    with_make(alloc)?.subcommand(find_command(alloc)?)
 }
 
 /// The program's name with the subcommands that deal candidates.
@@ -462,11 +459,20 @@ fn with_dealers<'a>(alloc: Global) -> Result<Command<'a>, AllocError>
     with_makers(alloc)?.subcommand(pick_command(alloc)?)
 }
 
+/// The program's name with all subcommands but the last.
+fn with_conditions<'a>(alloc: Global) -> Result<Command<'a>, AllocError>
+    ensures app { IfOk result (λ c. app_of c ≡ with_subcommand with_dealers conditions_app.top) }
+    ensures local { IfOk result (λ c. (fields_of c).has_globals ≡ false) }
+{
+    with_dealers(alloc)?.subcommand(conditions_command(alloc))
+}
+
 /// The program's whole command line.
+///
+/// # Errors
+/// `AllocError` if an allocation failed.
 pub fn command<'a>(alloc: Global) -> Result<Command<'a>, AllocError>
     ensures { IfOk result (λ c. app_of c ≡ deals) }
 {
-    with_dealers(alloc)?
-        .subcommand(conditions_command(alloc))?
-        .subcommand(stream_command(alloc)?)
+    with_conditions(alloc)?.subcommand(stream_command(alloc)?)
 }

@@ -2,8 +2,8 @@
 use Rattle.std.specs.Prelude.{codes}
 use Rattle.clap.specs.Words.{App, Text, with_rule, with_subcommand}
 use Rattle.clap.specs.declared.builder.value_parser.ValueParser.TheVariants.{String}
-use Rattle.deals_cli.specs.CommandLine.{deals_top, find_app, flag_rule, make_app, option_rule, pick_app}
-use Rattle.deals_cli.specs.CommandLine.{required, u32_parser, u64_parser}
+use Rattle.commands.specs.Commands.{deals_top, find_app, flag_rule, make_app, option_rule, pick_app}
+use Rattle.commands.specs.Commands.{required, u32_parser, u64_parser}
 
 abbrev pub with_candidates : App → App
 with_candidates a = with_rule (with_rule a
@@ -29,6 +29,10 @@ abbrev pub with_boards : App → App
 with_boards a = with_rule (with_rule a
     (option_rule (codes "where") String))
     (option_rule (codes "boards") u32_parser)
+
+-- what is tried, and what of it is kept
+abbrev pub with_tried : App → App
+with_tried a = with_boards (with_hands (with_search (with_candidates a)))
 
 abbrev pub with_labels : App → App
 with_labels a = with_rule (with_rule (with_rule a

@@ -1,0 +1,35 @@
+//! Refusals of what clap's own parse takes, in clap's form.
+
+ghost use Rattle.std.specs.Prelude.{◌≡◌, IfOk};
+ghost use Rattle.clap.specs.Words.{kind_of};
+
+use crate::choices::Unknown;
+use clap::Error;
+use clap::error::ErrorKind;
+use commands::named_command;
+use std::alloc::{AllocError, Global};
+
+const NO_END: &str = "the following required arguments were not provided:
+  --candidates <N> or --boards <M>";
+
+/// clap's refusal of a `make` or a `find` whose end is not given.
+pub fn missing_end(alloc: Global, name: &str) -> Result<Error, AllocError>
+    ensures { IfOk result (λ e. kind_of e ≡ ErrorKind.MissingRequiredArgument) }
+{
+    let mut command = named_command(alloc, name)?;
+    command.error(ErrorKind::MissingRequiredArgument, NO_END)
+}
+
+/// clap's refusal of a word that is none of an option's values.
+pub fn invalid_value(alloc: Global, name: &str, unknown: &Unknown<'_>) -> Result<Error, AllocError>
+    ensures { IfOk result (λ e. kind_of e ≡ ErrorKind.InvalidValue) }
+{
+    let word = unknown.word;
+    let option = unknown.option;
+    let values = unknown.values;
+    let message = format!(in alloc;
+        "invalid value '{word}' for '{option}'\n  [possible values: {values}]"
+    )?;
+    let mut command = named_command(alloc, name)?;
+    command.error(ErrorKind::InvalidValue, message.as_str())
+}
