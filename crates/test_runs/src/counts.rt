@@ -1,5 +1,6 @@
 //! The line of counts, at examples.
 
+use crate::support::equals;
 use console::{Tally, tally_line};
 use std::test::Fail;
 
@@ -66,7 +67,8 @@ fn lines_of_counts(rt: HostRuntime) -> Result<(), Fail> {
             all: *all,
             millis: *millis,
         };
-        assert_eq!(rt; tally_line(rt.alloc(), &tally)?.as_str(), *line);
+        let drawn = tally_line(rt.alloc(), &tally)?;
+        equals(&rt, &drawn.as_str(), line);
     }
     Ok(())
 }

@@ -2,6 +2,7 @@
 
 ghost use Rattle.std.specs.Prelude.{◌≡◌, ◌<◌};
 
+use crate::support::equals;
 use lanes::{Core, Event};
 use std::process::Abort;
 use std::test::Fail;
@@ -125,8 +126,12 @@ fn cores_of_two_lanes(rt: HostRuntime) -> Result<(), Fail> {
     for row in COURSES.iter() {
         let mut core = Core::new(row.count, 2, row.capacity).ok_or("a core")?;
         replay(&rt, &mut core, row.events);
-        assert_eq!(rt; [lane_of(&core, 0), lane_of(&core, 1)], row.lanes);
-        assert_eq!(rt; (core.turn(), core.stopped()), (row.turn, row.stopped));
+        equals(&rt, &[lane_of(&core, 0), lane_of(&core, 1)], &row.lanes);
+        equals(
+            &rt,
+            &(core.turn(), core.stopped()),
+            &(row.turn, row.stopped),
+        );
     }
     Ok(())
 }

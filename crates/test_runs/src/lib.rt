@@ -13,6 +13,8 @@ mod shares;
 #[cfg(test)]
 mod showing;
 #[cfg(test)]
+mod support;
+#[cfg(test)]
 mod verdicts;
 #[cfg(test)]
 mod work;

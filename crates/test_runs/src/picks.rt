@@ -1,5 +1,6 @@
 //! Lines of LIN that were worked out by hand, of two candidates of seed 0, picked by their numbers.
 
+use crate::support::equals;
 use lin_text::LinPrinter;
 use number_input::{LineFault, NoBytes, Reader, RefusedLine};
 use picking::{PickFault, pick};
@@ -55,8 +56,9 @@ fn check<R: Read + Drop>(
     let mut printer = LinPrinter::new(rt.alloc())?;
     let mut input = Reader::new(reader);
     let mut sink = MemSink::new(rt.alloc());
-    assert_eq!(rt; pick(&plan, &mut printer, &mut input, &mut sink), ends);
-    assert_eq!(rt; sink.bytes(), text);
+    let ended = pick(&plan, &mut printer, &mut input, &mut sink);
+    equals(rt, &ended, &ends);
+    equals(rt, &sink.bytes(), &text);
     Ok(())
 }
 
@@ -97,7 +99,7 @@ fn picks_nothing_and_into_an_output_that_fails(rt: HostRuntime) -> std::result::
 
 fn picks_nothing(rt: &(impl Abort + AllocGlobal), plan: &Plan, printer: &mut LinPrinter) {
     let mut sink = MemSink::new(rt.alloc());
-    assert_eq!(rt; pick(plan, printer, &mut NoBytes, &mut sink), Ok(0));
+    equals(rt, &pick(plan, printer, &mut NoBytes, &mut sink), &Ok(0));
     assert!(rt; sink.bytes().is_empty());
 }
 
@@ -109,6 +111,6 @@ fn picks_until_the_output_fails(
     let mut sink = Fuse::new(MemSink::new(rt.alloc()), 2, 1000, true);
     let mut input = Reader::new(b"0\n1\n".as_slice());
     let ended = pick(plan, printer, &mut input, &mut sink);
-    assert_eq!(rt; ended, Err(PickFault::Output));
-    assert_eq!(rt; sink.bytes(), FIRST);
+    equals(rt, &ended, &Err(PickFault::Output));
+    equals(rt, &sink.bytes(), &FIRST);
 }

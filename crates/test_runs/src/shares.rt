@@ -1,5 +1,6 @@
 //! Shares of the candidates, turns among the lanes, and the pace of their ends.
 
+use crate::support::equals;
 use lanes::{Pace, Share, Turns};
 use std::test::Fail;
 
@@ -10,9 +11,9 @@ const SHARES: [&[u64]; 4] = [&[5, 9, 13], &[6, 10, 14], &[7, 11], &[8, 12]];
 fn shares_leave_nothing_out(rt: HostRuntime) -> Result<(), Fail> {
     for (worker, numbers) in SHARES.iter().enumerate() {
         let share = Share::new(5, 10, 4, worker as u32).ok_or("a share")?;
-        assert_eq!(rt; share.len(), numbers.len() as u64);
+        equals(&rt, &share.len(), &(numbers.len() as u64));
         for i in 0..share.len() {
-            assert_eq!(rt; Some(&share.at(i)), numbers.get(i as usize));
+            equals(&rt, &Some(&share.at(i)), &numbers.get(i as usize));
         }
     }
     Ok(())
@@ -39,14 +40,14 @@ fn shares_within_the_numbers(rt: HostRuntime) -> Result<(), Fail> {
 #[test]
 fn turns(rt: HostRuntime) -> Result<(), Fail> {
     let mut turns = Turns::new(3).ok_or("turns")?;
-    assert_eq!(rt; turns.lane(), 0);
+    equals(&rt, &turns.lane(), &0);
     turns.advance();
-    assert_eq!(rt; turns.lane(), 1);
+    equals(&rt, &turns.lane(), &1);
     turns.advance();
-    assert_eq!(rt; turns.lane(), 2);
+    equals(&rt, &turns.lane(), &2);
     turns.advance();
-    assert_eq!(rt; turns.lane(), 0);
-    assert_eq!(rt; Turns::at_start(16).lane(), 0);
+    equals(&rt, &turns.lane(), &0);
+    equals(&rt, &Turns::at_start(16).lane(), &0);
     assert!(rt; Turns::new(0).is_none() && Turns::new(17).is_none());
     Ok(())
 }

@@ -1,5 +1,6 @@
 //! What stands on the output and on the terminal, by a clock that is set by hand.
 
+use crate::support::equals;
 use console::{Counts, Drawn, GATHERED_MILLIS, OverLine, Prompt, Style};
 use sinks::{Sink, put_all};
 use std::alloc::Global;
@@ -124,32 +125,35 @@ fn watch_at(desk: &Desk, prompt: &mut OnDesk<'_>, millis: u64, candidates: u64, 
 }
 
 /// Aborts unless just this stands on a paper, which is empty then.
-fn stands(rt: &impl Abort, paper: &RefCell<Vec<u8>>, text: &[u8]) -> Result<(), Fail> {
-    let mut paper = paper.try_borrow_mut()?;
-    assert_eq!(rt; paper.as_slice(), text);
+fn stands(rt: &impl Abort, paper: &RefCell<Vec<u8>>, text: &[u8]) {
+    let Ok(mut paper) = paper.try_borrow_mut() else {
+        assert!(rt; false);
+        return;
+    };
+    equals(rt, &paper.as_slice(), &text);
     paper.clear();
-    Ok(())
 }
 
 #[test]
 fn a_board_is_passed_on_after_a_fifth_of_a_second(rt: HostRuntime) -> Result<(), Fail> {
     let desk = Desk::new(rt.alloc());
     let mut prompt = desk.prompt(rt.alloc(), Style::Never, Drawn::new(rt.alloc())?);
-    passes_on(&rt, &desk, &mut prompt)
+    passes_on(&rt, &desk, &mut prompt);
+    Ok(())
 }
 
 /// The first board is passed on at once, and the next one only in its time.
-fn passes_on(rt: &impl Abort, desk: &Desk, prompt: &mut OnDesk<'_>) -> Result<(), Fail> {
+fn passes_on(rt: &impl Abort, desk: &Desk, prompt: &mut OnDesk<'_>) {
     assert!(rt; put(prompt, b"one"));
-    stands(rt, &desk.out, b"")?;
+    stands(rt, &desk.out, b"");
     prompt.watch(10, 1);
-    stands(rt, &desk.out, b"one")?;
+    stands(rt, &desk.out, b"one");
     assert!(rt; put(prompt, b"two"));
     watch_at(desk, prompt, 5199, 20, 2);
-    stands(rt, &desk.out, b"")?;
+    stands(rt, &desk.out, b"");
     watch_at(desk, prompt, 5200, 30, 2);
-    stands(rt, &desk.out, b"two")?;
-    stands(rt, &desk.err, b"")
+    stands(rt, &desk.out, b"two");
+    stands(rt, &desk.err, b"");
 }
 
 /// Milliseconds, candidates and boards, and the line that is drawn then.
@@ -174,23 +178,23 @@ const DRAWN: [(u64, u64, u64, &[u8]); 4] = [
 fn counts_are_drawn_and_wiped(rt: HostRuntime) -> Result<(), Fail> {
     let desk = Desk::new(rt.alloc());
     let mut prompt = desk.prompt(rt.alloc(), Style::Redrawn, Drawn::new(rt.alloc())?);
-    draws(&rt, &desk, &mut prompt)?;
-    wipes_once(&rt, &desk, &mut prompt)
-}
-
-fn draws(rt: &impl Abort, desk: &Desk, prompt: &mut OnDesk<'_>) -> Result<(), Fail> {
-    for (millis, candidates, boards, line) in DRAWN.iter() {
-        watch_at(desk, prompt, *millis, *candidates, *boards);
-        stands(rt, &desk.err, line)?;
-    }
+    draws(&rt, &desk, &mut prompt);
+    wipes_once(&rt, &desk, &mut prompt);
     Ok(())
 }
 
-fn wipes_once(rt: &impl Abort, desk: &Desk, prompt: &mut OnDesk<'_>) -> Result<(), Fail> {
+fn draws(rt: &impl Abort, desk: &Desk, prompt: &mut OnDesk<'_>) {
+    for (millis, candidates, boards, line) in DRAWN.iter() {
+        watch_at(desk, prompt, *millis, *candidates, *boards);
+        stands(rt, &desk.err, line);
+    }
+}
+
+fn wipes_once(rt: &impl Abort, desk: &Desk, prompt: &mut OnDesk<'_>) {
     assert!(rt; flush(prompt));
-    stands(rt, &desk.err, b"\r\x1b[K")?;
+    stands(rt, &desk.err, b"\r\x1b[K");
     assert!(rt; flush(prompt));
-    stands(rt, &desk.err, b"")
+    stands(rt, &desk.err, b"");
 }
 
 #[test]
@@ -203,7 +207,8 @@ fn a_line_a_second_without_a_terminal(rt: HostRuntime) -> Result<(), Fail> {
     assert!(rt; flush(&mut prompt));
     let lines = b"6%  60 of 1,000 candidates  0 boards  60 /s  16 s left\n\
         7%  70 of 1,000 candidates  0 boards  35 /s  27 s left\n";
-    stands(&rt, &desk.err, lines)
+    stands(&rt, &desk.err, lines);
+    Ok(())
 }
 
 #[test]
@@ -215,7 +220,8 @@ fn what_is_said_wipes_the_line(rt: HostRuntime) -> Result<(), Fail> {
     say_around_a_line(&desk, &mut prompt, &mut err)?;
     let text = b"before\n\r\x1b[?7l0%  0 of 1,000 candidates  0 boards  0 /s  16 min 40 s left\
         \x1b[K\x1b[?7h\r\x1b[Kworker 1 not closed\nmore\n";
-    stands(&rt, &desk.err, text)
+    stands(&rt, &desk.err, text);
+    Ok(())
 }
 
 /// Says something before a line of counts is drawn, and twice after it.
@@ -234,23 +240,22 @@ fn say_around_a_line(
 fn a_failure_is_told_by_the_next_call(rt: HostRuntime) -> Result<(), Fail> {
     let desk = Desk::new(rt.alloc());
     let mut prompt = desk.prompt(rt.alloc(), Style::Redrawn, Drawn::new(rt.alloc())?);
-    fails_once(&rt, &desk, &mut prompt)?;
-    stands(&rt, &desk.out, b"onethree")?;
+    fails_once(&rt, &desk, &mut prompt);
+    stands(&rt, &desk.out, b"onethree");
     let line = b"\r\x1b[?7l0%  1 of 1,000 candidates  1 board  0 /s  16 min 39 s left\
         \x1b[K\x1b[?7h\r\x1b[K";
-    stands(&rt, &desk.err, line)
+    stands(&rt, &desk.err, line);
+    Ok(())
 }
 
 /// The writer fails within a watch, and goes on once the next call has told it.
-fn fails_once(rt: &impl Abort, desk: &Desk, prompt: &mut OnDesk<'_>) -> Result<(), Fail> {
+fn fails_once(rt: &impl Abort, desk: &Desk, prompt: &mut OnDesk<'_>) {
     assert!(rt; put(prompt, b"one"));
     desk.broken.set(true);
     watch_at(desk, prompt, 7000, 1, 1);
     assert!(rt; !put(prompt, b"two"));
-    let told = prompt.reason().ok_or("a reason")?.kind();
-    assert!(rt; told == ErrorKind::StorageFull);
+    let reason = prompt.reason();
+    assert!(rt; matches!(reason, Some(told) if told.kind() == ErrorKind::StorageFull));
     desk.broken.set(false);
-    assert!(rt; put(prompt, b"three"));
-    assert!(rt; flush(prompt));
-    Ok(())
+    assert!(rt; put(prompt, b"three") && flush(prompt));
 }

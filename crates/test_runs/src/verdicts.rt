@@ -2,9 +2,11 @@
 
 ghost use Rattle.std.specs.Prelude.{◌≡◌};
 
+use crate::support::equals;
 use cards::{Deal, Places};
 use lanes::{LaneError, LaneIn, LaneOut, Pace, Verdict, lane, lane_in_blocks};
 use lcg48::Lcg48;
+use std::alloc::Global;
 use std::ops::Range;
 use std::process::Abort;
 use std::sync::atomic::{AtomicBool, Ordering};
@@ -61,15 +63,22 @@ pub fn take_all(taker: &mut LaneOut, numbers: Range<u64>) -> bool {
     true
 }
 
+/// Takes the verdicts on these candidates, and says whether they came so and no more.
+pub fn takes_just(taker: &mut LaneOut, numbers: Range<u64>) -> bool {
+    take_all(taker, numbers) && taker.take().is_none()
+}
+
+/// Whether there is no lane, since the capacity is out of range.
+fn is_refused(made: &Result<(LaneIn, LaneOut), LaneError>) -> bool {
+    matches!(made, Err(LaneError::Capacity))
+}
+
 #[test]
-fn refused_capacities(rt: HostRuntime) -> Result<(), Fail> {
+fn refused_capacities(rt: HostRuntime) {
     for capacity in [0, 4097] {
-        let plain = lane(rt.alloc(), capacity);
-        assert!(rt; matches!(plain, Err(LaneError::Capacity)));
-        let in_blocks = lane_in_blocks(rt.alloc(), capacity, Pace::Spins);
-        assert!(rt; matches!(in_blocks, Err(LaneError::Capacity)));
+        assert!(rt; is_refused(&lane(rt.alloc(), capacity)));
+        assert!(rt; is_refused(&lane_in_blocks(rt.alloc(), capacity, Pace::Spins)));
     }
-    Ok(())
 }
 
 /// A capacity, and the room between the two blocks.
@@ -83,12 +92,17 @@ const ROOMS: [(u32, usize); 7] = [
     (4096, 4064),
 ];
 
+/// How much room is in a new lane.
+fn room_in_blocks(alloc: Global, capacity: u32) -> Result<usize, LaneError> {
+    let (mut sender, _taker) = lane_in_blocks(alloc, capacity, Pace::Spins)?;
+    Ok(sender.count_room())
+}
+
 #[test]
 fn capacities(rt: HostRuntime) -> Result<(), Fail> {
     assert!(rt; lane(rt.alloc(), 4096).is_ok());
     for (capacity, room) in ROOMS.iter() {
-        let (mut sender, _taker) = lane_in_blocks(rt.alloc(), *capacity, Pace::Spins)?;
-        assert_eq!(rt; sender.count_room(), *room);
+        equals(&rt, &room_in_blocks(rt.alloc(), *capacity)?, room);
     }
     Ok(())
 }
@@ -96,26 +110,29 @@ fn capacities(rt: HostRuntime) -> Result<(), Fail> {
 #[test]
 fn a_lane_of_one_verdict(rt: HostRuntime) -> Result<(), Fail> {
     let (mut sender, mut taker) = lane(rt.alloc(), 1)?;
-    assert!(rt; sends(&mut sender, 3));
-    assert!(rt; sends_back(&mut sender, 4));
+    assert!(rt; sends(&mut sender, 3) && sends_back(&mut sender, 4));
     let mut closed = sender.close().ok_or("a closed lane")?;
     assert!(rt; !taker.is_settled());
-    assert_eq!(rt; taker.settle(&mut closed), 1);
+    equals(&rt, &taker.settle(&mut closed), &1);
     assert!(rt; taker.is_settled());
-    assert!(rt; takes(&mut taker, 3));
-    assert!(rt; taker.take().is_none());
+    assert!(rt; takes_just(&mut taker, 3..4));
     Ok(())
+}
+
+/// Aborts unless the lane has this room, and so many verdicts wait.
+fn counts(rt: &impl Abort, sender: &mut LaneIn, taker: &mut LaneOut, wanted: (usize, usize)) {
+    equals(rt, &(sender.count_room(), taker.count_verdicts()), &wanted);
 }
 
 #[test]
 fn what_is_known_to_wait(rt: HostRuntime) -> Result<(), Fail> {
     let (mut sender, mut taker) = lane(rt.alloc(), 2)?;
     assert!(rt; !taker.has_verdict());
-    assert_eq!(rt; sender.count_room(), 2);
+    equals(&rt, &sender.count_room(), &2);
     fills(&rt, &mut sender);
-    assert_eq!(rt; (sender.count_room(), taker.count_verdicts()), (0, 2));
+    counts(&rt, &mut sender, &mut taker, (0, 2));
     empties(&rt, &mut taker);
-    assert_eq!(rt; (sender.count_room(), taker.count_verdicts()), (2, 0));
+    counts(&rt, &mut sender, &mut taker, (2, 0));
     Ok(())
 }
 
@@ -132,7 +149,7 @@ fn fills(rt: &impl Abort, sender: &mut LaneIn) {
 fn empties(rt: &impl Abort, taker: &mut LaneOut) {
     for number in [3, 4] {
         assert!(rt; taker.has_verdict());
-        assert_eq!(rt; taker.take_known().number, number);
+        equals(rt, &taker.take_known().number, &number);
     }
     assert!(rt; !taker.has_verdict());
 }
@@ -140,14 +157,12 @@ fn empties(rt: &impl Abort, taker: &mut LaneOut) {
 #[test]
 fn blocks_of_a_lane(rt: HostRuntime) -> Result<(), Fail> {
     let (mut sender, mut taker) = lane_in_blocks(rt.alloc(), 64, Pace::Spins)?;
-    assert!(rt; send_all(&mut sender, 0..32));
-    assert!(rt; !sends(&mut sender, 32));
+    assert!(rt; send_all(&mut sender, 0..32) && !sends(&mut sender, 32));
     // The writer has a block out of the ring, and then there is room for as much.
     assert!(rt; take_all(&mut taker, 0..1));
-    assert_eq!(rt; (sender.count_room(), taker.count_verdicts()), (16, 31));
+    counts(&rt, &mut sender, &mut taker, (16, 31));
     assert!(rt; send_all(&mut sender, 32..48));
-    assert!(rt; take_all(&mut taker, 1..48));
-    assert!(rt; taker.take().is_none());
+    assert!(rt; takes_just(&mut taker, 1..48));
     Ok(())
 }
 
@@ -158,9 +173,8 @@ fn a_settled_lane_with_a_block(rt: HostRuntime) -> Result<(), Fail> {
     assert!(rt; sends(&mut sender, 3) && sends(&mut sender, 4) && sends(&mut sender, 5));
     assert!(rt; takes(&mut taker, 3));
     let mut closed = sender.close().ok_or("a closed lane")?;
-    assert_eq!(rt; taker.settle(&mut closed), 2);
-    assert!(rt; take_all(&mut taker, 4..6));
-    assert!(rt; taker.take().is_none());
+    equals(&rt, &taker.settle(&mut closed), &2);
+    assert!(rt; takes_just(&mut taker, 4..6));
     Ok(())
 }
 
@@ -168,14 +182,11 @@ fn a_settled_lane_with_a_block(rt: HostRuntime) -> Result<(), Fail> {
 fn a_wait_for_a_verdict(rt: HostRuntime) -> Result<(), Fail> {
     let stop = AtomicBool::new(false);
     let (mut sender, mut taker) = lane(rt.alloc(), 2)?;
-    assert!(rt; sends(&mut sender, 3));
-    assert!(rt; taker.wait_for_verdict(&rt, &stop));
+    assert!(rt; sends(&mut sender, 3) && taker.wait_for_verdict(&rt, &stop));
     stop.store(true, Ordering::SeqCst);
-    assert!(rt; taker.wait_for_verdict(&rt, &stop));
-    assert!(rt; takes(&mut taker, 3));
+    assert!(rt; taker.wait_for_verdict(&rt, &stop) && takes(&mut taker, 3));
     assert!(rt; !taker.wait_for_verdict(&rt, &stop));
-    assert!(rt; sends(&mut sender, 4));
-    assert!(rt; taker.wait_for_verdict(&rt, &stop));
+    assert!(rt; sends(&mut sender, 4) && taker.wait_for_verdict(&rt, &stop));
     assert!(rt; takes(&mut taker, 4));
     Ok(())
 }

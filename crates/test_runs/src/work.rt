@@ -2,7 +2,7 @@
 
 ghost use Rattle.std.specs.Prelude.{◌≡◌, []};
 
-use crate::verdicts::take_all;
+use crate::verdicts::takes_just;
 use cond_lang::Cond;
 use lanes::{
     Gate, Job, LaneIn, LaneOut, OpenGate, Pace, Share, WorkEnd, lane, lane_in_blocks, work,
@@ -41,6 +41,17 @@ fn takes_all_of(taker: &mut LaneOut, numbers: &[u64]) -> bool {
     taker.take().is_none()
 }
 
+/// A gate for a worker, and a stop flag for it and for another owner.
+fn shared<G: Gate + Drop>(
+    alloc: Global,
+    gate: G,
+) -> Result<(Arc<G>, Arc<AtomicBool>, Arc<AtomicBool>), Fail> {
+    let gate = Arc::new(alloc, gate)?;
+    let stop = Arc::new(alloc, AtomicBool::new(false))?;
+    let other = Arc::try_clone(&stop)?;
+    Ok((gate, stop, other))
+}
+
 /// Works a share. Returns how it ended, and whether the stop flag is up then.
 fn works<G: Gate + Drop>(
     rt: &impl Wait,
@@ -51,9 +62,8 @@ fn works<G: Gate + Drop>(
 ) -> Result<(WorkEnd, bool), Fail>
     requires { sender.sent ≡ [] }
 {
-    let gate = Arc::new(alloc, gate)?;
-    let stop = Arc::new(alloc, AtomicBool::new(false))?;
-    let end = work(rt, job, sender, gate, Arc::try_clone(&stop)?);
+    let (gate, seen, stop) = shared(alloc, gate)?;
+    let end = work(rt, job, sender, gate, seen);
     Ok((end, stop.load(Ordering::SeqCst)))
 }
 
@@ -62,8 +72,7 @@ fn a_whole_share(rt: HostRuntime) -> Result<(), Fail> {
     let (sender, mut taker) = lane(rt.alloc(), 4)?;
     let job = job(rt.alloc(), [5, 10], [4, 1])?;
     let (end, stopped) = works(&rt, rt.alloc(), job, sender, OpenGate)?;
-    assert!(rt; matches!(&end, WorkEnd::Done(_)));
-    assert!(rt; !stopped);
+    assert!(rt; matches!(&end, WorkEnd::Done(_)) && !stopped);
     assert!(rt; takes_all_of(&mut taker, &[6, 10, 14]));
     Ok(())
 }
@@ -74,9 +83,7 @@ fn a_share_stopped_within_a_block(rt: HostRuntime) -> Result<(), Fail> {
     let (sender, mut taker) = lane_in_blocks(rt.alloc(), 64, Pace::Spins)?;
     let job = job(rt.alloc(), [5, 30], [1, 0])?;
     let (end, stopped) = works(&rt, rt.alloc(), job, sender, StopsAt(25))?;
-    assert!(rt; matches!(&end, WorkEnd::Stopped(_)));
-    assert!(rt; stopped);
-    assert!(rt; take_all(&mut taker, 5..25));
-    assert!(rt; taker.take().is_none());
+    assert!(rt; matches!(&end, WorkEnd::Stopped(_)) && stopped);
+    assert!(rt; takes_just(&mut taker, 5..25));
     Ok(())
 }
