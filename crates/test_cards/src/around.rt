@@ -81,16 +81,19 @@ fn worked_deals(rt: HostRuntime) -> Result<(), Fail> {
     for (seed, candidate, hands, wanted) in AROUND.iter() {
         assert_eq!(rt; around(*seed, *candidate, hands), Some(deal_of(wanted)?));
     }
+    Ok(())
+}
+
+#[test]
+fn fixed_cards(rt: HostRuntime) {
     assert!(rt; Fixed::new(fixed_in(b"AKQJT98765432...")).is_some());
     assert!(rt; Fixed::new(fixed_in(b"AKQJT98765432.A..")).is_none());
     assert!(rt; Fixed::new(fixed_in(b"... ... ... AKQJT98765432...2")).is_none());
     assert_eq!(rt; Fixed::none().free(), 52);
-    Ok(())
 }
 
-/// The deal as it is described: the free cards are listed and shuffled, and North takes the first
-/// of them until it has thirteen cards, then East, South and West.
-fn dealt_plainly(fixed: &[Option<Seat>; 52], generator: &mut Lcg48) -> [Seat; 52] {
+/// The cards that are free, in their order, and how many they are.
+fn free_cards(fixed: &[Option<Seat>; 52]) -> ([usize; 52], usize) {
     let mut free = [0; 52];
     let mut count = 0;
     for (card, seat) in fixed.iter().enumerate() {
@@ -99,11 +102,22 @@ fn dealt_plainly(fixed: &[Option<Seat>; 52], generator: &mut Lcg48) -> [Seat; 52
             count = (count % 52) + 1;
         }
     }
-    let count = count % 53;
-    for j in (2..count + 1).rev() {
+    (free, count)
+}
+
+/// Shuffles the first cards, so many.
+fn shuffle(cards: &mut [usize; 52], count: usize, generator: &mut Lcg48) {
+    for j in (2..count % 53 + 1).rev() {
         let place = (j as u128 * u128::from(generator.next())) >> 48;
-        free.swap((j - 1) % 52, place as usize % 52);
+        cards.swap((j - 1) % 52, place as usize % 52);
     }
+}
+
+/// The deal as it is described: the free cards are listed and shuffled, and North takes the first
+/// of them until it has thirteen cards, then East, South and West.
+fn dealt_plainly(fixed: &[Option<Seat>; 52], generator: &mut Lcg48) -> [Seat; 52] {
+    let (mut free, count) = free_cards(fixed);
+    shuffle(&mut free, count, generator);
     let mut seats = [Seat::North; 52];
     for (seat, fixed) in seats.iter_mut().zip(fixed.iter()) {
         *seat = fixed.unwrap_or(Seat::West);

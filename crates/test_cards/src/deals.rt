@@ -22,7 +22,7 @@ const ALMOST_IN_ORDER: &[u8] =
     b"AKQJT98765432... .AKQJT9876543.2. .2.AKQJT9876543. ...AKQJT98765432";
 
 #[test]
-fn cards_and_places(rt: HostRuntime) -> Result<(), Fail> {
+fn cards_seats_and_measures(rt: HostRuntime) -> Result<(), Fail> {
     let card = Card::new(51).ok_or("card 51")?;
     assert_eq!(rt;
         (card.number(), card.suit(), card.rank()),
@@ -35,18 +35,25 @@ fn cards_and_places(rt: HostRuntime) -> Result<(), Fail> {
     );
     let measures = [Measure::Hcp, Measure::Controls, Measure::Losers];
     assert_eq!(rt; measures.map(|measure| measure.place()), [0, 1, 2]);
+    Ok(())
+}
+
+#[test]
+fn places_drawn(rt: HostRuntime) {
     let drawn = Places::draw(&mut Lcg48::seeded(0));
-    assert_eq!(rt; drawn.place(52), 8);
-    assert_eq!(rt; drawn.place(51), 38);
-    assert_eq!(rt; drawn.place(50), 4);
-    assert_eq!(rt; drawn.place(49), 42);
+    for (j, place) in [(52, 8), (51, 38), (50, 4), (49, 42)] {
+        assert_eq!(rt; drawn.place(j), place);
+    }
+}
+
+#[test]
+fn sound_places(rt: HostRuntime) {
     let mut places = [0; 51];
     for (first, last, is_sound) in [(52, 0, false), (51, 0, true), (51, 2, false)] {
         places[0] = first;
         places[50] = last;
         assert_eq!(rt; Places::new(places).is_some(), is_sound);
     }
-    Ok(())
 }
 
 /// The places that leave the pack as it is: for j the position j - 1.
@@ -58,25 +65,45 @@ fn places_that_stay() -> [u8; 51] {
     places
 }
 
+/// The pack shuffled by the places, if they are sound.
+fn shuffled(places: [u8; 51]) -> Option<Deal> {
+    Places::new(places).map(|places| Deal::shuffled(&places))
+}
+
 #[test]
 fn deals_of_places(rt: HostRuntime) -> Result<(), Fail> {
-    let in_order = deal_of(IN_ORDER)?;
+    assert_eq!(rt; shuffled(places_that_stay()), Some(deal_of(IN_ORDER)?));
     let turned = deal_of(TURNED_PACK)?;
-    let other = deal_of(ALMOST_IN_ORDER)?;
-    let stay = Places::new(places_that_stay()).map(|places| Deal::shuffled(&places));
-    assert_eq!(rt; stay, Some(in_order));
-    let zero = Places::new([0; 51]).map(|places| Deal::shuffled(&places));
-    assert_eq!(rt; zero, Some(turned));
+    assert_eq!(rt; shuffled([0; 51]), Some(turned));
     let ace_of_spades = Card::new(0).ok_or("card 0")?;
     assert_eq!(rt; turned.holder(ace_of_spades), Seat::West);
-    assert!(rt; laws::equality(&in_order, &deal_of(IN_ORDER)?));
-    assert!(rt; !laws::equality(&in_order, &other));
-    assert!(rt; !laws::equality(&other, &turned));
+    Ok(())
+}
+
+#[test]
+fn equal_deals(rt: HostRuntime) -> Result<(), Fail> {
+    for (one, other, are_equal) in [
+        (IN_ORDER, IN_ORDER, true),
+        (IN_ORDER, ALMOST_IN_ORDER, false),
+        (ALMOST_IN_ORDER, TURNED_PACK, false),
+    ] {
+        let equal = laws::equality(&deal_of(one)?, &deal_of(other)?);
+        assert_eq!(rt; equal, are_equal);
+    }
+    Ok(())
+}
+
+#[test]
+fn deals_of_seats(rt: HostRuntime) {
     let mut seats = seats_of(WORKED);
     assert!(rt; Deal::from_seats(&seats).is_some());
     seats[0] = Seat::North;
     assert!(rt; Deal::from_seats(&seats).is_none());
-    for deal in [in_order, deal_of(WORKED)?] {
+}
+
+#[test]
+fn packed_deals(rt: HostRuntime) -> Result<(), Fail> {
+    for deal in [deal_of(IN_ORDER)?, deal_of(WORKED)?] {
         for flag in [false, true] {
             let packed = PackedDeal::new(&deal, flag);
             assert_eq!(rt; (packed.deal(), packed.flag()), (deal, flag));
@@ -105,23 +132,31 @@ const TURNED: [(Seat, &[u8]); 4] = [
     ),
 ];
 
-/// At the limit is the last candidate that a run may have, and the one after the last share of
-/// sixteen workers.
 #[test]
-fn candidates(rt: HostRuntime) -> Result<(), Fail> {
+fn candidates_of_seed_zero(rt: HostRuntime) -> Result<(), Fail> {
     let mut each = Candidates::new(0, 0, 1);
     for hands in OF_SEED_ZERO.iter() {
         assert_eq!(rt; each.next(), deal_of(hands)?);
     }
     let mut from_one = Candidates::new(0, 1, 16);
     assert_eq!(rt; from_one.next(), deal_of(OF_SEED_ZERO[1])?);
-    let mut steps = Steps::new();
-    let before = Stride::of(51 * (MAX_CANDIDATES - 1), &mut steps);
+    Ok(())
+}
+
+/// At the limit is the last candidate that a run may have, and the one after the last share of
+/// sixteen workers.
+#[test]
+fn candidates_at_the_limit(rt: HostRuntime) {
+    let before = Stride::of(51 * (MAX_CANDIDATES - 1), &mut Steps::new());
     let mut generator = before.apply(&Lcg48::seeded(1));
     let mut last = Candidates::new(1, MAX_CANDIDATES - 1, 1);
     assert_eq!(rt; last.next(), Deal::draw(&mut generator));
     let mut after = Candidates::new(1, MAX_CANDIDATES, 16);
     assert_eq!(rt; after.next(), Deal::draw(&mut generator));
+}
+
+#[test]
+fn turned_deals(rt: HostRuntime) -> Result<(), Fail> {
     let deal = deal_of(OF_SEED_ZERO[0])?;
     for (to, hands) in TURNED.iter() {
         assert_eq!(rt; deal.turned(*to), deal_of(hands)?);

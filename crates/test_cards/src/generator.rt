@@ -10,28 +10,36 @@ const FIRST_STEPS: [(u32, u64, u32); 3] = [
     (4_294_967_295, 84_449_734_643_969, 644_300_343),
 ];
 
-/// The values of seed 0.
-const VALUES: [u32; 4] = [366_850_414, 1_610_402_240, 206_956_554, 1_869_309_841];
-
 #[test]
-fn states_and_values(rt: HostRuntime) {
+fn first_steps(rt: HostRuntime) {
     for (seed, state, value) in FIRST_STEPS.iter() {
         let mut generator = Lcg48::seeded(*seed);
         assert_eq!(rt; generator.nrand(), *value);
         assert_eq!(rt; generator.state(), *state);
     }
+}
+
+/// The values of seed 0.
+const VALUES: [u32; 4] = [366_850_414, 1_610_402_240, 206_956_554, 1_869_309_841];
+
+#[test]
+fn values_of_seed_zero(rt: HostRuntime) {
     let mut generator = Lcg48::seeded(0);
     assert_eq!(rt; generator.state(), 0x330E);
     for value in VALUES.iter() {
         assert_eq!(rt; generator.nrand(), *value);
     }
+}
+
+/// The first two states after seed 0.
+const FIRST_TWO: (u64, u64) = (0x2BBB_62DC_5101, 0xBFF9_9381_6378);
+
+#[test]
+fn states(rt: HostRuntime) {
     let mut single = Lcg48::seeded(0);
-    assert_eq!(rt;
-        (single.next(), single.next()),
-        (0x2BBB_62DC_5101, 0xBFF9_9381_6378)
-    );
+    assert_eq!(rt; (single.next(), single.next()), FIRST_TWO);
     let mut double = Lcg48::seeded(0);
-    assert_eq!(rt; double.next_two(), (0x2BBB_62DC_5101, 0xBFF9_9381_6378));
+    assert_eq!(rt; double.next_two(), FIRST_TWO);
     assert!(rt; Lcg48::at_state((1 << 48) - 1).is_some());
     assert!(rt; Lcg48::at_state(1 << 48).is_none());
 }
@@ -43,6 +51,14 @@ const STRIDES: [(u64, u64, u64); 3] = [
     (1 << 48, 1, 0),
 ];
 
+#[test]
+fn strides(rt: HostRuntime) {
+    for (count, mul, add) in STRIDES.iter() {
+        let stride = Stride::of(*count, &mut Steps::new());
+        assert_eq!(rt; (stride.mul(), stride.add()), (*mul, *add));
+    }
+}
+
 /// So many steps lead from a state to another.
 const JUMPS: [(u64, u64, u64); 2] = [
     (2, 0x330E, 0xBFF9_9381_6378),
@@ -50,16 +66,16 @@ const JUMPS: [(u64, u64, u64); 2] = [
 ];
 
 #[test]
-fn strides(rt: HostRuntime) {
-    for (count, mul, add) in STRIDES.iter() {
-        let stride = Stride::of(*count, &mut Steps::new());
-        assert_eq!(rt; (stride.mul(), stride.add()), (*mul, *add));
-    }
+fn jumps(rt: HostRuntime) {
     for (count, from, to) in JUMPS.iter() {
         let stride = Stride::of(*count, &mut Steps::new());
         let reached = Lcg48::at_state(*from).map(|from| stride.apply(&from).state());
         assert_eq!(rt; reached, Some(*to));
     }
+}
+
+#[test]
+fn a_stride_of_few_steps(rt: HostRuntime) {
     let mut steps = Steps::new();
     let two = Stride::of(2, &mut steps);
     assert!(rt; 0 < steps.count() && steps.count() <= 4);

@@ -1,7 +1,7 @@
 //! What hands are counted to have.
 
 use cards::testing::{WORKED, deal};
-use cards::{Honours, Measure, Seat, Suit};
+use cards::{Hand, Honours, Measure, Seat, Suit};
 use std::process::Abort;
 use std::test::Fail;
 
@@ -15,10 +15,12 @@ const EVEN: &[u8] = b"AKQJ.987.432.AKQ T987.AKQJ.AK.JT9 6543.T65.QJT98.8 2.432.7
 
 const LONG_CLUBS: &[u8] = b"AK.987.432.AKQJT T987.AKQJ.AK.987 6543.T65.QJT9.65 QJ2.432.8765.432";
 
-/// A deal, and of each seat the points, the controls, the losers and the shape. Losers were counted
-/// by an independent program, those of the worked deal suit by suit by hand too, and the rest by
-/// hand.
-type Counted = (&'static [u8], [(u8, u8, u8, [u8; 4]); 4]);
+/// The points, the controls, the losers and the shape of a hand.
+type Counts = (u8, u8, u8, [u8; 4]);
+
+/// A deal, and what each seat has. Losers were counted by an independent program, those of the
+/// worked deal suit by suit by hand too, and the rest by hand.
+type Counted = (&'static [u8], [Counts; 4]);
 
 const COUNTED: [Counted; 3] = [
     (
@@ -52,20 +54,25 @@ const COUNTED: [Counted; 3] = [
 
 const SEATS: [Seat; 4] = [Seat::North, Seat::East, Seat::South, Seat::West];
 
+const MEASURES: [Measure; 3] = [Measure::Hcp, Measure::Controls, Measure::Losers];
+
 #[test]
 fn counts_of_hands(rt: HostRuntime) -> Result<(), Fail> {
     for (hands, counts) in COUNTED.iter() {
         let deal = deal(hands)?;
-        for (seat, (points, controls, losers, shape)) in SEATS.iter().zip(counts.iter()) {
-            let hand = deal.hand(*seat);
-            let found = (hand.points(), hand.total(Measure::Controls), hand.losers());
-            assert_eq!(rt; found, (*points, *controls, *losers));
-            assert_eq!(rt; hand.shape(), *shape);
-            assert_eq!(rt; hand.total(Measure::Hcp), *points);
-            assert_eq!(rt; hand.total(Measure::Losers), *losers);
+        for (seat, counted) in SEATS.iter().zip(counts.iter()) {
+            hand_has(&rt, &deal.hand(*seat), *counted);
         }
     }
     Ok(())
+}
+
+/// The hand has what is counted.
+fn hand_has(rt: &impl Abort, hand: &Hand, (points, controls, losers, shape): Counts) {
+    assert_eq!(rt; (hand.points(), hand.losers()), (points, losers));
+    let totals = MEASURES.map(|measure| hand.total(measure));
+    assert_eq!(rt; totals, [points, controls, losers]);
+    assert_eq!(rt; hand.shape(), shape);
 }
 
 /// A deal, which of its seats are balanced, and the longest and shortest suits of North and South.
@@ -91,33 +98,43 @@ fn shapes_of_hands(rt: HostRuntime) -> Result<(), Fail> {
     Ok(())
 }
 
-/// Of the worked deal a seat, a suit, and its length, points, controls and losers.
-const SUITS: [(Seat, Suit, u8, u8, u8, u8); 8] = [
-    (Seat::North, Suit::Spades, 0, 0, 0, 0),
-    (Seat::North, Suit::Hearts, 2, 0, 0, 2),
-    (Seat::North, Suit::Diamonds, 6, 9, 3, 0),
-    (Seat::North, Suit::Clubs, 5, 4, 2, 2),
-    (Seat::South, Suit::Spades, 4, 1, 0, 3),
-    (Seat::South, Suit::Hearts, 6, 1, 0, 3),
-    (Seat::South, Suit::Diamonds, 1, 0, 0, 1),
-    (Seat::South, Suit::Clubs, 2, 3, 1, 1),
+/// Of the worked deal a seat, a suit, its length, and its points, controls and losers.
+const SUITS: [(Seat, Suit, u8, [u8; 3]); 8] = [
+    (Seat::North, Suit::Spades, 0, [0, 0, 0]),
+    (Seat::North, Suit::Hearts, 2, [0, 0, 2]),
+    (Seat::North, Suit::Diamonds, 6, [9, 3, 0]),
+    (Seat::North, Suit::Clubs, 5, [4, 2, 2]),
+    (Seat::South, Suit::Spades, 4, [1, 0, 3]),
+    (Seat::South, Suit::Hearts, 6, [1, 0, 3]),
+    (Seat::South, Suit::Diamonds, 1, [0, 0, 1]),
+    (Seat::South, Suit::Clubs, 2, [3, 1, 1]),
 ];
 
 #[test]
 fn counts_of_suits(rt: HostRuntime) -> Result<(), Fail> {
     let deal = deal(WORKED)?;
-    for (seat, suit, length, points, controls, losers) in SUITS.iter() {
+    for (seat, suit, length, counts) in SUITS.iter() {
         let hand = deal.hand(*seat);
-        assert_eq!(rt;
-            (hand.length(*suit), hand.points_in(*suit)),
-            (*length, *points)
-        );
-        assert_eq!(rt; hand.total_in(Measure::Hcp, *suit), *points);
-        assert_eq!(rt; hand.total_in(Measure::Controls, *suit), *controls);
-        assert_eq!(rt; hand.total_in(Measure::Losers, *suit), *losers);
-        assert_eq!(rt; hand.losers_in(*suit), *losers);
+        assert_eq!(rt; hand.length(*suit), *length);
+        suit_has(&rt, &hand, *suit, *counts);
     }
-    let north = deal.hand(Seat::North);
+    Ok(())
+}
+
+/// The suit has these points, controls and losers.
+fn suit_has(rt: &impl Abort, hand: &Hand, suit: Suit, counts: [u8; 3]) {
+    let [points, _, losers] = counts;
+    assert_eq!(rt;
+        (hand.points_in(suit), hand.losers_in(suit)),
+        (points, losers)
+    );
+    let totals = MEASURES.map(|measure| hand.total_in(measure, suit));
+    assert_eq!(rt; totals, counts);
+}
+
+#[test]
+fn ranks_of_suits(rt: HostRuntime) -> Result<(), Fail> {
+    let north = deal(WORKED)?.hand(Seat::North);
     let (t, f) = (true, false);
     let diamonds = [t, t, t, f, f, t, t, t, f, f, f, f, f];
     assert_eq!(rt; north.ranks(Suit::Diamonds), diamonds);

@@ -1,5 +1,6 @@
 //! Texts of hands, as Rust asks for them. `tests/hands` gives many more to the built program.
 
+use crate::support::same;
 use cards::testing::fixed_in;
 use cards::{Candidates, Card, Deal, Fixed, Seat};
 use hand_texts::{HandFault, HandTexts};
@@ -21,41 +22,45 @@ fn around(fixed: &Fixed) -> (usize, Deal) {
 }
 
 #[test]
-fn texts_of_hands(rt: HostRuntime) -> Result<(), Fail> {
+fn texts_of_seats(rt: HostRuntime) {
     let given = texts("AKQ32.K..A", "...");
-    assert_eq!(rt; given.given_at(Seat::North), Some("AKQ32.K..A"));
-    assert_eq!(rt; given.given_at(Seat::East), None);
+    same(&rt, given.given_at(Seat::North), Some("AKQ32.K..A"));
+    same(&rt, given.given_at(Seat::East), None);
+}
+
+#[test]
+fn cards_of_texts(rt: HostRuntime) -> Result<(), Fail> {
+    let read = texts("AKQ32.K..A", "...").read().ok();
     let cards = Fixed::new(fixed_in(b"AKQ32.K..A")).ok_or("thirteen at most")?;
-    assert_eq!(rt;
-        given.read().ok().map(|fixed| around(&fixed)),
-        Some(around(&cards))
-    );
-    assert_eq!(rt;
-        HandTexts::none().read().ok().map(|fixed| fixed.free()),
-        Some(52)
-    );
-    assert_eq!(rt; texts("A...", "A...").read().err(), Some(Seat::South));
-    assert_eq!(rt; texts("AK", "A...").read().err(), Some(Seat::North));
+    same(&rt, read.map(|fixed| around(&fixed)), Some(around(&cards)));
+    let none = HandTexts::none().read().ok();
+    same(&rt, none.map(|fixed| fixed.free()), Some(52));
     Ok(())
+}
+
+#[test]
+fn refused_texts(rt: HostRuntime) {
+    same(&rt, texts("A...", "A...").read().err(), Some(Seat::South));
+    same(&rt, texts("AK", "A...").read().err(), Some(Seat::North));
 }
 
 #[test]
 fn faults_of_texts(rt: HostRuntime) -> Result<(), Fail> {
     let ace = Card::new(0).ok_or("the ace of spades")?;
     let held = texts("A...", "KA...");
-    assert_eq!(rt; held.fault_at(Seat::North), None);
-    assert_eq!(rt;
-        held.fault_at(Seat::South),
-        Some(HandFault::Held(ace, Seat::North))
-    );
-    assert_eq!(rt;
-        texts("AKA...", "").fault_at(Seat::North),
-        Some(HandFault::Twice(ace))
-    );
-    assert_eq!(rt;
-        texts("A.1.0.", "").fault_at(Seat::North),
-        Some(HandFault::Unknown(2))
-    );
+    same(&rt, held.fault_at(Seat::North), None);
+    let fault = HandFault::Held(ace, Seat::North);
+    same(&rt, held.fault_at(Seat::South), Some(fault));
+    let twice = texts("AKA...", "").fault_at(Seat::North);
+    same(&rt, twice, Some(HandFault::Twice(ace)));
+    let unknown = texts("A.1.0.", "").fault_at(Seat::North);
+    same(&rt, unknown, Some(HandFault::Unknown(2)));
+    Ok(())
+}
+
+#[test]
+fn the_rule_of_a_fault(rt: HostRuntime) -> Result<(), Fail> {
+    let ace = Card::new(0).ok_or("the ace of spades")?;
     let mut line = String::new(rt.alloc());
     HandFault::Held(ace, Seat::North).put_rule(&mut line)?;
     assert_eq!(rt; line.as_str(), "the ace of spades is north's");

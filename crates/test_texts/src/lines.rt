@@ -1,6 +1,6 @@
 //! Lines of LIN, and of the numbers of candidates, written by hand.
 
-use crate::support::{sample_boards, writes};
+use crate::support::{push_all, writes_samples};
 use lin_text::LinPrinter;
 use number_lines::NumberPrinter;
 use std::process::Abort;
@@ -26,31 +26,15 @@ const NUMBERS: [&str; 5] = ["9", "10", "99999999999", "100000000000", "109951162
 fn lines_of_lin(rt: HostRuntime) -> Result<(), Fail> {
     let mut text = String::from_str(rt.alloc(), BY_LAW)?;
     for number in NUMBERS.iter() {
-        for piece in ["qx|o", *number, WORKED, *number, "|pg||\n"] {
-            text.push_str(piece)?;
-        }
+        push_all(&mut text, &["qx|o", number, WORKED, number, "|pg||\n"])?;
     }
     let mut printer = LinPrinter::new(rt.alloc())?;
-    let boards = sample_boards()?;
-    writes(
-        &rt,
-        rt.alloc(),
-        &mut printer,
-        boards.as_slice(),
-        text.as_bytes(),
-    )
+    writes_samples(&rt, rt.alloc(), &mut printer, text.as_bytes())
 }
 
 #[test]
 fn lines_of_numbers(rt: HostRuntime) -> Result<(), Fail> {
     let mut printer = NumberPrinter::new();
     let text = b"0\n1\n0\n7\n4812\n1099511627775\n7\n7\n";
-    let boards = sample_boards()?;
-    writes(
-        &rt,
-        rt.alloc(),
-        &mut printer,
-        boards.as_slice(),
-        text.as_slice(),
-    )
+    writes_samples(&rt, rt.alloc(), &mut printer, text)
 }

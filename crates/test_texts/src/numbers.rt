@@ -1,5 +1,6 @@
 //! Texts of numbers, and what they say.
 
+use crate::support::same;
 use number_input::{LineFault, NoBytes, Reader, RefusedLine, Scanner, Source, SourceFault};
 use std::alloc::Global;
 use std::io::{self, Error, ErrorKind, Read};
@@ -60,16 +61,30 @@ const TEXTS: [Text; 18] = [
 #[test]
 fn texts_say_numbers(rt: HostRuntime) -> Result<(), Fail> {
     for (text, numbers, refused) in TEXTS.iter() {
-        let (found, end) = scan(rt.alloc(), text)?;
-        assert_eq!(rt; found.as_slice(), *numbers);
-        assert_eq!(rt; end.map(|end| (end.line, end.fault)), *refused);
+        says(&rt, rt.alloc(), text, numbers, *refused)?;
     }
-    // A line may be long.
+    Ok(())
+}
+
+#[test]
+fn a_line_may_be_long(rt: HostRuntime) -> Result<(), Fail> {
     let mut text = vec![in rt.alloc(); b' '; 1 << 20]?;
     text.extend_from_slice(b"7\n8\n\n99999999999999")?;
-    let (found, end) = scan(rt.alloc(), text.as_slice())?;
-    assert_eq!(rt; found.as_slice(), [7, 8].as_slice());
-    assert_eq!(rt; end.map(|end| (end.line, end.fault)), Some((4, NO_NUMBER)));
+    let refused = Some((4, NO_NUMBER));
+    says(&rt, rt.alloc(), text.as_slice(), &[7, 8], refused)
+}
+
+/// The text says these numbers before the line that is refused.
+fn says(
+    rt: &impl Abort,
+    alloc: Global,
+    text: &[u8],
+    numbers: &[u64],
+    refused: Option<(u64, LineFault)>,
+) -> Result<(), Fail> {
+    let (found, end) = scan(alloc, text)?;
+    assert_eq!(rt; found.as_slice(), numbers);
+    same(rt, end.map(|end| (end.line, end.fault)), refused);
     Ok(())
 }
 
@@ -94,15 +109,20 @@ impl Read for Broken {
 }
 
 #[test]
-fn sources_give_what_their_readers_have(rt: HostRuntime) {
+fn a_source_gives_what_its_reader_has(rt: HostRuntime) {
     let mut source = Reader::new(b"12\n".as_slice());
     let mut piece = [0u8; 2];
-    assert_eq!(rt; (source.read(&mut piece), piece), (Ok(2), *b"12"));
-    assert_eq!(rt; (source.read(&mut piece), piece[0]), (Ok(1), b'\n'));
-    assert_eq!(rt; source.read(&mut piece), Ok(0));
+    same(&rt, (source.read(&mut piece), piece), (Ok(2), *b"12"));
+    same(&rt, (source.read(&mut piece), piece[0]), (Ok(1), b'\n'));
+    same(&rt, source.read(&mut piece), Ok(0));
+    same(&rt, NoBytes.read(&mut piece), Ok(0));
+}
+
+#[test]
+fn a_source_fails_with_its_reader(rt: HostRuntime) {
     let mut broken = Reader::new(Broken { calls: 0 });
-    assert_eq!(rt; (broken.read(&mut piece), piece[0]), (Ok(1), b'7'));
-    assert_eq!(rt; broken.read(&mut piece), Err(SourceFault));
-    assert_eq!(rt; broken.read(&mut piece), Err(SourceFault));
-    assert_eq!(rt; NoBytes.read(&mut piece), Ok(0));
+    let mut piece = [0u8; 2];
+    same(&rt, (broken.read(&mut piece), piece[0]), (Ok(1), b'7'));
+    same(&rt, broken.read(&mut piece), Err(SourceFault));
+    same(&rt, broken.read(&mut piece), Err(SourceFault));
 }

@@ -1,9 +1,9 @@
 //! Pages that a second program wrote, of two candidates, of the pack in order and of a worked deal.
 
-use crate::support::{Labels, heading_of, sample_boards, writes};
+use crate::support::{Labels, heading_of, push_all, writes, writes_samples};
 use html_page::HtmlPrinter;
 use pbn_text::Heading;
-use std::alloc::Global;
+use std::alloc::{AllocError, Global};
 use std::process::Abort;
 use std::test::Fail;
 
@@ -123,28 +123,22 @@ const FOOTER: &str = "</main>\n</body>\n</html>\n";
 
 const NUMBERS: [&str; 5] = ["9", "10", "99999999999", "100000000000", "1099511627776"];
 
+/// The page of the sample boards.
+fn sample_page(alloc: Global) -> Result<String, AllocError> {
+    let mut page = [BEFORE, "Boards", BETWEEN, "Boards</h1>\n"].concat(alloc)?;
+    push_all(&mut page, &[FIRST, SECOND, IN_ORDER_TEXT])?;
+    for number in NUMBERS.iter() {
+        push_all(&mut page, &[WORKED_FRONT, number, WORKED_TEXT])?;
+    }
+    page.push_str(FOOTER)?;
+    Ok(page)
+}
+
 #[test]
 fn a_page_of_boards(rt: HostRuntime) -> Result<(), Fail> {
-    let header = [BEFORE, "Boards", BETWEEN, "Boards</h1>\n"];
-    let mut text = header.concat(rt.alloc())?;
-    for piece in [FIRST, SECOND, IN_ORDER_TEXT] {
-        text.push_str(piece)?;
-    }
-    for number in NUMBERS.iter() {
-        text.push_str(WORKED_FRONT)?;
-        text.push_str(number)?;
-        text.push_str(WORKED_TEXT)?;
-    }
-    text.push_str(FOOTER)?;
+    let page = sample_page(rt.alloc())?;
     let mut printer = HtmlPrinter::new(rt.alloc(), &Heading::none())?;
-    let boards = sample_boards()?;
-    writes(
-        &rt,
-        rt.alloc(),
-        &mut printer,
-        boards.as_slice(),
-        text.as_bytes(),
-    )
+    writes_samples(&rt, rt.alloc(), &mut printer, page.as_bytes())
 }
 
 /// The page of no board under these labels has this title, and this heading.
@@ -187,13 +181,13 @@ fn titles(rt: HostRuntime) -> Result<(), Fail> {
     for (labels, title) in TITLES.iter() {
         has_title(&rt, rt.alloc(), labels, title)?;
     }
+    Ok(())
+}
+
+#[test]
+fn the_longest_title(rt: HostRuntime) -> Result<(), Fail> {
     let hundred = ["&amp;"; 100].concat(rt.alloc())?;
-    let title = [hundred.as_str(), hundred.as_str(), "2024.05.01"].join(rt.alloc(), ", ")?;
-    let long = Some([b'&'; 100].as_slice());
-    has_title(
-        &rt,
-        rt.alloc(),
-        &[long, long, Some(b"2024.05.01")],
-        title.as_str(),
-    )
+    let label = hundred.as_str();
+    let title = [label, label, "2024.05.01"].join(rt.alloc(), ", ")?;
+    has_title(&rt, rt.alloc(), &LONGEST, title.as_str())
 }

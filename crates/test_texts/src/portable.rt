@@ -1,9 +1,9 @@
 //! Games of Portable Bridge Notation, written by hand where no example gives them, and labels.
 
-use crate::support::{Labels, heading_of, writes};
+use crate::support::{Labels, heading_of, same, writes};
 use boards::{Board, Notation};
-use cards::Seat;
 use cards::testing::{IN_ORDER, WORKED, deal};
+use cards::{Deal, Seat};
 use pbn_text::{Date, HEADER, Heading, Label, Printer, Reference, Vul, deal_text, game};
 use std::process::Abort;
 use std::test::Fail;
@@ -52,17 +52,29 @@ const GAMES: [(u64, &[u8], &[u8]); 3] = [
 
 #[test]
 fn games_of_two_deals(rt: HostRuntime) -> Result<(), Fail> {
-    assert_eq!(rt; HEADER.as_slice(), b"% PBN 2.1\n".as_slice());
+    same(&rt, HEADER.as_slice(), b"% PBN 2.1\n".as_slice());
+    for (number, hands, text) in GAMES.iter() {
+        let deal = deal(hands)?;
+        let game = game((*number).max(1), &Heading::none(), &deal);
+        same(&rt, game.as_slice(), *text);
+        is_spelled(&rt, &deal, hands);
+    }
+    Ok(())
+}
+
+/// The text of the deal has these hands.
+fn is_spelled(rt: &impl Abort, deal: &Deal, hands: &[u8]) {
+    let spelled = deal_text(deal);
+    assert!(rt; spelled.as_slice().starts_with(b"N:") && spelled.as_slice().ends_with(hands));
+    same(rt, spelled.len(), 69);
+}
+
+#[test]
+fn printed_games_of_two_deals(rt: HostRuntime) -> Result<(), Fail> {
     let mut printer = Printer::new(rt.alloc(), &Heading::none())?;
     for (number, hands, text) in GAMES.iter() {
-        let number = (*number).max(1);
-        let deal = deal(hands)?;
-        assert_eq!(rt; game(number, &Heading::none(), &deal).as_slice(), *text);
-        let spelled = deal_text(&deal);
-        assert!(rt; spelled.as_slice().starts_with(b"N:") && spelled.as_slice().ends_with(hands));
-        assert_eq!(rt; spelled.len(), 69);
-        printer.print(&Board::by_law(number, 7, deal));
-        assert_eq!(rt; printer.text(), *text);
+        printer.print(&Board::by_law((*number).max(1), 7, deal(hands)?));
+        same(&rt, printer.text(), *text);
     }
     Ok(())
 }
@@ -106,24 +118,33 @@ const LENGTHS: [(Labels, usize); 2] = [
 ];
 
 #[test]
-fn games_under_headings(rt: HostRuntime) -> Result<(), Fail> {
+fn fronts_of_games(rt: HostRuntime) -> Result<(), Fail> {
     let deal = deal(IN_ORDER)?;
     for (labels, front) in FRONTS.iter() {
         let heading = heading_of(labels);
-        let mut printer = Printer::new(rt.alloc(), &heading)?;
-        printer.print(&Board::by_law(16, 0, deal));
-        let mut reference = Reference::new(&heading);
-        reference.print(&Board::by_law(16, 0, deal));
         assert!(rt; game(16, &heading, &deal).as_slice().starts_with(front));
-        assert!(rt; reference.text().starts_with(front));
-        assert!(rt; printer.text().starts_with(front));
+        let mut printer = Printer::new(rt.alloc(), &heading)?;
+        prints_front(&rt, &mut printer, deal, front);
+        prints_front(&rt, &mut Reference::new(&heading), deal, front);
     }
+    Ok(())
+}
+
+/// The game that the notation prints of the deal at board 16 begins like this.
+fn prints_front<N: Notation>(rt: &impl Abort, notation: &mut N, deal: Deal, front: &[u8]) {
+    notation.print(&Board::by_law(16, 0, deal));
+    assert!(rt; notation.text().starts_with(front));
+}
+
+#[test]
+fn lengths_of_the_longest_games(rt: HostRuntime) -> Result<(), Fail> {
+    let deal = deal(IN_ORDER)?;
     for (labels, length) in LENGTHS.iter() {
         let heading = heading_of(labels);
         let mut printer = Printer::new(rt.alloc(), &heading)?;
         printer.print(&Board::by_law(LARGEST, 0, deal));
-        assert_eq!(rt; game(LARGEST, &heading, &deal).len(), *length);
-        assert_eq!(rt; printer.text().len(), *length);
+        same(&rt, game(LARGEST, &heading, &deal).len(), *length);
+        same(&rt, printer.text().len(), *length);
     }
     Ok(())
 }
@@ -140,16 +161,21 @@ const NO_LABELS: [&[u8]; 6] = [
 const NO_DATES: [&[u8]; 4] = [b"2024-05-01", b"2024.5.01", b"2024.05.011", b"2O24.05.01"];
 
 #[test]
-fn labels_and_dates(rt: HostRuntime) -> Result<(), Fail> {
+fn labels(rt: HostRuntime) -> Result<(), Fail> {
     for text in NO_LABELS.iter() {
         assert!(rt; Label::new(text).is_none());
     }
+    let label = Label::new(b" !#[]~").ok_or("label")?;
+    same(&rt, label.as_bytes(), b" !#[]~".as_slice());
+    Ok(())
+}
+
+#[test]
+fn dates(rt: HostRuntime) -> Result<(), Fail> {
     for text in NO_DATES.iter() {
         assert!(rt; Date::new(text).is_none());
     }
-    let label = Label::new(b" !#[]~").ok_or("label")?;
-    assert_eq!(rt; label.as_bytes(), b" !#[]~".as_slice());
     let date = Date::new(b"0000.99.99").ok_or("date")?;
-    assert_eq!(rt; date.as_bytes(), b"0000.99.99".as_slice());
+    same(&rt, date.as_bytes(), b"0000.99.99".as_slice());
     Ok(())
 }

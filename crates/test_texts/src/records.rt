@@ -1,6 +1,6 @@
 //! Hand records written by hand, of two candidates, of the pack in order and of a worked deal.
 
-use crate::support::{Labels, heading_of, sample_boards, writes};
+use crate::support::{Labels, heading_of, push_all, writes, writes_samples};
 use hand_records::HandsPrinter;
 use pbn_text::Heading;
 use std::process::Abort;
@@ -86,18 +86,10 @@ const NUMBERS: [&str; 5] = [
 fn records_of_boards(rt: HostRuntime) -> Result<(), Fail> {
     let mut text = [FIRST, SECOND, IN_ORDER_TEXT].concat(rt.alloc())?;
     for number in NUMBERS.iter() {
-        text.push_str(number)?;
-        text.push_str(WORKED_TEXT)?;
+        push_all(&mut text, &[number, WORKED_TEXT])?;
     }
     let mut printer = HandsPrinter::new(rt.alloc(), &Heading::none())?;
-    let boards = sample_boards()?;
-    writes(
-        &rt,
-        rt.alloc(),
-        &mut printer,
-        boards.as_slice(),
-        text.as_bytes(),
-    )
+    writes_samples(&rt, rt.alloc(), &mut printer, text.as_bytes())
 }
 
 /// Labels, and what stands before the records.

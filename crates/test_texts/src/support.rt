@@ -4,7 +4,8 @@ use boards::{Board, Notation, Vul};
 use cards::testing::{IN_ORDER, WORKED, deal};
 use cards::{Deal, Seat};
 use pbn_text::{Date, Heading, Label};
-use std::alloc::Global;
+use std::alloc::{AllocError, Global};
+use std::fmt::Debug;
 use std::process::Abort;
 use std::test::Fail;
 
@@ -41,6 +42,11 @@ pub fn sample_boards() -> Result<[Board; 8], Fail> {
     ])
 }
 
+/// The two values are equal. Tests of many values call this for each.
+pub fn same<T: Copy + PartialEq + Debug>(rt: &impl Abort, found: T, wanted: T) {
+    assert_eq!(rt; found, wanted);
+}
+
 /// The notation writes the boards as this text, the header before them and the footer after them.
 pub fn writes<N: Notation>(
     rt: &impl Abort,
@@ -50,13 +56,42 @@ pub fn writes<N: Notation>(
     text: &[u8],
 ) -> Result<(), Fail> {
     assert!(rt; notation.text().is_empty());
+    let written = written(alloc, notation, boards)?;
+    assert_eq!(rt; written.as_slice(), text);
+    Ok(())
+}
+
+/// The text of the boards, the header before them and the footer after them.
+fn written<N: Notation>(
+    alloc: Global,
+    notation: &mut N,
+    boards: &[Board],
+) -> Result<Vec<u8>, AllocError> {
     let mut written = Vec::from_slice(alloc, notation.header())?;
     for board in boards {
         notation.print(board);
         written.extend_from_slice(notation.text())?;
     }
     written.extend_from_slice(notation.footer())?;
-    assert_eq!(rt; written.as_slice(), text);
+    Ok(written)
+}
+
+/// The notation writes the sample boards as this text.
+pub fn writes_samples<N: Notation>(
+    rt: &impl Abort,
+    alloc: Global,
+    notation: &mut N,
+    text: &[u8],
+) -> Result<(), Fail> {
+    let boards = sample_boards()?;
+    writes(rt, alloc, notation, boards.as_slice(), text)
+}
+
+/// Adds the pieces to the text.
+pub fn push_all(text: &mut String, pieces: &[&str]) -> Result<(), AllocError> {
+    for piece in pieces {
+        text.push_str(piece)?;
+    }
     Ok(())
 }
 
