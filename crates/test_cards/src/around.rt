@@ -1,10 +1,10 @@
 //! Deals around fixed cards, with outside values, and against a plain program.
 
-use cards::testing::{deal as deal_of, fixed_in};
+use crate::support::{deal_of, same};
+use cards::testing::fixed_in;
 use cards::{Candidates, Card, Deal, Fixed, MAX_CANDIDATES, Seat};
 use lcg48::Lcg48;
 use std::process::Abort;
-use std::test::Fail;
 
 /// The deal of the candidate of the seed around the fixed cards.
 fn around(seed: u32, candidate: u64, hands: &[u8]) -> Option<Deal> {
@@ -77,11 +77,14 @@ const AROUND: [(u32, u64, &[u8], &[u8]); 10] = [
 ];
 
 #[test]
-fn worked_deals(rt: HostRuntime) -> Result<(), Fail> {
+fn worked_deals(rt: HostRuntime) {
     for (seed, candidate, hands, wanted) in AROUND.iter() {
-        assert_eq!(rt; around(*seed, *candidate, hands), Some(deal_of(wanted)?));
+        same(
+            &rt,
+            around(*seed, *candidate, hands),
+            Some(deal_of(&rt, wanted)),
+        );
     }
-    Ok(())
 }
 
 #[test]
@@ -89,7 +92,7 @@ fn fixed_cards(rt: HostRuntime) {
     assert!(rt; Fixed::new(fixed_in(b"AKQJT98765432...")).is_some());
     assert!(rt; Fixed::new(fixed_in(b"AKQJT98765432.A..")).is_none());
     assert!(rt; Fixed::new(fixed_in(b"... ... ... AKQJT98765432...2")).is_none());
-    assert_eq!(rt; Fixed::none().free(), 52);
+    same(&rt, Fixed::none().free(), 52);
 }
 
 /// The cards that are free, in their order, and how many they are.
@@ -167,7 +170,7 @@ fn ten_thousand_sets_by_a_plain_program(rt: HostRuntime) {
             for _ in 0..2 {
                 let mut plain = before;
                 let wanted = Deal::from_seats(&dealt_plainly(&seats, &mut plain));
-                assert_eq!(rt; Some(candidates.next()), wanted);
+                same(&rt, Some(candidates.next()), wanted);
                 skip_candidate(&mut before);
             }
         }

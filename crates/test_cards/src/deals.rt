@@ -1,12 +1,12 @@
 //! Cards, places and deals, and the shuffle against a plain program.
 
-use cards::testing::{IN_ORDER, WORKED, deal as deal_of, seats_of};
+use crate::support::{deal_of, same};
+use cards::testing::{IN_ORDER, WORKED, seats_of};
 use cards::{
     Candidates, Card, Deal, MAX_CANDIDATES, Measure, PackedDeal, Places, Seat, Suit, laws,
 };
 use lcg48::{Lcg48, Steps, Stride};
 use std::process::Abort;
-use std::test::Fail;
 
 /// The first two candidates of seed 0, the first of which docs/SEQUENCE.md deals by hand.
 const OF_SEED_ZERO: [&[u8]; 2] = [
@@ -22,27 +22,28 @@ const ALMOST_IN_ORDER: &[u8] =
     b"AKQJT98765432... .AKQJT9876543.2. .2.AKQJT9876543. ...AKQJT98765432";
 
 #[test]
-fn cards_seats_and_measures(rt: HostRuntime) -> Result<(), Fail> {
-    let card = Card::new(51).ok_or("card 51")?;
-    assert_eq!(rt;
+fn cards_seats_and_measures(rt: HostRuntime) {
+    let card = Card::new(51).expect(&rt, "card 51");
+    same(
+        &rt,
         (card.number(), card.suit(), card.rank()),
-        (51, Suit::Clubs, 12)
+        (51, Suit::Clubs, 12),
     );
     assert!(rt; Card::new(52).is_none());
-    assert_eq!(rt;
+    same(
+        &rt,
         (Seat::North.next(), Seat::West.next()),
-        (Seat::East, Seat::North)
+        (Seat::East, Seat::North),
     );
     let measures = [Measure::Hcp, Measure::Controls, Measure::Losers];
-    assert_eq!(rt; measures.map(|measure| measure.place()), [0, 1, 2]);
-    Ok(())
+    same(&rt, measures.map(|measure| measure.place()), [0, 1, 2]);
 }
 
 #[test]
 fn places_drawn(rt: HostRuntime) {
     let drawn = Places::draw(&mut Lcg48::seeded(0));
     for (j, place) in [(52, 8), (51, 38), (50, 4), (49, 42)] {
-        assert_eq!(rt; drawn.place(j), place);
+        same(&rt, drawn.place(j), place);
     }
 }
 
@@ -52,7 +53,7 @@ fn sound_places(rt: HostRuntime) {
     for (first, last, is_sound) in [(52, 0, false), (51, 0, true), (51, 2, false)] {
         places[0] = first;
         places[50] = last;
-        assert_eq!(rt; Places::new(places).is_some(), is_sound);
+        same(&rt, Places::new(places).is_some(), is_sound);
     }
 }
 
@@ -71,26 +72,28 @@ fn shuffled(places: [u8; 51]) -> Option<Deal> {
 }
 
 #[test]
-fn deals_of_places(rt: HostRuntime) -> Result<(), Fail> {
-    assert_eq!(rt; shuffled(places_that_stay()), Some(deal_of(IN_ORDER)?));
-    let turned = deal_of(TURNED_PACK)?;
-    assert_eq!(rt; shuffled([0; 51]), Some(turned));
-    let ace_of_spades = Card::new(0).ok_or("card 0")?;
-    assert_eq!(rt; turned.holder(ace_of_spades), Seat::West);
-    Ok(())
+fn deals_of_places(rt: HostRuntime) {
+    same(
+        &rt,
+        shuffled(places_that_stay()),
+        Some(deal_of(&rt, IN_ORDER)),
+    );
+    let turned = deal_of(&rt, TURNED_PACK);
+    same(&rt, shuffled([0; 51]), Some(turned));
+    let ace_of_spades = Card::new(0).expect(&rt, "card 0");
+    same(&rt, turned.holder(ace_of_spades), Seat::West);
 }
 
 #[test]
-fn equal_deals(rt: HostRuntime) -> Result<(), Fail> {
+fn equal_deals(rt: HostRuntime) {
     for (one, other, are_equal) in [
         (IN_ORDER, IN_ORDER, true),
         (IN_ORDER, ALMOST_IN_ORDER, false),
         (ALMOST_IN_ORDER, TURNED_PACK, false),
     ] {
-        let equal = laws::equality(&deal_of(one)?, &deal_of(other)?);
-        assert_eq!(rt; equal, are_equal);
+        let equal = laws::equality(&deal_of(&rt, one), &deal_of(&rt, other));
+        same(&rt, equal, are_equal);
     }
-    Ok(())
 }
 
 #[test]
@@ -102,14 +105,13 @@ fn deals_of_seats(rt: HostRuntime) {
 }
 
 #[test]
-fn packed_deals(rt: HostRuntime) -> Result<(), Fail> {
-    for deal in [deal_of(IN_ORDER)?, deal_of(WORKED)?] {
+fn packed_deals(rt: HostRuntime) {
+    for deal in [deal_of(&rt, IN_ORDER), deal_of(&rt, WORKED)] {
         for flag in [false, true] {
             let packed = PackedDeal::new(&deal, flag);
-            assert_eq!(rt; (packed.deal(), packed.flag()), (deal, flag));
+            same(&rt, (packed.deal(), packed.flag()), (deal, flag));
         }
     }
-    Ok(())
 }
 
 /// The first deal, turned so that North's hand is each seat's in turn.
@@ -133,14 +135,13 @@ const TURNED: [(Seat, &[u8]); 4] = [
 ];
 
 #[test]
-fn candidates_of_seed_zero(rt: HostRuntime) -> Result<(), Fail> {
+fn candidates_of_seed_zero(rt: HostRuntime) {
     let mut each = Candidates::new(0, 0, 1);
     for hands in OF_SEED_ZERO.iter() {
-        assert_eq!(rt; each.next(), deal_of(hands)?);
+        same(&rt, each.next(), deal_of(&rt, hands));
     }
     let mut from_one = Candidates::new(0, 1, 16);
-    assert_eq!(rt; from_one.next(), deal_of(OF_SEED_ZERO[1])?);
-    Ok(())
+    same(&rt, from_one.next(), deal_of(&rt, OF_SEED_ZERO[1]));
 }
 
 /// At the limit is the last candidate that a run may have, and the one after the last share of
@@ -150,18 +151,17 @@ fn candidates_at_the_limit(rt: HostRuntime) {
     let before = Stride::of(51 * (MAX_CANDIDATES - 1), &mut Steps::new());
     let mut generator = before.apply(&Lcg48::seeded(1));
     let mut last = Candidates::new(1, MAX_CANDIDATES - 1, 1);
-    assert_eq!(rt; last.next(), Deal::draw(&mut generator));
+    same(&rt, last.next(), Deal::draw(&mut generator));
     let mut after = Candidates::new(1, MAX_CANDIDATES, 16);
-    assert_eq!(rt; after.next(), Deal::draw(&mut generator));
+    same(&rt, after.next(), Deal::draw(&mut generator));
 }
 
 #[test]
-fn turned_deals(rt: HostRuntime) -> Result<(), Fail> {
-    let deal = deal_of(OF_SEED_ZERO[0])?;
+fn turned_deals(rt: HostRuntime) {
+    let deal = deal_of(&rt, OF_SEED_ZERO[0]);
     for (to, hands) in TURNED.iter() {
-        assert_eq!(rt; deal.turned(*to), deal_of(hands)?);
+        same(&rt, deal.turned(*to), deal_of(&rt, hands));
     }
-    Ok(())
 }
 
 /// Algorithm P as it is written: cards exchanged for 52, 51, .., 2, then cut into four hands.

@@ -1,5 +1,6 @@
 //! States, values and strides of the generator.
 
+use crate::support::same;
 use lcg48::{Lcg48, Steps, Stride};
 use std::process::Abort;
 
@@ -14,8 +15,8 @@ const FIRST_STEPS: [(u32, u64, u32); 3] = [
 fn first_steps(rt: HostRuntime) {
     for (seed, state, value) in FIRST_STEPS.iter() {
         let mut generator = Lcg48::seeded(*seed);
-        assert_eq!(rt; generator.nrand(), *value);
-        assert_eq!(rt; generator.state(), *state);
+        same(&rt, generator.nrand(), *value);
+        same(&rt, generator.state(), *state);
     }
 }
 
@@ -25,9 +26,9 @@ const VALUES: [u32; 4] = [366_850_414, 1_610_402_240, 206_956_554, 1_869_309_841
 #[test]
 fn values_of_seed_zero(rt: HostRuntime) {
     let mut generator = Lcg48::seeded(0);
-    assert_eq!(rt; generator.state(), 0x330E);
+    same(&rt, generator.state(), 0x330E);
     for value in VALUES.iter() {
-        assert_eq!(rt; generator.nrand(), *value);
+        same(&rt, generator.nrand(), *value);
     }
 }
 
@@ -37,9 +38,9 @@ const FIRST_TWO: (u64, u64) = (0x2BBB_62DC_5101, 0xBFF9_9381_6378);
 #[test]
 fn states(rt: HostRuntime) {
     let mut single = Lcg48::seeded(0);
-    assert_eq!(rt; (single.next(), single.next()), FIRST_TWO);
+    same(&rt, (single.next(), single.next()), FIRST_TWO);
     let mut double = Lcg48::seeded(0);
-    assert_eq!(rt; double.next_two(), FIRST_TWO);
+    same(&rt, double.next_two(), FIRST_TWO);
     assert!(rt; Lcg48::at_state((1 << 48) - 1).is_some());
     assert!(rt; Lcg48::at_state(1 << 48).is_none());
 }
@@ -55,7 +56,7 @@ const STRIDES: [(u64, u64, u64); 3] = [
 fn strides(rt: HostRuntime) {
     for (count, mul, add) in STRIDES.iter() {
         let stride = Stride::of(*count, &mut Steps::new());
-        assert_eq!(rt; (stride.mul(), stride.add()), (*mul, *add));
+        same(&rt, (stride.mul(), stride.add()), (*mul, *add));
     }
 }
 
@@ -70,7 +71,7 @@ fn jumps(rt: HostRuntime) {
     for (count, from, to) in JUMPS.iter() {
         let stride = Stride::of(*count, &mut Steps::new());
         let reached = Lcg48::at_state(*from).map(|from| stride.apply(&from).state());
-        assert_eq!(rt; reached, Some(*to));
+        same(&rt, reached, Some(*to));
     }
 }
 
@@ -79,5 +80,5 @@ fn a_stride_of_few_steps(rt: HostRuntime) {
     let mut steps = Steps::new();
     let two = Stride::of(2, &mut steps);
     assert!(rt; 0 < steps.count() && steps.count() <= 4);
-    assert_eq!(rt; two.apply(&Lcg48::seeded(0)).state(), 0xBFF9_9381_6378);
+    same(&rt, two.apply(&Lcg48::seeded(0)).state(), 0xBFF9_9381_6378);
 }

@@ -1,9 +1,9 @@
 //! What hands are counted to have.
 
-use cards::testing::{WORKED, deal};
+use crate::support::{deal_of, same};
+use cards::testing::WORKED;
 use cards::{Hand, Honours, Measure, Seat, Suit};
 use std::process::Abort;
-use std::test::Fail;
 
 /// Candidates 0 and 1 of seed 0.
 const FIRST: &[u8] = b"72.AT64.75.AT872 AK985.85.A6.Q654 QJ43.Q732.QT3.K9 T6.KJ9.KJ9842.J3";
@@ -57,22 +57,21 @@ const SEATS: [Seat; 4] = [Seat::North, Seat::East, Seat::South, Seat::West];
 const MEASURES: [Measure; 3] = [Measure::Hcp, Measure::Controls, Measure::Losers];
 
 #[test]
-fn counts_of_hands(rt: HostRuntime) -> Result<(), Fail> {
+fn counts_of_hands(rt: HostRuntime) {
     for (hands, counts) in COUNTED.iter() {
-        let deal = deal(hands)?;
+        let deal = deal_of(&rt, hands);
         for (seat, counted) in SEATS.iter().zip(counts.iter()) {
             hand_has(&rt, &deal.hand(*seat), *counted);
         }
     }
-    Ok(())
 }
 
 /// The hand has what is counted.
 fn hand_has(rt: &impl Abort, hand: &Hand, (points, controls, losers, shape): Counts) {
-    assert_eq!(rt; (hand.points(), hand.losers()), (points, losers));
+    same(rt, (hand.points(), hand.losers()), (points, losers));
     let totals = MEASURES.map(|measure| hand.total(measure));
-    assert_eq!(rt; totals, [points, controls, losers]);
-    assert_eq!(rt; hand.shape(), shape);
+    same(rt, totals, [points, controls, losers]);
+    same(rt, hand.shape(), shape);
 }
 
 /// A deal, which of its seats are balanced, and the longest and shortest suits of North and South.
@@ -87,15 +86,14 @@ const SHAPES: [Shapes; 5] = [
 ];
 
 #[test]
-fn shapes_of_hands(rt: HostRuntime) -> Result<(), Fail> {
+fn shapes_of_hands(rt: HostRuntime) {
     for (hands, balanced, of_north, of_south) in SHAPES.iter() {
-        let deal = deal(hands)?;
-        assert_eq!(rt; SEATS.map(|seat| deal.hand(seat).balanced()), *balanced);
+        let deal = deal_of(&rt, hands);
+        same(&rt, SEATS.map(|seat| deal.hand(seat).balanced()), *balanced);
         let (north, south) = (deal.hand(Seat::North), deal.hand(Seat::South));
-        assert_eq!(rt; (north.longest(), north.shortest()), *of_north);
-        assert_eq!(rt; (south.longest(), south.shortest()), *of_south);
+        same(&rt, (north.longest(), north.shortest()), *of_north);
+        same(&rt, (south.longest(), south.shortest()), *of_south);
     }
-    Ok(())
 }
 
 /// Of the worked deal a seat, a suit, its length, and its points, controls and losers.
@@ -111,36 +109,35 @@ const SUITS: [(Seat, Suit, u8, [u8; 3]); 8] = [
 ];
 
 #[test]
-fn counts_of_suits(rt: HostRuntime) -> Result<(), Fail> {
-    let deal = deal(WORKED)?;
+fn counts_of_suits(rt: HostRuntime) {
+    let deal = deal_of(&rt, WORKED);
     for (seat, suit, length, counts) in SUITS.iter() {
         let hand = deal.hand(*seat);
-        assert_eq!(rt; hand.length(*suit), *length);
+        same(&rt, hand.length(*suit), *length);
         suit_has(&rt, &hand, *suit, *counts);
     }
-    Ok(())
 }
 
 /// The suit has these points, controls and losers.
 fn suit_has(rt: &impl Abort, hand: &Hand, suit: Suit, counts: [u8; 3]) {
     let [points, _, losers] = counts;
-    assert_eq!(rt;
+    same(
+        rt,
         (hand.points_in(suit), hand.losers_in(suit)),
-        (points, losers)
+        (points, losers),
     );
     let totals = MEASURES.map(|measure| hand.total_in(measure, suit));
-    assert_eq!(rt; totals, counts);
+    same(rt, totals, counts);
 }
 
 #[test]
-fn ranks_of_suits(rt: HostRuntime) -> Result<(), Fail> {
-    let north = deal(WORKED)?.hand(Seat::North);
+fn ranks_of_suits(rt: HostRuntime) {
+    let north = deal_of(&rt, WORKED).hand(Seat::North);
     let (t, f) = (true, false);
     let diamonds = [t, t, t, f, f, t, t, t, f, f, f, f, f];
-    assert_eq!(rt; north.ranks(Suit::Diamonds), diamonds);
-    assert_eq!(rt; north.rank_set(Suit::Diamonds), 0b0_0000_1110_0111);
-    assert_eq!(rt; north.rank_set(Suit::Spades), 0);
-    Ok(())
+    same(&rt, north.ranks(Suit::Diamonds), diamonds);
+    same(&rt, north.rank_set(Suit::Diamonds), 0b0_0000_1110_0111);
+    same(&rt, north.rank_set(Suit::Spades), 0);
 }
 
 /// Honours by the ace, king, queen, jack and ten.
@@ -155,8 +152,8 @@ fn honours([ace, king, queen, jack, ten]: [bool; 5]) -> Honours {
 }
 
 #[test]
-fn honours_of_the_worked_deal(rt: HostRuntime) -> Result<(), Fail> {
-    let deal = deal(WORKED)?;
+fn honours_of_the_worked_deal(rt: HostRuntime) {
+    let deal = deal_of(&rt, WORKED);
     let (t, f) = (true, false);
     for (seat, counted, count) in [
         (Seat::North, [t, t, t, f, f], 4),
@@ -164,13 +161,16 @@ fn honours_of_the_worked_deal(rt: HostRuntime) -> Result<(), Fail> {
         (Seat::East, [t, t, t, t, t], 7),
         (Seat::East, [f, f, f, f, f], 0),
     ] {
-        assert_eq!(rt; deal.hand(seat).honours(honours(counted)), count);
+        same(&rt, deal.hand(seat).honours(honours(counted)), count);
     }
     for (seat, suit, counted, count) in [
         (Seat::North, Suit::Diamonds, [t, t, t, f, f], 3),
         (Seat::West, Suit::Spades, [f, t, t, f, t], 3),
     ] {
-        assert_eq!(rt; deal.hand(seat).honours_in(honours(counted), suit), count);
+        same(
+            &rt,
+            deal.hand(seat).honours_in(honours(counted), suit),
+            count,
+        );
     }
-    Ok(())
 }

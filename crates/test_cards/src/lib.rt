@@ -9,3 +9,5 @@ mod deals;
 mod generator;
 #[cfg(test)]
 mod hands;
+#[cfg(test)]
+mod support;
