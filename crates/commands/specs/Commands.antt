@@ -1,5 +1,5 @@
 -- The commands of the program and their options, in clap's terms.
-use Rattle.std.specs.Prelude.{ℕ, true, List, ◌∷◌, [], Some, codes, fold, pos}
+use Rattle.std.specs.Prelude.{true, List, ◌∷◌, [], Some, codes, fold, pos}
 use Rattle.clap.specs.Words.{App, Rule, Text, new_app, new_rule, with_rule, with_subcommand}
 use Rattle.clap.specs.declared.builder.action.ArgAction.TheVariants.{SetTrue}
 use Rattle.clap.specs.Simple.{on_top}
