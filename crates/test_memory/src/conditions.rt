@@ -1,8 +1,10 @@
 //! Conditions: a refused growth is `Memory`, and leaves nothing behind.
 
+use crate::support::{equals, holds};
 use cards::{Deal, Places};
-use cond_lang::{CondError, parse};
+use cond_lang::{Cond, CondError, parse};
 use lcg48::Lcg48;
+use std::process::Abort;
 
 /// Conditions that hold of every deal, so a part that was lost would show.
 const ALWAYS: [&[u8]; 6] = [
@@ -18,35 +20,46 @@ fn first_deal() -> Deal {
     Deal::shuffled(&Places::draw(&mut Lcg48::seeded(0)))
 }
 
-/// A text is parsed, or refused for want of memory; a text that is no condition is never accepted.
+/// Aborts unless the condition holds of the deal, or was refused for want of memory.
+fn holds_or_wants_memory(rt: &impl Abort, condition: &Result<Cond, CondError>, deal: &Deal) {
+    match condition {
+        Ok(condition) => holds(rt, "the condition holds", condition.holds(deal)),
+        Err(error) => equals(rt, error, &CondError::Memory),
+    }
+}
+
+/// A text is parsed, or refused for want of memory.
 #[test]
 fn parses_or_wants_memory(rt: HostRuntime) {
     let deal = first_deal();
-    for text in ALWAYS {
-        match parse(rt.alloc(), text) {
-            Ok(condition) => assert!(rt; condition.holds(&deal)),
-            Err(error) => assert_eq!(rt; error, CondError::Memory),
-        }
+    for text in ALWAYS.iter() {
+        holds_or_wants_memory(&rt, &parse(rt.alloc(), text), &deal);
     }
-    let Err(error) = parse(rt.alloc(), b"not (1+2==3 and 4+5==9) or 6==") else {
-        assert!(rt; false);
-        return;
-    };
-    assert!(rt; error == CondError::Memory || error == CondError::Syntax { at: 30 });
+}
+
+/// A text that is no condition is never accepted.
+#[test]
+fn refuses_or_wants_memory(rt: HostRuntime) {
+    let parsed = parse(rt.alloc(), b"not (1+2==3 and 4+5==9) or 6==");
+    let is_refused = matches!(
+        parsed,
+        Err(CondError::Memory) | Err(CondError::Syntax { at: 30 })
+    );
+    holds(&rt, "no condition", is_refused);
+}
+
+fn checks_clone(rt: &impl Abort, condition: &Cond, deal: &Deal) {
+    holds_or_wants_memory(rt, &condition.try_clone(), deal);
+    holds(rt, "the original holds", condition.holds(deal));
 }
 
 /// A clone holds as its original does, which stays as it was where the clone is refused.
 #[test]
 fn clones_or_wants_memory(rt: HostRuntime) {
     let deal = first_deal();
-    for text in ALWAYS {
-        let Ok(condition) = parse(rt.alloc(), text) else {
-            continue;
-        };
-        match condition.try_clone() {
-            Ok(copy) => assert!(rt; copy.holds(&deal)),
-            Err(error) => assert_eq!(rt; error, CondError::Memory),
+    for text in ALWAYS.iter() {
+        if let Ok(condition) = parse(rt.alloc(), text) {
+            checks_clone(&rt, &condition, &deal);
         }
-        assert!(rt; condition.holds(&deal));
     }
 }

@@ -14,3 +14,5 @@ mod programs;
 mod rings;
 #[cfg(test)]
 mod runs;
+#[cfg(test)]
+mod support;

@@ -1,5 +1,6 @@
 //! Sinks over memory: a piece is taken whole or not at all, and a later one goes on from there.
 
+use crate::support::{equals, holds};
 use dealrun::{Fuse, MemSink, Sink};
 use std::process::Abort;
 
@@ -10,10 +11,10 @@ const LONG: &[u8] = b"A longer piece, so that the memory for the first one does 
 /// How many bytes stand after a write of a piece, which was taken whole or not at all.
 fn after<R: Abort>(rt: &R, before: usize, piece: &[u8], is_taken: bool, bytes: &[u8]) -> usize {
     if is_taken {
-        assert_eq!(rt; bytes.len(), before.saturating_add(piece.len()));
-        assert!(rt; bytes.ends_with(piece));
+        equals(rt, &bytes.len(), &before.saturating_add(piece.len()));
+        holds(rt, "the piece stands last", bytes.ends_with(piece));
     } else {
-        assert_eq!(rt; bytes.len(), before);
+        equals(rt, &bytes.len(), &before);
     }
     bytes.len()
 }
@@ -27,7 +28,7 @@ fn takes_a_piece_or_nothing(rt: HostRuntime) {
     let second = after(&rt, first, LONG, is_taken, sink.bytes());
     let is_taken = sink.write(SHORT).is_ok();
     after(&rt, second, SHORT, is_taken, sink.bytes());
-    assert!(rt; sink.flush().is_ok());
+    holds(&rt, "flushed", sink.flush().is_ok());
 }
 
 #[test]
@@ -35,10 +36,10 @@ fn a_fuse_takes_a_piece_or_nothing(rt: HostRuntime) {
     let mut sink = Fuse::new(MemSink::new(rt.alloc()), 2, 4096, true);
     let is_taken = sink.write(SHORT).is_ok();
     let first = after(&rt, 0, SHORT, is_taken, sink.bytes());
-    assert!(rt; sink.write(LONG).is_err());
-    assert_eq!(rt; sink.bytes().len(), first);
+    holds(&rt, "the second write fails", sink.write(LONG).is_err());
+    equals(&rt, &sink.bytes().len(), &first);
     let is_taken = sink.write(LONG).is_ok();
     after(&rt, first, LONG, is_taken, sink.bytes());
-    assert_eq!(rt; sink.writes(), 3);
-    assert!(rt; sink.flush().is_ok());
+    equals(&rt, &sink.writes(), &3);
+    holds(&rt, "flushed", sink.flush().is_ok());
 }

@@ -1,5 +1,6 @@
 //! The program: what its status says of its output, where any of its memory may be refused.
 
+use crate::support::{equals, holds};
 use dealrun::MemSink;
 use deals_cli::program;
 use std::alloc::{AllocError, Global};
@@ -71,8 +72,38 @@ fn checks_line<R: Abort>(rt: &R, status: u8, err: &[u8]) {
         5 => "out of memory\n",
         _ => "thread not started\n",
     };
-    assert!(rt; line.as_bytes().starts_with(err));
+    holds(
+        rt,
+        "a beginning of the line",
+        line.as_bytes().starts_with(err),
+    );
     assert!(rt; (4..=6).contains(&status), "status {status}");
+}
+
+/// The output and the line where nothing was refused but a part of the line.
+fn checks_wanted<R: Abort>(rt: &R, wanted: Wanted<'_>, out: &[u8], err: &[u8]) {
+    if let Some(length) = wanted.length {
+        equals(rt, &out.len(), &length);
+    }
+    if let Some(line) = wanted.line {
+        holds(
+            rt,
+            "a beginning of the line",
+            line.as_bytes().starts_with(err),
+        );
+    }
+}
+
+/// The output of a status that want of memory gives: a beginning, and only where the output failed.
+fn checks_beginning<R: Abort>(rt: &R, status: u8, length: Option<usize>, out: &[u8]) {
+    holds(rt, "no output", status == 4 || out.is_empty());
+    if let Some(length) = length {
+        holds(
+            rt,
+            "a part of the output",
+            out.is_empty() || out.len() < length,
+        );
+    }
 }
 
 /// Runs the program, and checks its status, its output and its line against each other.
@@ -89,18 +120,10 @@ fn ends_as_wanted<R: Abort + Threads + Wait + Clone + Send + 'static>(
     let mut err = MemSink::new(alloc);
     let status = program(rt, alloc, words.as_slice(), &mut out, &mut err);
     if status == wanted.status {
-        if let Some(length) = wanted.length {
-            assert_eq!(rt; out.bytes().len(), length);
-        }
-        if let Some(line) = wanted.line {
-            assert!(rt; line.as_bytes().starts_with(err.bytes()));
-        }
-        return;
-    }
-    checks_line(rt, status, err.bytes());
-    assert!(rt; status == 4 || out.bytes().is_empty());
-    if let Some(length) = wanted.length {
-        assert!(rt; out.bytes().is_empty() || out.bytes().len() < length);
+        checks_wanted(rt, wanted, out.bytes(), err.bytes());
+    } else {
+        checks_line(rt, status, err.bytes());
+        checks_beginning(rt, status, wanted.length, out.bytes());
     }
 }
 

@@ -2,7 +2,7 @@
 
 ghost use Rattle.std.specs.Prelude.{◌≡◌, ◌<◌};
 
-use crate::support::equals;
+use crate::support::{equals, holds};
 use lanes::{Core, Event};
 use std::process::Abort;
 use std::test::Fail;
@@ -148,11 +148,15 @@ const NO_CORES: [(u64, u32, u32); 5] = [
 #[test]
 fn an_empty_core_and_none(rt: HostRuntime) -> Result<(), Fail> {
     let mut empty = Core::new(0, 1, 1).ok_or("a core")?;
-    assert!(rt; !empty.step(Event::Send(0)));
-    assert!(rt; !empty.step(Event::Take));
-    assert!(rt; empty.step(Event::Close(0)));
+    holds(&rt, "nothing to send", !empty.step(Event::Send(0)));
+    holds(&rt, "nothing to take", !empty.step(Event::Take));
+    holds(&rt, "a lane to close", empty.step(Event::Close(0)));
     for (count, workers, capacity) in NO_CORES.iter() {
-        assert!(rt; Core::new(*count, *workers, *capacity).is_none());
+        holds(
+            &rt,
+            "no core",
+            Core::new(*count, *workers, *capacity).is_none(),
+        );
     }
     Ok(())
 }

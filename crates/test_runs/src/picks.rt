@@ -1,6 +1,6 @@
 //! Lines of LIN that were worked out by hand, of two candidates of seed 0, picked by their numbers.
 
-use crate::support::equals;
+use crate::support::{equals, holds};
 use lin_text::LinPrinter;
 use number_input::{LineFault, NoBytes, Reader, RefusedLine};
 use picking::{PickFault, pick};
@@ -100,7 +100,7 @@ fn picks_nothing_and_into_an_output_that_fails(rt: HostRuntime) -> std::result::
 fn picks_nothing(rt: &(impl Abort + AllocGlobal), plan: &Plan, printer: &mut LinPrinter) {
     let mut sink = MemSink::new(rt.alloc());
     equals(rt, &pick(plan, printer, &mut NoBytes, &mut sink), &Ok(0));
-    assert!(rt; sink.bytes().is_empty());
+    holds(rt, "nothing written", sink.bytes().is_empty());
 }
 
 fn picks_until_the_output_fails(

@@ -1,6 +1,6 @@
 //! Shares of the candidates, turns among the lanes, and the pace of their ends.
 
-use crate::support::equals;
+use crate::support::{equals, holds};
 use lanes::{Pace, Share, Turns};
 use std::test::Fail;
 
@@ -32,7 +32,7 @@ const RANGES: [(u64, u64, u32, u32, bool); 5] = [
 fn shares_within_the_numbers(rt: HostRuntime) -> Result<(), Fail> {
     for (first, count, workers, worker, is_share) in RANGES.iter() {
         let share = Share::new(*first, *count, *workers, *worker);
-        assert_eq!(rt; share.is_some(), *is_share);
+        equals(&rt, &share.is_some(), is_share);
     }
     Ok(())
 }
@@ -48,7 +48,8 @@ fn turns(rt: HostRuntime) -> Result<(), Fail> {
     turns.advance();
     equals(&rt, &turns.lane(), &0);
     equals(&rt, &Turns::at_start(16).lane(), &0);
-    assert!(rt; Turns::new(0).is_none() && Turns::new(17).is_none());
+    let are_none = Turns::new(0).is_none() && Turns::new(17).is_none();
+    holds(&rt, "no turns", are_none);
     Ok(())
 }
 
@@ -76,7 +77,8 @@ const PACES: [(u32, usize, bool); 16] = [
 #[test]
 fn paces(rt: HostRuntime) -> Result<(), Fail> {
     for (workers, cores, spins) in PACES.iter() {
-        assert_eq!(rt; matches!(Pace::of(*workers, *cores), Pace::Spins), *spins);
+        let pace = Pace::of(*workers, *cores);
+        equals(&rt, &matches!(pace, Pace::Spins), spins);
     }
     Ok(())
 }

@@ -1,6 +1,6 @@
 //! What stands on the output and on the terminal, by a clock that is set by hand.
 
-use crate::support::equals;
+use crate::support::{equals, holds};
 use console::{Counts, Drawn, GATHERED_MILLIS, OverLine, Prompt, Style};
 use sinks::{Sink, put_all};
 use std::alloc::Global;
@@ -144,11 +144,11 @@ fn a_board_is_passed_on_after_a_fifth_of_a_second(rt: HostRuntime) -> Result<(),
 
 /// The first board is passed on at once, and the next one only in its time.
 fn passes_on(rt: &impl Abort, desk: &Desk, prompt: &mut OnDesk<'_>) {
-    assert!(rt; put(prompt, b"one"));
+    holds(rt, "one is put", put(prompt, b"one"));
     stands(rt, &desk.out, b"");
     prompt.watch(10, 1);
     stands(rt, &desk.out, b"one");
-    assert!(rt; put(prompt, b"two"));
+    holds(rt, "two is put", put(prompt, b"two"));
     watch_at(desk, prompt, 5199, 20, 2);
     stands(rt, &desk.out, b"");
     watch_at(desk, prompt, 5200, 30, 2);
@@ -191,9 +191,9 @@ fn draws(rt: &impl Abort, desk: &Desk, prompt: &mut OnDesk<'_>) {
 }
 
 fn wipes_once(rt: &impl Abort, desk: &Desk, prompt: &mut OnDesk<'_>) {
-    assert!(rt; flush(prompt));
+    holds(rt, "flushed", flush(prompt));
     stands(rt, &desk.err, b"\r\x1b[K");
-    assert!(rt; flush(prompt));
+    holds(rt, "flushed again", flush(prompt));
     stands(rt, &desk.err, b"");
 }
 
@@ -204,7 +204,7 @@ fn a_line_a_second_without_a_terminal(rt: HostRuntime) -> Result<(), Fail> {
     for millis in 50..80 {
         watch_at(&desk, &mut prompt, millis * 100, millis, 0);
     }
-    assert!(rt; flush(&mut prompt));
+    holds(&rt, "flushed", flush(&mut prompt));
     let lines = b"6%  60 of 1,000 candidates  0 boards  60 /s  16 s left\n\
         7%  70 of 1,000 candidates  0 boards  35 /s  27 s left\n";
     stands(&rt, &desk.err, lines);
@@ -217,7 +217,8 @@ fn what_is_said_wipes_the_line(rt: HostRuntime) -> Result<(), Fail> {
     let drawn = Drawn::new(rt.alloc())?;
     let mut err = OverLine::new(Pen { paper: &desk.err }, drawn.try_clone()?);
     let mut prompt = desk.prompt(rt.alloc(), Style::Redrawn, drawn);
-    say_around_a_line(&desk, &mut prompt, &mut err)?;
+    let said = say_around_a_line(&desk, &mut prompt, &mut err);
+    holds(&rt, "all is said", said.is_ok());
     let text = b"before\n\r\x1b[?7l0%  0 of 1,000 candidates  0 boards  0 /s  16 min 40 s left\
         \x1b[K\x1b[?7h\r\x1b[Kworker 1 not closed\nmore\n";
     stands(&rt, &desk.err, text);
@@ -250,12 +251,14 @@ fn a_failure_is_told_by_the_next_call(rt: HostRuntime) -> Result<(), Fail> {
 
 /// The writer fails within a watch, and goes on once the next call has told it.
 fn fails_once(rt: &impl Abort, desk: &Desk, prompt: &mut OnDesk<'_>) {
-    assert!(rt; put(prompt, b"one"));
+    holds(rt, "one is put", put(prompt, b"one"));
     desk.broken.set(true);
     watch_at(desk, prompt, 7000, 1, 1);
-    assert!(rt; !put(prompt, b"two"));
+    holds(rt, "two is refused", !put(prompt, b"two"));
     let reason = prompt.reason();
-    assert!(rt; matches!(reason, Some(told) if told.kind() == ErrorKind::StorageFull));
+    let is_full = matches!(reason, Some(told) if told.kind() == ErrorKind::StorageFull);
+    holds(rt, "the storage is full", is_full);
     desk.broken.set(false);
-    assert!(rt; put(prompt, b"three") && flush(prompt));
+    holds(rt, "three is put", put(prompt, b"three"));
+    holds(rt, "flushed", flush(prompt));
 }

@@ -7,3 +7,8 @@ use std::process::Abort;
 pub fn equals<T: PartialEq + Debug>(rt: &impl Abort, value: &T, wanted: &T) {
     assert_eq!(rt; value, wanted);
 }
+
+/// Aborts unless this is so, and says what was not.
+pub fn holds(rt: &impl Abort, what: &str, is_so: bool) {
+    assert!(rt; is_so, "{what}");
+}

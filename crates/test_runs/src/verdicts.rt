@@ -2,7 +2,7 @@
 
 ghost use Rattle.std.specs.Prelude.{◌≡◌};
 
-use crate::support::equals;
+use crate::support::{equals, holds};
 use cards::{Deal, Places};
 use lanes::{LaneError, LaneIn, LaneOut, Pace, Verdict, lane, lane_in_blocks};
 use lcg48::Lcg48;
@@ -76,8 +76,10 @@ fn is_refused(made: &Result<(LaneIn, LaneOut), LaneError>) -> bool {
 #[test]
 fn refused_capacities(rt: HostRuntime) {
     for capacity in [0, 4097] {
-        assert!(rt; is_refused(&lane(rt.alloc(), capacity)));
-        assert!(rt; is_refused(&lane_in_blocks(rt.alloc(), capacity, Pace::Spins)));
+        let plain = lane(rt.alloc(), capacity);
+        holds(&rt, "no lane", is_refused(&plain));
+        let in_blocks = lane_in_blocks(rt.alloc(), capacity, Pace::Spins);
+        holds(&rt, "no lane in blocks", is_refused(&in_blocks));
     }
 }
 
@@ -100,7 +102,7 @@ fn room_in_blocks(alloc: Global, capacity: u32) -> Result<usize, LaneError> {
 
 #[test]
 fn capacities(rt: HostRuntime) -> Result<(), Fail> {
-    assert!(rt; lane(rt.alloc(), 4096).is_ok());
+    holds(&rt, "a lane", lane(rt.alloc(), 4096).is_ok());
     for (capacity, room) in ROOMS.iter() {
         equals(&rt, &room_in_blocks(rt.alloc(), *capacity)?, room);
     }
@@ -110,12 +112,13 @@ fn capacities(rt: HostRuntime) -> Result<(), Fail> {
 #[test]
 fn a_lane_of_one_verdict(rt: HostRuntime) -> Result<(), Fail> {
     let (mut sender, mut taker) = lane(rt.alloc(), 1)?;
-    assert!(rt; sends(&mut sender, 3) && sends_back(&mut sender, 4));
+    holds(&rt, "a verdict is sent", sends(&mut sender, 3));
+    holds(&rt, "the next comes back", sends_back(&mut sender, 4));
     let mut closed = sender.close().ok_or("a closed lane")?;
-    assert!(rt; !taker.is_settled());
+    holds(&rt, "not yet settled", !taker.is_settled());
     equals(&rt, &taker.settle(&mut closed), &1);
-    assert!(rt; taker.is_settled());
-    assert!(rt; takes_just(&mut taker, 3..4));
+    holds(&rt, "settled", taker.is_settled());
+    holds(&rt, "a verdict is taken", takes_just(&mut taker, 3..4));
     Ok(())
 }
 
@@ -127,42 +130,46 @@ fn counts(rt: &impl Abort, sender: &mut LaneIn, taker: &mut LaneOut, wanted: (us
 #[test]
 fn what_is_known_to_wait(rt: HostRuntime) -> Result<(), Fail> {
     let (mut sender, mut taker) = lane(rt.alloc(), 2)?;
-    assert!(rt; !taker.has_verdict());
+    holds(&rt, "none waits at first", !taker.has_verdict());
     equals(&rt, &sender.count_room(), &2);
-    fills(&rt, &mut sender);
+    holds(&rt, "room for two", fills(&mut sender));
     counts(&rt, &mut sender, &mut taker, (0, 2));
-    empties(&rt, &mut taker);
+    holds(&rt, "two wait", empties(&mut taker));
     counts(&rt, &mut sender, &mut taker, (2, 0));
     Ok(())
 }
 
-/// Fills a lane of two verdicts.
-fn fills(rt: &impl Abort, sender: &mut LaneIn) {
+/// Fills a lane of two verdicts. True if there was room for both, and for no more.
+fn fills(sender: &mut LaneIn) -> bool {
     for number in [3, 4] {
-        assert!(rt; sender.has_room());
+        if !sender.has_room() {
+            return false;
+        }
         sender.send_reserved(verdict(number));
     }
-    assert!(rt; !sender.has_room());
+    !sender.has_room()
 }
 
-/// Takes the two verdicts that wait.
-fn empties(rt: &impl Abort, taker: &mut LaneOut) {
+/// Takes two verdicts. True if they waited, in their order, and no other.
+fn empties(taker: &mut LaneOut) -> bool {
     for number in [3, 4] {
-        assert!(rt; taker.has_verdict());
-        equals(rt, &taker.take_known().number, &number);
+        if !taker.has_verdict() || taker.take_known().number != number {
+            return false;
+        }
     }
-    assert!(rt; !taker.has_verdict());
+    !taker.has_verdict()
 }
 
 #[test]
 fn blocks_of_a_lane(rt: HostRuntime) -> Result<(), Fail> {
     let (mut sender, mut taker) = lane_in_blocks(rt.alloc(), 64, Pace::Spins)?;
-    assert!(rt; send_all(&mut sender, 0..32) && !sends(&mut sender, 32));
+    holds(&rt, "room for 32", send_all(&mut sender, 0..32));
+    holds(&rt, "and for no more", !sends(&mut sender, 32));
     // The writer has a block out of the ring, and then there is room for as much.
-    assert!(rt; take_all(&mut taker, 0..1));
+    holds(&rt, "the first is taken", take_all(&mut taker, 0..1));
     counts(&rt, &mut sender, &mut taker, (16, 31));
-    assert!(rt; send_all(&mut sender, 32..48));
-    assert!(rt; takes_just(&mut taker, 1..48));
+    holds(&rt, "room for 16", send_all(&mut sender, 32..48));
+    holds(&rt, "all are taken", takes_just(&mut taker, 1..48));
     Ok(())
 }
 
@@ -170,11 +177,13 @@ fn blocks_of_a_lane(rt: HostRuntime) -> Result<(), Fail> {
 #[test]
 fn a_settled_lane_with_a_block(rt: HostRuntime) -> Result<(), Fail> {
     let (mut sender, mut taker) = lane_in_blocks(rt.alloc(), 8, Pace::Spins)?;
-    assert!(rt; sends(&mut sender, 3) && sends(&mut sender, 4) && sends(&mut sender, 5));
-    assert!(rt; takes(&mut taker, 3));
+    holds(&rt, "the first is sent", sends(&mut sender, 3));
+    holds(&rt, "the second is sent", sends(&mut sender, 4));
+    holds(&rt, "the third is sent", sends(&mut sender, 5));
+    holds(&rt, "the first is taken", takes(&mut taker, 3));
     let mut closed = sender.close().ok_or("a closed lane")?;
     equals(&rt, &taker.settle(&mut closed), &2);
-    assert!(rt; takes_just(&mut taker, 4..6));
+    holds(&rt, "the others are taken", takes_just(&mut taker, 4..6));
     Ok(())
 }
 
@@ -182,11 +191,14 @@ fn a_settled_lane_with_a_block(rt: HostRuntime) -> Result<(), Fail> {
 fn a_wait_for_a_verdict(rt: HostRuntime) -> Result<(), Fail> {
     let stop = AtomicBool::new(false);
     let (mut sender, mut taker) = lane(rt.alloc(), 2)?;
-    assert!(rt; sends(&mut sender, 3) && taker.wait_for_verdict(&rt, &stop));
+    holds(&rt, "the first is sent", sends(&mut sender, 3));
+    holds(&rt, "it waits", taker.wait_for_verdict(&rt, &stop));
     stop.store(true, Ordering::SeqCst);
-    assert!(rt; taker.wait_for_verdict(&rt, &stop) && takes(&mut taker, 3));
-    assert!(rt; !taker.wait_for_verdict(&rt, &stop));
-    assert!(rt; sends(&mut sender, 4) && taker.wait_for_verdict(&rt, &stop));
-    assert!(rt; takes(&mut taker, 4));
+    holds(&rt, "it still waits", taker.wait_for_verdict(&rt, &stop));
+    holds(&rt, "it is taken", takes(&mut taker, 3));
+    holds(&rt, "none waits", !taker.wait_for_verdict(&rt, &stop));
+    holds(&rt, "the second is sent", sends(&mut sender, 4));
+    holds(&rt, "the second waits", taker.wait_for_verdict(&rt, &stop));
+    holds(&rt, "the second is taken", takes(&mut taker, 4));
     Ok(())
 }

@@ -2,6 +2,7 @@
 
 ghost use Rattle.std.specs.Prelude.{◌≡◌, []};
 
+use crate::support::holds;
 use crate::verdicts::takes_just;
 use cond_lang::Cond;
 use lanes::{
@@ -72,8 +73,9 @@ fn a_whole_share(rt: HostRuntime) -> Result<(), Fail> {
     let (sender, mut taker) = lane(rt.alloc(), 4)?;
     let job = job(rt.alloc(), [5, 10], [4, 1])?;
     let (end, stopped) = works(&rt, rt.alloc(), job, sender, OpenGate)?;
-    assert!(rt; matches!(&end, WorkEnd::Done(_)) && !stopped);
-    assert!(rt; takes_all_of(&mut taker, &[6, 10, 14]));
+    holds(&rt, "done", matches!(&end, WorkEnd::Done(_)));
+    holds(&rt, "no stop flag", !stopped);
+    holds(&rt, "its verdicts", takes_all_of(&mut taker, &[6, 10, 14]));
     Ok(())
 }
 
@@ -83,7 +85,8 @@ fn a_share_stopped_within_a_block(rt: HostRuntime) -> Result<(), Fail> {
     let (sender, mut taker) = lane_in_blocks(rt.alloc(), 64, Pace::Spins)?;
     let job = job(rt.alloc(), [5, 30], [1, 0])?;
     let (end, stopped) = works(&rt, rt.alloc(), job, sender, StopsAt(25))?;
-    assert!(rt; matches!(&end, WorkEnd::Stopped(_)) && stopped);
-    assert!(rt; takes_just(&mut taker, 5..25));
+    holds(&rt, "stopped", matches!(&end, WorkEnd::Stopped(_)));
+    holds(&rt, "a stop flag", stopped);
+    holds(&rt, "its verdicts", takes_just(&mut taker, 5..25));
     Ok(())
 }
