@@ -5,7 +5,6 @@ use cards::testing::fixed_in;
 use cards::{Candidates, Card, Deal, Fixed, Seat};
 use hand_texts::{HandFault, HandTexts};
 use std::process::Abort;
-use std::test::Fail;
 
 /// The texts of North and South.
 fn texts<'a>(north: &'a str, south: &'a str) -> HandTexts<'a> {
@@ -29,13 +28,12 @@ fn texts_of_seats(rt: HostRuntime) {
 }
 
 #[test]
-fn cards_of_texts(rt: HostRuntime) -> Result<(), Fail> {
+fn cards_of_texts(rt: HostRuntime) {
     let read = texts("AKQ32.K..A", "...").read().ok();
-    let cards = Fixed::new(fixed_in(b"AKQ32.K..A")).ok_or("thirteen at most")?;
+    let cards = Fixed::new(fixed_in(b"AKQ32.K..A")).expect(&rt, "thirteen at most");
     same(&rt, read.map(|fixed| around(&fixed)), Some(around(&cards)));
     let none = HandTexts::none().read().ok();
     same(&rt, none.map(|fixed| fixed.free()), Some(52));
-    Ok(())
 }
 
 #[test]
@@ -45,8 +43,8 @@ fn refused_texts(rt: HostRuntime) {
 }
 
 #[test]
-fn faults_of_texts(rt: HostRuntime) -> Result<(), Fail> {
-    let ace = Card::new(0).ok_or("the ace of spades")?;
+fn faults_of_texts(rt: HostRuntime) {
+    let ace = Card::new(0).expect(&rt, "the ace of spades");
     let held = texts("A...", "KA...");
     same(&rt, held.fault_at(Seat::North), None);
     let fault = HandFault::Held(ace, Seat::North);
@@ -55,14 +53,14 @@ fn faults_of_texts(rt: HostRuntime) -> Result<(), Fail> {
     same(&rt, twice, Some(HandFault::Twice(ace)));
     let unknown = texts("A.1.0.", "").fault_at(Seat::North);
     same(&rt, unknown, Some(HandFault::Unknown(2)));
-    Ok(())
 }
 
 #[test]
-fn the_rule_of_a_fault(rt: HostRuntime) -> Result<(), Fail> {
-    let ace = Card::new(0).ok_or("the ace of spades")?;
+fn the_rule_of_a_fault(rt: HostRuntime) {
+    let ace = Card::new(0).expect(&rt, "the ace of spades");
     let mut line = String::new(rt.alloc());
-    HandFault::Held(ace, Seat::North).put_rule(&mut line)?;
-    assert_eq!(rt; line.as_str(), "the ace of spades is north's");
-    Ok(())
+    HandFault::Held(ace, Seat::North)
+        .put_rule(&mut line)
+        .expect(&rt, "memory");
+    same(&rt, line.as_str(), "the ace of spades is north's");
 }

@@ -6,7 +6,6 @@ use crate::support::same;
 use boards::{Board, Setting, Vul, dealer, vulnerable};
 use cards::{Candidates, Card, Deal, Seat};
 use std::process::Abort;
-use std::test::Fail;
 
 /// Law 2, boards 1 to 16.
 const BOARDS: [(Seat, Vul); 16] = [
@@ -41,7 +40,7 @@ fn by_law(board: u64) -> (Seat, Vul)
 #[test]
 fn every_board_of_the_cycle(rt: HostRuntime) {
     for (i, found) in BOARDS.iter().enumerate() {
-        assert_eq!(rt; by_law(i as u64 + 1), *found);
+        same(&rt, by_law(i as u64 + 1), *found);
     }
 }
 
@@ -86,8 +85,8 @@ fn boards_of_a_setting(rt: HostRuntime) {
 /// East has the ace of spades, card 0, in the first candidate of seed 0. Turned to a dealer, the
 /// seat after the dealer has it.
 #[test]
-fn boards_turned_to_their_dealers(rt: HostRuntime) -> Result<(), Fail> {
-    let ace = Card::new(0).ok_or("the ace of spades")?;
+fn boards_turned_to_their_dealers(rt: HostRuntime) {
+    let ace = Card::new(0).expect(&rt, "the ace of spades");
     let deal = first_deal();
     same(&rt, deal.holder(ace), Seat::East);
     let mut setting = Setting::by_law();
@@ -97,5 +96,4 @@ fn boards_turned_to_their_dealers(rt: HostRuntime) -> Result<(), Fail> {
         same(&rt, board.dealer, *dealer);
         same(&rt, board.deal.holder(ace), dealer.next());
     }
-    Ok(())
 }

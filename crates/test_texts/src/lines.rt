@@ -4,7 +4,6 @@ use crate::support::{push_all, writes_samples};
 use lin_text::LinPrinter;
 use number_lines::NumberPrinter;
 use std::process::Abort;
-use std::test::Fail;
 
 /// Candidates 0 and 1 of seed 0 as boards 1 and 2, and the pack in order as board 4.
 const BY_LAW: &str = "\
@@ -23,18 +22,18 @@ const WORKED: &str = "\
 const NUMBERS: [&str; 5] = ["9", "10", "99999999999", "100000000000", "1099511627776"];
 
 #[test]
-fn lines_of_lin(rt: HostRuntime) -> Result<(), Fail> {
-    let mut text = String::from_str(rt.alloc(), BY_LAW)?;
+fn lines_of_lin(rt: HostRuntime) {
+    let mut text = String::from_str(rt.alloc(), BY_LAW).expect(&rt, "memory");
     for number in NUMBERS.iter() {
-        push_all(&mut text, &["qx|o", number, WORKED, number, "|pg||\n"])?;
+        push_all(&rt, &mut text, &["qx|o", number, WORKED, number, "|pg||\n"]);
     }
-    let mut printer = LinPrinter::new(rt.alloc())?;
-    writes_samples(&rt, rt.alloc(), &mut printer, text.as_bytes())
+    let mut printer = LinPrinter::new(rt.alloc()).expect(&rt, "memory");
+    writes_samples(&rt, rt.alloc(), &mut printer, text.as_bytes());
 }
 
 #[test]
-fn lines_of_numbers(rt: HostRuntime) -> Result<(), Fail> {
+fn lines_of_numbers(rt: HostRuntime) {
     let mut printer = NumberPrinter::new();
     let text = b"0\n1\n0\n7\n4812\n1099511627775\n7\n7\n";
-    writes_samples(&rt, rt.alloc(), &mut printer, text)
+    writes_samples(&rt, rt.alloc(), &mut printer, text);
 }

@@ -3,9 +3,8 @@
 use crate::support::{Labels, heading_of, push_all, writes, writes_samples};
 use html_page::HtmlPrinter;
 use pbn_text::Heading;
-use std::alloc::{AllocError, Global};
+use std::alloc::Global;
 use std::process::Abort;
-use std::test::Fail;
 
 /// What stands before the title.
 const BEFORE: &str = "\
@@ -124,28 +123,34 @@ const FOOTER: &str = "</main>\n</body>\n</html>\n";
 const NUMBERS: [&str; 5] = ["9", "10", "99999999999", "100000000000", "1099511627776"];
 
 /// The page of the sample boards.
-fn sample_page(alloc: Global) -> Result<String, AllocError> {
-    let mut page = [BEFORE, "Boards", BETWEEN, "Boards</h1>\n"].concat(alloc)?;
-    push_all(&mut page, &[FIRST, SECOND, IN_ORDER_TEXT])?;
+fn sample_page(rt: &impl Abort, alloc: Global) -> String {
+    let mut page = String::new(alloc);
+    push_all(rt, &mut page, &[BEFORE, "Boards", BETWEEN, "Boards</h1>\n"]);
+    push_all(rt, &mut page, &[FIRST, SECOND, IN_ORDER_TEXT]);
     for number in NUMBERS.iter() {
-        push_all(&mut page, &[WORKED_FRONT, number, WORKED_TEXT])?;
+        push_all(rt, &mut page, &[WORKED_FRONT, number, WORKED_TEXT]);
     }
-    page.push_str(FOOTER)?;
-    Ok(page)
+    push_all(rt, &mut page, &[FOOTER]);
+    page
 }
 
 #[test]
-fn a_page_of_boards(rt: HostRuntime) -> Result<(), Fail> {
-    let page = sample_page(rt.alloc())?;
-    let mut printer = HtmlPrinter::new(rt.alloc(), &Heading::none())?;
-    writes_samples(&rt, rt.alloc(), &mut printer, page.as_bytes())
+fn a_page_of_boards(rt: HostRuntime) {
+    let page = sample_page(&rt, rt.alloc());
+    let mut printer = HtmlPrinter::new(rt.alloc(), &Heading::none()).expect(&rt, "memory");
+    writes_samples(&rt, rt.alloc(), &mut printer, page.as_bytes());
 }
 
 /// The page of no board under these labels has this title, and this heading.
-fn has_title(rt: &impl Abort, alloc: Global, labels: &Labels, title: &str) -> Result<(), Fail> {
-    let mut printer = HtmlPrinter::new(alloc, &heading_of(labels))?;
-    let page = [BEFORE, title, BETWEEN, title, "</h1>\n", FOOTER].concat(alloc)?;
-    writes(rt, alloc, &mut printer, &[], page.as_bytes())
+fn has_title(rt: &impl Abort, alloc: Global, labels: &Labels, title: &str) {
+    let mut printer = HtmlPrinter::new(alloc, &heading_of(labels)).expect(rt, "memory");
+    let mut page = String::new(alloc);
+    push_all(
+        rt,
+        &mut page,
+        &[BEFORE, title, BETWEEN, title, "</h1>\n", FOOTER],
+    );
+    writes(rt, alloc, &mut printer, &[], page.as_bytes());
 }
 
 /// Labels, and their title. Signs that HTML reads are written as it has them.
@@ -177,17 +182,17 @@ const LONG: &[u8] = &[b'&'; 100];
 const LONGEST: Labels = [Some(LONG), Some(LONG), Some(b"2024.05.01")];
 
 #[test]
-fn titles(rt: HostRuntime) -> Result<(), Fail> {
+fn titles(rt: HostRuntime) {
     for (labels, title) in TITLES.iter() {
-        has_title(&rt, rt.alloc(), labels, title)?;
+        has_title(&rt, rt.alloc(), labels, title);
     }
-    Ok(())
 }
 
 #[test]
-fn the_longest_title(rt: HostRuntime) -> Result<(), Fail> {
-    let hundred = ["&amp;"; 100].concat(rt.alloc())?;
+fn the_longest_title(rt: HostRuntime) {
+    let hundred = ["&amp;"; 100].concat(rt.alloc()).expect(&rt, "memory");
     let label = hundred.as_str();
-    let title = [label, label, "2024.05.01"].join(rt.alloc(), ", ")?;
-    has_title(&rt, rt.alloc(), &LONGEST, title.as_str())
+    let mut title = String::new(rt.alloc());
+    push_all(&rt, &mut title, &[label, ", ", label, ", 2024.05.01"]);
+    has_title(&rt, rt.alloc(), &LONGEST, title.as_str());
 }

@@ -4,7 +4,6 @@ use crate::support::same;
 use cards::{Candidates, Hand, Seat, Suit};
 use printing::{SuitLetters, TextBuffer};
 use std::process::Abort;
-use std::test::Fail;
 
 /// The text has these bytes.
 fn has(rt: &impl Abort, text: &TextBuffer, bytes: &[u8]) {
@@ -32,8 +31,8 @@ fn hand_of_north() -> Hand {
 }
 
 #[test]
-fn letters_of_suits(rt: HostRuntime) -> Result<(), Fail> {
-    let letters = SuitLetters::new(rt.alloc())?;
+fn letters_of_suits(rt: HostRuntime) {
+    let letters = SuitLetters::new(rt.alloc()).expect(&rt, "memory");
     let hand = hand_of_north();
     let mut text = TextBuffer::new();
     letters.put(&mut text, &hand, Suit::Spades);
@@ -41,27 +40,24 @@ fn letters_of_suits(rt: HostRuntime) -> Result<(), Fail> {
     letters.put(&mut text, &hand, Suit::Hearts);
     letters.put(&mut text, &hand, Suit::Clubs);
     has(&rt, &text, b"AQ764KQQJT643");
-    Ok(())
 }
 
 #[test]
-fn letters_or_a_dash(rt: HostRuntime) -> Result<(), Fail> {
-    let letters = SuitLetters::new(rt.alloc())?;
+fn letters_or_a_dash(rt: HostRuntime) {
+    let letters = SuitLetters::new(rt.alloc()).expect(&rt, "memory");
     let hand = hand_of_north();
     let mut text = TextBuffer::new();
     letters.put_or_dash(&mut text, &hand, Suit::Diamonds, b"void");
     letters.put_or_dash(&mut text, &hand, Suit::Hearts, b"void");
     has(&rt, &text, b"voidKQ");
-    Ok(())
 }
 
 #[test]
-fn letters_before_a_dot(rt: HostRuntime) -> Result<(), Fail> {
-    let letters = SuitLetters::new(rt.alloc())?;
+fn letters_before_a_dot(rt: HostRuntime) {
+    let letters = SuitLetters::new(rt.alloc()).expect(&rt, "memory");
     let hand = hand_of_north();
     let spades = letters.with_dot(&hand, Suit::Spades);
     same(&rt, &spades[..6], b"AQ764.".as_slice());
     let void = letters.with_dot(&hand, Suit::Diamonds);
     same(&rt, (void[0], void[15], spades[15]), (b'.', 0, 5));
-    Ok(())
 }

@@ -1,12 +1,11 @@
 //! Games of Portable Bridge Notation, written by hand where no example gives them, and labels.
 
-use crate::support::{Labels, heading_of, same, writes};
+use crate::support::{Labels, deal_of, heading_of, same, writes};
 use boards::{Board, Notation};
-use cards::testing::{IN_ORDER, WORKED, deal};
+use cards::testing::{IN_ORDER, WORKED};
 use cards::{Deal, Seat};
 use pbn_text::{Date, HEADER, Heading, Label, Printer, Reference, Vul, deal_text, game};
 use std::process::Abort;
-use std::test::Fail;
 
 /// The game of the pack in order at board 1.
 const FIRST: &[u8] = b"[Board \"1\"]\n[Dealer \"N\"]\n[Vulnerable \"None\"]\n\
@@ -24,23 +23,23 @@ const BY_HAND: &[u8] = b"% PBN 2.1\n\
     [Deal \"N:.63.AKQ987.A9732 A8654.KQ5.T.QJT6 J973.J98742.3.K4 KQT2.AT.J6542.85\"]\n\n";
 
 /// A board 0, and a board 10 with another dealer and vulnerability than Law 2's.
-fn boards_by_hand() -> Result<[Board; 2], Fail> {
-    Ok([
+fn boards_by_hand(rt: &impl Abort) -> [Board; 2] {
+    [
         Board {
             number: 0,
             candidate: 3,
             dealer: Seat::West,
             vulnerable: Vul::Both,
-            deal: deal(IN_ORDER)?,
+            deal: deal_of(rt, IN_ORDER),
         },
         Board {
             number: 10,
             candidate: 2,
             dealer: Seat::South,
             vulnerable: Vul::EastWest,
-            deal: deal(WORKED)?,
+            deal: deal_of(rt, WORKED),
         },
-    ])
+    ]
 }
 
 /// A board, the hands of its deal, and its game.
@@ -51,15 +50,14 @@ const GAMES: [(u64, &[u8], &[u8]); 3] = [
 ];
 
 #[test]
-fn games_of_two_deals(rt: HostRuntime) -> Result<(), Fail> {
+fn games_of_two_deals(rt: HostRuntime) {
     same(&rt, HEADER.as_slice(), b"% PBN 2.1\n".as_slice());
     for (number, hands, text) in GAMES.iter() {
-        let deal = deal(hands)?;
+        let deal = deal_of(&rt, hands);
         let game = game((*number).max(1), &Heading::none(), &deal);
         same(&rt, game.as_slice(), *text);
         is_spelled(&rt, &deal, hands);
     }
-    Ok(())
 }
 
 /// The text of the deal has these hands.
@@ -70,22 +68,21 @@ fn is_spelled(rt: &impl Abort, deal: &Deal, hands: &[u8]) {
 }
 
 #[test]
-fn printed_games_of_two_deals(rt: HostRuntime) -> Result<(), Fail> {
-    let mut printer = Printer::new(rt.alloc(), &Heading::none())?;
+fn printed_games_of_two_deals(rt: HostRuntime) {
+    let mut printer = Printer::new(rt.alloc(), &Heading::none()).expect(&rt, "memory");
     for (number, hands, text) in GAMES.iter() {
-        printer.print(&Board::by_law((*number).max(1), 7, deal(hands)?));
+        printer.print(&Board::by_law((*number).max(1), 7, deal_of(&rt, hands)));
         same(&rt, printer.text(), *text);
     }
-    Ok(())
 }
 
 #[test]
-fn a_text_of_boards(rt: HostRuntime) -> Result<(), Fail> {
-    let boards = boards_by_hand()?;
-    let mut printer = Printer::new(rt.alloc(), &Heading::none())?;
-    writes(&rt, rt.alloc(), &mut printer, boards.as_slice(), BY_HAND)?;
+fn a_text_of_boards(rt: HostRuntime) {
+    let boards = boards_by_hand(&rt);
+    let mut printer = Printer::new(rt.alloc(), &Heading::none()).expect(&rt, "memory");
+    writes(&rt, rt.alloc(), &mut printer, boards.as_slice(), BY_HAND);
     let mut reference = Reference::new(&Heading::none());
-    writes(&rt, rt.alloc(), &mut reference, boards.as_slice(), BY_HAND)
+    writes(&rt, rt.alloc(), &mut reference, boards.as_slice(), BY_HAND);
 }
 
 /// Labels, and how the game of the pack in order at board 16 begins.
@@ -118,16 +115,15 @@ const LENGTHS: [(Labels, usize); 2] = [
 ];
 
 #[test]
-fn fronts_of_games(rt: HostRuntime) -> Result<(), Fail> {
-    let deal = deal(IN_ORDER)?;
+fn fronts_of_games(rt: HostRuntime) {
+    let deal = deal_of(&rt, IN_ORDER);
     for (labels, front) in FRONTS.iter() {
         let heading = heading_of(labels);
         assert!(rt; game(16, &heading, &deal).as_slice().starts_with(front));
-        let mut printer = Printer::new(rt.alloc(), &heading)?;
+        let mut printer = Printer::new(rt.alloc(), &heading).expect(&rt, "memory");
         prints_front(&rt, &mut printer, deal, front);
         prints_front(&rt, &mut Reference::new(&heading), deal, front);
     }
-    Ok(())
 }
 
 /// The game that the notation prints of the deal at board 16 begins like this.
@@ -137,16 +133,15 @@ fn prints_front<N: Notation>(rt: &impl Abort, notation: &mut N, deal: Deal, fron
 }
 
 #[test]
-fn lengths_of_the_longest_games(rt: HostRuntime) -> Result<(), Fail> {
-    let deal = deal(IN_ORDER)?;
+fn lengths_of_the_longest_games(rt: HostRuntime) {
+    let deal = deal_of(&rt, IN_ORDER);
     for (labels, length) in LENGTHS.iter() {
         let heading = heading_of(labels);
-        let mut printer = Printer::new(rt.alloc(), &heading)?;
+        let mut printer = Printer::new(rt.alloc(), &heading).expect(&rt, "memory");
         printer.print(&Board::by_law(LARGEST, 0, deal));
         same(&rt, game(LARGEST, &heading, &deal).len(), *length);
         same(&rt, printer.text().len(), *length);
     }
-    Ok(())
 }
 
 const NO_LABELS: [&[u8]; 6] = [
@@ -161,21 +156,19 @@ const NO_LABELS: [&[u8]; 6] = [
 const NO_DATES: [&[u8]; 4] = [b"2024-05-01", b"2024.5.01", b"2024.05.011", b"2O24.05.01"];
 
 #[test]
-fn labels(rt: HostRuntime) -> Result<(), Fail> {
+fn labels(rt: HostRuntime) {
     for text in NO_LABELS.iter() {
         assert!(rt; Label::new(text).is_none());
     }
-    let label = Label::new(b" !#[]~").ok_or("label")?;
+    let label = Label::new(b" !#[]~").expect(&rt, "label");
     same(&rt, label.as_bytes(), b" !#[]~".as_slice());
-    Ok(())
 }
 
 #[test]
-fn dates(rt: HostRuntime) -> Result<(), Fail> {
+fn dates(rt: HostRuntime) {
     for text in NO_DATES.iter() {
         assert!(rt; Date::new(text).is_none());
     }
-    let date = Date::new(b"0000.99.99").ok_or("date")?;
+    let date = Date::new(b"0000.99.99").expect(&rt, "date");
     same(&rt, date.as_bytes(), b"0000.99.99".as_slice());
-    Ok(())
 }

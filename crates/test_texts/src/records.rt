@@ -4,7 +4,6 @@ use crate::support::{Labels, heading_of, push_all, writes, writes_samples};
 use hand_records::HandsPrinter;
 use pbn_text::Heading;
 use std::process::Abort;
-use std::test::Fail;
 
 /// Candidate 0 of seed 0 as board 1.
 const FIRST: &str = "\
@@ -83,13 +82,14 @@ const NUMBERS: [&str; 5] = [
 ];
 
 #[test]
-fn records_of_boards(rt: HostRuntime) -> Result<(), Fail> {
-    let mut text = [FIRST, SECOND, IN_ORDER_TEXT].concat(rt.alloc())?;
+fn records_of_boards(rt: HostRuntime) {
+    let mut text = String::new(rt.alloc());
+    push_all(&rt, &mut text, &[FIRST, SECOND, IN_ORDER_TEXT]);
     for number in NUMBERS.iter() {
-        push_all(&mut text, &[number, WORKED_TEXT])?;
+        push_all(&rt, &mut text, &[number, WORKED_TEXT]);
     }
-    let mut printer = HandsPrinter::new(rt.alloc(), &Heading::none())?;
-    writes_samples(&rt, rt.alloc(), &mut printer, text.as_bytes())
+    let mut printer = HandsPrinter::new(rt.alloc(), &Heading::none()).expect(&rt, "memory");
+    writes_samples(&rt, rt.alloc(), &mut printer, text.as_bytes());
 }
 
 /// Labels, and what stands before the records.
@@ -107,10 +107,9 @@ const HEADERS: [(Labels, &[u8]); 4] = [
 ];
 
 #[test]
-fn headers(rt: HostRuntime) -> Result<(), Fail> {
+fn headers(rt: HostRuntime) {
     for (labels, header) in HEADERS.iter() {
-        let mut printer = HandsPrinter::new(rt.alloc(), &heading_of(labels))?;
-        writes(&rt, rt.alloc(), &mut printer, &[], header)?;
+        let mut printer = HandsPrinter::new(rt.alloc(), &heading_of(labels)).expect(&rt, "memory");
+        writes(&rt, rt.alloc(), &mut printer, &[], header);
     }
-    Ok(())
 }

@@ -1,13 +1,17 @@
 //! Boards that each notation writes, and labels.
 
 use boards::{Board, Notation, Vul};
-use cards::testing::{IN_ORDER, WORKED, deal};
-use cards::{Deal, Seat};
+use cards::testing::{IN_ORDER, WORKED};
+use cards::{Deal, Seat, testing};
 use pbn_text::{Date, Heading, Label};
 use std::alloc::{AllocError, Global};
 use std::fmt::Debug;
 use std::process::Abort;
-use std::test::Fail;
+
+/// The deal of these hands.
+pub fn deal_of(rt: &impl Abort, hands: &[u8]) -> Deal {
+    testing::deal(hands).expect(rt, "thirteen cards each")
+}
 
 /// Candidates 0 and 1 of seed 0.
 const OF_SEED_ZERO: [&[u8]; 2] = [
@@ -28,18 +32,18 @@ fn worked(number: u64, candidate: u64, deal: Deal) -> Board {
 
 /// Boards by Law 2 of the first two candidates and of the pack in order, and the worked deal under
 /// numbers that grow to the largest of a run.
-pub fn sample_boards() -> Result<[Board; 8], Fail> {
-    let last = deal(WORKED)?;
-    Ok([
-        Board::by_law(1, 0, deal(OF_SEED_ZERO[0])?),
-        Board::by_law(2, 1, deal(OF_SEED_ZERO[1])?),
-        Board::by_law(4, 0, deal(IN_ORDER)?),
+fn sample_boards(rt: &impl Abort) -> [Board; 8] {
+    let last = deal_of(rt, WORKED);
+    [
+        Board::by_law(1, 0, deal_of(rt, OF_SEED_ZERO[0])),
+        Board::by_law(2, 1, deal_of(rt, OF_SEED_ZERO[1])),
+        Board::by_law(4, 0, deal_of(rt, IN_ORDER)),
         worked(9, 7, last),
         worked(10, 4_812, last),
         worked(99_999_999_999, 1_099_511_627_775, last),
         worked(100_000_000_000, 7, last),
         worked(1_099_511_627_776, 7, last),
-    ])
+    ]
 }
 
 /// The two values are equal. Tests of many values call this for each.
@@ -54,11 +58,10 @@ pub fn writes<N: Notation>(
     notation: &mut N,
     boards: &[Board],
     text: &[u8],
-) -> Result<(), Fail> {
+) {
     assert!(rt; notation.text().is_empty());
-    let written = written(alloc, notation, boards)?;
-    assert_eq!(rt; written.as_slice(), text);
-    Ok(())
+    let written = written(alloc, notation, boards).expect(rt, "memory");
+    same(rt, written.as_slice(), text);
 }
 
 /// The text of the boards, the header before them and the footer after them.
@@ -77,22 +80,16 @@ fn written<N: Notation>(
 }
 
 /// The notation writes the sample boards as this text.
-pub fn writes_samples<N: Notation>(
-    rt: &impl Abort,
-    alloc: Global,
-    notation: &mut N,
-    text: &[u8],
-) -> Result<(), Fail> {
-    let boards = sample_boards()?;
-    writes(rt, alloc, notation, boards.as_slice(), text)
+pub fn writes_samples<N: Notation>(rt: &impl Abort, alloc: Global, notation: &mut N, text: &[u8]) {
+    let boards = sample_boards(rt);
+    writes(rt, alloc, notation, boards.as_slice(), text);
 }
 
 /// Adds the pieces to the text.
-pub fn push_all(text: &mut String, pieces: &[&str]) -> Result<(), AllocError> {
+pub fn push_all(rt: &impl Abort, text: &mut String, pieces: &[&str]) {
     for piece in pieces {
-        text.push_str(piece)?;
+        text.push_str(piece).expect(rt, "memory");
     }
-    Ok(())
 }
 
 /// The event, the site and the date of a heading.
