@@ -1,5 +1,6 @@
 //! The line and the status of failures that no words bring about.
 
+use crate::support::same;
 use dealrun::{Cause, MemSink};
 use number_input::{LineFault, RefusedLine};
 use requests::Failure;
@@ -46,7 +47,7 @@ fn failures_are_told(rt: HostRuntime) {
     ] {
         let mut err = MemSink::new(rt.alloc());
         assert!(rt; failure.say(&mut err).is_ok());
-        assert_eq!(rt; err.bytes(), line.as_bytes());
-        assert_eq!(rt; failure.status(), status);
+        same(&rt, err.bytes(), line.as_bytes());
+        same(&rt, failure.status(), status);
     }
 }

@@ -3,6 +3,7 @@
 ghost use Rattle.std.specs.Prelude.{◌≡◌, ◌+◌, ◌%◌, ◌∷◌, ◌<◌, [], codes};
 ghost use Rattle.std.proofs.Common.{rules};
 
+use crate::support::same;
 use boards::{Board, Notation};
 use cond_lang::Cond;
 use dealrun::{Cause, Fuse, MemSink, PlainFault, Plan, run_in, run_plain_in};
@@ -10,7 +11,6 @@ use lanes::OpenGate;
 use std::alloc::Global;
 use std::process::Abort;
 use std::sync::{Arc, Wait};
-use std::test::Fail;
 use std::thread::Threads;
 
 /// A line a board: the last digit of its number, a space, and the last digit of its candidate.
@@ -58,30 +58,35 @@ impl Notation for Digits {
 /// Candidates 7 to 11 as boards from 98 on.
 const TEXT: &[u8] = b"begin\n8 7\n9 8\n0 9\n1 0\n2 1\nend\n";
 
+/// The plan of so many candidates of seed 0 from 7 on, as boards from 98 on.
+fn plan_from_7(rt: &impl Abort, count: u64, workers: u32, capacity: u32) -> Plan {
+    let plan = Plan::new(0, 7, count, workers, capacity).expect(rt, "a plan");
+    plan.numbered(98).expect(rt, "a plan")
+}
+
 #[test]
-fn writes_header_boards_and_footer(rt: HostRuntime) -> Result<(), Fail> {
+fn writes_header_boards_and_footer(rt: HostRuntime) {
     for workers in [1, 3, 16] {
         for capacity in [1, 64] {
             for plan in [
-                Plan::new(0, 7, 5, workers, capacity)?.numbered(98)?,
-                Plan::new(0, 7, 200, workers, capacity)?
-                    .numbered(98)?
-                    .limited(5)?,
+                plan_from_7(&rt, 5, workers, capacity),
+                plan_from_7(&rt, 200, workers, capacity)
+                    .limited(5)
+                    .expect(&rt, "a plan"),
             ] {
                 plain_writes_all(&rt, rt.alloc(), &plan);
-                lanes_write_all(&rt, rt.alloc(), &plan)?;
+                lanes_write_all(&rt, rt.alloc(), &plan);
             }
         }
     }
-    Ok(())
 }
 
 /// The plain run writes the five boards.
 fn plain_writes_all(rt: &impl Abort, alloc: Global, plan: &Plan) {
     let mut sink = MemSink::new(alloc);
     let boards = run_plain_in(plan, &Cond::any(alloc), &mut Digits::new(), &mut sink);
-    assert_eq!(rt; boards, Ok(5));
-    assert_eq!(rt; sink.bytes(), TEXT);
+    same(rt, boards, Ok(5));
+    same(rt, sink.bytes(), TEXT);
 }
 
 /// The run over lanes writes the five boards.
@@ -89,26 +94,24 @@ fn lanes_write_all<R: Abort + Threads + Wait + Clone + Send + 'static>(
     rt: &R,
     alloc: Global,
     plan: &Plan,
-) -> Result<(), Fail> {
+) {
     let mut sink = MemSink::new(alloc);
-    let gate = Arc::new(alloc, OpenGate)?;
+    let gate = Arc::new(alloc, OpenGate).expect(rt, "memory");
     let cond = Cond::any(alloc);
     let mut digits = Digits::new();
     let report = run_in(rt, alloc, plan, cond, &mut digits, &mut sink, gate);
-    assert_eq!(rt; report.ok().map(|report| report.boards), Some(5));
-    assert_eq!(rt; sink.bytes(), TEXT);
-    Ok(())
+    same(rt, report.ok().map(|report| report.boards), Some(5));
+    same(rt, sink.bytes(), TEXT);
 }
 
 /// A sink that breaks off in the footer has all boards, which are counted.
 #[test]
-fn breaks_off_in_the_footer(rt: HostRuntime) -> Result<(), Fail> {
-    let plan = Plan::new(0, 7, 5, 3, 64)?.numbered(98)?;
+fn breaks_off_in_the_footer(rt: HostRuntime) {
+    let plan = plan_from_7(&rt, 5, 3, 64);
     for (fails_at, most, bytes) in [(7, 64, 26), (29, 1, 28), (30, 1, 29)] {
         plain_breaks_off(&rt, rt.alloc(), &plan, fails_at, most, &TEXT[..bytes]);
-        lanes_break_off(&rt, rt.alloc(), &plan, fails_at, most, &TEXT[..bytes])?;
+        lanes_break_off(&rt, rt.alloc(), &plan, fails_at, most, &TEXT[..bytes]);
     }
-    Ok(())
 }
 
 /// The plain run has written these bytes, and five boards, when its sink fails.
@@ -124,8 +127,8 @@ fn plain_breaks_off(
 {
     let mut sink = Fuse::new(MemSink::new(alloc), fails_at, most, true);
     let boards = run_plain_in(plan, &Cond::any(alloc), &mut Digits::new(), &mut sink);
-    assert_eq!(rt; boards, Err(PlainFault { boards: 5 }));
-    assert_eq!(rt; sink.bytes(), bytes);
+    same(rt, boards, Err(PlainFault { boards: 5 }));
+    same(rt, sink.bytes(), bytes);
 }
 
 /// The run over lanes has written these bytes, and five boards, when its sink fails.
@@ -136,20 +139,19 @@ fn lanes_break_off<R: Abort + Threads + Wait + Clone + Send + 'static>(
     fails_at: u64,
     most: usize,
     bytes: &[u8],
-) -> Result<(), Fail>
+)
     requires { 0 < most }
 {
     let mut sink = Fuse::new(MemSink::new(alloc), fails_at, most, true);
-    let gate = Arc::new(alloc, OpenGate)?;
+    let gate = Arc::new(alloc, OpenGate).expect(rt, "memory");
     let cond = Cond::any(alloc);
     let mut digits = Digits::new();
     match run_in(rt, alloc, plan, cond, &mut digits, &mut sink, gate) {
         Ok(_) => assert!(rt; false),
         Err(fault) => {
-            assert_eq!(rt; (fault.cause, fault.boards), (Cause::Output, 5));
+            same(rt, (fault.cause, fault.boards), (Cause::Output, 5));
             assert!(rt; fault.lanes.iter().all(|lane| lane.is_settled()));
         }
     }
-    assert_eq!(rt; sink.bytes(), bytes);
-    Ok(())
+    same(rt, sink.bytes(), bytes);
 }

@@ -1,29 +1,27 @@
 //! Runs over lanes that end well: the same bytes as the plain run, whatever the workers and the
 //! capacity.
 
-use crate::support::{run_all, run_plainly};
+use crate::support::{ended, plan_of, run_all, run_all_plainly, run_plainly, same};
 use cond_lang::{Cond, parse};
 use dealrun::{Fuse, MemSink, Plan, run};
 use lanes::OpenGate;
 use std::alloc::Global;
 use std::process::Abort;
 use std::sync::{Arc, Wait};
-use std::test::Fail;
 use std::thread::Threads;
 
 #[test]
-fn writes_the_plain_text(rt: HostRuntime) -> Result<(), Fail> {
+fn writes_the_plain_text(rt: HostRuntime) {
     for text in [b"0==0".as_slice(), b"hcp(north)>=15", b"not hcp(north)>=15"] {
-        let condition = parse(rt.alloc(), text)?;
-        let plan = Plan::new(0, 0, 200, 1, 64)?;
+        let condition = parse(rt.alloc(), text).expect(&rt, "a condition");
+        let plan = plan_of(&rt, 200, 1);
         let mut plain = MemSink::new(rt.alloc());
         let boards = run_plainly(&plan, &condition, &mut plain).ok();
         for (workers, capacity) in [(1, 1), (1, 64), (3, 1), (3, 64), (16, 1), (16, 64)] {
-            let plan = Plan::new(0, 0, 200, workers, capacity)?;
-            writes(&rt, rt.alloc(), &plan, &condition, boards, plain.bytes())?;
+            let plan = Plan::new(0, 0, 200, workers, capacity).expect(&rt, "a plan");
+            writes(&rt, rt.alloc(), &plan, &condition, boards, plain.bytes());
         }
     }
-    Ok(())
 }
 
 /// The run over lanes ends well with these boards and this text.
@@ -34,93 +32,86 @@ fn writes<R: Abort + Threads + Wait + Clone + Send + 'static>(
     condition: &Cond,
     boards: Option<u64>,
     text: &[u8],
-) -> Result<(), Fail> {
-    let (made, sink) = run_in_memory(rt, alloc, plan, condition.try_clone()?)?;
-    assert_eq!(rt; made, boards);
+) {
+    let condition = condition.try_clone().expect(rt, "memory");
+    let (made, sink) = run_in_memory(rt, alloc, plan, condition);
+    same(rt, made, boards);
     assert!(rt; sink.bytes() == text);
-    Ok(())
 }
 
 /// The boards of a run that ends well, and what it wrote.
-fn run_in_memory<R: Threads + Wait + Clone + Send + 'static>(
+fn run_in_memory<R: Abort + Threads + Wait + Clone + Send + 'static>(
     rt: &R,
     alloc: Global,
     plan: &Plan,
     condition: Cond,
-) -> Result<(Option<u64>, MemSink), Fail> {
+) -> (Option<u64>, MemSink) {
     let mut sink = MemSink::new(alloc);
-    let gate = Arc::new(alloc, OpenGate)?;
+    let gate = Arc::new(alloc, OpenGate).expect(rt, "memory");
     let report = run(rt, alloc, plan, condition, &mut sink, gate);
-    Ok((report.ok().map(|report| report.boards), sink))
+    (report.ok().map(|report| report.boards), sink)
 }
 
 /// A sink that takes one byte a write gets the same bytes, as do more workers than candidates, and
 /// a run of none.
 #[test]
-fn writes_the_plain_text_byte_by_byte(rt: HostRuntime) -> Result<(), Fail> {
-    for (count, workers, boards, bytes) in [(200, 3, 200, 25_052), (3, 16, 3, 381), (0, 1, 0, 10)] {
-        let plan = Plan::new(0, 0, count, workers, 64)?;
-        let mut plain = MemSink::new(rt.alloc());
-        let made = run_plainly(&plan, &Cond::any(rt.alloc()), &mut plain);
-        assert_eq!(rt; made, Ok(boards));
-        let (made, sink) = run_byte_by_byte(&rt, rt.alloc(), &plan)?;
-        assert_eq!(rt; made, Some(boards));
-        assert_eq!(rt; sink.bytes().len(), bytes);
-        assert!(rt; sink.bytes() == plain.bytes());
+fn writes_the_plain_text_byte_by_byte(rt: HostRuntime) {
+    for (count, workers, bytes) in [(200, 3, 25_052), (3, 16, 381), (0, 1, 10)] {
+        let plan = plan_of(&rt, count, workers);
+        let (boards, plain) = run_all_plainly(rt.alloc(), &plan);
+        same(&rt, (boards, plain.bytes().len()), (Ok(count), bytes));
+        writes_byte_by_byte(&rt, rt.alloc(), &plan, count, plain.bytes());
     }
-    let mut none = MemSink::new(rt.alloc());
-    let empty = Plan::new(0, 0, 0, 1, 64)?;
-    assert_eq!(rt;
-        run_plainly(&empty, &Cond::any(rt.alloc()), &mut none),
-        Ok(0)
-    );
-    assert_eq!(rt; none.bytes(), b"% PBN 2.1\n".as_slice());
-    Ok(())
 }
 
-/// The boards of a run over all deals that ends well, and what it wrote, a byte at a time.
-fn run_byte_by_byte<R: Threads + Wait + Clone + Send + 'static>(
+/// The run over lanes writes so many boards as this text, a byte at a time.
+fn writes_byte_by_byte<R: Abort + Threads + Wait + Clone + Send + 'static>(
     rt: &R,
     alloc: Global,
     plan: &Plan,
-) -> Result<(Option<u64>, Fuse), Fail> {
+    boards: u64,
+    text: &[u8],
+) {
     let mut sink = Fuse::new(MemSink::new(alloc), 0, 1, true);
-    let gate = Arc::new(alloc, OpenGate)?;
-    let report = run_all(rt, alloc, plan, &mut sink, gate);
-    Ok((report.ok().map(|report| report.boards), sink))
+    let end = ended(rt, alloc, plan, &mut sink, OpenGate);
+    same(rt, end, Ok(boards));
+    assert!(rt; sink.bytes() == text);
+}
+
+#[test]
+fn writes_the_header_of_no_boards(rt: HostRuntime) {
+    let empty = plan_of(&rt, 0, 1);
+    let (boards, none) = run_all_plainly(rt.alloc(), &empty);
+    same(&rt, boards, Ok(0));
+    same(&rt, none.bytes(), b"% PBN 2.1\n".as_slice());
 }
 
 /// With a limit no candidate is taken after it is met, and what is left of a lane comes next.
 #[test]
-fn stops_at_a_limit(rt: HostRuntime) -> Result<(), Fail> {
-    let plan = Plan::new(0, 0, 200, 3, 64)?.limited(5)?;
+fn stops_at_a_limit(rt: HostRuntime) {
+    let plan = plan_of(&rt, 200, 3).limited(5).expect(&rt, "a plan");
     let mut sink = MemSink::new(rt.alloc());
-    let gate = Arc::new(rt.alloc(), OpenGate)?;
-    match run_all(&rt, rt.alloc(), &plan, &mut sink, gate) {
-        Ok(mut report) => {
-            assert_eq!(rt; report.boards, 5);
-            for (lane, number) in report.lanes.iter_mut().zip([6, 7, 5]) {
-                assert!(rt; lane.take().is_none_or(|verdict| verdict.number == number));
-            }
-        }
-        Err(_) => assert!(rt; false),
+    let gate = Arc::new(rt.alloc(), OpenGate).expect(&rt, "memory");
+    let end = run_all(&rt, rt.alloc(), &plan, &mut sink, gate);
+    let mut report = end.ok().expect(&rt, "a report");
+    same(&rt, report.boards, 5);
+    for (lane, number) in report.lanes.iter_mut().zip([6, 7, 5]) {
+        assert!(rt; lane.take().is_none_or(|verdict| verdict.number == number));
     }
-    assert_eq!(rt; sink.bytes().len(), 628);
-    Ok(())
+    same(&rt, sink.bytes().len(), 628);
 }
 
 #[test]
-fn has_limits_past_the_end(rt: HostRuntime) -> Result<(), Fail> {
+fn has_limits_past_the_end(rt: HostRuntime) {
     for (text, limit, boards, bytes) in [
         (b"0==0".as_slice(), 200, 200, 25_052),
         (b"0==0", 201, 200, 25_052),
         (b"shape(north,9-9-9-9)", 5, 0, 10),
     ] {
-        let plan = Plan::new(0, 0, 200, 3, 64)?.limited(limit)?;
-        let condition = parse(rt.alloc(), text)?;
-        let (made, sink) = run_in_memory(&rt, rt.alloc(), &plan, condition)?;
-        assert_eq!(rt; made, Some(boards));
-        assert_eq!(rt; sink.bytes().len(), bytes);
+        let plan = plan_of(&rt, 200, 3).limited(limit).expect(&rt, "a plan");
+        let condition = parse(rt.alloc(), text).expect(&rt, "a condition");
+        let (made, sink) = run_in_memory(&rt, rt.alloc(), &plan, condition);
+        same(&rt, made, Some(boards));
+        same(&rt, sink.bytes().len(), bytes);
     }
-    Ok(())
 }
