@@ -1,6 +1,9 @@
 //! The commands and options of `deals`, as `clap` knows them, with their help.
 #![tactic(auto)]
 
+mod commands;
 mod options;
+mod row;
+mod texts;
 
-pub use options::{command, named_command};
+pub use commands::{command, named_command};
