@@ -10,6 +10,18 @@ pub(crate) fn say(alloc: Global, pieces: &[&[u8]]) -> Said {
     Ok(Some(joined(alloc, pieces)?))
 }
 
+/// Tells to begin with what is asked of the seat.
+pub(crate) fn say_seat_comes_second(alloc: Global, seat: &[u8]) -> Said {
+    say(
+        alloc,
+        &[
+            b"begin with what you ask of the seat, as in hcp(",
+            seat,
+            b")",
+        ],
+    )
+}
+
 /// The pieces, one behind the other.
 pub(crate) fn joined(alloc: Global, pieces: &[&[u8]]) -> Result<Vec<u8>, AllocError> {
     let mut text = Vec::new(alloc);

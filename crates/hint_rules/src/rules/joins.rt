@@ -3,7 +3,7 @@
 use crate::kinds::Kinds;
 use crate::parts::{Parts, are_ranks, is, is_number, is_relation, is_seat, is_suit, is_word};
 use crate::rules::samples::comparison;
-use crate::said::{Said, first_of, say};
+use crate::said::{Said, first_of, say, say_seat_comes_second};
 use cond_lang::Kind;
 use std::alloc::Global;
 
@@ -66,14 +66,7 @@ fn seat_first(alloc: Global, parts: &Parts) -> Said {
     if !is_seat(seat) {
         return Ok(None);
     }
-    say(
-        alloc,
-        &[
-            b"begin with what you ask of the seat, as in hcp(",
-            seat,
-            b")",
-        ],
-    )
+    say_seat_comes_second(alloc, seat)
 }
 
 /// `>=15`, or the second half of `<>`.

@@ -2,7 +2,7 @@
 
 use crate::parts::{Parts, is, is_seat};
 use crate::rules::names::meant_in;
-use crate::said::{Said, first_of, say};
+use crate::said::{Said, first_of, say, say_seat_comes_second};
 use std::alloc::Global;
 
 /// ASCII signs, and what a person means by each.
@@ -98,14 +98,7 @@ fn behind_a_seat(alloc: Global, parts: &Parts, in_lengths: bool) -> Said {
     if in_lengths || !is(parts.next(0), ".") || !is_seat(seat) {
         return Ok(None);
     }
-    say(
-        alloc,
-        &[
-            b"begin with what you ask of the seat, as in hcp(",
-            seat,
-            b")",
-        ],
-    )
+    say_seat_comes_second(alloc, seat)
 }
 
 /// What is said of a sign, by itself and by what stands behind it.
