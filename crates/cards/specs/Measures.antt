@@ -1,5 +1,6 @@
 -- The measures of a hand: the table of what each counts.
-use Rattle.std.specs.Prelude.{◌≡◌, ℕ, List, [], ◌∷◌, Option, Some, None, refl, slice_get, unwrap_or}
+use Rattle.std.specs.Prelude.{◌≡◌, ℕ, List, [], ◌∷◌, Option, Some, None, IfSome, length, refl, slice_get}
+use Rattle.std.specs.Prelude.{unwrap_or}
 use Rattle.cards.specs.declared.measure.Measure.{Measure}
 use Rattle.cards.specs.declared.measure.Measure.TheVariants.{Hcp, Controls, Losers}
 
@@ -8,6 +9,12 @@ abbrev pub weights_of : Measure → Option (List ℕ)
 weights_of Hcp = Some (4 ∷ 3 ∷ 2 ∷ 1 ∷ [])
 weights_of Controls = Some (2 ∷ 1 ∷ 0 ∷ 0 ∷ [])
 weights_of Losers = None
+
+-- four ranks are weighed
+pub four_weights : (m : Measure) → IfSome (weights_of m) (λ w. length w ≡ 4)
+four_weights Hcp = refl
+four_weights Controls = refl
+four_weights Losers = tt
 
 -- all measures
 abbrev pub measures : List Measure

@@ -26,10 +26,10 @@ impl Measure {
         self as usize
     }
 
-    /// What an ace, a king, a queen and a jack count, at most 10 together. Losers have none: ranks
-    /// alone don't count them.
+    /// Returns what an ace, a king, a queen and a jack count, at most 10 together. Losers have
+    /// none: ranks alone don't count them.
     #[inline(always)]
-    pub(crate) fn weights(self) -> Option<[u8; 4]>
+    pub fn weights(self) -> Option<[u8; 4]>
         ensures value { result ≡ weights_of self }
         ensures light { IfSome result (λ w. sum w ≤ 10) }
     {

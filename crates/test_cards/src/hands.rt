@@ -66,6 +66,12 @@ fn counts_of_hands(rt: HostRuntime) {
     }
 }
 
+#[test]
+fn weights_of_measures(rt: HostRuntime) {
+    let weights = MEASURES.map(|measure| measure.weights());
+    same(&rt, weights, [Some([4, 3, 2, 1]), Some([2, 1, 0, 0]), None]);
+}
+
 /// The hand has what is counted.
 fn hand_has(rt: &impl Abort, hand: &Hand, (points, controls, losers, shape): Counts) {
     same(rt, (hand.points(), hand.losers()), (points, losers));
