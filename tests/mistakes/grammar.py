@@ -1,8 +1,11 @@
 """A reader of another kind than the program's, which keeps a state and counts brackets: why a text is refused, where, and
-what could stand there; and random texts for it. Written from docs/CONDITIONS.md alone."""
+what could stand there; and random texts for it. Written from docs/CONDITIONS.md alone; the words that count a hand are
+those of tests/conditions."""
 
 import dataclasses
 import re
+
+import language
 
 WORDS = {
     "or": "or",
@@ -11,9 +14,7 @@ WORDS = {
     "balanced": "balanced",
     "shape": "shape",
     "pattern": "shape",
-    "hcp": "measure",
-    "controls": "measure",
-    "losers": "measure",
+    **dict.fromkeys(language.MEASURES, "measure"),
     "cards": "cards",
     "len": "len",
     "longest": "longest",

@@ -1,5 +1,5 @@
 -- What a hand of thirteen cards is at the most.
-use Rattle.std.proofs.Common.{◌≡◌, ◌≤◌, ◌+◌, ◌-◌, ◌/◌, ◌%◌, ◌&&◌, ◌==◌, ◌∙◌, ℕ, zero, suc, Bool, true, false, cond, List, [], ◌∷◌, ap, arith, get_or, length, map, max, min, refl, sym}
+use Rattle.std.proofs.Common.{◌≡◌, ◌≤◌, ◌+◌, ◌/◌, ◌&&◌, ◌==◌, ◌∙◌, ℕ, zero, suc, Bool, true, false, cond, List, [], ◌∷◌, ap, arith, length, map, max, min, refl, sym}
 use Rattle.std.specs.List.{sum_by}
 use Rattle.std.proofs.lemmas.Bool.{true≢false}
 use Rattle.std.proofs.lemmas.List.{get_or_past}
@@ -8,10 +8,9 @@ use Rattle.std.proofs.lemmas.List.Sums.{sum_by-cons}
 use Rattle.cards.specs.declared.seat.Seat.{Seat}
 use Rattle.cards.specs.declared.suit.Suit.TheVariants.{Spades, Hearts, Diamonds, Clubs}
 use Rattle.cards.specs.Deals.{IsPartition}
-use Rattle.cards.specs.Hands.{hand_of, holds_card, length_of, points_of}
+use Rattle.cards.specs.Hands.{hand_of, holds_card, length_of}
 use Rattle.cards.specs.Pack.{seat_number}
 use Rattle.cards.specs.Shuffle.{pack}
-use Rattle.cards.proofs.MaskCounts.{sum_by-le}
 
 -- ---- thirteen cards
 
@@ -38,35 +37,9 @@ thirteen deal q ok =
     ∙ counted (λ holder. seat_number holder == seat_number q) deal
     ∙ ok.thirteen q
 
--- ---- points
-
-both : (f g : ℕ → ℕ) (xs : List ℕ) → sum_by (λ x. f x + g x) xs ≡ sum_by f xs + sum_by g xs
+pub both : (f g : ℕ → ℕ) (xs : List ℕ) → sum_by (λ x. f x + g x) xs ≡ sum_by f xs + sum_by g xs
 both f g [] = refl
 both f g (x ∷ xs) = omega (arith, sum_by-cons (λ y. f y + g y) x xs, sum_by-cons f x xs, sum_by-cons g x xs, both f g xs)
-
--- what a card counts is 1 if it is held, and what it counts above 1
-above_one : (w : ℕ) (b : Bool) → cond b w 0 ≤ (w - 1) + cond b 1 0
-above_one w true = omega arith
-above_one w false = omega arith
-
-abbrev weight : ℕ → ℕ
-weight c = get_or (4 ∷ 3 ∷ 2 ∷ 1 ∷ []) (c % 13) 0
-
-more_than_one : sum_by (λ c. weight c - 1) pack ≡ 24
-unfolding pack
-more_than_one = refl
-
-pub points_most : (deal : List Seat) (q : Seat) → IsPartition deal → points_of (hand_of deal q) ≤ 37
-points_most deal q ok =
-    let hand : List Bool = hand_of deal q in
-    omega (
-      arith,
-      sum_by-le (λ c. cond (holds_card hand c) (weight c) 0) (λ c. (weight c - 1) + cond (holds_card hand c) 1 0)
-          (λ c. above_one (weight c) (holds_card hand c)) pack,
-      both (λ c. weight c - 1) (λ c. cond (holds_card hand c) 1 0) pack,
-      more_than_one,
-      thirteen deal q ok,
-    )
 
 -- ---- lengths
 

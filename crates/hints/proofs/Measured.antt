@@ -1,48 +1,99 @@
--- What a hand counts at the most, however many cards it has.
-use Rattle.std.proofs.Common.{◌≡◌, ◌≤◌, ◌+◌, ◌*◌, ◌%◌, ◌&&◌, ℕ, min, not, Bool, true, false, cond, List, [], ◌∷◌, arith, get_or, refl}
+-- What a hand counts at the most.
+use Rattle.std.proofs.Common.{◌≡◌, ◌≤◌, ◌+◌, ◌-◌, ◌*◌, ◌%◌, ◌&&◌, ℕ, min, not, Bool, true, false, cond, List, [], ◌∷◌, ap, arith, get_or, length, option_map, unwrap_or, IfSome, Option, Some, None, sum}
 use Rattle.std.specs.List.{range_with_len, sum_by}
 use Rattle.std.proofs.lemmas.List.FromFn.{length-range_with_len}
-use Rattle.std.proofs.lemmas.List.Sums.{count_by-le-length}
+use Rattle.std.proofs.lemmas.List.Sums.{count_by-le-length, sum_by-cons}
 use Rattle.cards.specs.declared.honours.Honours.{Honours}
+use Rattle.cards.specs.declared.measure.Measure.{Measure}
+use Rattle.cards.specs.declared.seat.Seat.{Seat}
 use Rattle.cards.specs.declared.suit.Suit.{Suit}
 use Rattle.cards.specs.declared.suit.Suit.TheVariants.{Spades, Hearts, Diamonds, Clubs}
-use Rattle.cards.specs.Hands.{has_honour, holds_card, holds_in, honours_in, honours_of, length_of, losers_in, losers_of, weight_in, weight_of}
+use Rattle.cards.specs.Deals.{IsPartition}
+use Rattle.cards.specs.Hands.{hand_of, has_honour, holds_card, holds_in, honours_in, honours_of, length_of, losers_in, losers_of, total_in, total_of, weight_in, weight_of}
+use Rattle.cards.specs.Measures.{four_weights, weights_of}
 use Rattle.cards.specs.Pack.{is_in_suit, rank_of, suit_number}
 use Rattle.cards.specs.Shuffle.{pack}
 use Rattle.cards.proofs.MaskCounts.{both-le, cond-le, sum_by-le}
-use Rattle.hints.specs.Limits.{rank_count}
+use Rattle.hints.specs.Limits.{least_weight, most_in, most_of, rank_count}
+use Rattle.hints.proofs.Bounds.{both, thirteen}
 
--- ---- controls
+-- ---- weights
 
-abbrev control : ℕ → ℕ
-control c = get_or (2 ∷ 1 ∷ 0 ∷ 0 ∷ []) (c % 13) 0
+-- what a card counts is the least weight if it is held, and what it counts above that
+above : (least w : ℕ) (b : Bool) → cond b w 0 ≤ (w - least) + cond b least 0
+above least w true = omega arith
+above least w false = omega arith
 
-all_controls : sum_by control pack ≡ 12
+above_least : (a k q j least : ℕ) → sum_by (λ c. get_or (a ∷ k ∷ q ∷ j ∷ []) (c % 13) 0 - least) pack
+    ≡ 4 * ((a - least) + (k - least) + (q - least) + (j - least))
 unfolding pack
-all_controls = refl
+above_least a k q j least = omega arith
 
-pub controls_most : (hand : List Bool) → weight_of (2 ∷ 1 ∷ 0 ∷ 0 ∷ []) hand ≤ 12
-controls_most hand = omega (arith, all_controls, sum_by-le (λ c. cond (holds_card hand c) (control c) 0) control (λ c. cond-le (control c) (holds_card hand c)) pack)
+one_of : (n : ℕ) (b : Bool) → cond b n 0 ≡ n * cond b 1 0
+one_of n true = omega arith
+one_of n false = omega arith
 
-suit_controls : (suit : Suit) → sum_by (λ c. cond (is_in_suit suit c) (control c) 0) pack ≡ 3
-unfolding pack
-suit_controls Spades = refl
-suit_controls Hearts = refl
-suit_controls Diamonds = refl
-suit_controls Clubs = refl
-
-pub suit_controls_most : (hand : List Bool) (suit : Suit) → weight_in (2 ∷ 1 ∷ 0 ∷ 0 ∷ []) hand suit ≤ 3
-suit_controls_most hand suit =
+of_each : (n : ℕ) (p : ℕ → Bool) (xs : List ℕ) → sum_by (λ c. cond (p c) n 0) xs ≡ n * sum_by (λ c. cond (p c) 1 0) xs
+of_each n p [] = omega arith
+of_each n p (x ∷ xs) =
     omega (
       arith,
-      suit_controls suit,
-      sum_by-le (λ c. cond (holds_in hand suit c) (control c) 0) (λ c. cond (is_in_suit suit c) (control c) 0)
-          (λ c. both-le (control c) (is_in_suit suit c) (holds_card hand c)) pack,
+      sum_by-cons (λ c. cond (p c) n 0) x xs,
+      ap (λ k. n * k) (sum_by-cons (λ c. cond (p c) 1 0) x xs),
+      one_of n (p x),
+      of_each n p xs,
     )
+
+-- of the sixteen honours a hand of thirteen cards lacks three
+weight_most : (w : List ℕ) (deal : List Seat) (q : Seat) → IsPartition deal → length w ≡ 4
+    → weight_of w (hand_of deal q) ≤ 4 * sum w - 3 * least_weight w
+weight_most (a ∷ k ∷ u ∷ j ∷ []) deal q ok four =
+    let w : List ℕ = a ∷ k ∷ u ∷ j ∷ [] in
+    let least : ℕ = least_weight w in
+    let hand : List Bool = hand_of deal q in
+    omega (
+      arith,
+      sum_by-le (λ c. cond (holds_card hand c) (get_or w (c % 13) 0) 0)
+          (λ c. (get_or w (c % 13) 0 - least) + cond (holds_card hand c) least 0)
+          (λ c. above least (get_or w (c % 13) 0) (holds_card hand c)) pack,
+      both (λ c. get_or w (c % 13) 0 - least) (λ c. cond (holds_card hand c) least 0) pack,
+      above_least a k u j least,
+      of_each least (holds_card hand) pack,
+      ap (λ n. least * n) (thirteen deal q ok),
+    )
+weight_most [] deal q ok four = absurd (omega (arith, four))
+weight_most (a ∷ []) deal q ok four = absurd (omega (arith, four))
+weight_most (a ∷ k ∷ []) deal q ok four = absurd (omega (arith, four))
+weight_most (a ∷ k ∷ u ∷ []) deal q ok four = absurd (omega (arith, four))
+weight_most (a ∷ k ∷ u ∷ j ∷ x ∷ xs) deal q ok four = absurd (omega (arith, four))
+
+in_suit : (a k q j : ℕ) (suit : Suit)
+    → sum_by (λ c. cond (is_in_suit suit c) (get_or (a ∷ k ∷ q ∷ j ∷ []) (c % 13) 0) 0) pack ≡ a + k + q + j
+unfolding pack
+in_suit a k q j Spades = omega arith
+in_suit a k q j Hearts = omega arith
+in_suit a k q j Diamonds = omega arith
+in_suit a k q j Clubs = omega arith
+
+suit_weight_most : (w : List ℕ) (hand : List Bool) (suit : Suit) → length w ≡ 4 → weight_in w hand suit ≤ sum w
+suit_weight_most (a ∷ k ∷ u ∷ j ∷ []) hand suit four =
+    let w : List ℕ = a ∷ k ∷ u ∷ j ∷ [] in
+    omega (
+      arith,
+      in_suit a k u j suit,
+      sum_by-le (λ c. cond (holds_in hand suit c) (get_or w (c % 13) 0) 0)
+          (λ c. cond (is_in_suit suit c) (get_or w (c % 13) 0) 0)
+          (λ c. both-le (get_or w (c % 13) 0) (is_in_suit suit c) (holds_card hand c)) pack,
+    )
+suit_weight_most [] hand suit four = absurd (omega (arith, four))
+suit_weight_most (a ∷ []) hand suit four = absurd (omega (arith, four))
+suit_weight_most (a ∷ k ∷ []) hand suit four = absurd (omega (arith, four))
+suit_weight_most (a ∷ k ∷ u ∷ []) hand suit four = absurd (omega (arith, four))
+suit_weight_most (a ∷ k ∷ u ∷ j ∷ x ∷ xs) hand suit four = absurd (omega (arith, four))
 
 -- ---- losers
 
-pub suit_losers_most : (hand : List Bool) (suit : Suit) → losers_in hand suit ≤ 3
+suit_losers_most : (hand : List Bool) (suit : Suit) → losers_in hand suit ≤ 3
 suit_losers_most hand suit =
     let n : ℕ = min (length_of hand suit) 3 in
     omega (
@@ -51,8 +102,27 @@ suit_losers_most hand suit =
       length-range_with_len 0 n,
     )
 
-pub losers_most : (hand : List Bool) → losers_of hand ≤ 12
+losers_most : (hand : List Bool) → losers_of hand ≤ 12
 losers_most hand = omega (arith, suit_losers_most hand Spades, suit_losers_most hand Hearts, suit_losers_most hand Diamonds, suit_losers_most hand Clubs)
+
+-- ---- measures
+
+by_weights : (o : Option (List ℕ)) (deal : List Seat) (q : Seat) → IsPartition deal → IfSome o (λ w. length w ≡ 4)
+    → unwrap_or (option_map (λ w. weight_of w (hand_of deal q)) o) (losers_of (hand_of deal q))
+    ≤ unwrap_or (option_map (λ w. 4 * sum w - 3 * least_weight w) o) 12
+by_weights (Some w) deal q ok four = weight_most w deal q ok four
+by_weights None deal q ok four = losers_most (hand_of deal q)
+
+pub measure_most : (m : Measure) (deal : List Seat) (q : Seat) → IsPartition deal → total_of m (hand_of deal q) ≤ most_of m
+measure_most m deal q ok = by_weights (weights_of m) deal q ok (four_weights m)
+
+in_suit_by_weights : (o : Option (List ℕ)) (hand : List Bool) (suit : Suit) → IfSome o (λ w. length w ≡ 4)
+    → unwrap_or (option_map (λ w. weight_in w hand suit) o) (losers_in hand suit) ≤ unwrap_or (option_map sum o) 3
+in_suit_by_weights (Some w) hand suit four = suit_weight_most w hand suit four
+in_suit_by_weights None hand suit four = suit_losers_most hand suit
+
+pub suit_measure_most : (m : Measure) (hand : List Bool) (suit : Suit) → total_in m hand suit ≤ most_in m
+suit_measure_most m hand suit = in_suit_by_weights (weights_of m) hand suit (four_weights m)
 
 -- ---- ranks
 

@@ -1,19 +1,18 @@
 -- The least and the greatest that a value is, and what the truth of tests says of numbers.
-use Rattle.std.proofs.Common.{◌≡◌, ◌≤◌, ◌+◌, ◌&&◌, ◌||◌, ◌==◌, ◌⊎◌, ℕ, not, Bool, true, false, List, [], ◌∷◌, arith, inl, inr, nat_le, nat_lt, refl}
+use Rattle.std.proofs.Common.{◌≡◌, ◌≤◌, ◌+◌, ◌&&◌, ◌||◌, ◌==◌, ◌⊎◌, ℕ, not, Bool, true, false, List, arith, inl, inr, nat_le, nat_lt, refl}
 use Rattle.std.proofs.lemmas.Bool.Decides.{nat_tests}
-use Rattle.cards.specs.declared.measure.Measure.TheVariants.{Hcp, Controls, Losers}
+use Rattle.cards.specs.declared.measure.Measure.TheVariants.{Hcp}
 use Rattle.cards.specs.declared.seat.Seat.{Seat}
 use Rattle.cards.specs.declared.suit.Suit.TheVariants.{Spades, Hearts, Diamonds, Clubs}
 use Rattle.cards.specs.Deals.{IsPartition}
 use Rattle.cards.specs.Hands.{hand_of}
 use Rattle.cards.proofs.MaskCounts.{length_of-le}
-use Rattle.cards.proofs.WeightedCounts.{weight_in-most}
 use Rattle.cond_lang.specs.Form.{Amount, cards_held, longest, number, points, shortest, suit_cards_held, suit_length, suit_points, suit_total, total}
 use Rattle.cond_lang.specs.Form.{sum as plus}
 use Rattle.cond_lang.specs.Meaning.{value_in}
 use Rattle.hints.specs.Limits.{greatest_of, least_of}
-use Rattle.hints.proofs.Bounds.{lengths_add, longest_least, longest_most, points_most, shortest_most}
-use Rattle.hints.proofs.Measured.{cards_most, controls_most, losers_most, suit_cards_most, suit_controls_most, suit_losers_most}
+use Rattle.hints.proofs.Bounds.{lengths_add, longest_least, longest_most, shortest_most}
+use Rattle.hints.proofs.Measured.{cards_most, measure_most, suit_cards_most, suit_measure_most}
 
 -- ---- values
 
@@ -33,14 +32,10 @@ at_least deal ok (shortest q) = omega arith
 pub at_most : (deal : List Seat) → IsPartition deal → (a : Amount) → value_in deal a ≤ greatest_of a
 at_most deal ok (plus a b) = omega (arith, at_most deal ok a, at_most deal ok b)
 at_most deal ok (number n) = omega arith
-at_most deal ok (points q) = points_most deal q ok
-at_most deal ok (suit_points q s) = weight_in-most (4 ∷ 3 ∷ 2 ∷ 1 ∷ []) (hand_of deal q) s refl (omega arith)
-at_most deal ok (total Hcp q) = points_most deal q ok
-at_most deal ok (total Controls q) = controls_most (hand_of deal q)
-at_most deal ok (total Losers q) = losers_most (hand_of deal q)
-at_most deal ok (suit_total Hcp q s) = weight_in-most (4 ∷ 3 ∷ 2 ∷ 1 ∷ []) (hand_of deal q) s refl (omega arith)
-at_most deal ok (suit_total Controls q s) = suit_controls_most (hand_of deal q) s
-at_most deal ok (suit_total Losers q s) = suit_losers_most (hand_of deal q) s
+at_most deal ok (points q) = measure_most Hcp deal q ok
+at_most deal ok (suit_points q s) = suit_measure_most Hcp (hand_of deal q) s
+at_most deal ok (total m q) = measure_most m deal q ok
+at_most deal ok (suit_total m q s) = suit_measure_most m (hand_of deal q) s
 at_most deal ok (cards_held q h) = cards_most h (hand_of deal q)
 at_most deal ok (suit_cards_held q s h) = suit_cards_most h (hand_of deal q) s
 at_most deal ok (suit_length q s) = length_of-le (hand_of deal q) s

@@ -1,8 +1,9 @@
 -- The least and the greatest number that a value of any deal is.
-use Rattle.std.specs.Prelude.{ℕ, ◌+◌, ◌*◌, cond}
+use Rattle.std.specs.Prelude.{ℕ, ◌+◌, ◌-◌, ◌*◌, List, cond, min, option_map, slice_index_or}
+use Rattle.std.specs.Prelude.{sum, unwrap_or}
 use Rattle.cards.specs.declared.honours.Honours.{Honours}
 use Rattle.cards.specs.declared.measure.Measure.{Measure}
-use Rattle.cards.specs.declared.measure.Measure.TheVariants.{Hcp, Controls, Losers}
+use Rattle.cards.specs.Measures.{weights_of}
 use Rattle.cond_lang.specs.Form.{Amount, cards_held, longest, number, points, shortest}
 use Rattle.cond_lang.specs.Form.{suit_cards_held, suit_length, suit_points, suit_total, total}
 use Rattle.cond_lang.specs.Form.{sum as plus}
@@ -12,16 +13,19 @@ abbrev pub rank_count : Honours → ℕ
 rank_count h =
     cond h.ace 1 0 + cond h.king 1 0 + cond h.queen 1 0 + cond h.jack 1 0 + cond h.ten 1 0
 
--- the most that a hand counts by a measure, and that its cards of one suit count
-abbrev pub most_of : Measure → ℕ
-most_of Hcp = 37
-most_of Controls = 12
-most_of Losers = 12
+-- the least of the weights of four ranks
+abbrev pub least_weight : List ℕ → ℕ
+least_weight w =
+    min (min (slice_index_or w 0 0) (slice_index_or w 1 0))
+    (min (slice_index_or w 2 0) (slice_index_or w 3 0))
 
+-- the most that a hand counts by a measure: of the sixteen honours it lacks three
+abbrev pub most_of : Measure → ℕ
+most_of m = unwrap_or (option_map (λ w. 4 * sum w - 3 * least_weight w) (weights_of m)) 12
+
+-- and the most that its cards of one suit count
 abbrev pub most_in : Measure → ℕ
-most_in Hcp = 10
-most_in Controls = 3
-most_in Losers = 3
+most_in m = unwrap_or (option_map sum (weights_of m)) 3
 
 -- the least and the greatest that a value is, as far as each of its parts says
 abbrev pub least_of : Amount → ℕ

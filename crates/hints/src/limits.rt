@@ -1,9 +1,10 @@
 //! The least and the greatest number that a value of any deal is.
 
-ghost use Rattle.std.specs.Prelude.{◌≡◌, ◌*◌, ◌≤◌};
+ghost use Rattle.std.specs.Prelude.{◌≡◌, ◌*◌, ◌≤◌, sum};
 ghost use Rattle.cond_lang.specs.Form.{amount_of};
 ghost use Rattle.cond_lang.specs.Limits.{atoms_of};
-ghost use Rattle.hints.specs.Limits.{greatest_of, least_of, most_in, most_of, rank_count};
+ghost use Rattle.hints.specs.Limits.{greatest_of, least_of, least_weight, most_in, most_of};
+ghost use Rattle.hints.specs.Limits.{rank_count};
 
 use cards::{Honours, Measure};
 use cond_lang::Value;
@@ -42,14 +43,14 @@ pub(crate) fn greatest(value: &Value) -> u32
     }
 }
 
-/// The most that a hand counts by the measure.
+/// The most that a hand counts by the measure. Of the sixteen honours it lacks three.
 fn most_of(measure: Measure) -> u32
     ensures value { result ≡ most_of measure }
-    ensures few { result ≤ 37 }
+    ensures few { result ≤ 40 }
 {
-    match measure {
-        Measure::Hcp => 37,
-        Measure::Controls | Measure::Losers => 12,
+    match measure.weights() {
+        Some(weights) => 4 * total_weight(weights) - 3 * least_weight(weights),
+        None => 12,
     }
 }
 
@@ -58,10 +59,27 @@ fn most_in(measure: Measure) -> u32
     ensures value { result ≡ most_in measure }
     ensures few { result ≤ 10 }
 {
-    match measure {
-        Measure::Hcp => 10,
-        Measure::Controls | Measure::Losers => 3,
+    match measure.weights() {
+        Some(weights) => total_weight(weights),
+        None => 3,
     }
+}
+
+/// The weights of four ranks together.
+fn total_weight(weights: [u8; 4]) -> u32
+    ensures value { result ≡ sum weights }
+{
+    let [ace, king, queen, jack] = weights;
+    u32::from(ace) + u32::from(king) + u32::from(queen) + u32::from(jack)
+}
+
+/// The least of the weights.
+fn least_weight(weights: [u8; 4]) -> u32
+    ensures value { result ≡ least_weight weights }
+    ensures few { result ≤ sum weights }
+{
+    let [ace, king, queen, jack] = weights;
+    u32::from(ace.min(king).min(queen.min(jack)))
 }
 
 /// How many ranks these are.
