@@ -86,3 +86,16 @@ def run(command, shim, fault, at, stderr=subprocess.PIPE, given=b""):
 
 def scratch():
     return tempfile.TemporaryDirectory(prefix="faults-")
+
+
+def all_of(terminal):
+    """What a terminal was given, whose other end is closed. It may come in several pieces."""
+    said = b""
+    while True:
+        try:
+            piece = os.read(terminal, 65536)
+        except OSError:
+            return said
+        if not piece:
+            return said
+        said += piece
