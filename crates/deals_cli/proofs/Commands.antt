@@ -8,6 +8,7 @@ use Rattle.clap.specs.declared.builder.value_parser.ValueParser.TheVariants.{Uns
 use Rattle.clap.proofs.ValueTestLemmas.{accepts-Accepts}
 use Rattle.commands.specs.Commands.{count_parser, deals, flag_rule, option_rule, required, u32_parser}
 use Rattle.deals_cli.specs.internal.Readings.{Gives32, GivesUpTo, HasValue, MakeValues, MayGive32, MayGive64, StreamValues}
+use Rattle.deals_cli.proofs.Plain.{plain_of}
 use Rattle.deals_cli.proofs.Walks.{PlainRules, absent_value, given_value, level_checked, level_passing, passed_value, required_given}
 
 abbrev first_shape : List Shape → Shape
@@ -34,156 +35,17 @@ conditions_built = first_shape (rest_of (rest_of (rest_of (built deals).subs)))
 abbrev pub stream_built : Shape
 stream_built = first_shape (rest_of (rest_of (rest_of (rest_of (built deals).subs))))
 
-plain_stream : PlainRules stream_built.rules
-plain_stream = record {
-  own = λ a is. elim is [
-    | inl e ↦ rw e refl
-    | inr (inl e) ↦ rw e refl
-    | inr (inr (inl e)) ↦ rw e refl
-    | inr (inr (inr bad)) ↦ absurd bad
-  ];
-  acts = λ a is. elim is [
-    | inl e ↦ rw e (inl (refl, refl))
-    | inr (inl e) ↦ rw e (inl (refl, refl))
-    | inr (inr (inl e)) ↦ rw e (inr (inl refl))
-    | inr (inr (inr bad)) ↦ absurd bad
-  ];
-}
-
--- a flag as built has a value however it is used
-flag_value : (id : Text) (vs : List Text) → 0 < length (values_or_missing (filled (flag_rule id)) vs)
-flag_value id [] = lit< tt
-flag_value id (v ∷ vs) = omega arith
-
 plain_make : PlainRules make_built.rules
-plain_make = record {
-  own = λ a is. elim is [
-    | inl e ↦ rw e refl
-    | inr (inl e) ↦ rw e refl
-    | inr (inr (inl e)) ↦ rw e refl
-    | inr (inr (inr (inl e))) ↦ rw e refl
-    | inr (inr (inr (inr (inl e)))) ↦ rw e refl
-    | inr (inr (inr (inr (inr (inl e))))) ↦ rw e refl
-    | inr (inr (inr (inr (inr (inr (inl e)))))) ↦ rw e refl
-    | inr (inr (inr (inr (inr (inr (inr (inl e))))))) ↦ rw e refl
-    | inr (inr (inr (inr (inr (inr (inr (inr (inl e)))))))) ↦ rw e refl
-    | inr (inr (inr (inr (inr (inr (inr (inr (inr (inl e))))))))) ↦ rw e refl
-    | inr (inr (inr (inr (inr (inr (inr (inr (inr (inr (inl e)))))))))) ↦ rw e refl
-    | inr (inr (inr (inr (inr (inr (inr (inr (inr (inr (inr (inl e))))))))))) ↦ rw e refl
-    | inr (inr (inr (inr (inr (inr (inr (inr (inr (inr (inr (inr (inl e)))))))))))) ↦ rw e refl
-    | inr (inr (inr (inr (inr (inr (inr (inr (inr (inr (inr (inr (inr (inl e))))))))))))) ↦ rw e refl
-    | inr (inr (inr (inr (inr (inr (inr (inr (inr (inr (inr (inr (inr (inr (inl e)))))))))))))) ↦ rw e refl
-    | inr (inr (inr (inr (inr (inr (inr (inr (inr (inr (inr (inr (inr (inr (inr (inl e))))))))))))))) ↦ rw e refl
-    | inr (inr (inr (inr (inr (inr (inr (inr (inr (inr (inr (inr (inr (inr (inr (inr (inl e)))))))))))))))) ↦ rw e refl
-    | inr (inr (inr (inr (inr (inr (inr (inr (inr (inr (inr (inr (inr (inr (inr (inr (inr (inl e))))))))))))))))) ↦ rw e refl
-    | inr (inr (inr (inr (inr (inr (inr (inr (inr (inr (inr (inr (inr (inr (inr (inr (inr (inr (inl e)))))))))))))))))) ↦ rw e refl
-    | inr (inr (inr (inr (inr (inr (inr (inr (inr (inr (inr (inr (inr (inr (inr (inr (inr (inr (inr (inl e))))))))))))))))))) ↦ rw e refl
-    | inr (inr (inr (inr (inr (inr (inr (inr (inr (inr (inr (inr (inr (inr (inr (inr (inr (inr (inr (inr (inl e)))))))))))))))))))) ↦ rw e refl
-    | inr (inr (inr (inr (inr (inr (inr (inr (inr (inr (inr (inr (inr (inr (inr (inr (inr (inr (inr (inr (inr (inl e))))))))))))))))))))) ↦ rw e refl
-    | inr (inr (inr (inr (inr (inr (inr (inr (inr (inr (inr (inr (inr (inr (inr (inr (inr (inr (inr (inr (inr (inr bad))))))))))))))))))))) ↦ absurd bad
-  ];
-  acts = λ a is. elim is [
-    | inl e ↦ rw e (inl (refl, refl))
-    | inr (inl e) ↦ rw e (inl (refl, refl))
-    | inr (inr (inl e)) ↦ rw e (inl (refl, refl))
-    | inr (inr (inr (inl e))) ↦ rw e (inl (refl, refl))
-    | inr (inr (inr (inr (inl e)))) ↦ rw e (inl (refl, refl))
-    | inr (inr (inr (inr (inr (inl e))))) ↦ rw e (inl (refl, refl))
-    | inr (inr (inr (inr (inr (inr (inl e)))))) ↦ rw e (inl (refl, refl))
-    | inr (inr (inr (inr (inr (inr (inr (inl e))))))) ↦ rw e (inl (refl, refl))
-    | inr (inr (inr (inr (inr (inr (inr (inr (inl e)))))))) ↦ rw e (inl (refl, refl))
-    | inr (inr (inr (inr (inr (inr (inr (inr (inr (inl e))))))))) ↦ rw e (inl (refl, refl))
-    | inr (inr (inr (inr (inr (inr (inr (inr (inr (inr (inl e)))))))))) ↦ rw e (inl (refl, refl))
-    | inr (inr (inr (inr (inr (inr (inr (inr (inr (inr (inr (inl e))))))))))) ↦ rw e (inl (refl, refl))
-    | inr (inr (inr (inr (inr (inr (inr (inr (inr (inr (inr (inr (inl e)))))))))))) ↦ rw e (inl (refl, refl))
-    | inr (inr (inr (inr (inr (inr (inr (inr (inr (inr (inr (inr (inr (inl e))))))))))))) ↦ rw e (inl (refl, refl))
-    | inr (inr (inr (inr (inr (inr (inr (inr (inr (inr (inr (inr (inr (inr (inl e)))))))))))))) ↦ rw e (inl (refl, refl))
-    | inr (inr (inr (inr (inr (inr (inr (inr (inr (inr (inr (inr (inr (inr (inr (inl e))))))))))))))) ↦ rw e (inl (refl, refl))
-    | inr (inr (inr (inr (inr (inr (inr (inr (inr (inr (inr (inr (inr (inr (inr (inr (inl e)))))))))))))))) ↦ rw e (inl (refl, refl))
-    | inr (inr (inr (inr (inr (inr (inr (inr (inr (inr (inr (inr (inr (inr (inr (inr (inr (inl e))))))))))))))))) ↦ rw e (inl (refl, refl))
-    | inr (inr (inr (inr (inr (inr (inr (inr (inr (inr (inr (inr (inr (inr (inr (inr (inr (inr (inl e)))))))))))))))))) ↦ rw e (inr (inr (refl, flag_value (codes "rotate"))))
-    | inr (inr (inr (inr (inr (inr (inr (inr (inr (inr (inr (inr (inr (inr (inr (inr (inr (inr (inr (inl e))))))))))))))))))) ↦ rw e (inr (inr (refl, flag_value (codes "report"))))
-    | inr (inr (inr (inr (inr (inr (inr (inr (inr (inr (inr (inr (inr (inr (inr (inr (inr (inr (inr (inr (inl e)))))))))))))))))))) ↦ rw e (inl (refl, refl))
-    | inr (inr (inr (inr (inr (inr (inr (inr (inr (inr (inr (inr (inr (inr (inr (inr (inr (inr (inr (inr (inr (inl e))))))))))))))))))))) ↦ rw e (inr (inl refl))
-    | inr (inr (inr (inr (inr (inr (inr (inr (inr (inr (inr (inr (inr (inr (inr (inr (inr (inr (inr (inr (inr (inr bad))))))))))))))))))))) ↦ absurd bad
-  ];
-}
+plain_make = plain_of make_built.rules refl
 
 plain_find : PlainRules find_built.rules
-plain_find = record {
-  own = λ a is. elim is [
-    | inl e ↦ rw e refl
-    | inr (inl e) ↦ rw e refl
-    | inr (inr (inl e)) ↦ rw e refl
-    | inr (inr (inr (inl e))) ↦ rw e refl
-    | inr (inr (inr (inr (inl e)))) ↦ rw e refl
-    | inr (inr (inr (inr (inr (inl e))))) ↦ rw e refl
-    | inr (inr (inr (inr (inr (inr (inl e)))))) ↦ rw e refl
-    | inr (inr (inr (inr (inr (inr (inr (inl e))))))) ↦ rw e refl
-    | inr (inr (inr (inr (inr (inr (inr (inr (inl e)))))))) ↦ rw e refl
-    | inr (inr (inr (inr (inr (inr (inr (inr (inr (inl e))))))))) ↦ rw e refl
-    | inr (inr (inr (inr (inr (inr (inr (inr (inr (inr (inl e)))))))))) ↦ rw e refl
-    | inr (inr (inr (inr (inr (inr (inr (inr (inr (inr (inr (inl e))))))))))) ↦ rw e refl
-    | inr (inr (inr (inr (inr (inr (inr (inr (inr (inr (inr (inr (inl e)))))))))))) ↦ rw e refl
-    | inr (inr (inr (inr (inr (inr (inr (inr (inr (inr (inr (inr (inr (inl e))))))))))))) ↦ rw e refl
-    | inr (inr (inr (inr (inr (inr (inr (inr (inr (inr (inr (inr (inr (inr bad))))))))))))) ↦ absurd bad
-  ];
-  acts = λ a is. elim is [
-    | inl e ↦ rw e (inl (refl, refl))
-    | inr (inl e) ↦ rw e (inl (refl, refl))
-    | inr (inr (inl e)) ↦ rw e (inl (refl, refl))
-    | inr (inr (inr (inl e))) ↦ rw e (inl (refl, refl))
-    | inr (inr (inr (inr (inl e)))) ↦ rw e (inl (refl, refl))
-    | inr (inr (inr (inr (inr (inl e))))) ↦ rw e (inl (refl, refl))
-    | inr (inr (inr (inr (inr (inr (inl e)))))) ↦ rw e (inl (refl, refl))
-    | inr (inr (inr (inr (inr (inr (inr (inl e))))))) ↦ rw e (inl (refl, refl))
-    | inr (inr (inr (inr (inr (inr (inr (inr (inl e)))))))) ↦ rw e (inl (refl, refl))
-    | inr (inr (inr (inr (inr (inr (inr (inr (inr (inl e))))))))) ↦ rw e (inl (refl, refl))
-    | inr (inr (inr (inr (inr (inr (inr (inr (inr (inr (inl e)))))))))) ↦ rw e (inl (refl, refl))
-    | inr (inr (inr (inr (inr (inr (inr (inr (inr (inr (inr (inl e))))))))))) ↦ rw e (inr (inr (refl, flag_value (codes "report"))))
-    | inr (inr (inr (inr (inr (inr (inr (inr (inr (inr (inr (inr (inl e)))))))))))) ↦ rw e (inl (refl, refl))
-    | inr (inr (inr (inr (inr (inr (inr (inr (inr (inr (inr (inr (inr (inl e))))))))))))) ↦ rw e (inr (inl refl))
-    | inr (inr (inr (inr (inr (inr (inr (inr (inr (inr (inr (inr (inr (inr bad))))))))))))) ↦ absurd bad
-  ];
-}
+plain_find = plain_of find_built.rules refl
 
 plain_pick : PlainRules pick_built.rules
-plain_pick = record {
-  own = λ a is. elim is [
-    | inl e ↦ rw e refl
-    | inr (inl e) ↦ rw e refl
-    | inr (inr (inl e)) ↦ rw e refl
-    | inr (inr (inr (inl e))) ↦ rw e refl
-    | inr (inr (inr (inr (inl e)))) ↦ rw e refl
-    | inr (inr (inr (inr (inr (inl e))))) ↦ rw e refl
-    | inr (inr (inr (inr (inr (inr (inl e)))))) ↦ rw e refl
-    | inr (inr (inr (inr (inr (inr (inr (inl e))))))) ↦ rw e refl
-    | inr (inr (inr (inr (inr (inr (inr (inr (inl e)))))))) ↦ rw e refl
-    | inr (inr (inr (inr (inr (inr (inr (inr (inr (inl e))))))))) ↦ rw e refl
-    | inr (inr (inr (inr (inr (inr (inr (inr (inr (inr (inl e)))))))))) ↦ rw e refl
-    | inr (inr (inr (inr (inr (inr (inr (inr (inr (inr (inr (inl e))))))))))) ↦ rw e refl
-    | inr (inr (inr (inr (inr (inr (inr (inr (inr (inr (inr (inr (inl e)))))))))))) ↦ rw e refl
-    | inr (inr (inr (inr (inr (inr (inr (inr (inr (inr (inr (inr (inr (inl e))))))))))))) ↦ rw e refl
-    | inr (inr (inr (inr (inr (inr (inr (inr (inr (inr (inr (inr (inr (inr bad))))))))))))) ↦ absurd bad
-  ];
-  acts = λ a is. elim is [
-    | inl e ↦ rw e (inl (refl, refl))
-    | inr (inl e) ↦ rw e (inl (refl, refl))
-    | inr (inr (inl e)) ↦ rw e (inl (refl, refl))
-    | inr (inr (inr (inl e))) ↦ rw e (inl (refl, refl))
-    | inr (inr (inr (inr (inl e)))) ↦ rw e (inl (refl, refl))
-    | inr (inr (inr (inr (inr (inl e))))) ↦ rw e (inl (refl, refl))
-    | inr (inr (inr (inr (inr (inr (inl e)))))) ↦ rw e (inl (refl, refl))
-    | inr (inr (inr (inr (inr (inr (inr (inl e))))))) ↦ rw e (inl (refl, refl))
-    | inr (inr (inr (inr (inr (inr (inr (inr (inl e)))))))) ↦ rw e (inl (refl, refl))
-    | inr (inr (inr (inr (inr (inr (inr (inr (inr (inl e))))))))) ↦ rw e (inl (refl, refl))
-    | inr (inr (inr (inr (inr (inr (inr (inr (inr (inr (inl e)))))))))) ↦ rw e (inl (refl, refl))
-    | inr (inr (inr (inr (inr (inr (inr (inr (inr (inr (inr (inl e))))))))))) ↦ rw e (inl (refl, refl))
-    | inr (inr (inr (inr (inr (inr (inr (inr (inr (inr (inr (inr (inl e)))))))))))) ↦ rw e (inr (inr (refl, flag_value (codes "rotate"))))
-    | inr (inr (inr (inr (inr (inr (inr (inr (inr (inr (inr (inr (inr (inl e))))))))))))) ↦ rw e (inr (inl refl))
-    | inr (inr (inr (inr (inr (inr (inr (inr (inr (inr (inr (inr (inr (inr bad))))))))))))) ↦ absurd bad
-  ];
-}
+plain_pick = plain_of pick_built.rules refl
+
+plain_stream : PlainRules stream_built.rules
+plain_stream = plain_of stream_built.rules refl
 
 -- ---- numbers
 

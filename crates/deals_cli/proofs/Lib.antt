@@ -1,4 +1,5 @@
 pub mod Walks
+pub mod Plain
 pub mod Help
 pub mod Entered
 pub mod Commands

@@ -9,8 +9,6 @@ mod conditions;
 #[cfg(test)]
 mod memory_sinks;
 #[cfg(test)]
-mod programs;
-#[cfg(test)]
 mod rings;
 #[cfg(test)]
 mod runs;

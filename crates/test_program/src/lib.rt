@@ -10,13 +10,13 @@ mod gates;
 #[cfg(test)]
 mod interrupted;
 #[cfg(test)]
-mod make;
-#[cfg(test)]
 mod notations;
 #[cfg(test)]
 mod plain;
 #[cfg(test)]
-mod stream;
+mod program;
+#[cfg(test)]
+mod sinks;
 #[cfg(test)]
 mod support;
 #[cfg(test)]

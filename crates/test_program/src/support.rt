@@ -4,9 +4,8 @@ ghost use Rattle.std.specs.Prelude.{◌-◌, ◌^◌, ◌<◌};
 
 use cond_lang::Cond;
 use dealrun::{Cause, Fuse, MemSink, PlainFault, Plan, Report, RunFault, Sink, run, run_plain};
-use deals_cli::program;
 use lanes::Gate;
-use std::alloc::{AllocError, Global};
+use std::alloc::Global;
 use std::fmt::Debug;
 use std::process::Abort;
 use std::sync::{Arc, Wait};
@@ -20,80 +19,6 @@ pub fn same<T: Copy + PartialEq + Debug>(rt: &impl Abort, found: T, wanted: T) {
 /// The plan of the first candidates of seed 0, so many, over so many workers.
 pub fn plan_of(rt: &impl Abort, count: u64, workers: u32) -> Plan {
     Plan::new(0, 0, count, workers, 64).expect(rt, "a plan")
-}
-
-/// How a run of the program ended, and what it wrote.
-#[derive(Drop)]
-pub struct Outcome {
-    pub status: u8,
-    pub out: MemSink,
-    pub err: MemSink,
-}
-
-/// The words of a command line, in two parts.
-pub fn words_of(
-    alloc: Global,
-    words: &[&str],
-    options: &[&str],
-) -> Result<Vec<String>, AllocError> {
-    let mut list = Vec::new(alloc);
-    for word in words {
-        list.push(String::from_str(alloc, word)?)?;
-    }
-    for option in options {
-        list.push(String::from_str(alloc, option)?)?;
-    }
-    Ok(list)
-}
-
-/// Runs the program over sinks in memory.
-pub fn outcome_of<R: Abort + Threads + Wait + Clone + Send + 'static>(
-    rt: &R,
-    alloc: Global,
-    words: &[&str],
-    options: &[&str],
-) -> Outcome {
-    let words = words_of(alloc, words, options).expect(rt, "memory");
-    let mut out = MemSink::new(alloc);
-    let mut err = MemSink::new(alloc);
-    let status = program(rt, alloc, words.as_slice(), &mut out, &mut err);
-    Outcome { status, out, err }
-}
-
-/// The program ends well with these words, and writes this to its output alone.
-pub fn writes<R: Abort + Threads + Wait + Clone + Send + 'static>(
-    rt: &R,
-    alloc: Global,
-    words: &[&str],
-    text: &[u8],
-) {
-    let outcome = outcome_of(rt, alloc, words, [].as_slice());
-    same(rt, outcome.status, 0);
-    same(rt, outcome.out.bytes(), text);
-    assert!(rt; outcome.err.bytes().is_empty());
-}
-
-/// How a run of the program ended whose output may fail, and what it wrote.
-#[derive(Drop)]
-pub struct FailedOutcome {
-    pub status: u8,
-    pub out: Fuse,
-    pub err: MemSink,
-}
-
-/// Runs the program over an output that fails at this write, if there is one, or at its flush.
-pub fn failed_outcome_of<R: Abort + Threads + Wait + Clone + Send + 'static>(
-    rt: &R,
-    alloc: Global,
-    words: &[&str],
-    fails_at: u64,
-    flush_ok: bool,
-) -> FailedOutcome {
-    let words = words_of(alloc, words, [].as_slice()).expect(rt, "memory");
-    let mut out = Fuse::new(MemSink::new(alloc), fails_at, 4096, flush_ok);
-    let mut err = MemSink::new(alloc);
-    let status = program(rt, alloc, words.as_slice(), &mut out, &mut err);
-    FailedOutcome { status, out, err }
 }
 
 /// Runs a plan over lanes, with every deal a board.

@@ -78,14 +78,6 @@ fn writes_byte_by_byte<R: Abort + Threads + Wait + Clone + Send + 'static>(
     assert!(rt; sink.bytes() == text);
 }
 
-#[test]
-fn writes_the_header_of_no_boards(rt: HostRuntime) {
-    let empty = plan_of(&rt, 0, 1);
-    let (boards, none) = run_all_plainly(rt.alloc(), &empty);
-    same(&rt, boards, Ok(0));
-    same(&rt, none.bytes(), b"% PBN 2.1\n".as_slice());
-}
-
 /// With a limit no candidate is taken after it is met, and what is left of a lane comes next.
 #[test]
 fn stops_at_a_limit(rt: HostRuntime) {
@@ -99,19 +91,4 @@ fn stops_at_a_limit(rt: HostRuntime) {
         assert!(rt; lane.take().is_none_or(|verdict| verdict.number == number));
     }
     same(&rt, sink.bytes().len(), 628);
-}
-
-#[test]
-fn has_limits_past_the_end(rt: HostRuntime) {
-    for (text, limit, boards, bytes) in [
-        (b"0==0".as_slice(), 200, 200, 25_052),
-        (b"0==0", 201, 200, 25_052),
-        (b"shape(north,9-9-9-9)", 5, 0, 10),
-    ] {
-        let plan = plan_of(&rt, 200, 3).limited(limit).expect(&rt, "a plan");
-        let condition = parse(rt.alloc(), text).expect(&rt, "a condition");
-        let (made, sink) = run_in_memory(&rt, rt.alloc(), &plan, condition);
-        same(&rt, made, Some(boards));
-        same(&rt, sink.bytes().len(), bytes);
-    }
 }

@@ -1,0 +1,44 @@
+//! The program over sinks in memory. `tests/program` gives the built program many more words.
+
+use crate::support::same;
+use dealrun::{Fuse, MemSink};
+use deals_cli::program;
+use std::alloc::{AllocError, Global};
+
+/// The words of `stream` for these numbers.
+fn words_of(alloc: Global, seed: &str, count: &str) -> Result<Vec<String>, AllocError> {
+    let mut words = Vec::new(alloc);
+    for word in ["deals", "stream", "--seed", seed, "--count", count] {
+        words.push(String::from_str(alloc, word)?)?;
+    }
+    Ok(words)
+}
+
+#[test]
+fn prints_the_values_of_a_seed(rt: HostRuntime) {
+    let words = words_of(rt.alloc(), "0", "3").expect(&rt, "memory");
+    let mut out = MemSink::new(rt.alloc());
+    let mut err = MemSink::new(rt.alloc());
+    same(
+        &rt,
+        program(&rt, rt.alloc(), words.as_slice(), &mut out, &mut err),
+        0,
+    );
+    let values = b"366850414\n1610402240\n206956554\n";
+    same(&rt, out.bytes(), values.as_slice());
+    assert!(rt; err.bytes().is_empty());
+}
+
+/// The error output fails at its first write.
+#[test]
+fn ignores_a_standard_error_that_fails(rt: HostRuntime) {
+    let words = words_of(rt.alloc(), "4294967296", "3").expect(&rt, "memory");
+    let mut out = MemSink::new(rt.alloc());
+    let mut err = Fuse::new(MemSink::new(rt.alloc()), 1, 4096, true);
+    same(
+        &rt,
+        program(&rt, rt.alloc(), words.as_slice(), &mut out, &mut err),
+        2,
+    );
+    assert!(rt; out.bytes().is_empty() && err.bytes().is_empty());
+}
