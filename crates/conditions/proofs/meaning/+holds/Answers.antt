@@ -1,6 +1,6 @@
 use Rattle.std.proofs.Common.{ap, ◌∙◌}
 use Rattle.cards.specs.Hands.{shape_of, is_balanced, is_rearrangement}
-use Rattle.cond_lang.proofs.meaning.+holds.Goals as goal
+use Rattle.conditions.proofs.meaning.+holds.Goals as goal
 
 pub returns-in-Balanced : goal.returns-in-Balanced
 returns-in-Balanced t c = rw c.in-Balanced.is (c.balanced.ensures.value ∙ ap (λ hand. is_balanced (shape_of hand)) c.hand.ensures.value)

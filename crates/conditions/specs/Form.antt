@@ -7,13 +7,13 @@ use Rattle.cards.specs.declared.measure.Measure.{Measure}
 use Rattle.cards.specs.declared.measure.Measure.TheVariants.{Hcp}
 use Rattle.cards.specs.declared.seat.Seat.{Seat}
 use Rattle.cards.specs.declared.suit.Suit.{Suit}
-use Rattle.cond_lang.specs.declared.tree.Op.{Op}
-use Rattle.cond_lang.specs.declared.tree.Item.{Item}
-use Rattle.cond_lang.specs.declared.tree.Item.TheVariants.{Length as Counted, Any}
-use Rattle.cond_lang.specs.declared.tree.Value.{Value}
-use Rattle.cond_lang.specs.declared.tree.Value.TheVariants.{Sum', Number, Points, SuitPoints, Total, SuitTotal, Cards, SuitCards, Length, Longest, Shortest}
-use Rattle.cond_lang.specs.declared.tree.Tree.{Tree}
-use Rattle.cond_lang.specs.declared.tree.Tree.TheVariants.{AnyOf', AllOf', Negation', Compare, Within, Balanced, Shape, Pattern, LooseShape, LoosePattern}
+use Rattle.conditions.specs.declared.tree.Op.{Op}
+use Rattle.conditions.specs.declared.tree.Item.{Item}
+use Rattle.conditions.specs.declared.tree.Item.TheVariants.{Length as Counted, Any}
+use Rattle.conditions.specs.declared.tree.Value.{Value}
+use Rattle.conditions.specs.declared.tree.Value.TheVariants.{Sum', Number, Points, SuitPoints, Total, SuitTotal, Cards, SuitCards, Length, Longest, Shortest}
+use Rattle.conditions.specs.declared.tree.Tree.{Tree}
+use Rattle.conditions.specs.declared.tree.Tree.TheVariants.{AnyOf', AllOf', Negation', Compare, Within, Balanced, Shape, Pattern, LooseShape, LoosePattern}
 
 -- a value: the high card points have `points` and `suit_points`, each other measure `total` and
 -- `suit_total`

@@ -1,10 +1,10 @@
 use Rattle.std.proofs.Common.{◌≡◌, ◌+◌, ◌∙◌, refl, sym, ap, arith}
 use Rattle.cards.specs.Hands.{total_of, total_in, longest_of, shortest_of}
-use Rattle.cond_lang.specs.Meaning.{value_in}
-use Rattle.cond_lang.specs.Limits.{atoms_of}
-use Rattle.cond_lang.specs.Form.{amount_of}
-use Rattle.cond_lang.proofs.AtomCounts.{some_atom}
-use Rattle.cond_lang.proofs.meaning.+sums.Goals as goal
+use Rattle.conditions.specs.Meaning.{value_in}
+use Rattle.conditions.specs.Limits.{atoms_of}
+use Rattle.conditions.specs.Form.{amount_of}
+use Rattle.conditions.proofs.SomeAtom.{some_atom}
+use Rattle.conditions.proofs.meaning.+sums.Goals as goal
 
 pub sum_in-value_in-requires : goal.sum_in-value_in-requires
 sum_in-value_in-requires t c = (omega (arith, some_atom (amount_of c.args.right.now)), omega arith)

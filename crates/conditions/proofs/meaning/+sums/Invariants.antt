@@ -1,7 +1,7 @@
 use Rattle.std.proofs.Common.{◌+◌, ◌*◌, ◌-◌}
-use Rattle.cond_lang.specs.Limits.{atoms_of}
-use Rattle.cond_lang.specs.Form.{amount_of}
-use Rattle.cond_lang.proofs.meaning.+sums.Given as goal
+use Rattle.conditions.specs.Limits.{atoms_of}
+use Rattle.conditions.specs.Form.{amount_of}
+use Rattle.conditions.proofs.meaning.+sums.Given as goal
 
 -- a sum of two values is more than both, and less than the value that it is
 abbrev pub decreases-value_in : goal.decreases-value_in

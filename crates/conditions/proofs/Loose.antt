@@ -3,10 +3,10 @@ use Rattle.std.proofs.Common.{◌≡◌, ℕ, ◌==◌, ◌&&◌, false, List, [
 use Rattle.std.specs.List.{list_any}
 use Rattle.cards.specs.declared.seat.Seat.{Seat}
 use Rattle.cards.specs.Hands.{is_same, is_rearrangement, orders_of}
-use Rattle.cond_lang.specs.declared.tree.Item.{Item}
-use Rattle.cond_lang.specs.declared.tree.Item.TheVariants.{Length}
-use Rattle.cond_lang.specs.Form.{shape, pattern, is_any, number_of, shaped, patterned}
-use Rattle.cond_lang.specs.Meaning.{are_allowed, are_allowed_in_some_order}
+use Rattle.conditions.specs.declared.tree.Item.{Item}
+use Rattle.conditions.specs.declared.tree.Item.TheVariants.{Length}
+use Rattle.conditions.specs.Form.{shape, pattern, is_any, number_of, shaped, patterned}
+use Rattle.conditions.specs.Meaning.{are_allowed, are_allowed_in_some_order}
 
 abbrev as_items : List ℕ → List Item
 as_items ns = map (λ n. Length n) ns

@@ -1,6 +1,6 @@
 -- The limits that every condition keeps: how many values a sum adds up, and how large a number is.
 use Rattle.std.specs.Prelude.{ℕ, ◌+◌, ◌≤◌, All}
-use Rattle.cond_lang.specs.Form.{Amount, sum, number, points, suit_points, total, suit_total, cards_held, suit_cards_held, suit_length, longest, shortest, Form, any_of, all_of, negation, compare, within, balanced, shape, pattern, loose_shape, loose_pattern, number_of}
+use Rattle.conditions.specs.Form.{Amount, sum, number, points, suit_points, total, suit_total, cards_held, suit_cards_held, suit_length, longest, shortest, Form, any_of, all_of, negation, compare, within, balanced, shape, pattern, loose_shape, loose_pattern, number_of}
 
 -- the atoms of a value: each part that isn't a sum is one
 abbrev pub atoms_of : Amount → ℕ

@@ -3,11 +3,11 @@ use Rattle.std.specs.Prelude.{ℕ, ◌+◌, Bool, true, false, not, ◌&&◌, �
 use Rattle.std.specs.List.{list_any}
 use Rattle.cards.specs.declared.seat.Seat.{Seat}
 use Rattle.cards.specs.Hands.{hand_of, points_of, points_in, total_of, total_in, honours_of, honours_in, length_of, longest_of, shortest_of, shape_of, is_balanced, is_same, is_rearrangement, orders_of}
-use Rattle.cond_lang.specs.declared.tree.Item.{Item}
-use Rattle.cond_lang.specs.declared.tree.Item.TheVariants.{Length, Any}
-use Rattle.cond_lang.specs.declared.tree.Op.{Op}
-use Rattle.cond_lang.specs.declared.tree.Op.TheVariants.{Equal, NotEqual, Less, AtMost, More, AtLeast}
-use Rattle.cond_lang.specs.Form.{Amount, sum, number, points, suit_points, total, suit_total, cards_held, suit_cards_held, suit_length, longest, shortest, Form, any_of, all_of, negation, compare, within, balanced, shape, pattern, loose_shape, loose_pattern}
+use Rattle.conditions.specs.declared.tree.Item.{Item}
+use Rattle.conditions.specs.declared.tree.Item.TheVariants.{Length, Any}
+use Rattle.conditions.specs.declared.tree.Op.{Op}
+use Rattle.conditions.specs.declared.tree.Op.TheVariants.{Equal, NotEqual, Less, AtMost, More, AtLeast}
+use Rattle.conditions.specs.Form.{Amount, sum, number, points, suit_points, total, suit_total, cards_held, suit_cards_held, suit_length, longest, shortest, Form, any_of, all_of, negation, compare, within, balanced, shape, pattern, loose_shape, loose_pattern}
 
 -- the number that a value is
 abbrev pub value_in : List Seat → Amount → ℕ

@@ -1,6 +1,6 @@
 use Rattle.std.proofs.Common.{◌≡◌, ℕ, List, [], ◌∷◌, Bool, get_or, refl, ap, ◌∙◌}
 use Rattle.cards.specs.Hands.{hand_of, shape_of}
-use Rattle.cond_lang.proofs.meaning.lengths_of.Goals as goal
+use Rattle.conditions.proofs.meaning.lengths_of.Goals as goal
 
 -- the numbers of a list of four, one by one
 four_of : List ℕ → List ℕ

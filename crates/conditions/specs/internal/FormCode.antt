@@ -11,15 +11,15 @@ use Rattle.cards.specs.declared.suit.Suit.{Suit}
 use Rattle.cards.specs.declared.suit.Suit.TheVariants.{Spades, Hearts, Diamonds, Clubs}
 use Rattle.cards.specs.Measures.{measure_number, measure_of_number, measure_back}
 use Rattle.cards.specs.Pack.{seat_number, seat_of_number, suit_number}
-use Rattle.cond_lang.specs.declared.tree.Item.{Item}
-use Rattle.cond_lang.specs.declared.tree.Item.TheVariants.{Length, Any}
-use Rattle.cond_lang.specs.declared.tree.Op.{Op}
-use Rattle.cond_lang.specs.declared.tree.Op.TheVariants.{Equal, NotEqual, Less}
-use Rattle.cond_lang.specs.declared.tree.Op.TheVariants.{AtMost, More, AtLeast}
-use Rattle.cond_lang.specs.Form.{Amount, sum, number, points, suit_points, suit_length, total}
-use Rattle.cond_lang.specs.Form.{suit_total, cards_held, suit_cards_held, longest, shortest}
-use Rattle.cond_lang.specs.Form.{Form, any_of, all_of, negation, compare, within, balanced}
-use Rattle.cond_lang.specs.Form.{shape, pattern, loose_shape, loose_pattern}
+use Rattle.conditions.specs.declared.tree.Item.{Item}
+use Rattle.conditions.specs.declared.tree.Item.TheVariants.{Length, Any}
+use Rattle.conditions.specs.declared.tree.Op.{Op}
+use Rattle.conditions.specs.declared.tree.Op.TheVariants.{Equal, NotEqual, Less}
+use Rattle.conditions.specs.declared.tree.Op.TheVariants.{AtMost, More, AtLeast}
+use Rattle.conditions.specs.Form.{Amount, sum, number, points, suit_points, suit_length, total}
+use Rattle.conditions.specs.Form.{suit_total, cards_held, suit_cards_held, longest, shortest}
+use Rattle.conditions.specs.Form.{Form, any_of, all_of, negation, compare, within, balanced}
+use Rattle.conditions.specs.Form.{shape, pattern, loose_shape, loose_pattern}
 
 abbrev suit_of_number : ℕ → Suit
 suit_of_number zero = Spades
