@@ -6,14 +6,14 @@ use Rattle.cards.specs.declared.seat.Seat.{Seat as ASeat}
 use Rattle.cards.specs.declared.suit.Suit.{Suit as ASuit}
 use Rattle.cond_lang.specs.declared.words.Kind.{Kind}
 use Rattle.cond_lang.specs.declared.words.Kind.TheVariants as kind
-use Rattle.cond_lang.specs.declared.tree.Item.{Item}
-use Rattle.cond_lang.specs.declared.tree.Item.TheVariants.{Length, Any}
-use Rattle.cond_lang.specs.declared.tree.Op.{Op}
+use Rattle.conditions.specs.declared.tree.Item.{Item}
+use Rattle.conditions.specs.declared.tree.Item.TheVariants.{Length, Any}
+use Rattle.conditions.specs.declared.tree.Op.{Op}
 use Rattle.cond_lang.specs.declared.token.Token.{Token}
 use Rattle.cond_lang.specs.declared.token.Token.TheVariants.{Or, And, Not, Balanced, Shape, Pattern, Measure, Cards, Len, Longest, Shortest, In, X, Seat, Suit, Ranks, Number, Open, Close, Comma, Dash, Plus, Relation}
 use Rattle.cond_lang.specs.Continuations.{kind_of}
 use Rattle.cond_lang.specs.Faults.{IsViable}
-use Rattle.cond_lang.specs.Form.{Amount, sum, number, measured, suit_measured, cards_held, suit_cards_held, suit_length, longest, shortest, Form, any_of, all_of, negation, compare, within, balanced, shaped, patterned}
+use Rattle.conditions.specs.Form.{Amount, sum, number, measured, suit_measured, cards_held, suit_cards_held, suit_length, longest, shortest, Form, any_of, all_of, negation, compare, within, balanced, shaped, patterned}
 use Rattle.cond_lang.specs.Grammar.{SpellsAtom, SpellsValue, atom, plus, a_number, measure, measure_in, len, cards, cards_in, longest_suit, shortest_suit, item_token, four, SpellsCond, both, or, SpellsBoth, unit, and, SpellsUnit, not, brackets, test, SpellsTest, comparison, in_range, is_balanced, has_shape, has_pattern}
 
 -- the lists have tokens of the same kinds

@@ -1,16 +1,16 @@
 -- A value has no more atoms than tokens.
-use Rattle.std.proofs.Common.{ℕ, Bool, true, false, if◌then◌else◌, map, ◌<◌, ◌≤◌, List, [], ◌∷◌, length, length-append, arith}
+use Rattle.std.proofs.Common.{ℕ, Bool, true, false, if◌then◌else◌, map, ◌≤◌, List, [], ◌∷◌, length, length-append, arith}
 use Rattle.cards.specs.declared.measure.Measure.{Measure}
 use Rattle.cards.specs.declared.measure.Measure.TheVariants.{Hcp}
 use Rattle.cards.specs.declared.seat.Seat.{Seat}
 use Rattle.cards.specs.declared.suit.Suit.{Suit}
 use Rattle.cond_lang.specs.declared.token.Token.{Token}
 use Rattle.cond_lang.specs.declared.token.Token.TheVariants.{Or, And, Shape, Pattern, In, Number, Dash, Close, Plus, Relation}
-use Rattle.cond_lang.specs.Form.{Amount, sum, number, points, suit_points, total, suit_total, cards_held, suit_cards_held, suit_length, longest, shortest, measured, suit_measured, Form, any_of, all_of, negation, compare, within, balanced, shape, pattern, loose_shape, loose_pattern, is_any, number_of, shaped, patterned}
+use Rattle.conditions.specs.Form.{Amount, measured, suit_measured, Form, any_of, all_of, negation, compare, within, balanced, shape, pattern, loose_shape, loose_pattern, is_any, number_of, shaped, patterned}
 use Rattle.std.specs.List.{list_any}
-use Rattle.cond_lang.specs.declared.tree.Item.{Item}
+use Rattle.conditions.specs.declared.tree.Item.{Item}
 use Rattle.cond_lang.specs.Grammar.{SpellsAtom, SpellsValue, atom, plus, a_number, measure, measure_in, len, cards, cards_in, longest_suit, shortest_suit, four, SpellsCond, both, or, SpellsBoth, unit, and, SpellsUnit, not, brackets, test, comparison, in_range, is_balanced, has_shape, has_pattern, Spells}
-use Rattle.cond_lang.specs.Limits.{atoms_of, HasAtMostAtoms}
+use Rattle.conditions.specs.Limits.{atoms_of, HasAtMostAtoms}
 
 -- however the measure is written, it is one atom
 measured_count : (m : Measure) (q : Seat) → atoms_of (measured m q) ≤ 1
@@ -92,17 +92,3 @@ mutual
 -- Each value of a tree that n tokens spell has at most n atoms.
 pub few_atoms : (n : ℕ) (T : List Token) (t : Form) → length T ≤ n → Spells T t → HasAtMostAtoms n t
 few_atoms n T t h s = more_atoms (length T) n t h (cond_count s)
-
--- a value has an atom
-pub some_atom : (a : Amount) → 0 < atoms_of a
-some_atom (sum a b) = omega (arith, some_atom a)
-some_atom (number n) = omega arith
-some_atom (points q) = omega arith
-some_atom (suit_points q s) = omega arith
-some_atom (total m q) = omega arith
-some_atom (suit_total m q s) = omega arith
-some_atom (cards_held q h) = omega arith
-some_atom (suit_cards_held q s h) = omega arith
-some_atom (suit_length q s) = omega arith
-some_atom (longest q) = omega arith
-some_atom (shortest q) = omega arith

@@ -13,7 +13,7 @@ use Rattle.cond_lang.specs.declared.token.Token.TheVariants.{Measure}
 use Rattle.cond_lang.specs.Continuations.{kind_of, CanFollow, IsLongestViable, IsBeginning}
 use Rattle.cond_lang.specs.Cut.{HasTokens}
 use Rattle.cond_lang.specs.Faults.{IsViable, IsFirstFault, HasSyntaxFault, offset_of}
-use Rattle.cond_lang.specs.Form.{Form}
+use Rattle.conditions.specs.Form.{Form}
 use Rattle.cond_lang.specs.Grammar.{Spells}
 use Rattle.cond_lang.specs.Text.{kinds}
 use Rattle.cond_lang.specs.internal.Reading.{got, stuck, whole}

@@ -4,15 +4,15 @@ use Rattle.std.specs.Prelude.{codes}
 use Rattle.std.proofs.lemmas.Bool.{cases_lt}
 use Rattle.std.proofs.lemmas.List.{take-take}
 use Rattle.std.specs.Char.{is_ascii_digit}
-use Rattle.cond_lang.specs.declared.tree.Op.TheVariants.{Equal}
+use Rattle.conditions.specs.declared.tree.Op.TheVariants.{Equal}
 use Rattle.cond_lang.specs.declared.token.Token.{Token}
 use Rattle.cond_lang.specs.declared.token.Token.TheVariants.{Number, Relation}
 use Rattle.cond_lang.specs.declared.token.Placed.{Placed}
-use Rattle.cond_lang.specs.declared.error.CondError.{CondError}
+use Rattle.conditions.specs.declared.error.CondError.{CondError}
 use Rattle.cond_lang.specs.declared.token.Piece.TheVariants.{Token as TokenPiece}
 use Rattle.cond_lang.specs.Cut.{symbols, IsRun, IsPiece, number as number_piece, symbol, Pieces, IsCut, end, piece, HasTokens}
 use Rattle.cond_lang.specs.Faults.{HasFault}
-use Rattle.cond_lang.specs.Form.{Form, number, compare}
+use Rattle.conditions.specs.Form.{Form, number, compare}
 use Rattle.cond_lang.specs.Grammar.{atom, a_number, both, unit, test, comparison, Spells}
 use Rattle.cond_lang.specs.Faults.{IsViable, IsFirstFault}
 use Rattle.cond_lang.specs.Text.{kinds}

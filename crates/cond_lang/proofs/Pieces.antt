@@ -4,7 +4,7 @@ use Rattle.std.specs.Prelude.{Contains}
 use Rattle.std.proofs.Math.Seq.{take-append_seam}
 use Rattle.std.proofs.lemmas.Bool.{le-leb, lt-leb, cases_Bool, cases_lt, cond-true, cond-false}
 use Rattle.std.specs.Char.{is_ascii_lowercase, is_ascii_digit}
-use Rattle.cond_lang.specs.declared.tree.Op.TheVariants.{Less, AtMost, More, AtLeast}
+use Rattle.conditions.specs.declared.tree.Op.TheVariants.{Less, AtMost, More, AtLeast}
 use Rattle.cond_lang.specs.declared.token.Token.{Token}
 use Rattle.cond_lang.specs.declared.token.Token.TheVariants.{Ranks, Number, Relation}
 use Rattle.cond_lang.specs.declared.token.Piece.{Piece}

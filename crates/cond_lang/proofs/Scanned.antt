@@ -5,7 +5,7 @@ use Rattle.cond_lang.specs.declared.token.Token.{Token}
 use Rattle.cond_lang.specs.declared.token.Placed.{Placed}
 use Rattle.cond_lang.specs.declared.token.Piece.{Piece}
 use Rattle.cond_lang.specs.declared.token.Piece.TheVariants.{Separator, Token as TokenPiece}
-use Rattle.cond_lang.specs.declared.error.CondError.{CondError}
+use Rattle.conditions.specs.declared.error.CondError.{CondError}
 use Rattle.cond_lang.specs.Cut.{Pieces, IsCut, end, piece, HasTokens}
 use Rattle.cond_lang.specs.Faults.{HasFault}
 use Rattle.cond_lang.specs.internal.Scanning.{piece_at}

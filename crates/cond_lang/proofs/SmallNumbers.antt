@@ -16,11 +16,11 @@ use Rattle.cond_lang.specs.declared.token.Placed.{Placed}
 use Rattle.cond_lang.specs.declared.token.Piece.{Piece}
 use Rattle.cond_lang.specs.declared.token.Piece.TheVariants.{Separator, Token as TokenPiece, StrayByte, UnknownWord, LongNumber}
 use Rattle.cond_lang.specs.Cut.{words, symbols, decimal, IsPiece, blank, comment, word, ranks, no_word, number as number_piece, long, symbol, stray, Pieces, IsCut, end, piece, placed_from, token_at, HasTokens}
-use Rattle.cond_lang.specs.Form.{Amount, Form, measured, suit_measured, shape, pattern, loose_shape, loose_pattern, is_any, number_of, shaped, patterned}
-use Rattle.cond_lang.specs.declared.tree.Item.{Item}
-use Rattle.cond_lang.specs.declared.tree.Item.TheVariants.{Length, Any}
+use Rattle.conditions.specs.Form.{Amount, Form, measured, suit_measured, shape, pattern, loose_shape, loose_pattern, is_any, number_of, shaped, patterned}
+use Rattle.conditions.specs.declared.tree.Item.{Item}
+use Rattle.conditions.specs.declared.tree.Item.TheVariants.{Length, Any}
 use Rattle.cond_lang.specs.Grammar.{SpellsAtom, SpellsValue, atom, plus, a_number, measure, measure_in, len, cards, cards_in, longest_suit, shortest_suit, item_token, SpellsCond, both, or, SpellsBoth, unit, and, SpellsUnit, not, brackets, test, comparison, in_range, is_balanced, has_shape, has_pattern, Spells}
-use Rattle.cond_lang.specs.Limits.{AddsNumbersUpTo, HasNumbersUpTo}
+use Rattle.conditions.specs.Limits.{AddsNumbersUpTo, HasNumbersUpTo}
 use Rattle.cond_lang.specs.Text.{kinds}
 use Rattle.cond_lang.proofs.Tables.{Table, EachEntry, at_entry}
 

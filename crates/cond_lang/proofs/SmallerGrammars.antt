@@ -7,9 +7,9 @@ use Rattle.cards.specs.declared.measure.Measure.TheVariants.{Hcp}
 use Rattle.cond_lang.specs.declared.token.Token.{Token}
 use Rattle.cond_lang.specs.declared.token.Token.TheVariants.{Or, And, Not, Shape, Pattern, Measure, Cards, Longest, Shortest, In, X, Number, Dash, Open, Close, Plus, Relation}
 use Rattle.cards.specs.declared.seat.Seat.{Seat as ASeat}
-use Rattle.cond_lang.specs.declared.tree.Item.{Item}
-use Rattle.cond_lang.specs.declared.tree.Item.TheVariants.{Length, Any}
-use Rattle.cond_lang.specs.Form.{Amount, Form, shaped, patterned}
+use Rattle.conditions.specs.declared.tree.Item.{Item}
+use Rattle.conditions.specs.declared.tree.Item.TheVariants.{Length, Any}
+use Rattle.conditions.specs.Form.{Amount, Form, shaped, patterned}
 use Rattle.cond_lang.specs.Grammar.{Amounts, Forms, SpellsAtom, a_number, measure, measure_in, len, cards, cards_in, longest_suit, shortest_suit, ValueOf, atom, plus, four, CondOf, both, or, BothOf, unit, and, UnitOf, not, brackets, test, TestOf, SpellsTest, comparison, in_range, is_balanced, has_shape, has_pattern, SpellsValue, Spells}
 use Rattle.cond_lang.specs.SmallerGrammars as small
 use Rattle.cond_lang.specs.SmallerGrammars.{SpellsWithoutSums, SpellsHcpAtom, SpellsWithHcpAlone, SpellsFirstAtom, SpellsFirstTest, SpellsInFirstWords, IsFirst}

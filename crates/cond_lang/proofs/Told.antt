@@ -6,8 +6,8 @@ use Rattle.std.proofs.lemmas.List.Sums.{sum_by-cons}
 use Rattle.cond_lang.specs.declared.token.Placed.{Placed}
 use Rattle.cond_lang.specs.declared.token.Piece.{Piece}
 use Rattle.cond_lang.specs.declared.token.Piece.TheVariants.{Separator, Token as TokenPiece, StrayByte, UnknownWord, LongNumber}
-use Rattle.cond_lang.specs.declared.error.CondError.{CondError}
-use Rattle.cond_lang.specs.declared.error.CondError.TheVariants.{Byte, Word, Number}
+use Rattle.conditions.specs.declared.error.CondError.{CondError}
+use Rattle.conditions.specs.declared.error.CondError.TheVariants.{Byte, Word, Number}
 use Rattle.cond_lang.specs.Cut.{Pieces, IsCut, placed_from, token_at, fault_at, IsSound, tokens_of, HasTokens}
 use Rattle.cond_lang.specs.Faults.{bytes_of, HasFault}
 

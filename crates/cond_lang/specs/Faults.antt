@@ -1,13 +1,13 @@
 -- Why a text is refused, and where.
-use Rattle.std.specs.Prelude.{◌≡◌, ℕ, ◌+◌, ◌<◌, ◌≤◌, List, ◌∷◌, ◌++◌, All, length, take, Option, Some, None, Result, MatchResult, slice_get}
+use Rattle.std.specs.Prelude.{◌≡◌, ℕ, ◌+◌, ◌<◌, ◌≤◌, List, ◌∷◌, ◌++◌, All, length, take, Option, Some, None, slice_get}
 use Rattle.std.specs.List.{sum_by}
 use Rattle.cond_lang.specs.declared.token.Token.{Token}
 use Rattle.cond_lang.specs.declared.token.Placed.{Placed}
 use Rattle.cond_lang.specs.declared.token.Piece.{Piece}
-use Rattle.cond_lang.specs.declared.error.CondError.{CondError}
-use Rattle.cond_lang.specs.declared.error.CondError.TheVariants.{TooLong, Byte, Word, Number, Syntax, Memory}
+use Rattle.conditions.specs.declared.error.CondError.{CondError}
+use Rattle.conditions.specs.declared.error.CondError.TheVariants.{TooLong, Byte, Word, Number, Syntax, Memory}
 use Rattle.cond_lang.specs.Cut.{Pieces, IsCut, IsSound, fault_at, HasTokens}
-use Rattle.cond_lang.specs.Form.{Form}
+use Rattle.conditions.specs.Form.{Form}
 use Rattle.cond_lang.specs.Grammar.{Spells}
 use Rattle.cond_lang.specs.Text.{kinds}
 
@@ -67,7 +67,3 @@ IsDue text (Word at) = HasFault text (Word at)
 IsDue text (Number at) = HasFault text (Number at)
 IsDue text (Syntax at) = HasSyntaxFault text at
 IsDue text Memory = Unit {0}
-
--- the result is this tree, unless memory ran out
-abbrev pub IsUnlessMemory : Result Form CondError → Form → Type 0
-IsUnlessMemory result tree = MatchResult result (λ t. t ≡ tree) (λ e. e ≡ Memory)

@@ -5,10 +5,10 @@ use Rattle.cards.specs.declared.honours.Honours.{Honours}
 use Rattle.cards.specs.declared.measure.Measure.TheVariants.{Hcp}
 use Rattle.cards.specs.declared.seat.Seat.{Seat as ASeat}
 use Rattle.cards.specs.declared.suit.Suit.{Suit as ASuit}
-use Rattle.cond_lang.specs.declared.tree.Op.{Op}
+use Rattle.conditions.specs.declared.tree.Op.{Op}
 use Rattle.cond_lang.specs.declared.token.Token.{Token}
 use Rattle.cond_lang.specs.declared.token.Token.TheVariants.{Balanced, Shape, Pattern, Measure, Cards, Len, Longest, Shortest, In, X, Seat, Suit, Ranks, Number, Open, Close, Comma, Dash, Relation}
-use Rattle.cond_lang.specs.Form.{Amount, Form, number, points, suit_points, cards_held, suit_cards_held, suit_length, longest, shortest, compare, balanced, shape, pattern}
+use Rattle.conditions.specs.Form.{Amount, Form, number, points, suit_points, cards_held, suit_cards_held, suit_length, longest, shortest, compare, balanced, shape, pattern}
 use Rattle.cond_lang.specs.Grammar.{SpellsAtom, ValueOf, TestOf, CondOf}
 
 abbrev pub SpellsWithoutSums : List Token → Form → Type 0

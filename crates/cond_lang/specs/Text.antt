@@ -3,7 +3,7 @@ use Rattle.std.specs.Prelude.{ℕ, List, map}
 use Rattle.cond_lang.specs.declared.token.Token.{Token}
 use Rattle.cond_lang.specs.declared.token.Placed.{Placed}
 use Rattle.cond_lang.specs.Cut.{HasTokens}
-use Rattle.cond_lang.specs.Form.{Form}
+use Rattle.conditions.specs.Form.{Form}
 use Rattle.cond_lang.specs.Grammar.{Spells}
 
 -- the tokens without their offsets

@@ -6,12 +6,12 @@ ghost use Rattle.cond_lang.specs.Continuations.{CanFollow, IsBeginning};
 ghost use Rattle.cond_lang.specs.Faults.{IsDue};
 ghost use Rattle.cond_lang.specs.Text.{kinds};
 
-use crate::error::CondError;
 use crate::parser::read_as_far;
 use crate::scanner::{MAX_BYTES, scan};
 use crate::token::{Placed, Token};
 use crate::words::Kind;
 use arrayvec::ArrayVec;
+use conditions::CondError;
 use std::alloc::{AllocError, Global};
 use std::marker::Model;
 

@@ -4,7 +4,7 @@
 ghost use Rattle.std.specs.Prelude.{◌≡◌, ◌≢◌, ◌≤◌, ◌⊎◌, ◌↔◌, ℕ, List, ◌∷◌, length};
 ghost use Rattle.std.specs.Prelude.{IfOk, IfErr, Err, IsTrue};
 ghost use Rattle.cond_lang.specs.declared.token.Token.{Token as AToken};
-ghost use Rattle.cond_lang.specs.Form.{Form, amount_of, form_of, any_of, all_of, negation};
+ghost use Rattle.conditions.specs.Form.{Form, amount_of, form_of, any_of, all_of, negation};
 ghost use Rattle.cond_lang.specs.Grammar.{Spells};
 ghost use Rattle.cond_lang.specs.Text.{kinds};
 ghost use Rattle.cond_lang.specs.Continuations.{IsLongestViable};
@@ -16,10 +16,9 @@ ghost use Rattle.cond_lang.specs.internal.Reading.{whole};
 
 mod terminals;
 
-use crate::error::CondError;
 use crate::token::{Placed, Token};
-use crate::tree::{Tree, Value};
 use cards::{Measure, Seat};
+use conditions::{CondError, Tree, Value};
 use std::alloc::Global;
 use std::marker::Model;
 

@@ -10,13 +10,12 @@ ghost use Rattle.cond_lang.specs.Faults.{HasFault};
 ghost use Rattle.cond_lang.specs.Runs.{run};
 ghost use Rattle.cond_lang.specs.internal.Scanning.{token_of, begins_with, symbol_at, word_piece, ranks_piece, number_piece, piece_at};
 
-use crate::error::CondError;
 use crate::run_lengths::{digit_run_len, letter_run_len};
 use crate::token::{Piece, Placed, Token};
-use crate::tree::Op;
 use crate::words::WORDS;
 use arrayvec::ArrayVec;
 use cards::Honours;
+use conditions::{CondError, Op};
 
 /// The longest text that is read, in bytes.
 pub(crate) const MAX_BYTES: usize = 1024;

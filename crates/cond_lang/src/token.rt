@@ -1,7 +1,7 @@
 //! Tokens, and the pieces that a text is cut into.
 
-use crate::tree::Op;
 use cards::{Honours, Measure, Seat, Suit};
+use conditions::Op;
 
 /// A token of the language: a known word, ranks, a number of at most four digits, or a symbol.
 #[derive(Clone, Copy, Debug, Default, PartialEq, Eq)]

@@ -6,8 +6,8 @@ ghost use Rattle.cond_lang.specs.Cut.{measure_word};
 ghost use Rattle.cond_lang.specs.Kinds.{all_kinds, place_of};
 
 use crate::token::Token;
-use crate::tree::Op;
 use cards::{Honours, Measure, Seat, Suit};
+use conditions::Op;
 
 /// The words of the language, each with its token: the table `words` of the definition.
 pub const WORDS: [(&str, Token); 20 + Measure::COUNT] = [

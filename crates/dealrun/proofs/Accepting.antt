@@ -9,8 +9,8 @@ use Rattle.std.proofs.lemmas.List.FromFn.{map-range_with_len_more, length-range_
 use Rattle.std.proofs.Math.Seq.{take-append_seam}
 use Rattle.boards.specs.declared.board.Board.{Board}
 use Rattle.cards.specs.declared.seat.Seat.{Seat}
-use Rattle.cond_lang.specs.Form.{Form}
-use Rattle.cond_lang.specs.Meaning.{holds}
+use Rattle.conditions.specs.Form.{Form}
+use Rattle.conditions.specs.Meaning.{holds}
 use Rattle.lanes.specs.declared.verdict.Verdict.{Verdict}
 use Rattle.lanes.specs.Verdicts.{verdict_of}
 use Rattle.plans.specs.Plans.{Planned, candidate_of}

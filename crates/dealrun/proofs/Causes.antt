@@ -1,7 +1,7 @@
 -- From how a run ended to what its cause says, or to what may still be written.
 use Rattle.std.proofs.Common.{◌≡◌, ◌≢◌, ◌<◌, ◌≤◌, ℕ, true, List, [], map, length, get_or, Option, None, Some, MatchOption, Result, Ok, Err, MatchResult, OnOk, OnErr, IfErr, arith, ◌∙◌, sym, subst, refl}
 use Rattle.boards.specs.Layouts.{Layout}
-use Rattle.cond_lang.specs.Form.{Form}
+use Rattle.conditions.specs.Form.{Form}
 use Rattle.lanes.specs.declared.verdict.Verdict.{Verdict}
 use Rattle.lanes.specs.Views.{OutView}
 use Rattle.lanes.specs.Prefixes.{IsPrefix}

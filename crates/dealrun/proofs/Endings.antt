@@ -14,7 +14,7 @@ use Rattle.cards.specs.Deals.{IsPartition}
 use Rattle.cards.specs.Fixed.{IsFixed}
 use Rattle.cards.proofs.AroundDeals.{around_is_partition}
 use Rattle.std.proofs.lemmas.List.Elements.{All-map}
-use Rattle.cond_lang.specs.Form.{Form}
+use Rattle.conditions.specs.Form.{Form}
 use Rattle.lanes.specs.declared.verdict.Verdict.{Verdict}
 use Rattle.lanes.specs.Verdicts.{turns, verdict_of}
 use Rattle.lanes.specs.Views.{OutView}

@@ -5,7 +5,7 @@ use Rattle.std.proofs.lemmas.List.{get_or-map, length-map, get_or-take, take_all
 use Rattle.std.proofs.lemmas.List.FromFn.{get_or-map-range_with_len}
 use Rattle.std.proofs.lemmas.Option.{slice_get-get_or}
 use Rattle.boards.specs.Layouts.{Layout}
-use Rattle.cond_lang.specs.Form.{Form}
+use Rattle.conditions.specs.Form.{Form}
 use Rattle.lanes.specs.declared.verdict.Verdict.{Verdict}
 use Rattle.lanes.specs.Views.{OutView}
 use Rattle.lanes.specs.Prefixes.{IsPrefix, IsProperPrefix}

@@ -4,8 +4,8 @@ use Rattle.std.proofs.lemmas.List.{append-nil, take_all}
 use Rattle.std.proofs.Math.Seq.{take-append_seam}
 use Rattle.boards.specs.Layouts.{Layout}
 use Rattle.cards.specs.declared.seat.Seat.{Seat}
-use Rattle.cond_lang.specs.Form.{Form}
-use Rattle.cond_lang.specs.Meaning.{holds}
+use Rattle.conditions.specs.Form.{Form}
+use Rattle.conditions.specs.Meaning.{holds}
 use Rattle.plans.specs.Plans.{Planned, candidate_of}
 use Rattle.sinks.specs.Appended.{append_known, AppendsAll, AppendsPart}
 use Rattle.dealrun.specs.Reference.{BreaksOffIn}

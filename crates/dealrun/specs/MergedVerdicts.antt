@@ -3,7 +3,7 @@ use Rattle.std.specs.Prelude.{ℕ, ◌%◌, ◌/◌, List, [], length, map, filt
 use Rattle.std.specs.Prelude.{slice_index_or}
 use Rattle.std.specs.List.{range_with_len, filter_map, slice_get, enumerate_from}
 use Rattle.boards.specs.declared.board.Board.{Board}
-use Rattle.cond_lang.specs.Form.{Form}
+use Rattle.conditions.specs.Form.{Form}
 use Rattle.lanes.specs.declared.verdict.Verdict.{Verdict}
 use Rattle.lanes.specs.Verdicts.{verdicts}
 use Rattle.lanes.specs.Views.{OutView}

@@ -5,7 +5,7 @@ use Rattle.std.specs.Prelude.{map, take, Option, Some, true, false, slice_get}
 use Rattle.std.specs.List.{enumerate_from, range_with_len}
 use Rattle.boards.specs.Layouts.{Layout}
 use Rattle.cards.specs.Deals.{IsPartition}
-use Rattle.cond_lang.specs.Form.{Form}
+use Rattle.conditions.specs.Form.{Form}
 use Rattle.lanes.specs.declared.verdict.Verdict.{Verdict}
 use Rattle.lanes.specs.Verdicts.{turns}
 use Rattle.lanes.specs.Views.{OutView}

@@ -1,7 +1,7 @@
 -- The run in Portable Bridge Notation: the definitions of any layout, at PBN's under the plan's
 -- heading. PBN has no footer.
 use Rattle.std.specs.Prelude.{ℕ, List, [], Option}
-use Rattle.cond_lang.specs.Form.{Form}
+use Rattle.conditions.specs.Form.{Form}
 use Rattle.lanes.specs.Views.{OutView}
 use Rattle.pbn_text.specs.Games.{pbn}
 use Rattle.dealrun.specs.declared.cause.Cause.{Cause}

@@ -7,8 +7,8 @@ use Rattle.boards.specs.declared.board.Board.{Board}
 use Rattle.boards.specs.Layouts.{Layout}
 use Rattle.boards.specs.Settings.{board_in}
 use Rattle.cards.specs.declared.seat.Seat.{Seat}
-use Rattle.cond_lang.specs.Form.{Form}
-use Rattle.cond_lang.specs.Meaning.{holds}
+use Rattle.conditions.specs.Form.{Form}
+use Rattle.conditions.specs.Meaning.{holds}
 use Rattle.plans.specs.Plans.{Planned, candidate_of}
 
 -- the numbers of the accepted ones among n candidates from `first` on, in order, by their deals

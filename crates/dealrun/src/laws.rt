@@ -3,7 +3,7 @@
 ghost use Rattle.std.specs.Prelude.{◌≡◌, ℕ};
 ghost use Rattle.boards.specs.Layouts.{Layout};
 ghost use Rattle.boards.specs.declared.setting.Setting.{Setting};
-ghost use Rattle.cond_lang.specs.Form.{Form};
+ghost use Rattle.conditions.specs.Form.{Form};
 ghost use Rattle.plans.specs.Plans.{Planned};
 ghost use Rattle.dealrun.specs.Pbn.{text};
 ghost use Rattle.dealrun.specs.Text.{accepted, end_of, text_in};

@@ -11,7 +11,7 @@ ghost use Rattle.dealrun.specs.Text.{accepted};
 
 use crate::reference::{PlainFault, run_plain_in};
 use crate::runs::{Counted, Report, RunFault, out_of_memory, start_and_write};
-use cond_lang::Cond;
+use conditions::Cond;
 use lanes::Gate;
 use pbn_text::{Printer, Reference};
 use plans::Plan;

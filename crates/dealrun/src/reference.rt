@@ -10,7 +10,7 @@ ghost use Rattle.dealrun.specs.Text.{accepted, text_in, text_of};
 use crate::next_board::{is_full, put_board};
 use boards::Notation;
 use cards::Candidates;
-use cond_lang::Cond;
+use conditions::Cond;
 use plans::Plan;
 use sinks::{Sink, put_all};
 

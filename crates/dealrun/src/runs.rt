@@ -5,7 +5,7 @@
 
 ghost use Rattle.std.specs.Prelude.{◌≡◌, ◌-◌, ◌^◌, ◌<◌, ◌≤◌, [], false, All, IfOk};
 ghost use Rattle.std.specs.Prelude.{IfErr, MatchResult, map, vec_len};
-ghost use Rattle.cond_lang.specs.Form.{Form};
+ghost use Rattle.conditions.specs.Form.{Form};
 ghost use Rattle.dealrun.specs.declared.cause.Cause.TheVariants.{Memory};
 ghost use Rattle.dealrun.specs.Outcomes.{FaultsAfter, InterruptedIn, StandsCompleteIn};
 ghost use Rattle.dealrun.specs.Outcomes.{TakesWhatIsOwed, WritesTextIn};
@@ -20,7 +20,7 @@ use crate::start::{Started, assign_all, start_all};
 use crate::whole_text::write_all;
 use crate::writer::Progress;
 use boards::Notation;
-use cond_lang::Cond;
+use conditions::Cond;
 use lanes::{Gate, LaneOut};
 use plans::Plan;
 use sinks::Sink;

@@ -7,7 +7,7 @@ ghost use Rattle.lanes.specs.Jobs.{verdicts_around};
 ghost use Rattle.lanes.specs.Work.{Ends};
 ghost use Rattle.dealrun.specs.MergedVerdicts.{verdicts_for};
 
-use cond_lang::Cond;
+use conditions::Cond;
 use lanes::{
     Gate, Job, JobAround, LaneIn, LaneOut, Pace, Share, WorkEnd, lane_in_blocks, work_around,
 };

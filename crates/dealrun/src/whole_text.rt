@@ -4,7 +4,7 @@
 ghost use Rattle.std.specs.Prelude.{◌≡◌, ◌≢◌, ◌-◌, ◌^◌, ◌<◌, ◌≤◌, ℕ, List, Option, Some, [], false};
 ghost use Rattle.std.specs.Prelude.{true, All, IfErr, MatchResult, OnErr, OnOk, map, vec_len};
 ghost use Rattle.std.specs.Prelude.{slice_index_or};
-ghost use Rattle.cond_lang.specs.Form.{Form};
+ghost use Rattle.conditions.specs.Form.{Form};
 ghost use Rattle.dealrun.specs.declared.cause.Cause.TheVariants.{Output};
 ghost use Rattle.dealrun.specs.Outcomes.{FaultsAfter, InterruptedIn};
 ghost use Rattle.dealrun.specs.Text.{end_of};

@@ -9,7 +9,7 @@ ghost use Rattle.sinks.specs.Sinks.{CountsFault};
 ghost use Rattle.dealrun.specs.internal.Writing.{board_text, KeepsContents, KeepsLanes};
 ghost use Rattle.dealrun.specs.internal.Writing.{WriterBrokeOff, WriterSoFar};
 ghost use Rattle.dealrun.specs.internal.Joins.{AllWhole};
-ghost use Rattle.cond_lang.specs.Form.{Form};
+ghost use Rattle.conditions.specs.Form.{Form};
 
 use crate::next_board::{is_full, put_board};
 use boards::Notation;

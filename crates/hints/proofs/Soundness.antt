@@ -11,8 +11,8 @@ use Rattle.cards.specs.Hands.{hand_of, is_rearrangement, is_same, shape_of}
 use Rattle.cards.proofs.Rearranging.{rearrangement_is_permutation}
 use Rattle.cond_lang.specs.Form.{Form, all_of, any_of, balanced, compare, loose_pattern, loose_shape, negation, pattern, shape, within}
 use Rattle.cond_lang.specs.Meaning.{holds, is_related, value_in}
-use Rattle.cond_lang.specs.declared.tree.Op.{Op}
-use Rattle.cond_lang.specs.declared.tree.Op.TheVariants.{AtLeast, AtMost, Equal, Less, More, NotEqual}
+use Rattle.conditions.specs.declared.tree.Op.{Op}
+use Rattle.conditions.specs.declared.tree.Op.TheVariants.{AtLeast, AtMost, Equal, Less, More, NotEqual}
 use Rattle.hints.specs.Limits.{greatest_of, least_of}
 use Rattle.hints.specs.Never.{is_never, is_never_related}
 use Rattle.hints.specs.Torn.{is_torn}

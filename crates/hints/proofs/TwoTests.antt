@@ -12,8 +12,8 @@ use Rattle.cards.specs.Pack.{seat_number, suit_number}
 use Rattle.cond_lang.specs.Form.{Amount, Form, all_of, any_of, balanced, cards_held, compare, longest, loose_pattern, loose_shape, negation, number, pattern, points, shape, shortest, suit_cards_held, suit_length, suit_points, suit_total, total, within}
 use Rattle.cond_lang.specs.Form.{sum as plus}
 use Rattle.cond_lang.specs.Meaning.{holds, is_related, value_in}
-use Rattle.cond_lang.specs.declared.tree.Op.{Op}
-use Rattle.cond_lang.specs.declared.tree.Op.TheVariants.{AtLeast, AtMost, Equal, Less, More, NotEqual}
+use Rattle.conditions.specs.declared.tree.Op.{Op}
+use Rattle.conditions.specs.declared.tree.Op.TheVariants.{AtLeast, AtMost, Equal, Less, More, NotEqual}
 use Rattle.hints.specs.Limits.{greatest_of, least_of}
 use Rattle.hints.specs.Torn.{code_of, greatest_related, greatest_with, is_same_value, is_torn, is_torn_at, least_related, least_with, turned}
 use Rattle.hints.proofs.Values.{all_true, at_least, at_most, both_sides, less, no_less, not_more, same_number}

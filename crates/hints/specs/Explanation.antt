@@ -1,9 +1,9 @@
 -- What is written of a refusal, below the line that names it.
 use Rattle.std.specs.Prelude.{◌≡◌, ◌⊎◌, ◌↔◌, ℕ, Bool, IsTrue, ◌<◌, List, [], ◌++◌, codes, decimal}
 use Rattle.std.specs.Prelude.{length, map}
-use Rattle.cond_lang.specs.declared.error.CondError.{CondError}
-use Rattle.cond_lang.specs.declared.error.CondError.TheVariants.{TooLong, Byte, Word, Number}
-use Rattle.cond_lang.specs.declared.error.CondError.TheVariants.{Syntax, Memory}
+use Rattle.conditions.specs.declared.error.CondError.{CondError}
+use Rattle.conditions.specs.declared.error.CondError.TheVariants.{TooLong, Byte, Word, Number}
+use Rattle.conditions.specs.declared.error.CondError.TheVariants.{Syntax, Memory}
 use Rattle.cond_lang.specs.declared.words.Kind.{Kind}
 use Rattle.cond_lang.specs.declared.token.Token.{Token}
 use Rattle.cond_lang.specs.Continuations.{CanFollow, IsBeginning}

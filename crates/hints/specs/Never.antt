@@ -1,9 +1,9 @@
 -- Conditions that no deal meets, by their numbers alone.
 use Rattle.std.specs.Prelude.{ℕ, ◌==◌, not, ◌&&◌, ◌||◌, nat_lt, nat_le, Bool, false, sum}
 use Rattle.cond_lang.specs.Form.{Form, all_of, any_of, compare, pattern, shape, within}
-use Rattle.cond_lang.specs.declared.tree.Op.{Op}
-use Rattle.cond_lang.specs.declared.tree.Op.TheVariants.{AtLeast, AtMost, Equal, Less, More}
-use Rattle.cond_lang.specs.declared.tree.Op.TheVariants.{NotEqual}
+use Rattle.conditions.specs.declared.tree.Op.{Op}
+use Rattle.conditions.specs.declared.tree.Op.TheVariants.{AtLeast, AtMost, Equal, Less, More}
+use Rattle.conditions.specs.declared.tree.Op.TheVariants.{NotEqual}
 use Rattle.hints.specs.Limits.{greatest_of, least_of}
 use Rattle.hints.specs.Torn.{is_torn}
 

@@ -6,8 +6,8 @@ use Rattle.cards.specs.Measures.{measure_number}
 use Rattle.cards.specs.Pack.{seat_number, suit_number}
 use Rattle.cond_lang.specs.Form.{Amount, Form, all_of, any_of, compare, longest, points, shortest}
 use Rattle.cond_lang.specs.Form.{suit_length, suit_points, suit_total, total, within}
-use Rattle.cond_lang.specs.declared.tree.Op.{Op}
-use Rattle.cond_lang.specs.declared.tree.Op.TheVariants.{AtLeast, AtMost, Equal, Less, More}
+use Rattle.conditions.specs.declared.tree.Op.{Op}
+use Rattle.conditions.specs.declared.tree.Op.TheVariants.{AtLeast, AtMost, Equal, Less, More}
 use Rattle.hints.specs.Limits.{greatest_of, least_of}
 
 -- ---- the same value

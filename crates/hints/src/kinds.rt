@@ -2,7 +2,7 @@
 
 ghost use Rattle.std.specs.Prelude.{◌≡◌, ◌↔◌, ◌<◌, IfOk, IfErr, IsTrue};
 ghost use Rattle.std.specs.List.{list_all};
-ghost use Rattle.cond_lang.specs.declared.error.CondError.TheVariants.{Memory};
+ghost use Rattle.conditions.specs.declared.error.CondError.TheVariants.{Memory};
 ghost use Rattle.cond_lang.specs.declared.words.Kind.{Kind as AKind};
 ghost use Rattle.cond_lang.specs.Continuations.{CanFollow};
 ghost use Rattle.hints.specs.internal.Kinds.{in_set};

@@ -6,8 +6,8 @@ use Rattle.std.proofs.lemmas.Simd.{map-map}
 use Rattle.std.proofs.lemmas.List.{length-map}
 use Rattle.std.proofs.lemmas.List.FromFn.{map-range_with_len_more, take-map-range_with_len}
 use Rattle.cards.specs.declared.seat.Seat.{Seat}
-use Rattle.cond_lang.specs.Form.{Form}
-use Rattle.cond_lang.specs.Meaning.{holds}
+use Rattle.conditions.specs.Form.{Form}
+use Rattle.conditions.specs.Meaning.{holds}
 use Rattle.lanes.specs.declared.verdict.Verdict.{Verdict}
 use Rattle.lanes.specs.Verdicts.{turns, verdicts, verdict_of}
 use Rattle.lanes.proofs.Places.{places, length-places, places-are}

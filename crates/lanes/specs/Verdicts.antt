@@ -2,8 +2,8 @@
 use Rattle.std.specs.Prelude.{ℕ, ◌+◌, ◌%◌, ◌==◌, List, map, filter, count_by}
 use Rattle.std.specs.List.{range_with_len}
 use Rattle.cards.specs.declared.seat.Seat.{Seat}
-use Rattle.cond_lang.specs.Form.{Form}
-use Rattle.cond_lang.specs.Meaning.{holds}
+use Rattle.conditions.specs.Form.{Form}
+use Rattle.conditions.specs.Meaning.{holds}
 use Rattle.lanes.specs.declared.verdict.Verdict.{Verdict}
 
 -- the verdict on candidate k

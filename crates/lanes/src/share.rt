@@ -5,7 +5,7 @@ ghost use Rattle.lanes.specs.Verdicts.{turns};
 
 use crate::limits::MAX_WORKERS;
 use cards::{Fixed, MAX_CANDIDATES};
-use cond_lang::Cond;
+use conditions::Cond;
 
 /// Of the `count` candidates from `first` on, every `workers`-th one, from the one numbered `first
 /// + worker`.

@@ -9,8 +9,8 @@ use Rattle.boards.specs.Layouts.{Layout}
 use Rattle.boards.specs.Settings.{board_in}
 use Rattle.boards.specs.declared.setting.Setting.{Setting}
 use Rattle.cards.specs.declared.seat.Seat.{Seat}
-use Rattle.cond_lang.specs.Form.{Form}
-use Rattle.cond_lang.specs.Meaning.{holds}
+use Rattle.conditions.specs.Form.{Form}
+use Rattle.conditions.specs.Meaning.{holds}
 use Rattle.dealrun.specs.Text.{accepted, accepted_among, board_of, boards_of, limited, text_in}
 use Rattle.number_input.specs.NumberTexts.{said}
 use Rattle.number_input.proofs.ReadBack.{read_back}

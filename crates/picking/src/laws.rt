@@ -3,7 +3,7 @@
 ghost use Rattle.std.specs.Prelude.{◌≡◌, ◌+◌, ◌≤◌, ◌^◌, ◌++◌, ℕ, None};
 ghost use Rattle.boards.specs.Layouts.{Layout};
 ghost use Rattle.boards.specs.declared.setting.Setting.{Setting};
-ghost use Rattle.cond_lang.specs.Form.{Form};
+ghost use Rattle.conditions.specs.Form.{Form};
 ghost use Rattle.dealrun.specs.Text.{accepted, text_in};
 ghost use Rattle.number_input.specs.NumberTexts.{said};
 ghost use Rattle.number_lines.specs.Numbers.{numbers};

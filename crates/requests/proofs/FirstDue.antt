@@ -3,8 +3,8 @@ use Rattle.std.proofs.Common.{◌≡◌, ◌≢◌, ◌<◌, ◌+◌, ◌^◌, �
 use Rattle.std.specs.Borrow.{Bor}
 use Rattle.std.proofs.lemmas.Bool.{eqb-false, ltb-true, ltb-false}
 use Rattle.cond_lang.specs.Faults.{IsDue}
-use Rattle.cond_lang.specs.declared.error.CondError.{CondError}
-use Rattle.cond_lang.specs.declared.error.CondError.TheVariants.{TooLong, Byte, Word, Number, Syntax, Memory as no_memory}
+use Rattle.conditions.specs.declared.error.CondError.{CondError}
+use Rattle.conditions.specs.declared.error.CondError.TheVariants.{TooLong, Byte, Word, Number, Syntax, Memory as no_memory}
 use Rattle.dealrun.specs.declared.cause.Cause.{Cause}
 use Rattle.dealrun.specs.declared.cause.Cause.TheVariants as cause
 use Rattle.plans.specs.Refusals.{refusal_of}

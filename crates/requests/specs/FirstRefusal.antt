@@ -2,8 +2,8 @@
 use Rattle.std.specs.Prelude.{◌≡◌, ◌≢◌, ◌≤◌, ◌<◌, ◌^◌, ◌+◌, ◌⊎◌, ℕ, List, [], ◌∷◌, ◌++◌}
 use Rattle.std.specs.Prelude.{Option, Some, unwrap_or}
 use Rattle.cond_lang.specs.Faults.{IsDue}
-use Rattle.cond_lang.specs.declared.error.CondError.{CondError}
-use Rattle.cond_lang.specs.declared.error.CondError.TheVariants.{Memory as no_memory}
+use Rattle.conditions.specs.declared.error.CondError.{CondError}
+use Rattle.conditions.specs.declared.error.CondError.TheVariants.{Memory as no_memory}
 use Rattle.dealrun.specs.declared.cause.Cause.TheVariants.{Memory, Output}
 use Rattle.hand_texts.specs.HandTexts.{first_refused}
 use Rattle.plans.specs.declared.plan.PlanError.TheVariants.{Range, Workers, Capacity, Boards}

@@ -2,8 +2,8 @@
 use Rattle.std.specs.Prelude.{ℕ, List, ◌++◌, codes, decimal, string_bytes}
 use Rattle.cards.specs.declared.seat.Seat.{Seat}
 use Rattle.cards.specs.declared.seat.Seat.TheVariants as seat
-use Rattle.cond_lang.specs.declared.error.CondError.{CondError}
-use Rattle.cond_lang.specs.declared.error.CondError.TheVariants as cond
+use Rattle.conditions.specs.declared.error.CondError.{CondError}
+use Rattle.conditions.specs.declared.error.CondError.TheVariants as cond
 use Rattle.dealrun.specs.declared.cause.Cause.{Cause}
 use Rattle.dealrun.specs.declared.cause.Cause.TheVariants as cause
 use Rattle.number_input.specs.declared.refusal.LineFault.{LineFault}

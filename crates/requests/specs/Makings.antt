@@ -3,7 +3,7 @@ use Rattle.std.specs.Prelude.{◌≡◌, ◌≤◌, ◌<◌, ◌^◌, ◌+◌, �
 use Rattle.std.specs.Prelude.{unwrap_or}
 use Rattle.cond_lang.specs.Form.{Form, compare, number}
 use Rattle.cond_lang.specs.Text.{SpellsTree}
-use Rattle.cond_lang.specs.declared.tree.Op.TheVariants.{Equal}
+use Rattle.conditions.specs.declared.tree.Op.TheVariants.{Equal}
 use Rattle.hand_texts.specs.HandTexts.{first_refused, fixed_of}
 use Rattle.pbn_text.specs.Labels.{IsDate, IsLabel}
 use Rattle.plans.specs.Plans.{Planned}

@@ -9,8 +9,8 @@ ghost use Rattle.cond_lang.specs.internal.Reading.{comma_ranks_close, items, sea
 
 use super::{Parser, Refusal};
 use crate::token::Token;
-use crate::tree::{Item, Op};
 use cards::{Honours, Seat, Suit};
+use conditions::{Item, Op};
 
 impl<'a> Parser<'a> {
     pub(super) fn open(&mut self) -> Result<(), Refusal>

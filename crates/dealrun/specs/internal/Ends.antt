@@ -1,7 +1,7 @@
 -- A run that took and wrote all that its plan asks for.
 use Rattle.std.specs.Prelude.{ℕ, ◌≡◌, List, [], length, Option}
 use Rattle.boards.specs.Layouts.{Layout}
-use Rattle.cond_lang.specs.Form.{Form}
+use Rattle.conditions.specs.Form.{Form}
 use Rattle.lanes.specs.Views.{OutView}
 use Rattle.plans.specs.Plans.{Planned}
 use Rattle.sinks.specs.Appended.{AppendsAll}

@@ -8,7 +8,7 @@ use Rattle.lanes.specs.Views.{OutView}
 use Rattle.lanes.specs.declared.worker.WorkEnd.{WorkEnd}
 use Rattle.lanes.specs.declared.worker.WorkEnd.TheVariants.{Done, Stopped, Unclosed}
 use Rattle.lanes.specs.Prefixes.{IsPrefix, IsProperPrefix}
-use Rattle.cond_lang.specs.Form.{Form}
+use Rattle.conditions.specs.Form.{Form}
 use Rattle.plans.specs.Plans.{Planned}
 use Rattle.dealrun.specs.MergedVerdicts.{verdicts_for}
 use Rattle.dealrun.specs.Outcomes.{contents_of}

@@ -1,6 +1,6 @@
 -- Why a condition is not read.
 use Rattle.std.specs.Prelude.{◌≡◌, ◌⊎◌, ℕ, List, Option}
-use Rattle.cond_lang.specs.declared.error.CondError.{CondError}
+use Rattle.conditions.specs.declared.error.CondError.{CondError}
 use Rattle.dealrun.specs.declared.cause.Cause.TheVariants.{Memory}
 use Rattle.requests.specs.FirstRefusal.{IsConditionDue}
 use Rattle.requests.specs.declared.failure.Failure.{Failure}

@@ -1,6 +1,6 @@
 use Rattle.std.proofs.Common.{ap, ◌∙◌, arith, Err}
 use Rattle.std.proofs.lemmas.Result.{err_from_is_err_and}
-use Rattle.cond_lang.specs.Form.{form_of}
+use Rattle.conditions.specs.Form.{form_of}
 use Rattle.cond_lang.specs.Text.{kinds}
 use Rattle.cond_lang.proofs.Texts.{piece_too_long, piece_refused, piece_fault, piece_spelled, no_tokens, one_text_tree, its_tokens_spell, few_kinds}
 use Rattle.cond_lang.proofs.AtomCounts.{few_atoms}
@@ -35,8 +35,8 @@ returns-in_err-tree-clause-spelled c = λ t few h.
     let s = its_tokens_spell c.args.text.now c.in_ok-tokens.tokens.items c.as_slice.result.now t c.in_ok-tokens.ensures.tokens c.as_slice.ensures.value h in
     rw (p.1, p.2) (c.in_err-tree.ensures.found t s)
 
-pub invariant_of-result : goal.invariant_of-result
-invariant_of-result c =
+pub of_tree-requires : goal.of_tree-requires
+of_tree-requires c =
     let text = c.args.text.now in
     let tokens = c.in_ok-tokens.tokens.items in
     let read = c.as_slice.result.now in
@@ -52,5 +52,6 @@ returns-clause-fault c = λ e few h. absurd (no_tokens c.args.text.now e c.in_ok
 
 pub returns-clause-spelled : goal.returns-clause-spelled
 returns-clause-spelled c = λ t few h.
-    one_text_tree c.args.text.now c.as_slice.result.now (form_of c.in_ok-tree.tree) t
+    c.of_tree.ensures
+    ∙ one_text_tree c.args.text.now c.as_slice.result.now (form_of c.in_ok-tree.tree) t
     (rw c.as_slice.ensures.value c.in_ok-tokens.ensures.tokens) c.in_ok-tree.ensures.spelled h

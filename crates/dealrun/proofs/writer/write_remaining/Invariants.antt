@@ -1,5 +1,5 @@
 use Rattle.std.proofs.Common.{◌≡◌, ◌≢◌, ℕ, List, Option, Some, vec_len}
-use Rattle.cond_lang.specs.Form.{Form}
+use Rattle.conditions.specs.Form.{Form}
 use Rattle.dealrun.specs.internal.Joins.{AllWhole}
 use Rattle.dealrun.specs.internal.Writing.{KeepsContents, WriterSoFar}
 use Rattle.dealrun.proofs.writer.write_remaining.Given as goal

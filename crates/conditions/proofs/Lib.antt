@@ -1,0 +1,2 @@
+pub mod SomeAtom
+pub mod Loose

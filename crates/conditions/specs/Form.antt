@@ -1,0 +1,97 @@
+-- A condition's tree without the addresses that its boxes have in memory: two trees are equal if
+-- their forms are.
+use Rattle.std.specs.Prelude.{ℕ, List, map, if◌then◌else◌, Bool, true, false}
+use Rattle.std.specs.List.{list_any}
+use Rattle.cards.specs.declared.honours.Honours.{Honours}
+use Rattle.cards.specs.declared.measure.Measure.{Measure}
+use Rattle.cards.specs.declared.measure.Measure.TheVariants.{Hcp}
+use Rattle.cards.specs.declared.seat.Seat.{Seat}
+use Rattle.cards.specs.declared.suit.Suit.{Suit}
+use Rattle.conditions.specs.declared.tree.Op.{Op}
+use Rattle.conditions.specs.declared.tree.Item.{Item}
+use Rattle.conditions.specs.declared.tree.Item.TheVariants.{Length as Counted, Any}
+use Rattle.conditions.specs.declared.tree.Value.{Value}
+use Rattle.conditions.specs.declared.tree.Value.TheVariants.{Sum', Number, Points, SuitPoints, Total, SuitTotal, Cards, SuitCards, Length, Longest, Shortest}
+use Rattle.conditions.specs.declared.tree.Tree.{Tree}
+use Rattle.conditions.specs.declared.tree.Tree.TheVariants.{AnyOf', AllOf', Negation', Compare, Within, Balanced, Shape, Pattern, LooseShape, LoosePattern}
+
+-- a value: the high card points have `points` and `suit_points`, each other measure `total` and
+-- `suit_total`
+pub data Amount : Type 0 where
+  sum : Amount → Amount → Amount
+  number : ℕ → Amount
+  points : Seat → Amount
+  suit_points : Seat → Suit → Amount
+  total : Measure → Seat → Amount
+  suit_total : Measure → Seat → Suit → Amount
+  cards_held : Seat → Honours → Amount
+  suit_cards_held : Seat → Suit → Honours → Amount
+  suit_length : Seat → Suit → Amount
+  longest : Seat → Amount
+  shortest : Seat → Amount
+
+-- the measure of a hand, and of its cards of one suit: no form has `total Hcp` or `suit_total Hcp`
+abbrev pub measured : Measure → Seat → Amount
+measured Hcp q = points q
+measured m q = total m q
+
+abbrev pub suit_measured : Measure → Seat → Suit → Amount
+suit_measured Hcp q s = suit_points q s
+suit_measured m q s = suit_total m q s
+
+-- a tree: a shape and a pattern of four numbers have `shape` and `pattern`, those with an `x` among
+-- their items `loose_shape` and `loose_pattern`
+pub data Form : Type 0 where
+  any_of : Form → Form → Form
+  all_of : Form → Form → Form
+  negation : Form → Form
+  compare : Amount → Op → Amount → Form
+  within : Amount → ℕ → ℕ → Form
+  balanced : Seat → Form
+  shape : Seat → List ℕ → Form
+  pattern : Seat → List ℕ → Form
+  loose_shape : Seat → List Item → Form
+  loose_pattern : Seat → List Item → Form
+
+-- whether an item is `x`, and the number of one that isn't
+abbrev pub is_any : Item → Bool
+is_any Any = true
+is_any (Counted n) = false
+
+abbrev pub number_of : Item → ℕ
+number_of Any = 0
+number_of (Counted n) = n
+
+-- the shape of some items, and the pattern: an `x` makes it loose
+abbrev pub shaped : Seat → List Item → Form
+shaped q items =
+    if list_any is_any items then loose_shape q items else shape q (map number_of items)
+
+abbrev pub patterned : Seat → List Item → Form
+patterned q items =
+    if list_any is_any items then loose_pattern q items else pattern q (map number_of items)
+
+abbrev pub amount_of : Value → Amount
+amount_of (Sum' p a q b) = sum (amount_of a) (amount_of b)
+amount_of (Number n) = number n
+amount_of (Points q) = points q
+amount_of (SuitPoints q s) = suit_points q s
+amount_of (Total m q) = total m q
+amount_of (SuitTotal m q s) = suit_total m q s
+amount_of (Cards q h) = cards_held q h
+amount_of (SuitCards q s h) = suit_cards_held q s h
+amount_of (Length q s) = suit_length q s
+amount_of (Longest q) = longest q
+amount_of (Shortest q) = shortest q
+
+abbrev pub form_of : Tree → Form
+form_of (AnyOf' p a q b) = any_of (form_of a) (form_of b)
+form_of (AllOf' p a q b) = all_of (form_of a) (form_of b)
+form_of (Negation' p a) = negation (form_of a)
+form_of (Compare l o r) = compare (amount_of l) o (amount_of r)
+form_of (Within v m n) = within (amount_of v) m n
+form_of (Balanced q) = balanced q
+form_of (Shape q n) = shape q n
+form_of (Pattern q n) = pattern q n
+form_of (LooseShape q items) = loose_shape q items
+form_of (LoosePattern q items) = loose_pattern q items

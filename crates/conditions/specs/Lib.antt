@@ -1,0 +1,5 @@
+pub mod Form
+pub mod Limits
+pub mod Meaning
+pub mod Memory
+pub mod internal

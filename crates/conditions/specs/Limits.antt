@@ -1,0 +1,62 @@
+-- The limits that every condition keeps: how many values a sum adds up, and how large a number is.
+use Rattle.std.specs.Prelude.{ℕ, ◌+◌, ◌≤◌, All}
+use Rattle.conditions.specs.Form.{Amount, sum, number, points, suit_points, total, suit_total, cards_held, suit_cards_held, suit_length, longest, shortest, Form, any_of, all_of, negation, compare, within, balanced, shape, pattern, loose_shape, loose_pattern, number_of}
+
+-- the atoms of a value: each part that isn't a sum is one
+abbrev pub atoms_of : Amount → ℕ
+atoms_of (sum a b) = atoms_of a + atoms_of b
+atoms_of (number n) = 1
+atoms_of (points q) = 1
+atoms_of (suit_points q s) = 1
+atoms_of (total m q) = 1
+atoms_of (suit_total m q s) = 1
+atoms_of (cards_held q h) = 1
+atoms_of (suit_cards_held q s h) = 1
+atoms_of (suit_length q s) = 1
+atoms_of (longest q) = 1
+atoms_of (shortest q) = 1
+
+-- each value in the tree has at most so many atoms
+abbrev pub HasAtMostAtoms : ℕ → Form → Type 0
+HasAtMostAtoms n (any_of a b) = HasAtMostAtoms n a × HasAtMostAtoms n b
+HasAtMostAtoms n (all_of a b) = HasAtMostAtoms n a × HasAtMostAtoms n b
+HasAtMostAtoms n (negation a) = HasAtMostAtoms n a
+HasAtMostAtoms n (compare a o b) = (atoms_of a ≤ n) × (atoms_of b ≤ n)
+HasAtMostAtoms n (within a l m) = atoms_of a ≤ n
+HasAtMostAtoms n (balanced q) = Unit {0}
+HasAtMostAtoms n (shape q ns) = Unit {0}
+HasAtMostAtoms n (pattern q ns) = Unit {0}
+HasAtMostAtoms n (loose_shape q items) = Unit {0}
+HasAtMostAtoms n (loose_pattern q items) = Unit {0}
+
+-- each number that the value adds up is at most m
+abbrev pub AddsNumbersUpTo : ℕ → Amount → Type 0
+AddsNumbersUpTo m (sum a b) = AddsNumbersUpTo m a × AddsNumbersUpTo m b
+AddsNumbersUpTo m (number n) = n ≤ m
+AddsNumbersUpTo m (points q) = Unit {0}
+AddsNumbersUpTo m (suit_points q s) = Unit {0}
+AddsNumbersUpTo m (total k q) = Unit {0}
+AddsNumbersUpTo m (suit_total k q s) = Unit {0}
+AddsNumbersUpTo m (cards_held q h) = Unit {0}
+AddsNumbersUpTo m (suit_cards_held q s h) = Unit {0}
+AddsNumbersUpTo m (suit_length q s) = Unit {0}
+AddsNumbersUpTo m (longest q) = Unit {0}
+AddsNumbersUpTo m (shortest q) = Unit {0}
+
+-- each number in the tree is at most m: those of its values, ranges, shapes and patterns
+abbrev pub HasNumbersUpTo : ℕ → Form → Type 0
+HasNumbersUpTo m (any_of a b) = HasNumbersUpTo m a × HasNumbersUpTo m b
+HasNumbersUpTo m (all_of a b) = HasNumbersUpTo m a × HasNumbersUpTo m b
+HasNumbersUpTo m (negation a) = HasNumbersUpTo m a
+HasNumbersUpTo m (compare a o b) = AddsNumbersUpTo m a × AddsNumbersUpTo m b
+HasNumbersUpTo m (within a k n) = AddsNumbersUpTo m a × (k ≤ m) × (n ≤ m)
+HasNumbersUpTo m (balanced q) = Unit {0}
+HasNumbersUpTo m (shape q ns) = All (λ n. n ≤ m) ns
+HasNumbersUpTo m (pattern q ns) = All (λ n. n ≤ m) ns
+HasNumbersUpTo m (loose_shape q items) = All (λ i. number_of i ≤ m) items
+HasNumbersUpTo m (loose_pattern q items) = All (λ i. number_of i ≤ m) items
+
+-- the limits of a condition
+pub record IsWithinLimits (tree : Form) : Type 0 where
+  pub few : HasAtMostAtoms 1024 tree
+  pub small : HasNumbersUpTo 9999 tree

@@ -1,0 +1,91 @@
+//! A condition: made of a tree, cloned, and asked whether it holds of a deal.
+
+ghost use Rattle.std.specs.Prelude.{◌≡◌};
+ghost use Rattle.conditions.specs.declared.tree.Op.TheVariants.{Equal};
+ghost use Rattle.conditions.specs.Form.{form_of, compare, number};
+ghost use Rattle.conditions.specs.Limits.{IsWithinLimits, HasAtMostAtoms, HasNumbersUpTo};
+ghost use Rattle.conditions.specs.Meaning.{holds};
+ghost use Rattle.conditions.specs.Memory.{IsUnlessMemory};
+
+use crate::error::CondError;
+use crate::meaning;
+use crate::tree::{Op, Tree, Value};
+use cards::Deal;
+use std::alloc::Global;
+use std::marker::Model;
+
+/// A condition on a deal, which contracts see as its tree's form.
+///
+/// Each of its values adds up at most 1,024 numbers, points and lengths, so that a sum is a `u32`,
+/// and each of its numbers is at most 9,999.
+#[derive(Debug, Drop)]
+pub struct Cond {
+    alloc: Global,
+    tree: Tree,
+}
+
+impl Model for Cond {
+    ghost use Rattle.conditions.specs.Form.{Form, form_of};
+    ghost use Rattle.conditions.specs.internal.FormCode.{form_code};
+    ghost use Rattle.conditions.specs.Limits.{IsWithinLimits};
+
+    ghost Value = { Form };
+
+    ghost coded = { form_code };
+
+    ghost view = { λ c. form_of c.tree };
+
+    ghost invariant = { λ c. IsWithinLimits (form_of c.tree) };
+}
+
+impl Cond {
+    /// The condition that is this tree.
+    pub fn of_tree(alloc: Global, tree: Tree) -> Cond
+        requires { IsWithinLimits (form_of tree) }
+        ensures { result ≡ form_of tree }
+    {
+        Cond { alloc, tree }
+    }
+
+    /// The condition of the text `0==0`, which holds of every deal.
+    pub fn any(alloc: Global) -> Cond
+        ensures { result ≡ compare (number 0) Equal (number 0) }
+    {
+        let tree = Tree::Compare {
+            left: Value::Number(0),
+            op: Op::Equal,
+            right: Value::Number(0),
+        };
+        Cond { alloc, tree }
+    }
+
+    /// An equal condition. Its only error is `Memory`, which comes only when an allocation failed.
+    pub fn try_clone(&self) -> Result<Cond, CondError>
+        ensures { IsUnlessMemory result self.now }
+    {
+        match self.tree.try_clone(self.alloc) {
+            Ok(tree) => Ok(Cond {
+                alloc: self.alloc,
+                tree,
+            }),
+            Err(_) => Err(CondError::Memory),
+        }
+    }
+
+    /// Whether the condition is true of the deal.
+    pub fn holds(&self, deal: &Deal) -> bool
+        ensures { result ≡ holds self.now deal.now }
+    {
+        meaning::holds(&self.tree, deal)
+    }
+
+    /// The tree of the condition: each of its values has at most 1,024 atoms, and each number is at
+    /// most 9,999.
+    pub fn tree(&self) -> &Tree
+        ensures form { form_of result.now ≡ self.now }
+        ensures few { HasAtMostAtoms 1024 self.now }
+        ensures small { HasNumbersUpTo 9999 self.now }
+    {
+        &self.tree
+    }
+}

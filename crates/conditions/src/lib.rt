@@ -1,0 +1,15 @@
+//! Conditions on a deal, as trees of tests, and what these mean.
+//!
+//! Contracts see a `Cond` as its tree's `Form`, which is the tree without the addresses of its
+//! boxes. The language that people write conditions in stands above this crate.
+#![tactic(auto)]
+
+mod condition;
+mod error;
+pub mod laws;
+mod meaning;
+mod tree;
+
+pub use condition::Cond;
+pub use error::CondError;
+pub use tree::{Item, Op, Tree, Value};
