@@ -3,11 +3,12 @@
 //!
 //! `parse` cuts the whole text into pieces first (`scanner`), and then reads the tokens from the
 //! left, one in sight (`parser`). The trees and what they mean of a deal stand in `conditions`, and
-//! have their names here too.
+//! have their names here too. `language` has all of it on a page.
 #![tactic(auto)]
 
 mod beginning;
 mod condition;
+mod language;
 pub mod laws;
 mod parser;
 mod run_lengths;
@@ -18,6 +19,7 @@ mod words;
 pub use beginning::Beginning;
 pub use condition::parse;
 pub use conditions::{Cond, CondError, Item, Op, Tree, Value};
+pub use language::LANGUAGE;
 pub use run_lengths::{digit_run_len, letter_run_len};
 pub use token::Token;
-pub use words::{Kind, MEASURE_LINES, WORDS, measure_word};
+pub use words::{Kind, WORDS, measure_word};

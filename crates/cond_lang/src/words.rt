@@ -49,7 +49,7 @@ pub fn measure_word(measure: Measure) -> &'static str
 
 /// What the measures count, a line or more for each: a part of the page of the language, in plain
 /// text of 80 columns at most.
-pub const MEASURE_LINES: &str =
+pub(crate) const MEASURE_LINES: &str =
     "  hcp(north)                  high card points: ace 4, king 3, queen 2, jack 1
   hcp(north,spades)           those of the spades alone
   controls(north)             2 for each ace, 1 for each king; also with a suit

@@ -10,12 +10,13 @@ mod refused_words;
 
 ghost use Rattle.std.specs.Prelude.{◌≡◌, IfOk};
 
+use advice::advise;
 use cond_lang::parse;
 use console::{Counts, Drawn, GATHERED_MILLIS, OverLine, Prompt, Style, millis};
 use deals_cli::{program_with_input, read_words};
 use hints::explain;
 use number_input::Reader;
-use requests::{MakeRequest, Progress, Request, advise};
+use requests::{MakeRequest, Progress, Request};
 use sinks::{Piped, Sink, put_all};
 use std::alloc::Global;
 use std::io::{BufWriter, ErrorKind, IsTerminal, Read, Result};

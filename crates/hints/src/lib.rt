@@ -5,7 +5,6 @@
 mod excerpt;
 mod expected;
 mod kinds;
-mod language;
 mod limits;
 mod never;
 mod refusal;
@@ -13,7 +12,6 @@ mod shown;
 mod torn;
 mod unmet;
 
-pub use language::LANGUAGE;
 pub use never::is_never;
 pub use refusal::explain;
 pub use shown::put_shown;

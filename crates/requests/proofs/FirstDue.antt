@@ -1,5 +1,5 @@
 -- Which failure is due first.
-use Rattle.std.proofs.Common.{◌≡◌, ◌≢◌, ◌<◌, ◌+◌, ◌^◌, ◌||◌, ◌==◌, ◌∙◌, ◌++◌, ℕ, zero, suc, Bool, true, false, List, [], ◌∷◌, Option, Some, None, refl, sym, ap, inl, inr, nat_lt, option_map, arith, eqb-true, if◌then◌else◌}
+use Rattle.std.proofs.Common.{◌≡◌, ◌≢◌, ◌<◌, ◌+◌, ◌^◌, ◌||◌, ◌==◌, ◌∙◌, ◌++◌, ℕ, zero, suc, Bool, true, false, List, [], ◌∷◌, Option, Some, refl, sym, ap, inl, inr, nat_lt, option_map, arith, eqb-true, if◌then◌else◌}
 use Rattle.std.specs.Borrow.{Bor}
 use Rattle.std.proofs.lemmas.Bool.{eqb-false, ltb-true, ltb-false}
 use Rattle.cond_lang.specs.Faults.{IsDue}
@@ -10,10 +10,6 @@ use Rattle.dealrun.specs.declared.cause.Cause.TheVariants as cause
 use Rattle.plans.specs.Refusals.{refusal_of}
 use Rattle.plans.specs.declared.plan.PlanError.{PlanError}
 use Rattle.plans.specs.declared.plan.PlanError.TheVariants.{Range, Workers, Capacity, Boards, FirstBoard}
-use Rattle.cards.specs.declared.seat.Seat.{Seat}
-use Rattle.hand_texts.specs.HandTexts.{is_refused_at}
-use Rattle.hand_texts.proofs.Apart.{refused_first}
-use Rattle.requests.specs.Advice.{Advises}
 use Rattle.requests.specs.Failures.{failure_of, status_of}
 use Rattle.requests.specs.FirstRefusal.{IsConditionDue, IsDueFor, IsDueOf, IsFirstHand, IsFirstOf, IsPickDue, Meets, of_labels, of_numbers}
 use Rattle.requests.specs.Makings.{HasLabels, HasNumbers, IsPlanned, candidates_of}
@@ -23,7 +19,6 @@ use Rattle.requests.specs.declared.failure.Failure.{Failure}
 use Rattle.requests.specs.declared.failure.Failure.TheVariants.{CommandLine, Plan, Label, Hand, Condition, Interrupted, Line, Input}
 use Rattle.requests.specs.declared.failure.LabelName.TheVariants.{Event, Site, Date}
 use Rattle.requests.specs.internal.Conditions.{IsConditionFailure}
-use Rattle.requests.specs.internal.Hands.{SaysOfHand}
 
 -- ---- the numbers
 
@@ -149,13 +144,6 @@ not_interrupted cause.Output is = cc
 not_interrupted cause.Spawn is = cc
 not_interrupted (cause.Stopped worker) is = cc
 not_interrupted (cause.Unclosed worker) is = cc
-
--- a hand that is refused has a fault
-pub hand_advised : (m : Making) (seat : Seat) (line : Option (List ℕ)) → IsDueOf m (Hand seat) → SaysOfHand m seat line → Advises m line
-hand_advised m seat None due h =
-    let refused : is_refused_at m.hands seat ≡ true = refused_first m.hands seat due.2 in
-    absurd cc
-hand_advised m seat (Some line) due h = (Hand seat, due, h)
 
 -- a `pick` whose plan, label or hand is refused
 pub pick_refused : (m : Making) (f : Failure) → status_of f ≡ 2 → IsDueOf m f → IsPickDue m f

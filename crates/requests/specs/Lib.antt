@@ -8,6 +8,5 @@ pub mod Interruptions
 pub mod Failures
 pub mod Lines
 pub mod Reports
-pub mod Advice
 pub mod Reported
 pub mod internal

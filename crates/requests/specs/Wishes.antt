@@ -2,7 +2,7 @@
 use Rattle.std.specs.Prelude.{◌≡◌, ◌⊎◌, ℕ, List, [], ◌∷◌, Contains, Ok, Option, Some}
 use Rattle.std.specs.List.{flat_map}
 use Rattle.cond_lang.specs.Form.{Form}
-use Rattle.hints.specs.declared.language.TheConstants.{LANGUAGE}
+use Rattle.cond_lang.specs.declared.language.TheConstants.{LANGUAGE}
 use Rattle.picking.specs.Outcomes.{Picks}
 use Rattle.sinks.specs.Appended.{AppendsAll}
 use Rattle.values.specs.Values.{lines}

@@ -8,7 +8,7 @@ ghost use Rattle.requests.specs.Requests.{conditions as wish};
 ghost use Rattle.requests.specs.Wishes.{Appends, IsStatusOf};
 
 use crate::failure::Failure;
-use hints::LANGUAGE;
+use cond_lang::LANGUAGE;
 use sinks::{Sink, put_all};
 
 /// Writes the page of the language.

@@ -3,11 +3,10 @@
 //! A subcommand is a file: its request, with the values of its options, and the function that
 //! serves it (`make.rt`, `pick.rt`, `conditions.rt`, `stream.rt`). `request.rt` has one variant for
 //! each. `run.rt` runs a plan in the format that is asked for, and `picking_as.rt` deals the
-//! candidates that an input names in it. `advice.rt` tells a person what a refused option takes.
+//! candidates that an input names in it.
 //! How the words of a command line become a request is no business of this crate.
 #![tactic(auto)]
 
-mod advice;
 mod conditions;
 mod failure;
 mod format;
@@ -22,10 +21,9 @@ mod request;
 mod run;
 mod stream;
 
-pub use advice::advise;
 pub use failure::{Failure, LabelName};
 pub use format::Format;
-pub use make::MakeRequest;
+pub use make::{MakeRequest, candidates_of, planned};
 pub use progress::Progress;
 pub use report::Report;
 pub use request::{Request, serve};

@@ -119,7 +119,7 @@ fn heading_of(request: &MakeRequest<'_>) -> Result<Heading, Failure>
 }
 
 /// How many candidates are tried.
-pub(crate) fn candidates_of(request: &MakeRequest<'_>) -> u64
+pub fn candidates_of(request: &MakeRequest<'_>) -> u64
     ensures { result ≡ candidates_of (making_of request.now) }
 {
     let all = MAX_CANDIDATES.saturating_sub(request.first);
@@ -184,7 +184,7 @@ fn fixed_of(request: &MakeRequest<'_>) -> Result<Fixed, Failure>
 
 /// The plan of the options, with its labels, its fixed cards and its setting.
 #[tactic(auto, using(crate::proofs::FirstDue::failures))]
-pub(crate) fn planned(request: &MakeRequest<'_>) -> Result<Plan, Failure>
+pub fn planned(request: &MakeRequest<'_>) -> Result<Plan, Failure>
     ensures made { IfOk result (λ p. p ≡ plan_of (making_of request.now)) }
     ensures sound { IfOk result (λ _. IsPlanned (making_of request.now)) }
     ensures refused { IfErr result (λ e.

@@ -1,8 +1,8 @@
 //! The functions of hints, each with values from outside. All that is said of mistakes, the notes
 //! and the page of the language are asked of the built program: by tests/mistakes.
 
-use cond_lang::{Cond, CondError, parse};
-use hints::{LANGUAGE, explain, is_never, note, put_shown};
+use cond_lang::{Cond, CondError, LANGUAGE, parse};
+use hints::{explain, is_never, note, put_shown};
 use std::alloc::Global;
 use std::test::Fail;
 

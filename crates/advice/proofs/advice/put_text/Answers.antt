@@ -1,6 +1,6 @@
 use Rattle.std.proofs.Common.{◌≤◌, arith, length, sym}
 use Rattle.std.proofs.lemmas.List.{length-take-le}
-use Rattle.requests.proofs.advice.put_text.Goals as goal
+use Rattle.advice.proofs.advice.put_text.Goals as goal
 
 pub slice_bounds-part-end : goal.slice_bounds-part-end
 slice_bounds-part-end c =

@@ -1,7 +1,7 @@
 use Rattle.std.proofs.Common.{option_map, subst}
 use Rattle.std.specs.Prelude.{string_bytes}
-use Rattle.requests.proofs.FirstDue.{hand_advised}
-use Rattle.requests.proofs.advice.advise.Goals as goal
+use Rattle.advice.proofs.Advised.{hand_advised}
+use Rattle.advice.proofs.advice.advise.Goals as goal
 use Rattle.requests.specs.FirstRefusal.{IsDueOf}
 use Rattle.requests.specs.Options.{making_of}
 

@@ -3,20 +3,19 @@
 
 ghost use Rattle.std.specs.Prelude.{◌≡◌, ◌++◌, [], map, option_map, string_bytes, unwrap_or};
 ghost use Rattle.std.specs.Prelude.{IfOk, IfSome, OnOk};
-ghost use Rattle.requests.specs.Advice.{Advises, given_text, label_advice, plan_advice, range_line};
-ghost use Rattle.requests.specs.Advice.{seat_option, shown_text, text_line};
+ghost use Rattle.advice.specs.Advice.{Advises, given_text, label_advice, plan_advice, range_line};
+ghost use Rattle.advice.specs.Advice.{seat_option, shown_text, text_line};
 ghost use Rattle.requests.specs.Makings.{candidates_of};
 ghost use Rattle.requests.specs.Options.{making_of};
-ghost use Rattle.requests.specs.internal.Hands.{SaysOfHand};
+ghost use Rattle.advice.specs.internal.Hands.{SaysOfHand};
 
-use crate::failure::{Failure, LabelName};
-use crate::make::{MakeRequest, candidates_of, planned};
 use cards::{MAX_CANDIDATES, Seat};
 use hints::put_shown;
 use itoa::Buffer;
 use lanes::{MAX_CAPACITY, MAX_WORKERS};
 use pbn_text::MAX_LABEL_LEN;
 use plans::PlanError;
+use requests::{Failure, LabelName, MakeRequest, candidates_of, planned};
 use std::alloc::{AllocError, Global};
 
 /// The longest text that is shown whole, and how much of a longer one is shown.
@@ -32,7 +31,7 @@ const PART: usize = 70;
 ///
 /// # Errors
 /// `AllocError` if an allocation failed.
-#[tactic(auto, using(crate::proofs::FirstDue::not_interrupted))]
+#[tactic(auto, using(crate::proofs::Advised::not_interrupted))]
 pub fn advise(alloc: Global, request: &MakeRequest<'_>) -> Result<Option<String>, AllocError>
     ensures { IfOk result (λ line. Advises (making_of request.now) (option_map string_bytes line)) }
 {

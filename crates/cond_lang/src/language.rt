@@ -1,6 +1,6 @@
 //! The page of the language, for a terminal.
 
-use cond_lang::MEASURE_LINES;
+use crate::words::MEASURE_LINES;
 
 /// The language of conditions on one page, in parts that stand one behind another, each of whole
 /// lines: plain text of ASCII, 80 columns at most, with ten examples, each on a line of its own

@@ -2,7 +2,7 @@
 use Rattle.std.specs.Prelude.{◌≡◌, ℕ, List, Option, Some, None, false}
 use Rattle.cards.specs.declared.seat.Seat.{Seat}
 use Rattle.hand_texts.specs.HandTexts.{is_refused_at}
-use Rattle.requests.specs.Advice.{IsHandAdvice}
+use Rattle.advice.specs.Advice.{IsHandAdvice}
 use Rattle.requests.specs.Requests.{Making}
 
 -- nothing of a hand, and else a fault
