@@ -10,8 +10,8 @@ ghost use Rattle.cond_lang.specs.Text.{kinds};
 ghost use Rattle.cond_lang.specs.Continuations.{IsLongestViable};
 ghost use Rattle.cond_lang.specs.Faults.{offset_of, IsPlace};
 ghost use Rattle.cond_lang.specs.internal.Reading.{Gives, front, rest_of_measure, rest_of_cards};
-ghost use Rattle.cond_lang.specs.internal.Reading.{atom_of, reading, a_value, related_by};
-ghost use Rattle.cond_lang.specs.internal.Reading.{comparing_by, test_by, a_unit, a_both, a_cond};
+ghost use Rattle.cond_lang.specs.internal.Reading.{atom_of, reading, a_value, comparing_by};
+ghost use Rattle.cond_lang.specs.internal.Reading.{test_by, a_unit, a_both, a_cond};
 ghost use Rattle.cond_lang.specs.internal.Reading.{whole};
 
 mod terminals;
@@ -153,7 +153,8 @@ impl<'a> Parser<'a> {
     {
         if let Some(Token::Suit(suit)) = self.peek() {
             self.advance();
-            return Ok(Value::SuitCards(seat, suit, self.comma_ranks_close()?));
+            self.comma()?;
+            return Ok(Value::SuitCards(seat, suit, self.ranks_close()?));
         }
         Ok(Value::Cards(seat, self.ranks_close()?))
     }
@@ -173,12 +174,12 @@ impl<'a> Parser<'a> {
         Ok(left)
     }
 
-    /// `in number - number` or `op value` after a value
-    fn related(&mut self, left: Value) -> Result<Tree, Refusal>
-        ensures gives { Gives form_of result self.new
-            (related_by reading (amount_of left) self.old) }
+    /// A value, and `in number - number` or `op value`.
+    fn comparison(&mut self) -> Result<Tree, Refusal>
+        ensures gives { Gives form_of result self.new (comparing_by reading self.old) }
         ensures shorter { length self.new ≤ length self.old }
     {
+        let left = self.value()?;
         if let Some(Token::In) = self.peek() {
             self.advance();
             let (least, most) = self.range()?;
@@ -187,15 +188,6 @@ impl<'a> Parser<'a> {
         let op = self.relation()?;
         let right = self.value()?;
         Ok(Tree::Compare { left, op, right })
-    }
-
-    /// A value, and what it is compared with.
-    fn comparison(&mut self) -> Result<Tree, Refusal>
-        ensures gives { Gives form_of result self.new (comparing_by reading self.old) }
-        ensures shorter { length self.new ≤ length self.old }
-    {
-        let left = self.value()?;
-        self.related(left)
     }
 
     /// One test with no `not` and no bracket before it.
