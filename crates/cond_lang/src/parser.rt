@@ -10,8 +10,8 @@ ghost use Rattle.cond_lang.specs.Text.{kinds};
 ghost use Rattle.cond_lang.specs.Continuations.{IsLongestViable};
 ghost use Rattle.cond_lang.specs.Faults.{offset_of, IsPlace};
 ghost use Rattle.cond_lang.specs.internal.Reading.{Gives, front, rest_of_measure, rest_of_cards};
-ghost use Rattle.cond_lang.specs.internal.Reading.{atom_of, reading, a_value, related_by};
-ghost use Rattle.cond_lang.specs.internal.Reading.{comparing_by, test_by, a_unit, a_both, a_cond};
+ghost use Rattle.cond_lang.specs.internal.Reading.{atom_of, reading, a_value, comparing_by};
+ghost use Rattle.cond_lang.specs.internal.Reading.{test_by, a_unit, a_both, a_cond};
 ghost use Rattle.cond_lang.specs.internal.Reading.{whole};
 
 mod terminals;
@@ -19,7 +19,7 @@ mod terminals;
 use crate::token::{Placed, Token};
 use cards::{Measure, Seat};
 use conditions::{CondError, Tree, Value};
-use std::alloc::Global;
+use std::alloc::{AllocFailed, Global};
 use std::marker::Model;
 
 /// Why the parser stopped.
@@ -29,6 +29,17 @@ pub(crate) enum Refusal {
     Syntax,
     /// An allocation failed.
     Memory,
+}
+
+impl<T: Drop> From<AllocFailed<T>> for Refusal {
+    ghost use Rattle.std.specs.Prelude.{◌≡◌};
+    ghost use Rattle.cond_lang.specs.declared.parser.Refusal.TheVariants.{Memory};
+
+    ghost from_gives = { λ _ r. r ≡ Memory };
+
+    fn from(_failed: AllocFailed<T>) -> Refusal {
+        Refusal::Memory
+    }
 }
 
 /// The tokens that are left, which is all that contracts see of a parser.
@@ -142,26 +153,10 @@ impl<'a> Parser<'a> {
     {
         if let Some(Token::Suit(suit)) = self.peek() {
             self.advance();
-            return Ok(Value::SuitCards(seat, suit, self.comma_ranks_close()?));
+            self.comma()?;
+            return Ok(Value::SuitCards(seat, suit, self.ranks_close()?));
         }
         Ok(Value::Cards(seat, self.ranks_close()?))
-    }
-
-    /// The tree on the heap.
-    #[inline(never)]
-    fn boxed(&self, tree: Tree) -> Result<Box<Tree>, Refusal>
-        ensures ok { IfOk result (λ b. b.value ≡ tree) }
-        ensures err { result ≢ Err Refusal.Syntax }
-    {
-        Box::new(self.alloc, tree).map_err(|_| Refusal::Memory)
-    }
-
-    /// The value on the heap.
-    fn boxed_value(&self, value: Value) -> Result<Box<Value>, Refusal>
-        ensures ok { IfOk result (λ b. b.value ≡ value) }
-        ensures err { result ≢ Err Refusal.Syntax }
-    {
-        Box::new(self.alloc, value).map_err(|_| Refusal::Memory)
     }
 
     /// Atoms with `+` between them.
@@ -174,17 +169,17 @@ impl<'a> Parser<'a> {
         while let Some(Token::Plus) = self.peek() {
             self.advance();
             let right = self.atom()?;
-            left = Value::Sum(self.boxed_value(left)?, self.boxed_value(right)?);
+            left = Value::Sum(Box::new(self.alloc, left)?, Box::new(self.alloc, right)?);
         }
         Ok(left)
     }
 
-    /// `in number - number` or `op value` after a value
-    fn related(&mut self, left: Value) -> Result<Tree, Refusal>
-        ensures gives { Gives form_of result self.new
-            (related_by reading (amount_of left) self.old) }
+    /// A value, and `in number - number` or `op value`.
+    fn comparison(&mut self) -> Result<Tree, Refusal>
+        ensures gives { Gives form_of result self.new (comparing_by reading self.old) }
         ensures shorter { length self.new ≤ length self.old }
     {
+        let left = self.value()?;
         if let Some(Token::In) = self.peek() {
             self.advance();
             let (least, most) = self.range()?;
@@ -195,15 +190,6 @@ impl<'a> Parser<'a> {
         Ok(Tree::Compare { left, op, right })
     }
 
-    /// A value, and what it is compared with.
-    fn comparison(&mut self) -> Result<Tree, Refusal>
-        ensures gives { Gives form_of result self.new (comparing_by reading self.old) }
-        ensures shorter { length self.new ≤ length self.old }
-    {
-        let left = self.value()?;
-        self.related(left)
-    }
-
     /// One test with no `not` and no bracket before it.
     fn test(&mut self) -> Result<Tree, Refusal>
         ensures gives { Gives form_of result self.new (test_by reading self.old) }
@@ -212,9 +198,7 @@ impl<'a> Parser<'a> {
         match self.peek() {
             Some(Token::Balanced) => {
                 self.advance();
-                let seat = self.open_seat()?;
-                self.close()?;
-                Ok(Tree::Balanced(seat))
+                Ok(Tree::Balanced(self.seat_in_brackets()?))
             }
             Some(Token::Shape) => {
                 self.advance();
@@ -237,7 +221,7 @@ impl<'a> Parser<'a> {
         ensures shorter { length self.new ≤ length self.old }
     {
         let tree = self.test()?;
-        self.boxed(tree)
+        Ok(Box::new(self.alloc, tree)?)
     }
 
     /// The tree's negation.
@@ -246,7 +230,7 @@ impl<'a> Parser<'a> {
         ensures ok { IfOk result (λ b. form_of b.value ≡ negation (form_of inner.value)) }
         ensures err { result ≢ Err Refusal.Syntax }
     {
-        self.boxed(Tree::Negation(inner))
+        Ok(Box::new(self.alloc, Tree::Negation(inner))?)
     }
 
     /// Both trees.
@@ -256,7 +240,7 @@ impl<'a> Parser<'a> {
             form_of b.value ≡ all_of (form_of left.value) (form_of right.value)) }
         ensures err { result ≢ Err Refusal.Syntax }
     {
-        self.boxed(Tree::AllOf(left, right))
+        Ok(Box::new(self.alloc, Tree::AllOf(left, right))?)
     }
 
     /// One of the two trees, or both.
@@ -266,7 +250,7 @@ impl<'a> Parser<'a> {
             form_of b.value ≡ any_of (form_of left.value) (form_of right.value)) }
         ensures err { result ≢ Err Refusal.Syntax }
     {
-        self.boxed(Tree::AnyOf(left, right))
+        Ok(Box::new(self.alloc, Tree::AnyOf(left, right))?)
     }
 
     // A text has up to 1,024 opening brackets, and each keeps a frame of the next three functions

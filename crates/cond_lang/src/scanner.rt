@@ -4,7 +4,7 @@
 ghost use Rattle.std.specs.Prelude.{◌≡◌, ◌<◌, ◌≤◌, ◌==◌, length, map, count_by, true, IfOk, IfErr};
 ghost use Rattle.std.specs.List.{AllByRecursion};
 ghost use Rattle.std.specs.Char.{is_ascii_lowercase, is_ascii_digit};
-ghost use Rattle.cond_lang.specs.Cut.{HasTokens, words, decimal, is_separator, is_in_comment};
+ghost use Rattle.cond_lang.specs.Cut.{HasTokens, decimal, is_separator, is_in_comment};
 ghost use Rattle.cond_lang.specs.Cut.{is_rank, are_ranks, has_letter, named_by};
 ghost use Rattle.cond_lang.specs.Faults.{HasFault};
 ghost use Rattle.cond_lang.specs.Runs.{run};
@@ -94,7 +94,7 @@ fn comment_len(text: &[u8]) -> usize
 fn word_piece(letters: &[u8]) -> Piece
     ensures { result ≡ word_piece letters.now }
 {
-    match word(letters) {
+    match look_up(&WORDS, letters) {
         Some(token) => Piece::Token(token),
         None => ranks_piece(letters),
     }
@@ -176,13 +176,6 @@ fn decimal(digits: &[u8]) -> u16
         number = 10 * number + u16::from(*digit - b'0');
     }
     number
-}
-
-/// The token of a known word.
-fn word(text: &[u8]) -> Option<Token>
-    ensures { result ≡ token_of words text.now }
-{
-    look_up(&WORDS, text)
 }
 
 /// The token beside this text in a table.

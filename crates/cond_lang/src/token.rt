@@ -4,7 +4,7 @@ use cards::{Honours, Measure, Seat, Suit};
 use conditions::Op;
 
 /// A token of the language: a known word, ranks, a number of at most four digits, or a symbol.
-#[derive(Clone, Copy, Debug, Default, PartialEq, Eq)]
+#[derive(Clone, Copy, Default)]
 pub enum Token {
     #[default]
     Or,

@@ -5,7 +5,7 @@ ghost use Rattle.cond_lang.specs.internal.Reading.{Gives, opened, closed, comma,
 ghost use Rattle.cond_lang.specs.internal.Reading.{digits, ranks, item, relation, open_seat};
 ghost use Rattle.cond_lang.specs.internal.Reading.{open_seat_comma, seat_in_brackets, range};
 ghost use Rattle.cond_lang.specs.internal.Reading.{comma_suit_close, ranks_close};
-ghost use Rattle.cond_lang.specs.internal.Reading.{comma_ranks_close, items, seat_and_items};
+ghost use Rattle.cond_lang.specs.internal.Reading.{items, seat_and_items};
 
 use super::{Parser, Refusal};
 use crate::token::Token;
@@ -165,15 +165,6 @@ impl<'a> Parser<'a> {
         Ok(ranks)
     }
 
-    /// `, ranks )`
-    pub(super) fn comma_ranks_close(&mut self) -> Result<Honours, Refusal>
-        ensures gives { Gives (λ h. h) result self.new (comma_ranks_close self.old) }
-        ensures shorter { length self.new ≤ length self.old }
-    {
-        self.comma()?;
-        self.ranks_close()
-    }
-
     /// `number - number`
     pub(super) fn range(&mut self) -> Result<(u16, u16), Refusal>
         ensures gives { Gives (λ p. (p.0, p.1)) result self.new (range self.old) }
@@ -218,8 +209,7 @@ impl<'a> Parser<'a> {
         ensures gives { Gives (λ p. (p.0, p.1)) result self.new (seat_and_items self.old) }
         ensures shorter { length self.new ≤ length self.old }
     {
-        let seat = self.open_seat()?;
-        self.comma()?;
+        let seat = self.open_seat_comma()?;
         let items = self.items()?;
         self.close()?;
         Ok((seat, items))
