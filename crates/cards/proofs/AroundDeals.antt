@@ -1,5 +1,5 @@
 -- The deal around fixed cards: a partition, with the masks of what is fixed and what is dealt.
-use Rattle.std.proofs.Common.{◌≡◌, ℕ, zero, suc, ◌+◌, ◌-◌, ◌^◌, ◌<◌, ◌≤◌, ◌≢◌, ◌==◌, ◌&&◌, max, Bool, true, false, cond, List, [], ◌∷◌, length, take, get_or, map, refl, sym, ap, ◌∙◌, arith, inl, inr}
+use Rattle.std.proofs.Common.{◌≡◌, ℕ, zero, suc, ◌+◌, ◌-◌, ◌^◌, ◌<◌, ◌≤◌, ◌≢◌, ◌==◌, ◌&&◌, max, Bool, true, false, cond, List, [], ◌∷◌, length, take, get_or, map, refl, sym, ap, ◌∙◌, arith, subst, inl, inr}
 use Rattle.std.specs.Prelude.{Option, Some, None, nat_le, ltb, unwrap_or, if◌then◌else◌}
 use Rattle.std.specs.List.{count_by}
 use Rattle.std.proofs.lemmas.Bool.{cases_lt}
@@ -7,7 +7,7 @@ use Rattle.std.proofs.lemmas.Bool.Decides.{nat_tests}
 use Rattle.std.proofs.lemmas.List.{get_or-map, length-map, take_all}
 use Rattle.std.proofs.lemmas.List.FromFn.{get_or-map-range_with_len, length-map-range_with_len}
 use Rattle.std.proofs.lemmas.Nat.{or_lt}
-use Rattle.std.proofs.lemmas.Nat.Bits.{bit_at_or, bit_at-zero}
+use Rattle.std.proofs.lemmas.Nat.Bits.{bit_at_or}
 use Rattle.std.proofs.lemmas.Simd.{bit_mask_l, mask_l-lt}
 use lib.Lanes.{mask_l}
 use Rattle.std.specs.Int.{bit_at}
@@ -21,15 +21,17 @@ use Rattle.cards.specs.Shuffle.{card_at, pack}
 use Rattle.cards.specs.Deals.{IsPartition, position_of}
 use Rattle.cards.specs.Fixed.{IsFixed, dealt_around, free_count, free_index, held, is_fixed_at, is_free, open_seat, places_for, room, seat_around}
 use Rattle.cards.specs.declared.around.Side.{Side}
-use Rattle.cards.specs.internal.Around.{IsSide, draws_around, fixed_at, fixed_mask, settles_within}
+use Rattle.cards.specs.internal.Around.{IsDealingAround, IsKept, IsListed, IsSettled, IsSide, draws_around, fixed_at, fixed_mask, settles_within}
 use Rattle.cards.specs.internal.Masks.{IsMasks, seat_mask, seats_of_masks}
 use Rattle.cards.specs.internal.MaskBits.{bit_at_pack, mask-pack-lt, same_masks}
-use Rattle.cards.proofs.DealMasks.{bit_at_seat, masks_view, seat_mask-lt}
-use Rattle.cards.proofs.FullMasks.{masks_of_partition}
+use Rattle.cards.proofs.DealMasks.{bit_at_seat, seat_mask-lt}
+use Rattle.cards.proofs.FullMasks.{rest_to_east, rest_to_north}
+use Rattle.cards.specs.internal.PackedMasks.{rest_of}
+use Rattle.lcg48.specs.Sequence.{state_after}
 use Rattle.cards.proofs.Dealing.{position_of-card_at}
 use Rattle.cards.proofs.Partitions.{positions_whole}
 use Rattle.cards.proofs.FewPlaces.{are_places, is_less, isn't_less, position_above, position_below}
-use Rattle.cards.proofs.FreeCards.{index_more, index_rises, mask_settles_around, none_settles}
+use Rattle.cards.proofs.FreeCards.{dealing_around_at, dealing_around_first, index_more, index_rises, no_mask}
 use Rattle.cards.proofs.Totals.{total, total_of_map, total_more, total_cut, total_same, total_of_interval}
 
 -- each card is fixed at one seat, or free
@@ -259,57 +261,9 @@ seat_mask_around fixed x q mask settled ok held is =
         rw (e) (zero_max _ ∙ ap (λ b. cond b 1 0) (seat_at_open fixed p ok below q))
     go c h (Some seat) e = rw (e) (max_zero _)
 
--- the four masks of the deal around fixed cards
-pub masks_of_around : (fixed : List (Option Seat)) (x n e s w : ℕ) → IsFixed fixed
-    → n ≡ seat_mask (dealt_around fixed (places_for (free_count fixed) x)) North → e ≡ seat_mask (dealt_around fixed (places_for (free_count fixed) x)) East
-    → s ≡ seat_mask (dealt_around fixed (places_for (free_count fixed) x)) South → w ≡ seat_mask (dealt_around fixed (places_for (free_count fixed) x)) West
-    → (IsMasks n e s w) × (seats_of_masks n e s ≡ dealt_around fixed (places_for (free_count fixed) x))
-masks_of_around fixed x n e s w ok a b c d =
-    let whole = around_is_partition fixed x ok in
-    (masks_of_partition _ n e s w whole a b c d, masks_view _ n e s whole a b c)
-
--- the mask of what settles from low on and below high
-abbrev pub settled_mask : List (Option Seat) → ℕ → ℕ → ℕ → ℕ
-settled_mask fixed x low high = mask_l (map (settles_within fixed (places_for (free_count fixed) x) low high) pack)
-
-same_settled : (fixed : List (Option Seat)) (x mask a b c d : ℕ) → mask ≡ settled_mask fixed x a b → a ≡ c → b ≡ d → mask ≡ settled_mask fixed x c d
-same_settled fixed x mask a b c d is p q = is ∙ rw (p, q) refl
-
 -- the deal of the free cards' draws
 abbrev pub drawn_deal : List (Option Seat) → ℕ → List Seat
 drawn_deal fixed x = dealt_around fixed (places_for (free_count fixed) x)
-
--- South's and West's masks, whose positions are drawn first
-pub south_and_west : (fixed : List (Option Seat)) (x : ℕ) (n e s w : Side) (s' w' m : ℕ) → IsFixed fixed
-    → IsSide fixed North n → IsSide fixed East e → IsSide fixed South s → IsSide fixed West w → m ≡ free_count fixed
-    → w' ≡ settled_mask fixed x (m - w.room) m → s' ≡ settled_mask fixed x (m - w.room - s.room) (m - w.room)
-    → (bit_or s.mask s' ≡ seat_mask (drawn_deal fixed x) South) × (bit_or w.mask w' ≡ seat_mask (drawn_deal fixed x) West)
-south_and_west fixed x n e s w s' w' m ok north east south west all wests souths =
-    let sum = rooms_together fixed ok in (
-      seat_mask_around fixed x South s.mask s' ok south.mask
-          (same_settled fixed x s' _ _ _ _ souths (omega (arith, sum, all, north.room, east.room, south.room, west.room)) (omega (arith, sum, all, north.room, east.room, south.room, west.room))),
-      seat_mask_around fixed x West w.mask w' ok west.mask
-          (same_settled fixed x w' _ _ _ _ wests (omega (arith, sum, all, north.room, east.room, south.room, west.room)) (omega (arith, sum, all, north.room, east.room, south.room, west.room))),
-    )
-
--- East's mask, whose positions are drawn next
-pub then_east : (fixed : List (Option Seat)) (x : ℕ) (n e s w : Side) (e' m : ℕ) → IsFixed fixed
-    → IsSide fixed North n → IsSide fixed East e → IsSide fixed South s → IsSide fixed West w → m ≡ free_count fixed
-    → e' ≡ settled_mask fixed x (m - w.room - s.room - e.room) (m - w.room - s.room)
-    → bit_or e.mask e' ≡ seat_mask (drawn_deal fixed x) East
-then_east fixed x n e s w e' m ok north east south west all easts =
-    let sum = rooms_together fixed ok in
-    seat_mask_around fixed x East e.mask e' ok east.mask
-    (same_settled fixed x e' _ _ _ _ easts (omega (arith, sum, all, north.room, east.room, south.room, west.room)) (omega (arith, sum, all, north.room, east.room, south.room, west.room)))
-
--- a hand that is fixed whole
-pub whole_north : (fixed : List (Option Seat)) (x : ℕ) (n : Side) → IsFixed fixed → IsSide fixed North n → n.room ≡ 0 → n.mask ≡ seat_mask (drawn_deal fixed x) North
-whole_north fixed x n ok north full =
-    let places : List ℕ = places_for (free_count fixed) x in
-    let none : 0 ≡ settled_mask fixed x 0 (0 + room fixed North) =
-    mask_settles_around fixed places 0 0 (0 + room fixed North) (omega arith)
-    (λ c h. bit_at-zero c ∙ ap (λ b. cond b 1 0) (sym (none_settles fixed places 0 (0 + room fixed North) c (omega (arith, full, north.room))))) in
-    sym (or_zero_r n.mask) ∙ seat_mask_around fixed x North n.mask 0 ok north.mask none
 
 chosen_east : (a b : ℕ) → a ≡ 0 → (if a == 0 then b else a) ≡ b
 chosen_east a b e = rw e refl
@@ -317,16 +271,70 @@ chosen_east a b e = rw e refl
 chosen_north : (a b : ℕ) → a ≢ 0 → (if a == 0 then b else a) ≡ a
 chosen_north a b ne = grind (arith, nat_tests)
 
--- the draws that are made where East has the rest
-pub draws_without_east : (fixed : List (Option Seat)) (n e s w : Side) (m : ℕ) → IsFixed fixed
-    → IsSide fixed North n → IsSide fixed East e → IsSide fixed South s → IsSide fixed West w → m ≡ free_count fixed → n.room ≡ 0
-    → free_count fixed - 1 - (m - w.room - s.room - 1) ≡ draws_around fixed
-draws_without_east fixed n e s w m ok north east south west all full =
-    omega (arith, rooms_together fixed ok, all, full, north.room, east.room, south.room, west.room, chosen_east (room fixed North) (room fixed East) (omega (arith, full, north.room)))
+-- how many free cards there are, and how many of them East, South and West get
+pub record AreRooms (fixed : List (Option Seat)) (m e s w : ℕ) : Type 0 where
+  pub free : m ≡ free_count fixed
+  pub east : e ≡ room fixed East
+  pub south : s ≡ room fixed South
+  pub west : w ≡ room fixed West
 
--- and where North has it
-pub draws_without_north : (fixed : List (Option Seat)) (n e s w : Side) (m : ℕ) → IsFixed fixed
-    → IsSide fixed North n → IsSide fixed East e → IsSide fixed South s → IsSide fixed West w → m ≡ free_count fixed → n.room ≢ 0
-    → free_count fixed - 1 - (m - w.room - s.room - e.room - 1) ≡ draws_around fixed
-draws_without_north fixed n e s w m ok north east south west all some =
-    omega (arith, rooms_together fixed ok, all, north.room, east.room, south.room, west.room, chosen_north (room fixed North) (room fixed East) (λ z. some (north.room ∙ z)))
+-- the mask of a seat whose positions are settled
+seat_settled : (fixed : List (Option Seat)) (free : List ℕ) (x old new : ℕ) (cards next : List ℕ) (side : Side) (q : Seat) (set low high : ℕ) → IsFixed fixed → IsSide fixed q side
+    → low ≡ first_of fixed q → high ≡ first_of fixed q + room fixed q → IsSettled old new cards next set low high → high ≤ free_count fixed → IsDealingAround fixed free x old cards high
+    → bit_or side.mask set ≡ seat_mask (drawn_deal fixed x) q
+seat_settled fixed free x old new cards next side q set low high ok kept from to settled inside d =
+    seat_mask_around fixed x q side.mask set ok kept.mask (settled.mask fixed free x inside d ∙ rw (from, to) refl)
+
+-- the deals of West, then South, then East
+record AreDealings (fixed : List (Option Seat)) (free : List ℕ) (x one two : ℕ) (cards later : List ℕ) (side side' : Side) (m s w s' w' : ℕ) : Type 0 where
+  pub first : IsDealingAround fixed free x x free m
+  pub second : IsDealingAround fixed free x one cards (m - w)
+  pub third : IsDealingAround fixed free x two later (m - w - s)
+  pub south : bit_or side.mask s' ≡ seat_mask (drawn_deal fixed x) South
+  pub west : bit_or side'.mask w' ≡ seat_mask (drawn_deal fixed x) West
+
+dealings : (fixed : List (Option Seat)) (n e s w : Side) (free : List ℕ) (count m er sr wr x one two : ℕ) (cards later : List ℕ) (s' w' : ℕ) → IsKept fixed n e s w free count → AreRooms fixed m er sr wr
+    → IsSettled x one free cards w' (m - wr) m → IsSettled one two cards later s' (m - wr - sr) (m - wr) → AreDealings fixed free x one two cards later s w m sr wr s' w'
+dealings fixed n e s w free count m er sr wr x one two cards later s' w' k rooms wests souths =
+    let sum = rooms_together fixed k.fits in
+    let first : IsDealingAround fixed free x x free m =
+    dealing_around_at fixed free x x free (free_count fixed) m (sym rooms.free) (dealing_around_first fixed free x k.fits.count (subst (IsListed fixed free) k.all k.listed)) in
+    let second = wests.dealing fixed free x (omega (arith, rooms.free)) first in
+    record {
+      first = first;
+      second = second;
+      third = souths.dealing fixed free x (omega (arith, rooms.free)) second;
+      south = seat_settled fixed free x one two cards later s South s' (m - wr - sr) (m - wr) k.fits k.south (omega (arith, sum, rooms.free, rooms.south, rooms.west)) (omega (arith, sum, rooms.free, rooms.west)) souths (omega (arith, rooms.free)) second;
+      west = seat_settled fixed free x x one free cards w West w' (m - wr) m k.fits k.west (omega (arith, sum, rooms.free, rooms.west)) (omega (arith, sum, rooms.free)) wests (omega (arith, rooms.free)) first;
+    }
+
+-- the deal once West's and South's positions are settled, where North is fixed whole
+pub dealt_without_east : (fixed : List (Option Seat)) (n e s w : Side) (free : List ℕ) (count m er sr wr x one two : ℕ) (cards later : List ℕ) (s' w' : ℕ) → IsKept fixed n e s w free count → AreRooms fixed m er sr wr → m - wr - sr ≡ er
+    → IsSettled x one free cards w' (m - wr) m → IsSettled one two cards later s' (m - wr - sr) (m - wr)
+    → (IsMasks n.mask (rest_of n.mask (bit_or s.mask s') (bit_or w.mask w')) (bit_or s.mask s') (bit_or w.mask w'))
+    × (seats_of_masks n.mask (rest_of n.mask (bit_or s.mask s') (bit_or w.mask w')) (bit_or s.mask s') ≡ drawn_deal fixed x) × (two ≡ state_after x (draws_around fixed))
+dealt_without_east fixed n e s w free count m er sr wr x one two cards later s' w' k rooms full wests souths =
+    let sum = rooms_together fixed k.fits in
+    let at = dealings fixed n e s w free count m er sr wr x one two cards later s' w' k rooms wests souths in
+    let none : room fixed North ≡ 0 = omega (arith, sum, rooms.free, rooms.east, rooms.south, rooms.west, full) in
+    let north : n.mask ≡ seat_mask (drawn_deal fixed x) North =
+    sym (or_zero_r n.mask) ∙ seat_mask_around fixed x North n.mask 0 k.fits k.north.mask (no_mask fixed (places_for (free_count fixed) x) 0 (0 + room fixed North) (omega (arith, none))) in
+    let rest = rest_to_east (drawn_deal fixed x) n.mask _ _ (around_is_partition fixed x k.fits) north at.south at.west in
+    let draws : free_count fixed - (m - wr - sr) ≡ draws_around fixed = omega (arith, full, rooms.east, chosen_east (room fixed North) (room fixed East) none) in
+    (rest.0, rest.1, at.third.drawn ∙ ap (state_after x) draws)
+
+-- and once East's are settled too
+pub dealt_without_north : (fixed : List (Option Seat)) (n e s w : Side) (free : List ℕ) (count m er sr wr x one two three : ℕ) (cards later last : List ℕ) (e' s' w' : ℕ) → IsKept fixed n e s w free count → AreRooms fixed m er sr wr
+    → m - wr - sr ≢ er → IsSettled x one free cards w' (m - wr) m → IsSettled one two cards later s' (m - wr - sr) (m - wr) → IsSettled two three later last e' (m - wr - sr - er) (m - wr - sr)
+    → (IsMasks (rest_of (bit_or e.mask e') (bit_or s.mask s') (bit_or w.mask w')) (bit_or e.mask e') (bit_or s.mask s') (bit_or w.mask w'))
+    × (seats_of_masks (rest_of (bit_or e.mask e') (bit_or s.mask s') (bit_or w.mask w')) (bit_or e.mask e') (bit_or s.mask s') ≡ drawn_deal fixed x) × (three ≡ state_after x (draws_around fixed))
+dealt_without_north fixed n e s w free count m er sr wr x one two three cards later last e' s' w' k rooms some wests souths easts =
+    let sum = rooms_together fixed k.fits in
+    let at = dealings fixed n e s w free count m er sr wr x one two cards later s' w' k rooms wests souths in
+    let done = easts.dealing fixed free x (omega (arith, rooms.free)) at.third in
+    let east = seat_settled fixed free x two three later last e East e' (m - wr - sr - er) (m - wr - sr) k.fits k.east (omega (arith, sum, rooms.free, rooms.east, rooms.south, rooms.west)) (omega (arith, sum, rooms.free, rooms.south, rooms.west)) easts (omega (arith, rooms.free)) at.third in
+    let rest = rest_to_north (drawn_deal fixed x) _ _ _ (around_is_partition fixed x k.fits) east at.south at.west in
+    let given : room fixed North ≢ 0 = λ z. some (omega (arith, sum, rooms.free, rooms.east, rooms.south, rooms.west, z)) in
+    let draws : free_count fixed - (m - wr - sr - er) ≡ draws_around fixed =
+    omega (arith, sum, rooms.free, rooms.east, rooms.south, rooms.west, chosen_north (room fixed North) (room fixed East) given) in
+    (rest.0, rest.1, done.drawn ∙ ap (state_after x) draws)

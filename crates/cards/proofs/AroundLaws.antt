@@ -1,35 +1,23 @@
 -- Laws of the deals around fixed cards.
-use Rattle.std.proofs.Common.{◌≡◌, ℕ, zero, suc, ◌+◌, ◌-◌, ◌/◌, ◌<◌, ◌≤◌, cond, List, [], ◌∷◌, length, map, replicate, refl, sym, ap, ◌∙◌, arith, inl, inr}
-use Rattle.std.specs.Prelude.{Option, Some, None, slice_get, unwrap_or, ltb, if◌then◌else◌}
-use Rattle.std.specs.List.{count_by, range_with_len}
+use Rattle.std.proofs.Common.{◌≡◌, ℕ, zero, suc, ◌+◌, ◌/◌, ◌<◌, ◌≤◌, cond, List, map, refl, sym, ap, ◌∙◌, arith, inl, inr}
+use Rattle.std.specs.Prelude.{Option, Some, None, slice_get, unwrap_or}
+use Rattle.std.specs.List.{range_with_len}
 use Rattle.std.proofs.lemmas.Bool.{cases_lt}
 use Rattle.std.proofs.lemmas.Option.{get_or_from_slice_get, slice_get-get_or, slice_get_within}
 use Rattle.std.proofs.lemmas.List.{get_or-replicate}
-use Rattle.std.proofs.lemmas.List.Sums.{count_by-le-length, sum_by-cons}
 use Rattle.std.proofs.lemmas.List.FromFn.{fill_by_all, get_or-map-range_with_len, length-map-range_with_len}
-use Rattle.lcg48.specs.Sequence.{state_after}
 use Rattle.cards.specs.declared.seat.Seat.{Seat}
 use Rattle.cards.specs.declared.seat.Seat.TheVariants.{North}
 use Rattle.cards.specs.Pack.{seat_at_position, seat_of_number}
-use Rattle.cards.specs.Shuffle.{place_of, drawn_places, card_at, pack}
+use Rattle.cards.specs.Shuffle.{drawn_places, card_at, pack}
 use Rattle.cards.specs.Deals.{dealt, position_of}
 use Rattle.cards.specs.Candidates.{candidate, state_before}
 use Rattle.cards.specs.Fixed.{IsFixed, candidate_around, dealt_around, free_count, free_index, is_free, none_fixed, open_seat, places_for, seat_around}
 use Rattle.cards.specs.internal.Around.{fixed_at}
 use Rattle.cards.proofs.Dealing.{card_at-position_of, position_of-card_at}
-use Rattle.cards.proofs.FewPlaces.{are_places, drawn_at, is_less, isn't_less}
+use Rattle.cards.proofs.FewPlaces.{are_places, is_less, isn't_less, same_places}
 use Rattle.cards.proofs.FreeCards.{index_more}
 use Rattle.cards.proofs.AroundDeals.{few_free}
-
--- the places of all 52 cards
-same_places : (x : ℕ) → places_for 52 x ≡ drawn_places x
-unfolding places_for drawn_places
-same_places x =
-    fill_by_all (λ i. place_of (52 - i) (state_after x (i + 1))) (places_for 52 x) 51 0
-    (length-map-range_with_len (λ i. if ltb (52 + i) 52 then 51 - i else place_of (52 - i) (state_after x (52 + i - 51))) 0 51)
-    (λ i h.
-    let e : 52 + i - 51 ≡ i + 1 = omega arith in
-    drawn_at 52 x i h (omega arith) ∙ ap (λ n. place_of (52 - i) (state_after x n)) e)
 
 nothing_at : (c : ℕ) → c < 52 → fixed_at none_fixed c ≡ None
 nothing_at c h = get_or-replicate {A = Option Seat} 52 c None None h
@@ -64,7 +52,7 @@ seat_at p h =
     ]
 
 -- the deal of the next draws
-pub nothing_around : (x : ℕ) → dealt_around none_fixed (places_for 52 x) ≡ dealt (drawn_places x)
+nothing_around : (x : ℕ) → dealt_around none_fixed (places_for 52 x) ≡ dealt (drawn_places x)
 unfolding dealt_around dealt pack
 nothing_around x =
     let places : List ℕ = places_for 52 x in
@@ -80,20 +68,6 @@ nothing_around x =
 
 pub around_nothing : (seed k : ℕ) → candidate_around none_fixed seed k ≡ candidate seed k
 around_nothing seed k = nothing_around (state_before seed k)
-
--- all cards are free only if none is fixed
-pub all_free : (fixed : List (Option Seat)) → length fixed ≡ 52 → free_count fixed ≡ 52 → fixed ≡ none_fixed
-all_free fixed long all = all_none fixed (all ∙ sym long) ∙ ap (λ n. replicate n None) long
-  where
-    head_free : (o : Option Seat) (n m : ℕ) → cond (is_free o) 1 0 + n ≡ m + 1 → n ≤ m → (o ≡ None) × (n ≡ m)
-    head_free None n m e le = (refl, omega (arith, e))
-    head_free (Some seat) n m e le = absurd (omega (arith, e, le))
-
-    all_none : (xs : List (Option Seat)) → count_by is_free xs ≡ length xs → xs ≡ replicate (length xs) None
-    all_none [] e = refl
-    all_none (o ∷ xs) e =
-        let both = head_free o (count_by is_free xs) (length xs) (sym (sum_by-cons (λ p. cond (is_free p) 1 0) o xs) ∙ e ∙ omega arith) (count_by-le-length is_free xs) in
-        ap (λ p. p ∷ xs) both.0 ∙ ap (λ ys. None ∷ ys) (all_none xs both.1)
 
 -- the seat of a card, from what is fixed there
 seat_in_deal : (fixed : List (Option Seat)) (places : List ℕ) (c : ℕ) (o : Option Seat) → IsFixed fixed → slice_get fixed c ≡ Some o

@@ -1,16 +1,16 @@
 -- The places of a shuffle of m items, above which everything stays.
-use Rattle.std.proofs.Common.{◌≡◌, ℕ, zero, suc, ◌+◌, ◌-◌, ◌<◌, ◌≤◌, true, false, get_or, refl, sym, ap, ◌∙◌, arith, inl, inr}
+use Rattle.std.proofs.Common.{◌≡◌, ℕ, zero, suc, ◌+◌, ◌-◌, ◌<◌, ◌≤◌, true, false, get_or, refl, sym, ap, ◌∙◌, arith, subst, inl, inr}
 use Rattle.std.specs.Prelude.{ltb, if◌then◌else◌}
 use Rattle.std.proofs.lemmas.Bool.{cases_lt}
 use Rattle.std.proofs.lemmas.Bool.Decides.{nat_tests}
-use Rattle.std.proofs.lemmas.List.FromFn.{get_or-map-range_with_len, length-map-range_with_len}
+use Rattle.std.proofs.lemmas.List.FromFn.{fill_by_all, get_or-map-range_with_len, length-map-range_with_len}
 use Rattle.lcg48.specs.Sequence.{state_after}
-use Rattle.cards.specs.Shuffle.{IsPlaces, place_of, place_at, other_of, traced, card_at}
+use Rattle.cards.specs.Shuffle.{IsPlaces, place_of, place_at, other_of, traced, card_at, drawn_places}
 use Rattle.cards.specs.Deals.{position_of}
 use Rattle.cards.specs.Fixed.{places_for}
 use Rattle.cards.proofs.Tracing.{other_of-below, place_at-below, traced-above}
 use Rattle.cards.proofs.Dealing.{card_at-position_of, position_of-card_at}
-use Rattle.cards.proofs.Dealings.{state-below, place-below}
+use Rattle.cards.proofs.Drawing.{state-below, place-below}
 
 abbrev place_for_item : ℕ → ℕ → ℕ → ℕ
 place_for_item m x i = if ltb (m + i) 52 then 51 - i else place_of (52 - i) (state_after x (m + i - 51))
@@ -47,6 +47,18 @@ are_places m x = record {
     | inr many ↦ omega (arith, drawn_at m x i h (omega arith), drawn_below m x i h (omega arith))
   ];
 }
+
+-- the places of all 52 cards
+pub same_places : (x : ℕ) → places_for 52 x ≡ drawn_places x
+unfolding places_for drawn_places
+same_places x =
+    fill_by_all (λ i. place_of (52 - i) (state_after x (i + 1))) (places_for 52 x) 51 0 (are_places 52 x).count
+    (λ i h.
+    let e : 52 + i - 51 ≡ i + 1 = omega arith in
+    drawn_at 52 x i h (omega arith) ∙ ap (λ n. place_of (52 - i) (state_after x n)) e)
+
+pub drawn_are_places : (x : ℕ) → IsPlaces (drawn_places x)
+drawn_are_places x = subst IsPlaces (same_places x) (are_places 52 x)
 
 nothing_moves : (a t : ℕ) → other_of a a t ≡ t
 nothing_moves a t = grind (arith, nat_tests)

@@ -12,14 +12,16 @@ use Rattle.lcg48.specs.Sequence.{step, state_after}
 use Rattle.cards.specs.declared.seat.Seat.{Seat}
 use Rattle.cards.specs.Shuffle.{place_of, traced, card_at, other_of}
 use Rattle.cards.specs.Fixed.{free_count, free_index, places_for, is_free}
-use Rattle.cards.specs.internal.Around.{AreCards, IsListed, IsDealingAround, fixed_at, settles_within}
-use Rattle.std.proofs.lemmas.Nat.Bits.{bit_at_set_same, bit_at_set_other}
+use Rattle.cards.specs.internal.Around.{AreCards, IsListed, IsDealingAround, IsSettled, fixed_at, settles_within}
+use Rattle.std.proofs.lemmas.Nat.{or_lt, one_shl}
+use Rattle.std.proofs.lemmas.Nat.Bits.{bit_at_set_same, bit_at_set_other, bit_at-zero}
+use Rattle.std.proofs.Math.Pow.{pow-lt}
 use lib.Lanes.{mask_l}
 use Rattle.cards.specs.Shuffle.{pack}
 use Rattle.cards.specs.Deals.{position_of}
 use Rattle.cards.specs.internal.MaskBits.{bit_at_pack, mask-pack-lt, same_masks}
 use Rattle.cards.proofs.Dealing.{card_at-position_of, position_of-card_at}
-use Rattle.cards.proofs.Drawing.{state_after-zero, state_after-more}
+use Rattle.cards.proofs.Drawing.{state_after-zero, state_after-more, state-below, place-below}
 use Rattle.cards.proofs.Tracing.{exchange, settled, other_of-below, get_or-swap}
 use Rattle.cards.proofs.FewPlaces.{are_places, drawn_at, traced_all, item_below}
 
@@ -28,7 +30,7 @@ pub dealing_around_first : (fixed : List (Option Seat)) (free : List ℕ) (x : �
 dealing_around_first fixed free x long listed =
     let m : ℕ = free_count fixed in
     let few : m ≤ 52 = omega (arith, long, count_by-le-length is_free fixed) in
-    let none : 0 ≡ m - 1 - (m - 1) = omega arith in
+    let none : 0 ≡ m - m = omega arith in
     record {
       long = long;
       few = few;
@@ -40,41 +42,56 @@ dealing_around_first fixed free x long listed =
 pub dealing_around_at : (fixed : List (Option Seat)) (free : List ℕ) (x state : ℕ) (cards : List ℕ) (n n' : ℕ) → n ≡ n' → IsDealingAround fixed free x state cards n → IsDealingAround fixed free x state cards n'
 dealing_around_at fixed free x state cards n n' e d = subst (IsDealingAround fixed free x state cards) e d
 
--- at the lowest position nothing is left to do
-pub dealing_around_last : (fixed : List (Option Seat)) (free : List ℕ) (x state : ℕ) (cards : List ℕ) (p : ℕ) → p ≡ 0 → IsDealingAround fixed free x state cards (p + 1) → IsDealingAround fixed free x state cards p
-dealing_around_last fixed free x state cards p none before =
-    let e : p + 1 - 1 ≡ p - 1 = omega arith in
-    record {
-      long = before.long;
-      few = before.few;
-      listed = before.listed;
-      drawn = before.drawn ∙ ap (λ k. state_after x (free_count fixed - 1 - k)) e;
-      card = λ i h. ap (λ k. get_or cards (traced (places_for (free_count fixed) x) i k) 0) (sym e) ∙ before.card i h;
-    }
+-- an exchange of a position with itself
+same_place : (a b t : ℕ) → a ≡ b → other_of a b t ≡ t
+same_place a b t e = grind (arith, nat_tests)
 
--- the exchange at position p with the next draw
-pub dealing_around_on : (fixed : List (Option Seat)) (free : List ℕ) (x old new : ℕ) (cards next : List ℕ) (place p : ℕ) → 0 < p → p < free_count fixed → length cards ≡ 52
+-- the exchange at position p with the next draw; at the lowest position nothing moves
+pub dealing_around_on : (fixed : List (Option Seat)) (free : List ℕ) (x old new : ℕ) (cards next : List ℕ) (place p : ℕ) → p < free_count fixed → length cards ≡ 52
     → new ≡ step old → place ≡ place_of (p + 1) new → next ≡ swap cards p place → IsDealingAround fixed free x old cards (p + 1) → IsDealingAround fixed free x new next p
-dealing_around_on fixed free x old new cards next place p above below long stepped is swapped before =
-    let m : ℕ = free_count fixed in
-    let few : m ≤ 52 = before.few in
-    let i : ℕ = 51 - p in
-    let e : m - 1 - (p + 1 - 1) + 1 ≡ m + i - 51 = omega arith in
-    let f : m + i - 51 ≡ m - 1 - (p - 1) = omega arith in
-    let g : p + 1 ≡ 52 - i = omega arith in
-    let back : p ≡ p + 1 - 1 = omega arith in
-    let state : new ≡ state_after x (m + i - 51) = stepped ∙ ap step before.drawn ∙ sym (state_after-more x (m - 1 - (p + 1 - 1))) ∙ ap (state_after x) e in
-    let read : place ≡ get_or (places_for m x) i 0 = is ∙ ap (place_of (p + 1)) state ∙ ap (λ j. place_of j (state_after x (m + i - 51))) g ∙ sym (drawn_at m x i (omega arith) (omega arith)) in
-    record {
-      long = before.long;
-      few = few;
-      listed = before.listed;
-      drawn = state ∙ ap (state_after x) f;
-      card = λ k h.
-          exchange (places_for m x) cards next place p k (are_places m x) long above (omega arith) read swapped
-          ∙ ap (λ n. get_or cards (traced (places_for m x) k n) 0) back
-          ∙ before.card k h;
-    }
+dealing_around_on fixed free x old new cards next place p below long stepped is swapped before = record {
+  long = before.long;
+  few = before.few;
+  listed = before.listed;
+  drawn = state;
+  card = λ k h. elim (cases_lt 0 p) [ inl above ↦ exchanged above k h | inr none ↦ kept (omega arith) k h ];
+}
+  where
+    m : ℕ
+    m = free_count fixed
+
+    few : m ≤ 52
+    few = before.few
+
+    drawn : ℕ
+    drawn = m - (p + 1)
+
+    state : new ≡ state_after x (m - p)
+    state =
+        let e : drawn + 1 ≡ m - p = omega arith in
+        stepped ∙ ap step before.drawn ∙ sym (state_after-more x drawn) ∙ ap (state_after x) e
+
+    exchanged : 0 < p → (k : ℕ) → k < m → get_or next (traced (places_for m x) k (p - 1)) 0 ≡ get_or free (card_at (places_for m x) k) 0
+    exchanged above k h =
+        let i : ℕ = 51 - p in
+        let e : m - p ≡ m + i - 51 = omega arith in
+        let g : p + 1 ≡ 52 - i = omega arith in
+        let back : p ≡ p + 1 - 1 = omega arith in
+        let read : place ≡ get_or (places_for m x) i 0 =
+        is ∙ ap (place_of (p + 1)) (state ∙ ap (state_after x) e) ∙ ap (λ j. place_of j (state_after x (m + i - 51))) g ∙ sym (drawn_at m x i (omega arith) (omega arith)) in
+        exchange (places_for m x) cards next place p k (are_places m x) long above (omega arith) read swapped
+        ∙ ap (λ n. get_or cards (traced (places_for m x) k n) 0) back ∙ before.card k h
+
+    kept : p ≡ 0 → (k : ℕ) → k < m → get_or next (traced (places_for m x) k (p - 1)) 0 ≡ get_or free (card_at (places_for m x) k) 0
+    kept none k h =
+        let e : m - p ≡ drawn + 1 = omega arith in
+        let fits : new < 2 ^ 48 = subst (λ y. y < 2 ^ 48) (sym (state ∙ ap (state_after x) e)) (state-below x drawn) in
+        let same : p ≡ place = omega (arith, is, place-below (p + 1) new (omega arith) fits) in
+        let i : ℕ = traced (places_for m x) k (p - 1) in
+        let back : p - 1 ≡ p + 1 - 1 = omega arith in
+        get_or-swap cards next p place i 0 (omega arith) (omega arith) swapped
+        ∙ ap (λ j. get_or cards j 0) (same_place p place i same)
+        ∙ ap (λ n. get_or cards (traced (places_for m x) k n) 0) back ∙ before.card k h
 
 -- the card that stays at position p
 pub free_card_settled : (fixed : List (Option Seat)) (free : List ℕ) (x state : ℕ) (cards : List ℕ) (p : ℕ) → p < free_count fixed → IsDealingAround fixed free x state cards p
@@ -203,3 +220,42 @@ pub mask_settles_around : (fixed : List (Option Seat)) (places : List ℕ) (mask
 mask_settles_around fixed places mask low high fits bits =
     same_masks mask _ fits (mask-pack-lt (settles_within fixed places low high))
     (λ c h. bits c h ∙ sym (bit_at_pack (settles_within fixed places low high) c h))
+
+mask_fits : (mask x : ℕ) → mask < 2 ^ 52 → x < 52 → bit_or mask (1 * 2 ^ x % 2 ^ 64) < 2 ^ 52
+mask_fits mask x h below = rw (one_shl x 64 (omega arith)) (or_lt 52 mask (2 ^ x) h (pow-lt below))
+
+pub no_mask : (fixed : List (Option Seat)) (places : List ℕ) (low high : ℕ) → high ≤ low → 0 ≡ mask_l (map (settles_within fixed places low high) pack)
+no_mask fixed places low high h =
+    mask_settles_around fixed places 0 low high (omega arith) (λ c inside. bit_at-zero c ∙ ap (λ b. cond b 1 0) (sym (none_settles fixed places low high c h)))
+
+-- before the first exchange
+pub nothing_settled : (x : ℕ) (cards : List ℕ) (low high : ℕ) → high ≡ low → IsSettled x x cards cards 0 low high
+nothing_settled x cards low high e = record {
+  dealing = λ fixed free y all d. dealing_around_at fixed free y x cards high low e d;
+  mask = λ fixed free y all d. no_mask fixed (places_for (free_count fixed) y) low high (omega arith);
+}
+
+-- one exchange more, at position p
+pub one_settled : (old state draw new : ℕ) (cards now next : List ℕ) (mask low p high y : ℕ) → draw ≡ new → low ≡ p + 1 → p < high → IsSettled old state cards now mask low high
+    → ((fixed : List (Option Seat)) (free : List ℕ) (x : ℕ) → p < free_count fixed → IsDealingAround fixed free x state now (p + 1) → IsDealingAround fixed free x draw next p)
+    → y ≡ get_or next p 0 → y < 52 → IsSettled old new cards next (bit_or mask (1 * 2 ^ y % 2 ^ 64)) p high
+one_settled old state draw new cards now next mask low p high y drawn at inside before exchanged stays below = record {
+  dealing = here;
+  mask = λ fixed free x all d.
+      let places : List ℕ = places_for (free_count fixed) x in
+      let settles : ℕ → ℕ → Bool = λ n. settles_within fixed places n high in
+      let is : mask ≡ mask_l (map (settles (p + 1)) pack) = before.mask fixed free x all d ∙ ap (λ n. mask_l (map (settles n) pack)) at in
+      mask_settles_around fixed places (bit_or mask (1 * 2 ^ y % 2 ^ 64)) p high
+      (mask_fits mask y (subst (λ s. s < 2 ^ 52) (sym is) (mask-pack-lt (settles (p + 1)))) below)
+      (one_settles_around fixed free (free_count fixed) x mask p high y refl d.long d.few d.listed inside all
+      (stays ∙ free_card_settled fixed free x new next p (omega (arith, all)) (here fixed free x all d)) below
+      (λ c h. ap (λ s. bit_at s c) is ∙ bit_at_pack (settles (p + 1)) c h));
+}
+  where
+    here : (fixed : List (Option Seat)) (free : List ℕ) (x : ℕ) → high ≤ free_count fixed → IsDealingAround fixed free x old cards high → IsDealingAround fixed free x new next p
+    here fixed free x all d =
+        subst (λ s. IsDealingAround fixed free x s next p) drawn
+        (exchanged fixed free x (omega (arith, all)) (dealing_around_at fixed free x state now low (p + 1) at (before.dealing fixed free x all d)))
+
+pub settled_at : (old new : ℕ) (cards next : List ℕ) (mask low low' high : ℕ) → low ≡ low' → IsSettled old new cards next mask low high → IsSettled old new cards next mask low' high
+settled_at old new cards next mask low low' high e done = subst (λ n. IsSettled old new cards next mask n high) e done

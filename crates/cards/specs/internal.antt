@@ -4,5 +4,4 @@ pub mod MaskBits
 pub mod PackedMasks
 pub mod BalancedInOrder
 pub mod Around
-pub mod DealtFrom
 pub mod Exchanges

@@ -3,7 +3,8 @@
 ghost use Rattle.std.specs.Prelude.{◌≡◌, ◌≤◌};
 ghost use Rattle.lcg48.specs.Sequence.{state_after};
 ghost use Rattle.cards.specs.Deals.{IsPartition};
-ghost use Rattle.cards.specs.Fixed.{IsFixed, dealt_around, free_count, is_fixed_at, places_for};
+ghost use Rattle.cards.specs.Fixed.{IsFixed, dealt_around, free_count, is_fixed_at, places_for, room};
+ghost use Rattle.cards.specs.declared.seat.Seat.TheVariants.{East, South, West};
 ghost use Rattle.cards.specs.internal.Around.{IsListed, IsSide, draws_around, fixed_mask};
 
 use crate::fixed::{Fixed, held_by, is_open};
@@ -72,18 +73,43 @@ impl Around {
         ensures partition { IsPartition result }
         ensures stepped { generator.new ≡ state_after generator.old (draws_around self.now) }
     {
+        if self.count == 52 {
+            return self.draw_by(generator, 52, 13, 13, 13);
+        }
+        let (east, south, west) = (self.east.room, self.south.room, self.west.room);
+        self.draw_by(generator, self.count, east, south, west)
+    }
+
+    /// The same by how many cards are free, and how many of them East, South and West get. Where
+    /// these are constants, as with no card fixed, the exchanges are compiled without a loop.
+    #[inline(always)]
+    fn draw_by(
+        &self,
+        generator: &mut Lcg48,
+        free: usize,
+        east: usize,
+        south: usize,
+        west: usize,
+    ) -> Deal
+        requires free { free ≡ free_count self.now }
+        requires east { east ≡ room self.now East }
+        requires south { south ≡ room self.now South }
+        requires west { west ≡ room self.now West }
+        ensures value { result
+            ≡ dealt_around self.now (places_for (free_count self.now) generator.old) }
+        ensures partition { IsPartition result }
+        ensures stepped { generator.new ≡ state_after generator.old (draws_around self.now) }
+    {
         let mut cards = self.free;
-        let south_end = self.count - self.west.room;
-        let east_end = south_end - self.south.room;
-        let west = settle(&mut cards, generator, self.count, self.west.room);
-        let west = self.west.mask | west;
-        let south = settle(&mut cards, generator, south_end, self.south.room);
-        let south = self.south.mask | south;
-        if self.north.room == 0 {
+        let south_end = free - west;
+        let east_end = south_end - south;
+        let west = self.west.mask | settle(&mut cards, generator, free, west);
+        let south = self.south.mask | settle(&mut cards, generator, south_end, south);
+        if east_end == east {
             return Deal::with_rest_to_east(self.north.mask, south, west);
         }
-        let east = settle(&mut cards, generator, east_end, self.east.room);
-        Deal::with_rest_to_north(self.east.mask | east, south, west)
+        let east = self.east.mask | settle(&mut cards, generator, east_end, east);
+        Deal::with_rest_to_north(east, south, west)
     }
 
     /// How many draws a deal takes.
@@ -96,7 +122,7 @@ impl Around {
         } else {
             self.north.room
         };
-        (self.count.saturating_sub(1) - rest.saturating_sub(1)) as u64
+        (self.count - rest) as u64
     }
 }
 

@@ -1,13 +1,10 @@
 //! The candidates of a seed, from one on: deal after deal, with a jump over those between.
 
 ghost use Rattle.std.specs.Prelude.{◌≡◌, ℕ, List, Option, ◌+◌, ◌-◌, ◌<◌, ◌≤◌, ◌^◌};
-ghost use Rattle.lcg48.specs.Sequence.{state_after};
 ghost use Rattle.cards.specs.CandidateWalks.{GoesOnAt};
 ghost use Rattle.cards.specs.Deals.{IsPartition};
-ghost use Rattle.cards.specs.Fixed.{candidate_around, dealt_around, free_count, none_fixed};
-ghost use Rattle.cards.specs.Fixed.{places_for};
+ghost use Rattle.cards.specs.Fixed.{candidate_around, none_fixed};
 ghost use Rattle.cards.specs.declared.seat.Seat.{Seat as ASeat};
-ghost use Rattle.cards.specs.internal.DealtFrom.{draws_taken, fixed_in};
 
 use crate::around::Around;
 use crate::{Deal, Fixed};
@@ -16,9 +13,6 @@ use std::marker::Model;
 
 /// The draws of one candidate: one for each exchange of the 52 cards.
 const DRAWS: u64 = 51;
-
-/// Those of them that decide the hands of West, South and East. North has the rest.
-const DRAWS_OF_THREE_HANDS: u64 = 39;
 
 /// How many candidates of a seed are told apart by their numbers, 0 to 2^40 - 1.
 ///
@@ -34,27 +28,20 @@ pub const MAX_CANDIDATES: u64 = 1 << 40;
 pub struct Candidates {
     generator: Lcg48,
     gap: Stride,
-    dealing: Dealing,
-}
-
-/// How the candidates are dealt: the pack if no card is fixed, else the free cards.
-#[derive(Drop)]
-enum Dealing {
-    Pack,
-    Around(Around),
+    around: Around,
 }
 
 impl Model for Candidates {
     ghost use Rattle.std.specs.Prelude.{◌+◌};
     ghost use Rattle.cards.specs.CandidateWalks.{CandidatesView};
-    ghost use Rattle.cards.specs.internal.DealtFrom.{draws_taken, fixed_in};
+    ghost use Rattle.cards.specs.internal.Around.{draws_around};
 
     ghost Value = { CandidatesView };
 
     ghost view = { λ c. record {
       state = c.generator;
-      stride = draws_taken c.dealing + c.gap;
-      fixed = fixed_in c.dealing;
+      stride = draws_around c.around + c.gap;
+      fixed = c.around;
     } };
 }
 
@@ -78,12 +65,12 @@ impl Candidates {
     {
         let mut steps = Steps::new();
         let jump = Stride::of(DRAWS * first, &mut steps);
-        let dealing = Dealing::of(fixed);
-        let gap = DRAWS * u64::from(step) - dealing.draws();
+        let around = Around::of(fixed);
+        let gap = DRAWS * u64::from(step) - around.draws();
         Candidates {
             generator: jump.apply(&Lcg48::seeded(seed)),
             gap: Stride::of(gap, &mut steps),
-            dealing,
+            around,
         }
     }
 
@@ -98,45 +85,8 @@ impl Candidates {
             → GoesOnAt self.old fixed seed number step
             → GoesOnAt self.new fixed seed (number + step) step }
     {
-        let deal = self.dealing.draw(&mut self.generator);
+        let deal = self.around.draw(&mut self.generator);
         self.generator = self.gap.apply(&self.generator);
         deal
-    }
-}
-
-impl Dealing {
-    fn of(fixed: &Fixed) -> Dealing
-        ensures { fixed_in result ≡ fixed.now }
-    {
-        if fixed.free() == 52 {
-            return Dealing::Pack;
-        }
-        Dealing::Around(Around::of(fixed))
-    }
-
-    /// How many draws a deal takes.
-    fn draws(&self) -> u64
-        ensures value { result ≡ draws_taken self.now }
-        ensures few { result ≤ 51 }
-    {
-        match self {
-            Dealing::Pack => DRAWS_OF_THREE_HANDS,
-            Dealing::Around(around) => around.draws(),
-        }
-    }
-
-    /// The deal of the next draws.
-    #[inline]
-    fn draw(&self, generator: &mut Lcg48) -> Deal
-        ensures value { result
-            ≡ dealt_around (fixed_in self.now)
-            (places_for (free_count (fixed_in self.now)) generator.old) }
-        ensures partition { IsPartition result }
-        ensures stepped { generator.new ≡ state_after generator.old (draws_taken self.now) }
-    {
-        match self {
-            Dealing::Pack => Deal::draw_three(generator),
-            Dealing::Around(around) => around.draw(generator),
-        }
     }
 }

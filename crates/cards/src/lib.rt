@@ -19,7 +19,6 @@ mod places;
 mod reference;
 mod seat;
 mod settle;
-mod shuffle;
 mod suit;
 pub mod testing;
 

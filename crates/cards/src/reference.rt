@@ -1,46 +1,41 @@
 //! The shuffle as its definition has it, over places that were drawn before: what `Deal::shuffled`
-//! does. `Deal::draw` deals by the exchanges of `shuffle`, which draw each place when it is needed;
-//! both are proved against one definition, and tests compare them.
+//! does. Candidates are dealt by the exchanges of `settle`, which draw each place when it is
+//! needed; both are proved against the same definitions, and tests compare them.
 
-ghost use Rattle.std.specs.Prelude.{◌≡◌, ◌-◌, ◌<◌, ◌≤◌, map};
-ghost use lib.Lanes.{mask_l};
-ghost use Rattle.cards.specs.Shuffle.{IsPlaces, card_at, pack as pack_in_order};
-ghost use Rattle.cards.specs.internal.Exchanges.{IsTraced, stands_within};
+ghost use Rattle.std.specs.Prelude.{◌≡◌, ℕ, ◌<◌, slice_index};
+ghost use Rattle.cards.specs.Deals.{dealt};
+ghost use Rattle.cards.specs.Shuffle.{IsPlaces, card_at};
 
-/// Runs the exchanges for the thirteen positions ending at `last`. Returns the mask of the cards
-/// left there, which no later exchange touches.
-pub(crate) fn deal_hand_by_places(pack: &mut [u8; 52], places: &[u8; 51], last: usize) -> u64
-    requires places { IsPlaces places.now }
-    requires from { 12 ≤ last }
-    requires to { last ≤ 51 }
-    requires traced { IsTraced places.now pack.old last }
-    ensures traced { IsTraced places.now pack.new (last - 13) }
-    ensures mask { result ≡ mask_l (map (stands_within places.now (last - 12) last) pack_in_order) }
+use crate::Seat;
+
+/// The cards in order.
+const PACK: [u8; 52] = [
+    0, 1, 2, 3, 4, 5, 6, 7, 8, 9, 10, 11, 12, 13, 14, 15, 16, 17, 18, 19, 20, 21, 22, 23, 24, 25,
+    26, 27, 28, 29, 30, 31, 32, 33, 34, 35, 36, 37, 38, 39, 40, 41, 42, 43, 44, 45, 46, 47, 48, 49,
+    50, 51,
+];
+
+/// The seats of the cards after all exchanges.
+pub(crate) fn seats_after(places: &[u8; 51]) -> [Seat; 52]
+    requires { IsPlaces places.now }
+    ensures { result ≡ dealt places.now }
 {
-    let mut mask = 0;
-    for k in 0..13 {
-        let card = exchange(pack, places, last - k);
-        mask |= 1 << card;
+    let pack = exchanged(places);
+    let mut seats = [Seat::North; 52];
+    for position in 0..pack.len() {
+        seats[usize::from(pack[position])] = Seat::at_position(position);
     }
-    mask
+    seats
 }
 
-/// The exchange at a position, and the card that stays there. At position 0 nothing is left to do.
-fn exchange(pack: &mut [u8; 52], places: &[u8; 51], position: usize) -> u8
-    requires places { IsPlaces places.now }
-    requires inside { position < 52 }
-    requires traced { IsTraced places.now pack.old position }
-    ensures traced { IsTraced places.now pack.new (position - 1) }
-    ensures card { result ≡ card_at places.now position }
-    ensures below { result < 52 }
+/// The pack after all exchanges.
+fn exchanged(places: &[u8; 51]) -> [u8; 52]
+    requires { IsPlaces places.now }
+    ensures { (i : ℕ) → i < 52 → slice_index result i ≡ card_at places.now i }
 {
-    if position == 0 {
-        return pack[0];
+    let mut pack = PACK;
+    for i in 0..places.len() {
+        pack.swap(51 - i, usize::from(places[i]));
     }
-    let place = usize::from(places[51 - position]);
-    let card = pack[place];
-    let other = pack[position];
-    pack[position] = card;
-    pack[place] = other;
-    card
+    pack
 }

@@ -1,6 +1,6 @@
 //! What a worker says of one candidate.
 
-use cards::Deal;
+use cards::{Deal, Places};
 use lcg48::Lcg48;
 
 /// The verdict on a candidate: its number, whether the condition accepts it, and its deal.
@@ -17,7 +17,7 @@ impl Verdict {
         Verdict {
             number: 0,
             accepted: false,
-            deal: Deal::draw(&mut Lcg48::seeded(0)),
+            deal: Deal::shuffled(&Places::draw(&mut Lcg48::seeded(0))),
         }
     }
 }

@@ -2,7 +2,7 @@
 
 use crate::support::{deal_of, same};
 use cards::testing::fixed_in;
-use cards::{Candidates, Card, Deal, Fixed, MAX_CANDIDATES, Seat};
+use cards::{Candidates, Card, Deal, Fixed, MAX_CANDIDATES, Places, Seat};
 use lcg48::Lcg48;
 use std::process::Abort;
 
@@ -160,7 +160,7 @@ fn skip_candidate(generator: &mut Lcg48) {
 fn ten_thousand_sets_by_a_plain_program(rt: HostRuntime) {
     let mut generator = Lcg48::seeded(24);
     for seed in 0..10_000 {
-        let deal = Deal::draw(&mut generator);
+        let deal = Deal::shuffled(&Places::draw(&mut generator));
         let seats = some_fixed(&deal, &mut generator);
         let fixed = Fixed::new(seats);
         assert!(rt; fixed.is_some());

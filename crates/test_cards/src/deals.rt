@@ -151,9 +151,9 @@ fn candidates_at_the_limit(rt: HostRuntime) {
     let before = Stride::of(51 * (MAX_CANDIDATES - 1), &mut Steps::new());
     let mut generator = before.apply(&Lcg48::seeded(1));
     let mut last = Candidates::new(1, MAX_CANDIDATES - 1, 1);
-    same(&rt, last.next(), Deal::draw(&mut generator));
+    same(&rt, last.next(), Deal::shuffled(&Places::draw(&mut generator)));
     let mut after = Candidates::new(1, MAX_CANDIDATES, 16);
-    same(&rt, after.next(), Deal::draw(&mut generator));
+    same(&rt, after.next(), Deal::shuffled(&Places::draw(&mut generator)));
 }
 
 #[test]
@@ -184,17 +184,15 @@ fn dealt_downwards(places: &Places) -> [Seat; 52] {
     seats
 }
 
-/// The shuffle, the draw and every third candidate from the fifth on.
+/// The shuffle and every third candidate from the fifth on.
 #[test]
 fn ten_thousand_deals_by_a_plain_program(rt: HostRuntime) {
     let mut generator = Lcg48::seeded(2026);
-    let mut again = generator;
     let mut thirds = Candidates::new(2026, 5, 3);
     for number in 0..10_000 {
         let places = Places::draw(&mut generator);
         let plain = Deal::from_seats(&dealt_downwards(&places));
         assert_eq!(rt; plain, Some(Deal::shuffled(&places)));
-        assert_eq!(rt; plain, Some(Deal::draw(&mut again)));
         if number >= 5 && number % 3 == 2 {
             assert_eq!(rt; plain, Some(thirds.next()));
         }

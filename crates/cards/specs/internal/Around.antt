@@ -5,7 +5,7 @@ use Rattle.lcg48.specs.Sequence.{state_after}
 use Rattle.cards.specs.declared.seat.Seat.{Seat}
 use Rattle.cards.specs.declared.seat.Seat.TheVariants.{North, East, South, West}
 use Rattle.cards.specs.declared.around.Side.{Side}
-use Rattle.cards.specs.Shuffle.{traced, card_at}
+use Rattle.cards.specs.Shuffle.{traced, card_at, pack}
 use Rattle.cards.specs.Deals.{position_of}
 use Rattle.cards.specs.Fixed.{IsFixed, is_free, is_fixed_at, free_count, free_index, places_for, room}
 
@@ -34,7 +34,7 @@ pub record IsDealingAround
   pub long : length fixed ≡ 52
   pub few : free_count fixed ≤ 52
   pub listed : IsListed fixed free (free_count fixed)
-  pub drawn : state ≡ state_after x (free_count fixed - 1 - (n - 1))
+  pub drawn : state ≡ state_after x (free_count fixed - n)
   pub card :
       (i : ℕ) → i < free_count fixed
       → slice_index cards (traced (places_for (free_count fixed) x) i (n - 1))
@@ -47,6 +47,20 @@ settles_within fixed places low high c =
     && (nat_le low (position_of places (free_index fixed c))
     && ltb (position_of places (free_index fixed c)) high)
 
+-- between two states the positions from low on and below high are settled, by their cards' mask
+pub record IsSettled (old new : ℕ) (cards next : List ℕ) (set low high : ℕ) : Type 0 where
+  pub dealing :
+      (fixed : List (Option Seat)) (free : List ℕ) (x : ℕ)
+      → high ≤ free_count fixed
+      → IsDealingAround fixed free x old cards high
+      → IsDealingAround fixed free x new next low
+  pub mask :
+      (fixed : List (Option Seat)) (free : List ℕ) (x : ℕ)
+      → high ≤ free_count fixed
+      → IsDealingAround fixed free x old cards high
+      → set
+      ≡ mask_l (map (settles_within fixed (places_for (free_count fixed) x) low high) pack)
+
 -- how many positions are not drawn for: the first seat that gets free cards, North or else East,
 -- has what the others leave
 abbrev pub rest_count : List (Option Seat) → ℕ
@@ -54,7 +68,7 @@ rest_count fixed = if room fixed North == 0 then room fixed East else room fixed
 
 -- how many draws a deal around fixed cards takes
 abbrev pub draws_around : List (Option Seat) → ℕ
-draws_around fixed = free_count fixed - 1 - (rest_count fixed - 1)
+draws_around fixed = free_count fixed - rest_count fixed
 
 -- what is kept of one seat's fixed cards
 pub record IsSide (fixed : List (Option Seat)) (seat : Seat) (side : Side) : Type 0 where

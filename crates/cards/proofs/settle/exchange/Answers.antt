@@ -1,23 +1,23 @@
-use Rattle.std.proofs.Common.{◌∙◌, get_or, sym, ap, subst}
-use Rattle.cards.specs.internal.Around.{IsDealingAround}
-use Rattle.cards.proofs.FreeCards.{dealing_around_last, free_card_settled}
+use Rattle.std.proofs.Common.{◌<◌, ◌∙◌, length, sym, arith}
+use Rattle.std.proofs.lemmas.List.Edits.{swap_is, swapped_from_swap}
+use Rattle.cards.proofs.FreeCards.{cards_swapped, dealing_around_on}
 use Rattle.cards.proofs.settle.exchange.Goals as goal
 
-pub returns-then-position-eq0-clause-dealing : goal.returns-then-position-eq0-clause-dealing
-returns-then-position-eq0-clause-dealing c fixed free x below before =
-    dealing_around_last fixed free x c.args.generator.now c.args.cards.now c.args.position c.if-position-eq0.true before
-
-pub returns-then-position-eq0-clause-card : goal.returns-then-position-eq0-clause-card
-returns-then-position-eq0-clause-card c fixed free x below before =
-    ap (λ i. get_or c.args.cards.now i 0) (sym c.if-position-eq0.true)
-    ∙ free_card_settled fixed free x c.args.generator.now c.args.cards.now c.args.position below
-    (dealing_around_last fixed free x c.args.generator.now c.args.cards.now c.args.position c.if-position-eq0.true before)
+pub returns-clause-cards : goal.returns-clause-cards
+returns-clause-cards c =
+    let inside : c.args.position < length c.args.cards.now = omega arith in
+    let low : c.from-place.result < length c.args.cards.now = omega arith in
+    cards_swapped c.args.cards.now _ c.args.position c.from-place.result (omega arith) c.requires.inside (omega arith) (swap_is c.args.cards.now c.args.position c.from-place.result 0 inside low) c.requires.cards
 
 pub returns-clause-dealing : goal.returns-clause-dealing
-returns-clause-dealing c fixed free x below before =
-    subst (λ s. IsDealingAround fixed free x s c.exchange_with.new.cards c.args.position) c.next.ensures.value
-    (c.exchange_with.ensures.dealing fixed free x c.args.generator.now below (c.next.ensures.value ∙ c.next.ensures.stepped) before)
+returns-clause-dealing c fixed free x old below drawn before =
+    let inside : c.args.position < length c.args.cards.now = omega arith in
+    let low : c.from-place.result < length c.args.cards.now = omega arith in
+    dealing_around_on fixed free x old c.args.draw c.args.cards.now _ c.from-place.result c.args.position below (omega arith)
+    drawn (c.from-place.ensures ∙ c.place_for.ensures.value) (swap_is c.args.cards.now c.args.position c.from-place.result 0 inside low) before
 
 pub returns-clause-card : goal.returns-clause-card
-returns-clause-card c fixed free x below before =
-    c.exchange_with.ensures.card fixed free x c.args.generator.now below (c.next.ensures.value ∙ c.next.ensures.stepped) before
+returns-clause-card c =
+    let inside : c.args.position < length c.args.cards.now = omega arith in
+    let low : c.from-place.result < length c.args.cards.now = omega arith in
+    sym (swapped_from_swap c.args.cards.now _ c.args.position c.from-place.result 0 inside low (swap_is c.args.cards.now c.args.position c.from-place.result 0 inside low)).0
