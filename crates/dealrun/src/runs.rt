@@ -10,7 +10,7 @@ ghost use Rattle.dealrun.specs.declared.cause.Cause.TheVariants.{Memory};
 ghost use Rattle.dealrun.specs.Outcomes.{FaultsAfter, InterruptedIn, StandsCompleteIn};
 ghost use Rattle.dealrun.specs.Outcomes.{TakesWhatIsOwed, WritesTextIn};
 ghost use Rattle.dealrun.specs.Text.{end_of};
-ghost use Rattle.dealrun.specs.internal.Ends.{Closes};
+ghost use Rattle.dealrun.specs.internal.Ends.{Closes, EndsRun};
 ghost use Rattle.dealrun.specs.internal.Handles.{owed_by};
 ghost use Rattle.dealrun.specs.internal.Joins.{Owes};
 
@@ -110,6 +110,7 @@ pub fn run_in<
 /// # Errors
 ///
 /// Those of `run_in`.
+#[tactic(auto, using(crate::proofs::Ended::ended))]
 pub fn run_and_count<
     R: Threads + Wait + Clone + Send + 'static,
     G: Gate + Drop + Send + Sync + 'static,
@@ -168,21 +169,8 @@ pub(crate) fn start_and_write<
 ) -> Result<Counted, RunFault>
     requires { S.faults sink.old < 2 ^ 64 - 1 }
     ensures layout { N.layout notation.new ≡ N.layout notation.old }
-    ensures lanes { IfOk result (λ r.
-        TakesWhatIsOwed plan.now cond r.report.lanes.items r.report.boards) }
-    ensures text { IfOk result (λ r. WritesTextIn (N.layout notation.old) plan.now cond
-        r.report.boards (S.bytes sink.old) (S.bytes sink.new)) }
-    ensures candidates { IfOk result (λ r. r.candidates ≡ end_of plan.now cond) }
-    ensures few { IfOk result (λ r.
-        (r.report.boards ≤ r.candidates) × (r.candidates ≤ plan.now.count)) }
-    ensures stands { MatchResult result
-        (λ r. StandsCompleteIn (N.layout notation.old) (N.layout notation.old).footer
-        plan.now cond r.report.lanes.items r.report.boards (S.bytes sink.old) (S.bytes sink.new))
-        (λ e. InterruptedIn (N.layout notation.old)
-        plan.now cond e.cause e.lanes.items e.boards (S.bytes sink.old) (S.bytes sink.new)) }
-    ensures faults { MatchResult result
-        (λ _. S.faults sink.new ≡ S.faults sink.old)
-        (λ e. FaultsAfter e.cause (S.faults sink.old) (S.faults sink.new)) }
+    ensures ends { EndsRun (N.layout notation.old) plan.now cond result
+        (S.bytes sink.old) (S.bytes sink.new) (S.faults sink.old) (S.faults sink.new) }
 {
     let Ok((assignments, mut lanes)) = assign_all(rt, alloc, plan, &cond, &gate, &stop) else {
         return Err(out_of_memory(alloc));

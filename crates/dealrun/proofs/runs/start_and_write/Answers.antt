@@ -1,52 +1,28 @@
-use Rattle.std.proofs.Common.{◌≡◌, ◌<◌, arith, length, vec_len, map}
+use Rattle.std.proofs.Common.{◌≡◌, ◌<◌, arith, length, vec_len, map, refl}
 use Rattle.lanes.specs.Jobs.{verdicts_around}
 use Rattle.std.proofs.lemmas.List.{length-map}
-use Rattle.dealrun.proofs.Finals.{not_started, if_ok, either, all_owe}
+use Rattle.dealrun.proofs.Finals.{not_started, all_owe}
+use Rattle.dealrun.proofs.Ended.{ends_run}
 use Rattle.dealrun.proofs.runs.start_and_write.Goals as goal
 
-pub returns-then-not-start_all-clause-stands : goal.returns-then-not-start_all-clause-stands
-returns-then-not-start_all-clause-stands g c =
+pub returns-then-not-start_all-clause-ends : goal.returns-then-not-start_all-clause-ends
+returns-then-not-start_all-clause-ends g c =
     let p = c.args.plan.now in
     let lanes = c.join_all.new.lanes in
     let handles = c.start_all.new.handles in
     let len : length lanes.items ≡ p.workers = omega (arith, lanes.ok.0, c.join_all.ensures.len, c.in-Ok.ensures.len.1) in
     let few : vec_len handles < p.workers = omega (arith, c.start_all.ensures.not_all c.if-not-start_all.true, c.in-Ok.ensures.len.0) in
-    not_started (g.N.Notation.layout c.args.notation.now) p c.args.cond (vec_len handles) (map (λ h. verdicts_around h.promise.job.value) handles.items) (map (λ a. verdicts_around a.job) c.in-Ok.assignments.items) c.in-Ok.lanes.items lanes.items _ _ _
+    let stands = not_started (g.N.Notation.layout c.args.notation.now) p c.args.cond (vec_len handles) (map (λ h. verdicts_around h.promise.job.value) handles.items) (map (λ a. verdicts_around a.job) c.in-Ok.assignments.items) c.in-Ok.lanes.items lanes.items _ _ _
     c.in-Ok.ensures.few.0 len few c.in-Ok.ensures.jobs c.start_all.ensures.jobs c.join_all.ensures.joined
-    (λ k e above below. c.join_all.ensures.rest k e above (omega (arith, below, lanes.ok.0))) c.join_all.ensures.taken c.in-Ok.ensures.idle
+    (λ k e above below. c.join_all.ensures.rest k e above (omega (arith, below, lanes.ok.0))) c.join_all.ensures.taken c.in-Ok.ensures.idle in
+    record { well = tt; interrupted = record { interrupted = stands; faults_are = refl } }
 
-pub returns-clause-lanes : goal.returns-clause-lanes
-returns-clause-lanes g c =
+pub returns-clause-ends : goal.returns-clause-ends
+returns-clause-ends g c =
     let p = c.args.plan.now in
     let handles = c.start_all.new.handles in
     let assigned = c.in-Ok.assignments in
     let whole : vec_len handles ≡ length (map (λ a. verdicts_around a.job) assigned.items) = simp length-map (omega (arith, c.start_all.ensures.all c.if-not-start_all.false, assigned.ok.0)) in
     let owes = all_owe p c.args.cond (vec_len handles) (map (λ h. verdicts_around h.promise.job.value) handles.items) (map (λ a. verdicts_around a.job) assigned.items) c.start_all.ensures.jobs whole c.in-Ok.ensures.jobs in
-    if_ok c.write_to_end.result _ _ (λ r h. (h c.args.cond owes).lanes_are) c.write_to_end.ensures.closes
-
-pub returns-clause-text : goal.returns-clause-text
-returns-clause-text g c =
-    let p = c.args.plan.now in
-    let handles = c.start_all.new.handles in
-    let assigned = c.in-Ok.assignments in
-    let whole : vec_len handles ≡ length (map (λ a. verdicts_around a.job) assigned.items) = simp length-map (omega (arith, c.start_all.ensures.all c.if-not-start_all.false, assigned.ok.0)) in
-    let owes = all_owe p c.args.cond (vec_len handles) (map (λ h. verdicts_around h.promise.job.value) handles.items) (map (λ a. verdicts_around a.job) assigned.items) c.start_all.ensures.jobs whole c.in-Ok.ensures.jobs in
-    if_ok c.write_to_end.result _ _ (λ r h. (h c.args.cond owes).text_is) c.write_to_end.ensures.closes
-
-pub returns-clause-candidates : goal.returns-clause-candidates
-returns-clause-candidates g c =
-    let p = c.args.plan.now in
-    let handles = c.start_all.new.handles in
-    let assigned = c.in-Ok.assignments in
-    let whole : vec_len handles ≡ length (map (λ a. verdicts_around a.job) assigned.items) = simp length-map (omega (arith, c.start_all.ensures.all c.if-not-start_all.false, assigned.ok.0)) in
-    let owes = all_owe p c.args.cond (vec_len handles) (map (λ h. verdicts_around h.promise.job.value) handles.items) (map (λ a. verdicts_around a.job) assigned.items) c.start_all.ensures.jobs whole c.in-Ok.ensures.jobs in
-    if_ok c.write_to_end.result _ _ (λ r h. h c.args.cond owes) c.write_to_end.ensures.ends
-
-pub returns-clause-stands : goal.returns-clause-stands
-returns-clause-stands g c =
-    let p = c.args.plan.now in
-    let handles = c.start_all.new.handles in
-    let assigned = c.in-Ok.assignments in
-    let whole : vec_len handles ≡ length (map (λ a. verdicts_around a.job) assigned.items) = simp length-map (omega (arith, c.start_all.ensures.all c.if-not-start_all.false, assigned.ok.0)) in
-    let owes = all_owe p c.args.cond (vec_len handles) (map (λ h. verdicts_around h.promise.job.value) handles.items) (map (λ a. verdicts_around a.job) assigned.items) c.start_all.ensures.jobs whole c.in-Ok.ensures.jobs in
-    either c.write_to_end.result _ _ _ _ (λ r h. (h c.args.cond owes).stands) (λ e h. h c.args.cond owes) c.write_to_end.ensures.closes c.write_to_end.ensures.stands
+    let e = c.write_to_end.ensures in
+    ends_run c.write_to_end.result _ _ _ _ _ _ _ c.args.cond owes e.closes e.few e.ends e.stands e.faults
