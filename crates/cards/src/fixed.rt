@@ -1,6 +1,6 @@
 //! Cards that are fixed at seats before the deal.
 
-ghost use Rattle.std.specs.Prelude.{◌≡◌, ◌↔◌, ◌<◌, IsSome, IsTrue, IfSome};
+ghost use Rattle.std.specs.Prelude.{◌≡◌, ◌↔◌, IsSome, IfSome};
 ghost use Rattle.cards.specs.Fixed.{IsFixed, free_count, held, is_free, none_fixed};
 
 use crate::Seat;
@@ -11,24 +11,20 @@ use std::marker::Model;
 #[derive(Clone, Copy, Debug)]
 pub struct Fixed {
     seats: [Option<Seat>; 52],
-    free: usize,
 }
 
 impl Model for Fixed {
-    ghost use Rattle.std.specs.Prelude.{◌≡◌, List, Option};
+    ghost use Rattle.std.specs.Prelude.{List, Option};
     ghost use Rattle.cards.specs.declared.seat.Seat.{Seat as ASeat};
-    ghost use Rattle.cards.specs.Fixed.{IsFixed, free_count};
+    ghost use Rattle.cards.specs.Fixed.{IsFixed};
 
     ghost Value = { List (Option ASeat) };
 
     ghost view = { λ f. f.seats };
 
-    ghost invariant = { λ f. record {
-      fits : IsFixed f.seats;
-      count : f.free ≡ free_count f.seats;
-    } };
+    ghost invariant = { λ f. IsFixed f.seats };
 
-    ghost inverse = { λ xs. record { seats = xs; free = free_count xs } };
+    ghost inverse = { λ xs. record { seats = xs } };
 }
 
 impl Fixed {
@@ -38,26 +34,18 @@ impl Fixed {
         ensures kept { IfSome result (λ f. f ≡ seats) }
     {
         for seat in [Seat::North, Seat::East, Seat::South, Seat::West] {
-            if has_more(&seats, seat) {
+            if held_by(&seats, seat) > 13 {
                 return None;
             }
         }
-        Some(Fixed::of_fixed(seats))
+        Some(Fixed { seats })
     }
 
     /// No card is fixed.
     pub fn none() -> Fixed
         ensures { result ≡ none_fixed }
     {
-        Fixed::of_fixed([None; 52])
-    }
-
-    fn of_fixed(seats: [Option<Seat>; 52]) -> Fixed
-        requires { IsFixed seats }
-        ensures { result ≡ seats }
-    {
-        let free = seats.iter().filter(|fixed| fixed.is_none()).count();
-        Fixed { seats, free }
+        Fixed { seats: [None; 52] }
     }
 
     /// How many cards are free.
@@ -65,7 +53,7 @@ impl Fixed {
         ensures count { result ≡ free_count self.now }
         ensures fixed { IsFixed self.now }
     {
-        self.free
+        self.seats.iter().filter(|fixed| fixed.is_none()).count()
     }
 
     /// The seats by card number.
@@ -75,13 +63,6 @@ impl Fixed {
     {
         &self.seats
     }
-}
-
-/// Whether more than thirteen cards are fixed at the seat.
-fn has_more(seats: &[Option<Seat>; 52], seat: Seat) -> bool
-    ensures { IsTrue result ↔ (13 < held seats.now seat) }
-{
-    held_by(seats, seat) > 13
 }
 
 /// How many cards are fixed at the seat.

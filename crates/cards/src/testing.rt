@@ -2,6 +2,8 @@
 //! the spades, hearts, diamonds and clubs, parted by dots. Nothing but tests calls this; printers'
 //! tests write the hands again.
 
+ghost use Rattle.std.specs.Prelude.{◌≤◌};
+
 use crate::{Deal, Seat};
 
 /// The pack in order: North has the spades, East the hearts, South the diamonds, West the clubs.
@@ -41,15 +43,19 @@ pub fn fixed_in(hands: &[u8]) -> [Option<Seat>; 52] {
                 suit = 0;
             }
             b'.' => suit = (suit % 4) + 1,
-            rank => {
-                let first = 13 * (suit % 4);
-                if let Some(rank) = b"AKQJT98765432".iter().position(|letter| *letter == rank) {
-                    if let Some(holder) = seats.get_mut(first + rank % 13) {
-                        *holder = Some(seat);
-                    }
-                }
-            }
+            letter => fix(&mut seats, 13 * (suit % 4), letter, seat),
         }
     }
     seats
+}
+
+/// Fixes the card of this letter at the seat, of the suit whose first card this is.
+fn fix(seats: &mut [Option<Seat>; 52], first: usize, letter: u8, seat: Seat)
+    requires { first ≤ 39 }
+{
+    for (rank, other) in b"AKQJT98765432".iter().enumerate() {
+        if *other == letter {
+            seats[first + rank] = Some(seat);
+        }
+    }
 }
