@@ -151,9 +151,17 @@ fn candidates_at_the_limit(rt: HostRuntime) {
     let before = Stride::of(51 * (MAX_CANDIDATES - 1), &mut Steps::new());
     let mut generator = before.apply(&Lcg48::seeded(1));
     let mut last = Candidates::new(1, MAX_CANDIDATES - 1, 1);
-    same(&rt, last.next(), Deal::shuffled(&Places::draw(&mut generator)));
+    same(
+        &rt,
+        last.next(),
+        Deal::shuffled(&Places::draw(&mut generator)),
+    );
     let mut after = Candidates::new(1, MAX_CANDIDATES, 16);
-    same(&rt, after.next(), Deal::shuffled(&Places::draw(&mut generator)));
+    same(
+        &rt,
+        after.next(),
+        Deal::shuffled(&Places::draw(&mut generator)),
+    );
 }
 
 #[test]
