@@ -11,7 +11,6 @@ use Rattle.dealrun.specs.declared.runs.Counted.{Counted}
 use Rattle.dealrun.specs.declared.runs.RunFault.{RunFault}
 
 module _ {layout : Layout} {plan : Planned} {form : Form} {old new : Option (List ℕ)} {before after : ℕ} where
-
   pub ended_lanes : (r : Result Counted RunFault) → EndsRun layout plan form r old new before after
       → IfOk r (λ c. TakesWhatIsOwed plan form c.report.lanes.items c.report.boards)
   ended_lanes (Ok c) h = h.well.closes.lanes_are
