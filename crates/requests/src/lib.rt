@@ -1,15 +1,15 @@
 //! The requests of the program: what each means, what is done for it, and how it ends.
 //!
 //! A subcommand is a file: its request, with the values of its options, and the function that
-//! serves it (`make.rt`, `pick.rt`, `conditions.rt`, `stream.rt`). `request.rt` has one variant for
+//! serves it (`make.rt`, `pick.rt`, `language.rt`, `stream.rt`). `request.rt` has one variant for
 //! each. `run.rt` runs a plan in the format that is asked for, and `picking_as.rt` deals the
 //! candidates that an input names in it.
 //! How the words of a command line become a request is no business of this crate.
 #![tactic(auto)]
 
-mod conditions;
 mod failure;
 mod format;
+mod language;
 pub mod laws;
 mod make;
 mod message;

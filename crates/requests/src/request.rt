@@ -9,8 +9,8 @@ ghost use Rattle.requests.specs.Options.{IsInRange, wish_of};
 ghost use Rattle.requests.specs.Reported.{ReportsFor};
 ghost use Rattle.requests.specs.Wishes.{AppendsFrom, HasInput, IsStatusOf};
 
-use crate::conditions::conditions;
 use crate::failure::Failure;
+use crate::language::conditions;
 use crate::make::{MakeRequest, make};
 use crate::pick::pick;
 use crate::report::Report;

@@ -5,9 +5,9 @@
 #![tactic(auto)]
 
 #[cfg(test)]
-mod conditions;
-#[cfg(test)]
 mod memory_sinks;
+#[cfg(test)]
+mod parsing;
 #[cfg(test)]
 mod rings;
 #[cfg(test)]

@@ -4,6 +4,8 @@
 #[cfg(test)]
 mod beside;
 #[cfg(test)]
+mod failing_sinks;
+#[cfg(test)]
 mod failures;
 #[cfg(test)]
 mod gates;
@@ -15,8 +17,6 @@ mod notations;
 mod plain;
 #[cfg(test)]
 mod program;
-#[cfg(test)]
-mod sinks;
 #[cfg(test)]
 mod support;
 #[cfg(test)]

@@ -3,7 +3,7 @@ use Rattle.std.proofs.lemmas.Result.{err_from_is_err_and}
 use Rattle.std.specs.List.{flat_map}
 use Rattle.cond_lang.specs.declared.language.TheConstants.{LANGUAGE}
 use Rattle.requests.proofs.Saying.{first_broken, second_broken, third_broken, three_parts}
-use Rattle.requests.proofs.conditions.conditions.Goals as goal
+use Rattle.requests.proofs.language.conditions.Goals as goal
 
 pub returns-clause-text : goal.returns-clause-text
 returns-clause-text g c =
