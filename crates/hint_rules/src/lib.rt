@@ -1,17 +1,26 @@
 //! Rules for hints: what a person perhaps meant where a condition is refused, by what stands around
 //! the fault.
 //!
+//! The rules are rows of tables (`tables`): what holds at the fault, the parts around it, and the
+//! text (`rule`, `filling`). Code is left where a text is cut (`parts`), for amounts and bounds, and
+//! for words that are alike.
+//!
 //! Nothing is claimed of which hint a fault gets. That what is shown of one is printable is claimed
 //! where it is shown.
 #![tactic(auto)]
 
+mod amounts;
+mod bounds;
+mod filling;
 mod hint;
 mod kinds;
+mod likeness;
 mod parts;
 mod rule;
-mod rules;
-mod said;
+mod samples;
+mod tables;
+mod words;
 
-pub use hint::{of_piece, of_syntax};
+pub use filling::suggested;
+pub use hint::{Said, of_piece, of_syntax};
 pub use kinds::Kinds;
-pub use said::Said;

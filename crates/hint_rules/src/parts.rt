@@ -2,7 +2,8 @@
 
 ghost use Rattle.std.specs.Prelude.{◌<◌, ◌≤◌, length};
 
-use cond_lang::{Token, WORDS};
+use crate::kinds::Kinds;
+use crate::words::{is, is_in_value, is_number};
 use std::alloc::{AllocError, Global};
 
 /// What a byte belongs to.
@@ -31,9 +32,14 @@ struct Part<'t> {
 #[derive(Drop)]
 pub(crate) struct Parts<'t> {
     text: &'t [u8],
+    /// The parts, behind an empty one: so nothing stands at 0, and nothing behind the last.
     parts: Vec<Part<'t>>,
-    /// The part with the fault, or the number of the parts.
-    fault: usize,
+    /// Where the part with the fault stands, or the end.
+    pub fault: usize,
+    /// That part in small letters.
+    pub word: Vec<u8>,
+    /// The kinds of tokens that could stand there.
+    pub can: Kinds,
 }
 
 fn class_of(byte: u8) -> Class {
@@ -48,24 +54,17 @@ fn class_of(byte: u8) -> Class {
     }
 }
 
-/// How many bytes of the class the text begins with.
+/// How many bytes of the class the text begins with; of a comment, up to the end of the line.
 fn run_len(text: &[u8], class: Class) -> usize
     ensures { result ≤ length text.now }
 {
     for (i, byte) in text.iter().enumerate() {
-        if class_of(*byte) != class {
-            return i;
-        }
-    }
-    text.len()
-}
-
-/// How many bytes stand before the next line feed, or before the end.
-fn comment_len(text: &[u8]) -> usize
-    ensures { result ≤ length text.now }
-{
-    for (i, byte) in text.iter().enumerate() {
-        if *byte == b'\n' {
+        let goes_on = if class == Class::Comment {
+            *byte != b'\n'
+        } else {
+            class_of(*byte) == class
+        };
+        if !goes_on {
             return i;
         }
     }
@@ -80,20 +79,35 @@ fn first_part(text: &[u8]) -> (Class, usize)
 {
     let class = class_of(text[0]);
     let len = match class {
-        Class::Comment => comment_len(text),
         Class::Blank | Class::Single => 1,
         _ => run_len(text, class),
     };
     (class, len.max(1))
 }
 
+/// The bytes in small letters.
+fn small(alloc: Global, bytes: &[u8]) -> Result<Vec<u8>, AllocError> {
+    let mut word = Vec::new(alloc);
+    for byte in bytes {
+        word.push(byte.to_ascii_lowercase())?;
+    }
+    Ok(word)
+}
+
 impl<'t> Parts<'t> {
-    /// The parts of the text, of which the one with the byte `at` is at fault, or the end.
-    pub(crate) fn of(alloc: Global, text: &'t [u8], at: usize) -> Result<Parts<'t>, AllocError> {
+    /// The parts of the text, of which the one with the byte `at` is at fault, or the end, where
+    /// only these kinds can stand.
+    pub(crate) fn of(
+        alloc: Global,
+        text: &'t [u8],
+        at: usize,
+        can: Kinds,
+    ) -> Result<Parts<'t>, AllocError> {
         let mut parts = Vec::new(alloc);
+        parts.push(Part { at: 0, bytes: b"" })?;
         let mut rest = text;
         let mut start = 0;
-        let mut fault = 0;
+        let mut fault = 1;
         while !rest.is_empty() {
             let (class, len) = first_part(rest);
             let (bytes, more) = rest.split_at(len);
@@ -106,202 +120,101 @@ impl<'t> Parts<'t> {
                 fault = parts.len();
             }
         }
-        Ok(Parts { text, parts, fault })
+        let word = small(alloc, bytes_at(parts.as_slice(), fault))?;
+        Ok(Parts {
+            text,
+            parts,
+            fault,
+            word,
+            can,
+        })
     }
 
     /// The bytes of a part, or none.
-    fn at(&self, i: usize) -> &'t [u8] {
+    pub(crate) fn at(&self, i: usize) -> &'t [u8] {
+        bytes_at(self.parts.as_slice(), i)
+    }
+
+    /// Where the part begins in the text, and where it ends.
+    fn range(&self, i: usize) -> (usize, usize) {
         match self.parts.as_slice().get(i) {
-            Some(part) => part.bytes,
-            None => b"",
+            Some(part) => (part.at, part.at.saturating_add(part.bytes.len())),
+            None => (self.text.len(), self.text.len()),
         }
     }
 
-    /// The part with the fault, and for 1, 2, .. those after it. Where there is none, no bytes.
-    pub(crate) fn next(&self, n: usize) -> &'t [u8] {
-        self.at(self.fault.saturating_add(n))
+    /// Whether the part stands right behind the one before it, and apart from the one behind it.
+    pub(crate) fn is_suffix(&self, i: usize) -> bool {
+        let (from, to) = self.range(i);
+        from == self.range(i.saturating_sub(1)).1 && to != self.range(i.saturating_add(1)).0
     }
 
-    /// For 1, 2, .. the parts before the one with the fault, the nearest first.
-    pub(crate) fn back(&self, n: usize) -> &'t [u8] {
-        if n <= self.fault {
-            self.at(self.fault - n)
-        } else {
-            b""
-        }
-    }
-
-    /// Whether the part with the fault stands right behind the one before it.
-    pub(crate) fn touches(&self) -> bool {
-        let parts = self.parts.as_slice();
-        if self.fault == 0 {
-            return false;
-        }
-        match (parts.get(self.fault - 1), parts.get(self.fault)) {
-            (Some(before), Some(part)) => before.at.saturating_add(before.bytes.len()) == part.at,
-            _ => false,
-        }
-    }
-
-    /// The text from `first` parts before the one with the fault up to `last` parts before it, that
-    /// one included, if it is one short printable line.
-    pub(crate) fn between(&self, first: usize, last: usize) -> Option<&'t [u8]> {
-        let parts = self.parts.as_slice();
-        let from = parts.get(self.fault.checked_sub(first)?)?;
-        let to = parts.get(self.fault.checked_sub(last)?)?;
-        let bytes = self
-            .text
-            .get(from.at..to.at.saturating_add(to.bytes.len()))?;
-        if is_short_line(bytes) {
-            Some(bytes)
-        } else {
-            None
-        }
-    }
-
-    /// How many parts before the one with the fault the value begins that ends `last` parts before
-    /// it.
+    /// Where the value begins that ends with this part. Behind the part, if none does.
     pub(crate) fn value_start(&self, last: usize) -> usize {
         let mut depth: usize = 0;
-        let mut start = last;
-        for _step in 0..self.parts.len() {
-            let bytes = self.back(start);
+        for back in 0..last.saturating_add(1) {
+            let i = last - back;
+            let bytes = self.at(i);
             if is(bytes, ")") {
                 depth = depth.saturating_add(1);
             } else if is(bytes, "(") && depth > 0 {
                 depth -= 1;
             } else if depth == 0 && !is_in_value(bytes) {
-                break;
+                return i.saturating_add(1);
             }
-            start = start.saturating_add(1);
         }
-        start.saturating_sub(1)
+        0
     }
 
-    /// The value that ends so many parts before the one with the fault, as it is written.
+    /// The value that ends with this part, as it is written, if it is one short printable line.
     pub(crate) fn value(&self, last: usize) -> Option<&'t [u8]> {
         let start = self.value_start(last);
-        let first = self.back(start);
-        if start < last || is(first, "+") || !is_in_value(first) {
+        let first = self.at(start);
+        let ends = is_number(self.at(last)) || is(self.at(last), ")");
+        if last < start || !ends || !is_in_value(first) || is(first, "+") {
             return None;
         }
-        self.between(start, last)
+        let line = self.text.get(self.range(start).0..self.range(last).1)?;
+        is_short_line(line).then_some(line)
     }
 
-    /// How many brackets are open at the fault.
-    pub(crate) fn open_brackets(&self) -> usize {
-        let mut open: usize = 0;
-        for i in 0..self.fault {
-            let bytes = self.at(i);
-            if is(bytes, "(") {
-                open = open.saturating_add(1);
-            } else if is(bytes, ")") {
-                open = open.saturating_sub(1);
-            }
-        }
-        open
-    }
-
-    /// The call in which the fault stands, as its word, if it is in one.
-    pub(crate) fn call(&self) -> &'t [u8] {
+    /// Where the word of the call stands in which the fault is. At 0, if it is in none.
+    pub(crate) fn call_at(&self) -> usize {
         let mut depth: usize = 0;
-        for n in 1..self.fault.saturating_add(1) {
-            let bytes = self.back(n);
+        for back in 1..self.fault.saturating_add(1) {
+            let i = self.fault - back;
+            let bytes = self.at(i);
             if is(bytes, ")") {
                 depth = depth.saturating_add(1);
             } else if is(bytes, "(") {
                 if depth == 0 {
-                    return self.back(n.saturating_add(1));
+                    return i.saturating_sub(1);
                 }
                 depth -= 1;
             }
         }
-        b""
+        0
+    }
+
+    /// The word of the call in which the fault is.
+    pub(crate) fn call(&self) -> &'t [u8] {
+        self.at(self.call_at())
     }
 }
 
-/// Whether the part reads so.
-pub(crate) fn is(part: &[u8], text: &str) -> bool {
-    part == text.as_bytes()
-}
-
-/// Whether the part reads as one of these.
-pub(crate) fn is_one_of(part: &[u8], texts: &[&str]) -> bool {
-    texts.iter().any(|text| is(part, text))
-}
-
-/// Whether the part may stand in a value, outside of brackets.
-fn is_in_value(bytes: &[u8]) -> bool {
-    is(bytes, "+") || is_number(bytes) || is_measure(bytes)
-}
-
-/// Whether the word begins a value.
-pub(crate) fn is_measure(bytes: &[u8]) -> bool {
-    matches!(token_of(bytes), Some(token) if begins_a_value(token))
-}
-
-/// Whether the token begins a value, and is a word.
-pub(crate) fn begins_a_value(token: Token) -> bool {
-    matches!(
-        token,
-        Token::Measure(_) | Token::Cards | Token::Len | Token::Longest | Token::Shortest
-    )
-}
-
-/// Whether the part is a seat.
-pub(crate) fn is_seat(bytes: &[u8]) -> bool {
-    matches!(token_of(bytes), Some(Token::Seat(_)))
-}
-
-/// Whether the part is a suit.
-pub(crate) fn is_suit(bytes: &[u8]) -> bool {
-    matches!(token_of(bytes), Some(Token::Suit(_)))
-}
-
-/// The token of a word of the language.
-pub(crate) fn token_of(bytes: &[u8]) -> Option<Token> {
-    for (word, token) in WORDS.iter() {
-        if bytes == word.as_bytes() {
-            return Some(*token);
-        }
+fn bytes_at<'t>(parts: &[Part<'t>], i: usize) -> &'t [u8] {
+    match parts.get(i) {
+        Some(part) => part.bytes,
+        None => b"",
     }
-    None
-}
-
-/// Whether the part is a comparison.
-pub(crate) fn is_relation(bytes: &[u8]) -> bool {
-    matches!(bytes, b"==" | b"!=" | b"<" | b"<=" | b">" | b">=")
-}
-
-/// Whether the part is a number.
-pub(crate) fn is_number(bytes: &[u8]) -> bool {
-    match bytes {
-        [first, ..] => first.is_ascii_digit(),
-        [] => false,
-    }
-}
-
-/// Whether the part is a word.
-pub(crate) fn is_word(bytes: &[u8]) -> bool {
-    match bytes {
-        [first, ..] => first.is_ascii_alphabetic(),
-        [] => false,
-    }
-}
-
-fn is_rank(letter: u8) -> bool {
-    matches!(letter, b'a' | b'k' | b'q' | b'j' | b't')
-}
-
-/// Whether the letters are ranks, whether or not one stands twice.
-pub(crate) fn are_ranks(word: &[u8]) -> bool {
-    word.iter().all(|letter| is_rank(*letter))
 }
 
 /// Whether the bytes fit in a hint as they are.
 fn is_short_line(bytes: &[u8]) -> bool {
+    for byte in bytes {
+        if !(32..127).contains(byte) || *byte == b'#' {
+            return false;
+        }
+    }
     bytes.len() <= 60
-        && bytes
-            .iter()
-            .all(|byte| 32 <= *byte && *byte < 127 && *byte != b'#')
 }

@@ -1,28 +1,61 @@
-//! Rules that a table holds: which parts stand around a fault, and what is said of them.
+//! Rules that a table holds: what stands around a fault, and what is said of it.
 
-use crate::parts::{
-    Parts, is, is_measure, is_number, is_one_of, is_relation, is_seat, is_suit, is_word,
+use crate::amounts::{amount_at, counted_at};
+use crate::parts::Parts;
+use crate::words::{
+    are_ranks, begins_with, is, is_call, is_measure, is_number, is_one_of, is_relation, is_seat,
+    is_suit, is_word, number, token_of,
 };
-use crate::rules::samples::comparison;
-use crate::said::Said;
-use std::alloc::{AllocError, Global};
+use cond_lang::Kind;
 
-/// What a part has to be.
+/// What has to hold at the fault, or what a part has to be.
 #[derive(Clone, Copy)]
 pub(crate) enum Want {
+    /// A token of the kind could stand at the fault, or could not.
+    Can(Kind),
+    Cannot(Kind),
+    /// The fault is in the brackets of one of these words, or of none of them.
+    In(&'static str),
+    NotIn(&'static str),
+    /// It is in the brackets of a word that takes a seat, or of none.
+    InCall,
+    NotInCall,
+    /// It is in the brackets of a word that counts something.
+    InMeasure,
+    /// The fault stands behind the parts up to here.
+    Here,
     /// This text.
     Is(&'static str),
-    /// One of these texts.
-    OneOf(&'static [&'static str]),
+    /// One of these texts, which stand with a blank between them; a blank in front: or nothing.
+    OneOf(&'static str),
+    /// None of these texts.
+    Except(&'static str),
+    /// The part with the fault is one of these words, in letters of any size.
+    Named(&'static str),
+    /// It begins with one of these texts.
+    Begins(&'static str),
     /// No part: the text begins or ends there.
     Nothing,
     /// Any part, or none.
     Any,
     Number,
+    /// A number of so many digits, and one of more than four whose first ones are zeros.
+    Digits(usize),
+    Zeros,
+    /// A number, or `x`.
+    Length,
+    /// A number that is above, or the one behind, that of two parts before.
+    Above,
+    Follows,
     Relation,
     Seat,
     Suit,
+    Ranks,
     Word,
+    /// A word that has letters that aren't small; that is known, or ranks, once they are.
+    Capital,
+    CapitalWord,
+    CapitalRanks,
     /// A word that counts something.
     Measure,
     /// Neither a number nor a word that counts something.
@@ -31,107 +64,128 @@ pub(crate) enum Want {
     Value,
     /// The bracket that ends a value.
     Call,
+    /// The last part of a value behind a bracket, or of what stands behind a comparison.
+    Bracketed,
+    Chained,
+    /// A sign that stands right behind a part and apart from the next.
+    Suffix(&'static str),
+    /// An amount, as `15-17`, and one with a word that says of what.
+    Amount,
+    Counted,
 }
 
-/// A rule.
+/// A rule: what holds at the fault, the parts before it, `Here`, the part with it and those behind
+/// it; and what is said, with placeholders (`filling`).
 #[derive(Clone, Copy)]
 pub(crate) struct Rule {
-    /// The parts before the one with the fault, as they are read.
-    pub before: &'static [Want],
-    /// The part with the fault, and those after it.
-    pub from: &'static [Want],
-    /// What is said: `%b1` is the part before the fault, `%n0` the one with it, `%v1` the value
-    /// that ends before it, or `hcp(north)` if none does, and `%c1` a comparison for that value.
+    pub wants: &'static [Want],
     pub hint: &'static str,
 }
 
-/// What the first rule says whose parts stand there.
-pub(crate) fn first_in(alloc: Global, parts: &Parts, rules: &[Rule]) -> Said {
-    match hint_in(parts, rules) {
-        Some(hint) => Ok(Some(filled(alloc, parts, hint)?)),
-        None => Ok(None),
-    }
+/// The rules of a table, one `[what holds] [before] [from the fault on] => hint;` each.
+macro_rules! rules {
+    ($([$($holds:expr),*] [$($before:expr),*] [$($from:expr),*] => $hint:expr;)*) => {
+        [$(Rule { wants: &[$($holds,)* $($before,)* Want::Here, $($from),*], hint: $hint }),*]
+    };
 }
 
-/// The hint of the first rule whose parts stand there, as it is in the table.
-fn hint_in(parts: &Parts, rules: &[Rule]) -> Option<&'static str> {
-    for rule in rules {
-        if fits(parts, rule) {
-            return Some(rule.hint);
-        }
-    }
-    None
-}
+pub(crate) use rules;
 
-/// Whether the parts stand around the fault.
-fn fits(parts: &Parts, rule: &Rule) -> bool {
-    for (i, want) in rule.from.iter().enumerate() {
-        if !is_wanted(parts.next(i), *want) {
-            return false;
-        }
-    }
-    let count = rule.before.len();
-    for (i, want) in rule.before.iter().enumerate() {
-        let back = count - i;
-        if !is_wanted(parts.back(back), *want) || !has_value(parts, back, *want) {
+/// Whether the rule fits the fault.
+pub(crate) fn fits(parts: &Parts, rule: &Rule) -> bool {
+    let here = place_of_fault(rule.wants);
+    for (i, want) in rule.wants.iter().enumerate() {
+        let at = if i < here {
+            parts.fault.saturating_sub(here - i)
+        } else {
+            parts.fault.saturating_add(i - here).saturating_sub(1)
+        };
+        if !is_wanted(parts, at, *want) {
             return false;
         }
     }
     true
 }
 
-/// Whether the part is what is wanted, by itself.
-fn is_wanted(part: &[u8], want: Want) -> bool {
+/// The place of `Here`.
+fn place_of_fault(wants: &[Want]) -> usize {
+    for (i, want) in wants.iter().enumerate() {
+        if matches!(want, Want::Here) {
+            return i;
+        }
+    }
+    0
+}
+
+/// Whether the part is what is wanted.
+fn is_wanted(parts: &Parts, i: usize, want: Want) -> bool {
+    let part = parts.at(i);
     match want {
+        Want::Can(kind) => parts.can.has(kind),
+        Want::Cannot(kind) => !parts.can.has(kind),
+        Want::In(words) => is_one_of(parts.call(), words),
+        Want::NotIn(words) => !is_one_of(parts.call(), words),
+        Want::InCall => is_call(parts.call()),
+        Want::NotInCall => !is_call(parts.call()),
+        Want::InMeasure => is_measure(parts.call()),
         Want::Is(text) => is(part, text),
         Want::OneOf(texts) => is_one_of(part, texts),
+        Want::Except(texts) => !is_one_of(part, texts),
+        Want::Named(texts) => is_one_of(parts.word.as_slice(), texts),
+        Want::Begins(texts) => begins_with(part, texts),
         Want::Nothing => part.is_empty(),
-        Want::Any | Want::Value => true,
+        Want::Any | Want::Here => true,
         Want::Number => is_number(part),
+        Want::Digits(count) => is_number(part) && part.len() == count,
+        Want::Length => is_number(part) || is(part, "x"),
         Want::Relation => is_relation(part),
         Want::Seat => is_seat(part),
         Want::Suit => is_suit(part),
+        Want::Ranks => is_word(part) && are_ranks(part),
         Want::Word => is_word(part),
         Want::Measure => is_measure(part),
         Want::NoValue => !is_number(part) && !is_measure(part),
-        Want::Call => is(part, ")"),
+        _ => is_wanted_there(parts, i, want),
     }
 }
 
-/// Whether a value ends so many parts before the fault, if one is wanted there.
-fn has_value(parts: &Parts, back: usize, want: Want) -> bool {
-    !ends_a_value(want) || parts.value(back).is_some()
-}
-
-/// Whether a value is wanted that ends there.
-fn ends_a_value(want: Want) -> bool {
-    matches!(want, Want::Value | Want::Call)
-}
-
-/// The hint with the parts in it.
-fn filled(alloc: Global, parts: &Parts, hint: &str) -> Result<Vec<u8>, AllocError> {
-    let mut out = Vec::new(alloc);
-    let mut rest = hint.as_bytes();
-    while let [first, after @ ..] = rest {
-        rest = after;
-        match after {
-            [kind, digit, behind @ ..] if *first == b'%' => {
-                let n = usize::from(digit.saturating_sub(b'0'));
-                out.extend_from_slice(named(parts, *kind, n))?;
-                rest = behind;
-            }
-            _ => out.push(*first)?,
+/// Whether the part is what is wanted, beside others.
+fn is_wanted_there(parts: &Parts, i: usize, want: Want) -> bool {
+    let part = parts.at(i);
+    let start = parts.value_start(i);
+    let word = parts.word.as_slice();
+    match want {
+        Want::Above => is_number(part) && number(parts.at(i.saturating_sub(2))) < number(part),
+        Want::Zeros => is_number(part) && without_zeros(part).len() <= 4,
+        Want::Follows => is_next(parts.at(i.saturating_sub(2)), part),
+        Want::Capital => is_word(part) && part != word,
+        Want::CapitalWord => part != word && token_of(word).is_some(),
+        Want::CapitalRanks => is_word(part) && part != word && are_ranks(word),
+        Want::Value => parts.value(i).is_some(),
+        Want::Call => is(part, ")") && parts.value(i).is_some(),
+        Want::Bracketed => {
+            is(parts.at(start.saturating_sub(1)), "(") && parts.value(i).is_some()
         }
+        Want::Chained => is_relation(parts.at(start.saturating_sub(1))),
+        Want::Suffix(sign) => is(part, sign) && parts.is_suffix(i),
+        Want::Amount => amount_at(parts, i).is_some(),
+        Want::Counted => counted_at(parts, i).0 != "",
+        _ => false,
     }
-    Ok(out)
 }
 
-/// The text that a hint names by a letter and a number.
-fn named<'t>(parts: &Parts<'t>, kind: u8, n: usize) -> &'t [u8] {
-    match kind {
-        b'b' => parts.back(n),
-        b'n' => parts.next(n),
-        b'c' => comparison(parts, n),
-        _ => parts.value(n).unwrap_or(b"hcp(north)"),
+/// The digits without the zeros in front, but for the last.
+pub(crate) fn without_zeros(mut digits: &[u8]) -> &[u8] {
+    while let [b'0', rest @ ..] = digits {
+        if rest.is_empty() {
+            break;
+        }
+        digits = rest;
     }
+    digits
+}
+
+/// Whether the second is the number behind the first.
+fn is_next(first: &[u8], second: &[u8]) -> bool {
+    is_number(second) && number(first).saturating_add(1) == number(second)
 }

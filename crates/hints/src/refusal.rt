@@ -9,9 +9,10 @@ ghost use Rattle.hints.specs.internal.Appends.{Appends};
 use crate::excerpt::put_excerpt;
 use crate::expected::put_expected;
 use crate::kinds::KindSet;
+use crate::never::is_never;
 use crate::shown::put_shown;
-use cond_lang::{Beginning, CondError};
-use hint_rules::{Said, of_piece, of_syntax};
+use cond_lang::{Beginning, CondError, parse};
+use hint_rules::{Said, of_piece, of_syntax, suggested};
 use itoa::Buffer;
 use std::alloc::{AllocError, Global};
 
@@ -47,7 +48,7 @@ fn put_piece(alloc: Global, out: &mut String, text: &[u8], at: usize) -> Result<
         (string_bytes out.old) (string_bytes out.new)) }
 {
     put_excerpt(out, text, at)?;
-    put_hint(out, of_piece(alloc, text, at))
+    put_hint(alloc, out, of_piece(alloc, text, at))
 }
 
 /// Appends what is said of a token that can't stand where it is.
@@ -63,7 +64,7 @@ fn put_syntax(alloc: Global, out: &mut String, text: &[u8], at: usize) -> Result
         return Err(AllocError);
     };
     put_expected(alloc, out, &can)?;
-    put_hint(out, of_syntax(alloc, text, at, &can.kinds()))
+    put_hint(alloc, out, of_syntax(alloc, text, at, &can.kinds()))
 }
 
 /// The beginning of the text, if it has tokens.
@@ -91,13 +92,37 @@ fn put_length(out: &mut String, text: &[u8]) -> Result<(), AllocError>
 }
 
 /// Appends the hint, if there is one.
-fn put_hint(out: &mut String, hint: Said) -> Result<(), AllocError>
+fn put_hint(alloc: Global, out: &mut String, hint: Said) -> Result<(), AllocError>
     ensures { OnOk result (Appends MayHint (string_bytes out.old) (string_bytes out.new)) }
 {
     if let Some(hint) = hint? {
+        let hint = sound(alloc, hint)?;
         out.push_str("  hint: ")?;
         put_shown(out, hint.as_slice())?;
         out.push_str("\n")?;
     }
     Ok(())
+}
+
+/// The hint; of one that tells to write what no deal meets, that none does.
+fn sound(alloc: Global, hint: Vec<u8>) -> Result<Vec<u8>, AllocError> {
+    let Some(condition) = suggested(hint.as_slice()) else {
+        return Ok(hint);
+    };
+    if !is_in_vain(alloc, condition)? {
+        return Ok(hint);
+    }
+    let mut told = Vec::new(alloc);
+    told.extend_from_slice(b"no deal meets ")?;
+    told.extend_from_slice(condition)?;
+    Ok(told)
+}
+
+/// Whether no deal meets the condition, by its numbers alone.
+fn is_in_vain(alloc: Global, condition: &[u8]) -> Result<bool, AllocError> {
+    match parse(alloc, condition) {
+        Ok(condition) => Ok(is_never(&condition)),
+        Err(CondError::Memory) => Err(AllocError),
+        Err(_) => Ok(false),
+    }
 }

@@ -1,0 +1,208 @@
+//! What a hint says, with the parts of the text in it.
+//!
+//! A placeholder in a hint is `%`, a letter and a digit N. The part N before the fault is `%bN`, and
+//! `%nN` the one N behind it, `%n0` the one with it. Of these parts:
+//!
+//! | Placeholder | What it stands for |
+//! |---|---|
+//! | `%uN` | `%nN` if it is a seat, else `north` |
+//! | `%mN` | the part with the fault in small letters |
+//! | `%zN` | the number `%nN` without zeros in front |
+//! | `%iN` | the number `%bN` and one more |
+//! | `%dN`, `%gN` | the digits of `%bN` or of `%nN`, with dashes between them |
+//! | `%aN` | the amount that begins with `%nN`, as ` in 15-17` or `>=15` |
+//! | `%kN`, `%sN` | the word that counts what that amount is said of, and what stands behind its seat |
+//! | `%xN` | that amount, or where a test ends a comparison for one suit |
+//! | `%oN`, `%qN` | brackets, if more is in the text than the call and that amount |
+//! | `%fN`, `%rN` | the range from `%b1`, or from `%n1`, to `%nN` |
+//! | `%tN` | `not ` if `%bN` is `!=` |
+//! | `%vN` | the value that ends with `%bN`; `hcp(north)` where none stands |
+//! | `%cN` | a comparison for that value |
+//! | `%wN` | the word of the call that has the fault |
+//! | `%eN` | what stands behind the word `%bN` and a seat; `%e0` of the call |
+
+use crate::amounts::{Amount, amount_at, counted_at, ordered};
+use crate::parts::Parts;
+use crate::rule::{Rule, fits, without_zeros};
+use crate::samples::{comparison, sample};
+use crate::tables::{ENDS, STARTS};
+use crate::words::{is, is_one_of, is_seat, number};
+use cond_lang::{CondError, parse};
+use itoa::Buffer;
+use std::alloc::{AllocError, Global};
+
+/// What stands behind a word and a seat, where it isn't the bracket.
+static BEHIND_SEATS: &[(&str, &str)] = &[
+    ("len", ",spades)"),
+    ("cards", ",akq)"),
+    ("shape", ",5-3-3-2)"),
+    ("pattern", ",5-3-3-2)"),
+];
+
+/// What the first rule says that fits and whose hint can be said.
+pub(crate) fn first_in(
+    alloc: Global,
+    parts: &Parts,
+    rules: &[Rule],
+) -> Result<Option<Vec<u8>>, AllocError> {
+    for rule in rules {
+        if fits(parts, rule) {
+            if let Some(hint) = filled(alloc, parts, rule.hint)? {
+                return Ok(Some(hint));
+            }
+        }
+    }
+    Ok(None)
+}
+
+/// The condition that a hint tells to write, if it tells one.
+pub fn suggested(hint: &[u8]) -> Option<&[u8]> {
+    let mut rest = hint;
+    while let [_, more @ ..] = rest {
+        if rest.starts_with(b"write: ") {
+            return Some(&rest[7..]);
+        }
+        rest = more;
+    }
+    None
+}
+
+/// The hint with the parts in it, if they are there, and it suggests nothing that is refused.
+fn filled(alloc: Global, parts: &Parts, hint: &str) -> Result<Option<Vec<u8>>, AllocError> {
+    let mut out = Vec::new(alloc);
+    let mut rest = hint.as_bytes();
+    while let [first, after @ ..] = rest {
+        rest = after;
+        match after {
+            [kind, digit, behind @ ..] if *first == b'%' => {
+                let n = usize::from(digit.saturating_sub(b'0'));
+                if !put(&mut out, parts, *kind, n)? {
+                    return Ok(None);
+                }
+                rest = behind;
+            }
+            _ => out.push(*first)?,
+        }
+    }
+    let is_sound = is_accepted(alloc, out.as_slice())?;
+    Ok(is_sound.then_some(out))
+}
+
+/// Whether the language has what the hint suggests, if it suggests anything.
+fn is_accepted(alloc: Global, hint: &[u8]) -> Result<bool, AllocError> {
+    let Some(condition) = suggested(hint) else {
+        return Ok(true);
+    };
+    match parse(alloc, condition) {
+        Ok(_) => Ok(true),
+        Err(CondError::Memory) => Err(AllocError),
+        Err(_) => Ok(false),
+    }
+}
+
+/// Appends what the placeholder stands for, if it is there.
+fn put(out: &mut Vec<u8>, parts: &Parts, kind: u8, n: usize) -> Result<bool, AllocError> {
+    let back = parts.fault.saturating_sub(n);
+    let next = parts.fault.saturating_add(n);
+    match kind {
+        b'x' if is_one_of(parts.at(next), ENDS) => {
+            out.extend_from_slice(sample(parts.call(), true, false).as_bytes())?
+        }
+        b'a' | b'x' => put_amount(out, amount_at(parts, next))?,
+        b'f' => put_range(out, parts.at(parts.fault.saturating_sub(1)), parts.at(next))?,
+        b'r' => put_range(out, parts.at(parts.fault.saturating_add(1)), parts.at(next))?,
+        b'd' => put_dashed(out, parts.at(back))?,
+        b'g' => put_dashed(out, parts.at(next))?,
+        b'i' => put_number(out, number(parts.at(back)).saturating_add(1))?,
+        b'v' => return put_value(out, parts, back),
+        _ => out.extend_from_slice(text_of(parts, kind, back, next))?,
+    }
+    Ok(true)
+}
+
+/// What the placeholder stands for, where it is one text.
+fn text_of<'t>(parts: &'t Parts, kind: u8, back: usize, next: usize) -> &'t [u8] {
+    match kind {
+        b'b' => parts.at(back),
+        b'n' => parts.at(next),
+        b'u' if is_seat(parts.at(next)) => parts.at(next),
+        b'u' => b"north",
+        b'm' => parts.word.as_slice(),
+        b'w' => parts.call(),
+        b'z' => without_zeros(parts.at(next)),
+        b'e' => behind_seat(if back == parts.fault {
+            parts.call()
+        } else {
+            parts.at(back)
+        }),
+        b'c' => comparison(parts, back).as_bytes(),
+        b't' if is(parts.at(back), "!=") => b"not ",
+        b'o' if !is_whole(parts, next) => b"(",
+        b'q' if !is_whole(parts, next) => b")",
+        b'k' => counted_at(parts, next).0.as_bytes(),
+        b's' => counted_at(parts, next).1.as_bytes(),
+        _ => b"",
+    }
+}
+
+/// What stands behind the word and a seat.
+fn behind_seat(call: &[u8]) -> &'static [u8] {
+    for (word, behind) in BEHIND_SEATS {
+        if is(call, word) {
+            return behind.as_bytes();
+        }
+    }
+    b")"
+}
+
+/// Whether the text is the call with the fault and the amount that begins with the part, if one
+/// does, and no more.
+fn is_whole(parts: &Parts, i: usize) -> bool {
+    let end = match amount_at(parts, i) {
+        Some(amount) => amount.end,
+        None => i,
+    };
+    parts.call_at() <= 1 && parts.at(end).is_empty()
+}
+
+fn put_amount(out: &mut Vec<u8>, amount: Option<Amount>) -> Result<(), AllocError> {
+    if let Some(amount) = amount {
+        out.extend_from_slice(amount.sign)?;
+        out.extend_from_slice(amount.low)?;
+        out.extend_from_slice(if amount.high.is_empty() { b"" } else { b"-" })?;
+        out.extend_from_slice(amount.high)?;
+    }
+    Ok(())
+}
+
+fn put_range(out: &mut Vec<u8>, one: &[u8], other: &[u8]) -> Result<(), AllocError> {
+    let (low, high) = ordered(one, other);
+    out.extend_from_slice(low)?;
+    out.push(b'-')?;
+    out.extend_from_slice(high)
+}
+
+/// Appends the digits with dashes between them.
+fn put_dashed(out: &mut Vec<u8>, digits: &[u8]) -> Result<(), AllocError> {
+    for (i, digit) in digits.iter().enumerate() {
+        if i > 0 {
+            out.push(b'-')?;
+        }
+        out.push(*digit)?;
+    }
+    Ok(())
+}
+
+pub(crate) fn put_number(out: &mut Vec<u8>, number: usize) -> Result<(), AllocError> {
+    out.extend_from_slice(Buffer::new().format(number as u64).as_bytes())
+}
+
+/// Appends the value that ends with the part; if nothing stands there, one that could.
+fn put_value(out: &mut Vec<u8>, parts: &Parts, last: usize) -> Result<bool, AllocError> {
+    match parts.value(last) {
+        Some(value) => out.extend_from_slice(value)?,
+        None if is_one_of(parts.at(last), STARTS) => out.extend_from_slice(b"hcp(north)")?,
+        None => return Ok(false),
+    }
+    Ok(true)
+}

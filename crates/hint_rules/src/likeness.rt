@@ -1,0 +1,60 @@
+//! Words that are like one of the language.
+
+use crate::hint::Said;
+use crate::parts::Parts;
+use crate::words::{is, is_call, takes_a_seat};
+use cond_lang::{Token, WORDS};
+use std::alloc::{AllocError, Global};
+use strsim::jaro;
+
+/// How alike two words are at least, of which the one may be meant by the other: where it begins
+/// the other, and where it doesn't.
+const BEGUN: f64 = 0.7;
+
+const ALIKE: f64 = 0.8;
+
+/// The word that is most like the one at fault, of those that can stand there.
+pub(crate) fn hint(alloc: Global, parts: &Parts) -> Said {
+    let Ok(text) = str::from_utf8(parts.word.as_slice()) else {
+        return Ok(None);
+    };
+    if text.len() < 2 || !text.as_bytes()[0].is_ascii_lowercase() {
+        return Ok(None);
+    }
+    let Some(name) = nearest(alloc, parts, text)? else {
+        return Ok(None);
+    };
+    let mut out = Vec::new(alloc);
+    out.extend_from_slice(b"did you mean \"")?;
+    out.extend_from_slice(name.as_bytes())?;
+    out.extend_from_slice(b"\"?")?;
+    Ok(Some(out))
+}
+
+/// The first of the words that are most like the text, if they are alike at all.
+fn nearest(alloc: Global, parts: &Parts, text: &str) -> Result<Option<&'static str>, AllocError> {
+    let mut found = None;
+    let mut most = BEGUN;
+    for (word, token) in WORDS.iter() {
+        if !is_at_home(parts, *token) {
+            continue;
+        }
+        let score = jaro(alloc, text, word)?;
+        if score > most && (score > ALIKE || text.starts_with(*word)) {
+            most = score;
+            found = Some(*word);
+        }
+    }
+    Ok(found)
+}
+
+/// Whether a word may be meant at the fault: in the place of ranks a suit may stand too.
+fn is_at_home(parts: &Parts, token: Token) -> bool {
+    let is_first = is(parts.at(parts.fault.saturating_sub(1)), "(");
+    match (is_call(parts.call()), is_first) {
+        (true, true) => matches!(token, Token::Seat(_)),
+        (true, false) => matches!(token, Token::Suit(_)),
+        _ if is(parts.at(parts.fault.saturating_add(1)), "(") => takes_a_seat(token),
+        _ => true,
+    }
+}

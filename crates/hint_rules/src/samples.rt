@@ -1,0 +1,62 @@
+//! A comparison for each kind of value that a person could use as it is.
+
+use crate::parts::Parts;
+use crate::words::{is, is_measure, is_number, is_suit};
+
+/// For each word that counts a comparison for a hand, for one suit, for hands and for suits.
+static SAMPLES: &[(&str, [&str; 4])] = &[
+    ("hcp", [">=15", ">=5", ">=25", ">=10"]),
+    ("controls", [">=4", ">=2", ">=10", ">=4"]),
+    ("losers", ["<=7", "<=1", "<=14", "<=3"]),
+    ("cards", [">=2", ">=1", ">=3", ">=2"]),
+    ("len", [">=5", ">=5", ">=8", ">=8"]),
+    ("longest", [">=6", ">=6", ">=11", ">=11"]),
+    ("shortest", ["<=1", "<=1", "<=2", "<=2"]),
+];
+
+/// The comparison for a value in which nothing is asked of a hand, or of which little is known.
+const ANY: &str = ">=1";
+
+/// A comparison for the value that ends with the part.
+pub(crate) fn comparison(parts: &Parts, last: usize) -> &'static str {
+    let mut word: &[u8] = b"";
+    let mut has_suit = false;
+    let mut has_several = false;
+    let mut is_mixed = false;
+    for i in parts.value_start(last)..last.saturating_add(1) {
+        let part = parts.at(i);
+        if is_measure(part) && !word.is_empty() {
+            has_several = true;
+            is_mixed = is_mixed || part != word;
+        } else if is_measure(part) {
+            word = part;
+        }
+        has_suit = has_suit || is_suit(part);
+        is_mixed = is_mixed || is_number(part);
+    }
+    if is_mixed {
+        of_mixed(sample(word, false, false))
+    } else {
+        sample(word, has_suit, has_several)
+    }
+}
+
+/// The comparison for a value with other things in it.
+fn of_mixed(sample: &'static str) -> &'static str {
+    if sample.starts_with("<") { ANY } else { sample }
+}
+
+/// The comparison of the table.
+pub(crate) fn sample(word: &[u8], has_suit: bool, has_several: bool) -> &'static str {
+    for (asked, [hand, suit, hands, suits]) in SAMPLES {
+        if is(word, asked) {
+            return match (has_several, has_suit) {
+                (false, false) => hand,
+                (false, true) => suit,
+                (true, false) => hands,
+                (true, true) => suits,
+            };
+        }
+    }
+    ANY
+}

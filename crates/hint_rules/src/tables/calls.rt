@@ -1,0 +1,45 @@
+//! What stands in the brackets behind a word: seat, suit, ranks.
+
+use super::*;
+
+/// What may stand behind a value or a test, and not within brackets.
+const GOES_ON: &str = "== != < <= > >= in + and or";
+
+static RULES: [Rule; 20] = rules! {
+    [Can(Kind::Open), Cannot(Kind::Not)] [] [Seat] => "write \"%b1(%n0%e1\"";
+    [Can(Kind::Open), Cannot(Kind::Not)] [] [] => "say whose, as in %b1(north%e1";
+
+    [Can(Kind::Seat)] [] [Suit, Is(","), Seat] => "the seat comes first: \"%w0(%n2,%n0)\"";
+    [Can(Kind::Seat), InMeasure] [] [Suit] => "the seat comes first, as in %w0(north,%n0)";
+    [Can(Kind::Seat)] [] [Word] => "the seats are north, east, south and west";
+    [Can(Kind::Seat)] [] [] => "say whose, as in %w0(north%e0";
+
+    [Can(Kind::Ranks)] [] [Is("10")] => "for the ten write \"t\"";
+    [Can(Kind::Ranks)] [] [] => "the ranks are a, k, q, j and t, as in cards(north,akq)";
+    [Can(Kind::Suit), NotIn("len")] [] [Seat] => "write \"%w0(%b2)+%w0(%n0)\"";
+    [Can(Kind::Suit), NotIn("len")] [Seat, Is(",")] [Amount] =>
+        "behind the bracket write: %w0(%b2)%a0";
+    [Can(Kind::Suit)] [] [] => "the suits are spades, hearts, diamonds and clubs";
+
+    [Can(Kind::Comma), Cannot(Kind::Close)] [Suit] [Is(")")] =>
+        "name ranks too, as in cards(north,%b1,akq)";
+    [Can(Kind::Comma), Cannot(Kind::Close), In("len")] [] [Is(")")] =>
+        "name a suit too, as in len(%b1%e0";
+    [Can(Kind::Comma), Cannot(Kind::Close), In("cards")] [] [Is(")")] =>
+        "name ranks too, as in cards(%b1%e0";
+    [Can(Kind::Comma), Cannot(Kind::Close)] [] [Is(")")] =>
+        "name four lengths too, as in %w0(%b1%e0";
+    [Can(Kind::Close), Cannot(Kind::And), InMeasure] [Seat] [Is("+"), Seat] =>
+        "write \"%w0(%b1)+%w0(%n1)\"";
+    [Can(Kind::Close), Cannot(Kind::And), In("balanced")] [Seat] [Is("+"), Seat] =>
+        "write \"balanced(%b1) and balanced(%n1)\"";
+    [Can(Kind::Close), Cannot(Kind::And)] [] [OneOf(GOES_ON)] => "a \")\" is missing before this";
+    [Can(Kind::Close), Cannot(Kind::And), In("cards")] [] [] =>
+        "write all ranks as one word, as in akq";
+    [Can(Kind::Close), Cannot(Kind::And)] [Seat] [Is(",")] =>
+        "name the seat alone, as in %w0(%b1)";
+};
+
+pub(crate) fn hint(alloc: Global, parts: &Parts) -> Said {
+    first_in(alloc, parts, &RULES)
+}

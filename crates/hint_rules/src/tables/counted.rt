@@ -1,0 +1,16 @@
+//! What a person says that a hand has.
+
+/// The word that counts it, what stands behind the seat, and how a person calls it.
+pub(crate) static COUNTED: &[(&str, &str, &str)] = &[
+    ("len", ",spades", "spade spades"),
+    ("len", ",hearts", "heart hearts"),
+    ("len", ",diamonds", "diamond diamonds"),
+    ("len", ",clubs", "club clubs"),
+    ("cards", ",a", "ace aces"),
+    ("cards", ",k", "king kings"),
+    ("cards", ",q", "queen queens"),
+    ("cards", ",j", "jack jacks"),
+    ("hcp", "", "point points pts hcp"),
+    ("controls", "", "controls"),
+    ("losers", "", "losers"),
+];

@@ -1,0 +1,42 @@
+//! What there is in place of words that aren't in the language.
+
+use super::*;
+
+/// Who a person speaks of in place of a seat.
+const PEOPLE: &str = "partner pard me my i we us you opponent opponents opps lho rho";
+
+/// The ends of bids.
+const BIDS: &str = "c d h s n nt sa";
+
+const BIDDING: &str = "there is no bidding: say what the hand has, as in hcp(north)";
+
+const SINGLE: &str =
+    "for single cards write cards with a suit and ranks, as in cards(north,spades,a)";
+
+static RULES: [Rule; 16] = rules! {
+    [] [Seat] [Is("unbalanced")] => "in the language's own words write: not balanced(%b1)";
+    [] [] [Is("unbalanced")] => "in the language's own words write: not balanced(%u2)";
+    [] [] [Is("void")] => "in the language's own words write: shortest(%u2)==0";
+    [] [] [Is("singleton")] => "in the language's own words write: shortest(%u2)==1";
+    [] [] [Is("doubleton")] => "in the language's own words write: shortest(%u2)==2";
+    [] [] [OneOf("opens open opening opener bids bid")] => BIDDING;
+    [] [Nothing, Number] [Named(BIDS)] => BIDDING;
+    [] [] [OneOf("dealer vul vulnerable vulnerability")] =>
+        "a condition asks of the four hands alone, and not of the board";
+    [] [] [OneOf("major majors minor minors")] =>
+        "name a suit in each of two tests, and join them with \"or\"";
+    [] [] [Is("suit")] => "a suit is named with len or cards, as in len(north,spades)";
+    [] [] [Is("quality")] =>
+        "for a suit's quality count its honours, as in cards(north,spades,akq)";
+    [] [] [OneOf("stopper stoppers stop stops")] =>
+        "for a stopper count a suit's honours, as in cards(north,spades,akq)";
+    [] [] [Is("tricks")] => "count losers, as in losers(north), or controls";
+    [] [] [Is("fit")] =>
+        "for a fit add lengths up, as in len(north,spades)+len(south,spades)";
+    [] [] [Named(PEOPLE)] => "name the seat: north, east, south or west";
+    [] [] [OneOf("has hascard hascards holds"), Is("(")] => SINGLE;
+};
+
+pub(crate) fn hint(alloc: Global, parts: &Parts) -> Said {
+    first_in(alloc, parts, &RULES)
+}

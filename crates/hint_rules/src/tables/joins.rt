@@ -1,0 +1,43 @@
+//! How tests are joined, brackets, and values where tests are wanted.
+
+use super::*;
+
+const UNEQUAL: &str = "for \"<>\" write \"!=\"";
+
+const OPEN: &str = "a \")\" is missing at the end";
+
+const JOIN: &str = "join the tests with \"and\" or \"or\"";
+
+static RULES: [Rule; 20] = rules! {
+    [Can(Kind::Number)] [] [Suit] => "for a suit's length write \"len(%u2,%n0)\"";
+    [Can(Kind::Number)] [] [Seat] => "begin with what you ask of the seat, as in hcp(%n0)";
+    [Can(Kind::Number)] [] [Is("<>")] => UNEQUAL;
+    [Can(Kind::Number)] [Is("<")] [Is(">")] => UNEQUAL;
+    [Can(Kind::Number)] [] [Relation] =>
+        "a value is missing before this sign, as in hcp(north)>=15";
+    [Can(Kind::Number)] [] [Ranks] => "for cards of a rank write \"cards(north,%n0)\"";
+
+    [Can(Kind::Relation)] [OneOf(" ("), Digits(4)] [OneOf(" )")] =>
+        "for lengths in any order write: pattern(north,%d1)";
+    [Can(Kind::Relation)] [Bracketed] [Is(")"), Amount] =>
+        "without brackets around the sum write: %v1%a1";
+    [Can(Kind::Relation)] [Bracketed] [Is(")"), OneOf(ENDS)] =>
+        "without brackets around the sum write: %v1%c1";
+    [Can(Kind::Relation)] [Bracketed] [Is(")")] => "leave out the brackets around the sum";
+    [Can(Kind::Relation)] [] [Is("<>")] => UNEQUAL;
+    [Can(Kind::Relation)] [Value] [] => "to compare it write: %v1%c1";
+
+    [Can(Kind::And), Can(Kind::End)] [] [Is(")")] => "this \")\" closes nothing";
+    [Can(Kind::And), Cannot(Kind::End)] [] [Nothing] => OPEN;
+    [Can(Kind::And), Cannot(Kind::Plus)] [] [Relation] =>
+        "this test is whole, and needs no comparison";
+    [Can(Kind::And)] [] [Is(",")] => "for \",\" write \"and\"";
+    [Can(Kind::And)] [] [Word] => JOIN;
+    [Can(Kind::And)] [] [Is("(")] => JOIN;
+    [Can(Kind::And)] [] [Number] => JOIN;
+    [Cannot(Kind::Number), Cannot(Kind::Relation), Cannot(Kind::End)] [] [Nothing] => OPEN;
+};
+
+pub(crate) fn hint(alloc: Global, parts: &Parts) -> Said {
+    first_in(alloc, parts, &RULES)
+}

@@ -1,0 +1,107 @@
+//! What a part is by itself.
+
+use cond_lang::{Token, WORDS};
+
+/// Whether the part reads so.
+pub(crate) fn is(part: &[u8], text: &str) -> bool {
+    part == text.as_bytes()
+}
+
+/// Whether the part reads as one of these texts, which stand with a blank between them.
+pub(crate) fn is_one_of(part: &[u8], texts: &str) -> bool {
+    for text in texts.split(' ') {
+        if is(part, text) {
+            return true;
+        }
+    }
+    false
+}
+
+/// Whether the part begins with one of these texts.
+pub(crate) fn begins_with(part: &[u8], texts: &str) -> bool {
+    for text in texts.split(' ') {
+        if part.starts_with(text.as_bytes()) {
+            return true;
+        }
+    }
+    false
+}
+
+/// The token of a word of the language.
+pub(crate) fn token_of(part: &[u8]) -> Option<Token> {
+    for (word, token) in WORDS.iter() {
+        if is(part, word) {
+            return Some(*token);
+        }
+    }
+    None
+}
+
+/// Whether the token begins a value, and is a word.
+pub(crate) fn begins_a_value(token: Token) -> bool {
+    matches!(
+        token,
+        Token::Measure(_) | Token::Cards | Token::Len | Token::Longest | Token::Shortest
+    )
+}
+
+/// Whether a seat stands in brackets behind the token.
+pub(crate) fn takes_a_seat(token: Token) -> bool {
+    begins_a_value(token) || matches!(token, Token::Balanced | Token::Shape | Token::Pattern)
+}
+
+/// Whether the part is a word that begins a value.
+pub(crate) fn is_measure(part: &[u8]) -> bool {
+    matches!(token_of(part), Some(token) if begins_a_value(token))
+}
+
+/// Whether the part is a word behind which a seat stands in brackets.
+pub(crate) fn is_call(part: &[u8]) -> bool {
+    matches!(token_of(part), Some(token) if takes_a_seat(token))
+}
+
+pub(crate) fn is_seat(part: &[u8]) -> bool {
+    matches!(token_of(part), Some(Token::Seat(_)))
+}
+
+pub(crate) fn is_suit(part: &[u8]) -> bool {
+    matches!(token_of(part), Some(Token::Suit(_)))
+}
+
+pub(crate) fn is_relation(part: &[u8]) -> bool {
+    matches!(part, b"==" | b"!=" | b"<" | b"<=" | b">" | b">=")
+}
+
+pub(crate) fn is_number(part: &[u8]) -> bool {
+    matches!(part, [b'0'..=b'9', ..])
+}
+
+pub(crate) fn is_word(part: &[u8]) -> bool {
+    matches!(part, [b'a'..=b'z' | b'A'..=b'Z', ..])
+}
+
+/// Whether the letters are ranks, whether or not one stands twice.
+pub(crate) fn are_ranks(word: &[u8]) -> bool {
+    for letter in word {
+        if !matches!(letter, b'a' | b'k' | b'q' | b'j' | b't') {
+            return false;
+        }
+    }
+    true
+}
+
+/// Whether the part may stand in a value, outside of brackets.
+pub(crate) fn is_in_value(part: &[u8]) -> bool {
+    is(part, "+") || is_number(part) || is_measure(part)
+}
+
+/// The number that the digits write, up to 9,999.
+pub(crate) fn number(digits: &[u8]) -> usize {
+    let mut number: usize = 0;
+    for digit in &digits[..digits.len().min(4)] {
+        number = number
+            .saturating_mul(10)
+            .saturating_add(usize::from(digit.saturating_sub(b'0')));
+    }
+    number
+}
