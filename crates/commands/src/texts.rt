@@ -30,7 +30,7 @@ pub(crate) const PICK_EXAMPLES: &str = "Examples:
   The boards that searches on two machines found, in order:
     cat found.1 found.2 | deals pick --seed 2024
   Three of the boards that a teacher looked through:
-    printf '17\n4\n203\n' | deals pick --seed 2024 --format hands
+    printf '17\\n4\\n203\\n' | deals pick --seed 2024 --format hands
 
 Reads the numbers of candidates, as find prints them, from standard input, one per line; lines \
     without any are skipped.";
