@@ -38,7 +38,7 @@ def made(deals):
 
 def picked(deals, folder):
     """What is picked by the numbers of the shards' files, in order."""
-    files = sorted(path for path in pathlib.Path(folder).iterdir() if not path.name.startswith("part."))
+    files = sorted(path for path in pathlib.Path(folder).iterdir() if path.suffix != ".part")
     return deals("pick", *SEED, given=b"".join(path.read_bytes() for path in files)).stdout
 
 
@@ -100,7 +100,7 @@ def parallel(deals):
             os.kill(found, signal.SIGKILL)
         failed = process.wait(SECONDS)
         left = sorted(path.name for path in folder.iterdir())
-        broken = any(name.startswith(f"part.{LONGEST[0]:013d}.") for name in left) and len(left) == 7
+        broken = f"{LONGEST[0]:013d}" not in left and len(left) == 6
         yield "a shard killed", None if found is not None and failed == 1 and broken else f"{failed}, {left}"
         resumed = start(folder, log, "--resume-failed").wait(SECONDS)
         runs = len(pathlib.Path(log).read_text().splitlines()) - 1
