@@ -5,7 +5,7 @@
 //!
 //! | Placeholder | What it stands for |
 //! |---|---|
-//! | `%uN` | `%nN` if it is a seat, else `north` |
+//! | `%uN` | `%nN` if it is a seat behind a bracket, else `north` |
 //! | `%mN` | the part with the fault in small letters |
 //! | `%zN` | the number `%nN` without zeros in front |
 //! | `%iN` | the number `%bN` and one more |
@@ -125,7 +125,9 @@ fn text_of<'t>(parts: &'t Parts, kind: u8, back: usize, next: usize) -> &'t [u8]
     match kind {
         b'b' => parts.at(back),
         b'n' => parts.at(next),
-        b'u' if is_seat(parts.at(next)) => parts.at(next),
+        b'u' if is(parts.at(next.saturating_sub(1)), "(") && is_seat(parts.at(next)) => parts.at(
+            next,
+        ),
         b'u' => b"north",
         b'm' => parts.word.as_slice(),
         b'w' => parts.call(),
