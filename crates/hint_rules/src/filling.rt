@@ -1,7 +1,7 @@
 //! What a hint says, with the parts of the text in it.
 //!
-//! A placeholder in a hint is `%`, a letter and a digit N. The part N before the fault is `%bN`, and
-//! `%nN` the one N behind it, `%n0` the one with it. Of these parts:
+//! A placeholder in a hint is `%`, a letter and a digit N: `%bN` is the part N before the fault,
+//! and `%nN` the one N behind it, `%n0` the one with it. Of these parts:
 //!
 //! | Placeholder | What it stands for |
 //! |---|---|
@@ -11,7 +11,7 @@
 //! | `%iN` | the number `%bN` and one more |
 //! | `%dN`, `%gN` | the digits of `%bN` or of `%nN`, with dashes between them |
 //! | `%aN` | the amount that begins with `%nN`, as ` in 15-17` or `>=15` |
-//! | `%kN`, `%sN` | the word that counts what that amount is said of, and what stands behind its seat |
+//! | `%kN`, `%sN` | the word that counts what it is said of, and what stands behind its seat |
 //! | `%xN` | that amount, or where a test ends a comparison for one suit |
 //! | `%oN`, `%qN` | brackets, if more is in the text than the call and that amount |
 //! | `%fN`, `%rN` | the range from `%b1`, or from `%n1`, to `%nN` |
