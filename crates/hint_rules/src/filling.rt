@@ -1,17 +1,17 @@
 //! What a hint says, with the parts of the text in it.
 //!
-//! A placeholder in a hint is `%`, a letter and a digit N. The part N before the fault is `%bN`, and
-//! `%nN` the one N behind it, `%n0` the one with it. Of these parts:
+//! A placeholder in a hint is `%`, a letter and a digit N: `%bN` is the part N before the fault,
+//! and `%nN` the one N behind it, `%n0` the one with it. Of these parts:
 //!
 //! | Placeholder | What it stands for |
 //! |---|---|
-//! | `%uN` | `%nN` if it is a seat, else `north` |
+//! | `%uN` | `%nN` if it is a seat behind a bracket, else `north` |
 //! | `%mN` | the part with the fault in small letters |
 //! | `%zN` | the number `%nN` without zeros in front |
 //! | `%iN` | the number `%bN` and one more |
 //! | `%dN`, `%gN` | the digits of `%bN` or of `%nN`, with dashes between them |
 //! | `%aN` | the amount that begins with `%nN`, as ` in 15-17` or `>=15` |
-//! | `%kN`, `%sN` | the word that counts what that amount is said of, and what stands behind its seat |
+//! | `%kN`, `%sN` | the word that counts what it is said of, and what stands behind its seat |
 //! | `%xN` | that amount, or where a test ends a comparison for one suit |
 //! | `%oN`, `%qN` | brackets, if more is in the text than the call and that amount |
 //! | `%fN`, `%rN` | the range from `%b1`, or from `%n1`, to `%nN` |
@@ -125,7 +125,9 @@ fn text_of<'t>(parts: &'t Parts, kind: u8, back: usize, next: usize) -> &'t [u8]
     match kind {
         b'b' => parts.at(back),
         b'n' => parts.at(next),
-        b'u' if is_seat(parts.at(next)) => parts.at(next),
+        b'u' if is(parts.at(next.saturating_sub(1)), "(") && is_seat(parts.at(next)) => parts.at(
+            next,
+        ),
         b'u' => b"north",
         b'm' => parts.word.as_slice(),
         b'w' => parts.call(),

@@ -2,8 +2,8 @@
 //! the fault.
 //!
 //! The rules are rows of tables (`tables`): what holds at the fault, the parts around it, and the
-//! text (`rule`, `filling`). Code is left where a text is cut (`parts`), for amounts and bounds, and
-//! for words that are alike.
+//! text (`rule`, `filling`). Code is left where a text is cut (`parts`), for amounts and bounds,
+//! and for words that are alike (`likeness`).
 //!
 //! Nothing is claimed of which hint a fault gets. That what is shown of one is printable is claimed
 //! where it is shown.

@@ -2,8 +2,8 @@
 
 use crate::hint::Said;
 use crate::parts::Parts;
-use crate::words::{is, is_call, takes_a_seat};
-use cond_lang::{Token, WORDS};
+use crate::words::{is, is_call, is_seat, is_suit};
+use cond_lang::WORDS;
 use std::alloc::{AllocError, Global};
 use strsim::jaro;
 
@@ -35,8 +35,8 @@ pub(crate) fn hint(alloc: Global, parts: &Parts) -> Said {
 fn nearest(alloc: Global, parts: &Parts, text: &str) -> Result<Option<&'static str>, AllocError> {
     let mut found = None;
     let mut most = BEGUN;
-    for (word, token) in WORDS.iter() {
-        if !is_at_home(parts, *token) {
+    for (word, _) in WORDS.iter() {
+        if !is_at_home(parts, word.as_bytes()) {
             continue;
         }
         let score = jaro(alloc, text, word)?;
@@ -49,12 +49,14 @@ fn nearest(alloc: Global, parts: &Parts, text: &str) -> Result<Option<&'static s
 }
 
 /// Whether a word may be meant at the fault: in the place of ranks a suit may stand too.
-fn is_at_home(parts: &Parts, token: Token) -> bool {
+fn is_at_home(parts: &Parts, word: &[u8]) -> bool {
     let is_first = is(parts.at(parts.fault.saturating_sub(1)), "(");
-    match (is_call(parts.call()), is_first) {
-        (true, true) => matches!(token, Token::Seat(_)),
-        (true, false) => matches!(token, Token::Suit(_)),
-        _ if is(parts.at(parts.fault.saturating_add(1)), "(") => takes_a_seat(token),
-        _ => true,
+    if is_call(parts.call()) {
+        return if is_first {
+            is_seat(word)
+        } else {
+            is_suit(word)
+        };
     }
+    !is(parts.at(parts.fault.saturating_add(1)), "(") || is_call(word)
 }

@@ -22,8 +22,6 @@ pub(crate) enum Want {
     NotInCall,
     /// It is in the brackets of a word that counts something.
     InMeasure,
-    /// The fault stands behind the parts up to here.
-    Here,
     /// This text.
     Is(&'static str),
     /// One of these texts, which stand with a blank between them; a blank in front: or nothing.
@@ -74,47 +72,51 @@ pub(crate) enum Want {
     Counted,
 }
 
-/// A rule: what holds at the fault, the parts before it, `Here`, the part with it and those behind
-/// it; and what is said, with placeholders (`filling`).
+/// A rule.
 #[derive(Clone, Copy)]
 pub(crate) struct Rule {
+    /// What holds at the fault, the parts before it, the part with it and those behind it.
     pub wants: &'static [Want],
+    /// How many wants stand before that of the part with the fault.
+    pub here: usize,
+    /// What is said, with placeholders (`filling`).
     pub hint: &'static str,
 }
 
 /// The rules of a table, one `[what holds] [before] [from the fault on] => hint;` each.
 macro_rules! rules {
     ($([$($holds:expr),*] [$($before:expr),*] [$($from:expr),*] => $hint:expr;)*) => {
-        [$(Rule { wants: &[$($holds,)* $($before,)* Want::Here, $($from),*], hint: $hint }),*]
+        [$(Rule {
+            wants: &[$($holds,)* $($before,)* $($from),*],
+            here: 0 $(+ one!($holds))* $(+ one!($before))*,
+            hint: $hint,
+        }),*]
     };
 }
 
+macro_rules! one {
+    ($want:expr) => {
+        1
+    };
+}
+
+pub(crate) use one;
 pub(crate) use rules;
 
 /// Whether the rule fits the fault.
 pub(crate) fn fits(parts: &Parts, rule: &Rule) -> bool {
-    let here = place_of_fault(rule.wants);
+    let here = rule.here;
     for (i, want) in rule.wants.iter().enumerate() {
         let at = if i < here {
             parts.fault.saturating_sub(here - i)
         } else {
-            parts.fault.saturating_add(i - here).saturating_sub(1)
+            parts.fault.saturating_add(i - here)
         };
         if !is_wanted(parts, at, *want) {
             return false;
         }
     }
     true
-}
-
-/// The place of `Here`.
-fn place_of_fault(wants: &[Want]) -> usize {
-    for (i, want) in wants.iter().enumerate() {
-        if matches!(want, Want::Here) {
-            return i;
-        }
-    }
-    0
 }
 
 /// Whether the part is what is wanted.
@@ -134,7 +136,7 @@ fn is_wanted(parts: &Parts, i: usize, want: Want) -> bool {
         Want::Named(texts) => is_one_of(parts.word.as_slice(), texts),
         Want::Begins(texts) => begins_with(part, texts),
         Want::Nothing => part.is_empty(),
-        Want::Any | Want::Here => true,
+        Want::Any => true,
         Want::Number => is_number(part),
         Want::Digits(count) => is_number(part) && part.len() == count,
         Want::Length => is_number(part) || is(part, "x"),

@@ -25,7 +25,7 @@ use crate::rule::Want::{
     NoValue, NotIn, NotInCall, Nothing, Number, OneOf, Ranks, Relation, Seat, Suffix, Suit, Value,
     Word, Zeros,
 };
-use crate::rule::{Rule, Want, rules};
+use crate::rule::{Rule, one, rules};
 use cond_lang::Kind;
 use std::alloc::Global;
 

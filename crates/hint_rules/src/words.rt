@@ -37,35 +37,25 @@ pub(crate) fn token_of(part: &[u8]) -> Option<Token> {
     None
 }
 
-/// Whether the token begins a value, and is a word.
-pub(crate) fn begins_a_value(token: Token) -> bool {
-    matches!(
-        token,
-        Token::Measure(_) | Token::Cards | Token::Len | Token::Longest | Token::Shortest
-    )
-}
-
-/// Whether a seat stands in brackets behind the token.
-pub(crate) fn takes_a_seat(token: Token) -> bool {
-    begins_a_value(token) || matches!(token, Token::Balanced | Token::Shape | Token::Pattern)
-}
-
 /// Whether the part is a word that begins a value.
 pub(crate) fn is_measure(part: &[u8]) -> bool {
-    matches!(token_of(part), Some(token) if begins_a_value(token))
+    matches!(
+        token_of(part),
+        Some(Token::Measure(_) | Token::Cards | Token::Len | Token::Longest | Token::Shortest)
+    )
 }
 
 /// Whether the part is a word behind which a seat stands in brackets.
 pub(crate) fn is_call(part: &[u8]) -> bool {
-    matches!(token_of(part), Some(token) if takes_a_seat(token))
+    is_measure(part) || is_one_of(part, "balanced shape pattern")
 }
 
 pub(crate) fn is_seat(part: &[u8]) -> bool {
-    matches!(token_of(part), Some(Token::Seat(_)))
+    is_one_of(part, "north east south west")
 }
 
 pub(crate) fn is_suit(part: &[u8]) -> bool {
-    matches!(token_of(part), Some(Token::Suit(_)))
+    is_one_of(part, "spades hearts diamonds clubs")
 }
 
 pub(crate) fn is_relation(part: &[u8]) -> bool {

@@ -3,8 +3,8 @@
 use super::*;
 
 /// Quotation marks as printers set them.
-const QUOTES: &str =
-    "\u{2018} \u{2019} \u{201A} \u{201B} \u{201C} \u{201D} \u{201E} \u{201F} \u{2039} \u{203A} \u{AB} \u{BB}";
+const QUOTES: &str = "\u{2018} \u{2019} \u{201A} \u{201B} \u{201C} \u{201D} \u{201E} \u{201F} \
+    \u{2039} \u{203A} \u{AB} \u{BB}";
 
 static RULES: [Rule; 32] = rules! {
     [] [OneOf("< > =")] [Is("=")] => "write \"%b1=\" without a space";
