@@ -5,9 +5,9 @@ _deals_options() {
     local search='--seed --candidates --first --workers --lane --where --boards'
     local hands='--north --east --south --west'
     case $1 in
-        make) echo "$search $hands $form --report --progress --help -h" ;;
-        pick) echo "--seed $hands $form --help -h" ;;
-        find) echo "$search $hands --report --progress --help -h" ;;
+        make) echo "$search $hands $form --report --progress --hints --help -h" ;;
+        pick) echo "--seed $hands $form --hints --help -h" ;;
+        find) echo "$search $hands --report --progress --hints --help -h" ;;
         stream) echo '--seed --count --help -h' ;;
         conditions) echo '--help -h' ;;
         '') echo 'make find pick conditions stream help --help -h --version -V' ;;
@@ -20,7 +20,7 @@ _deals_words() {
         --format) echo 'pbn hands lin html' ;;
         --dealer) echo 'N E S W' ;;
         --vulnerable) echo 'None NS EW All' ;;
-        --progress) echo 'auto always never' ;;
+        --progress | --hints) echo 'auto always never' ;;
         --seed | --candidates | --first | --workers | --lane | --where | --boards | --count | --first-board | \
             --event | --site | --date | --north | --east | --south | --west) echo '' ;;
         *) return 1 ;;

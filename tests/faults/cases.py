@@ -23,6 +23,9 @@ LABEL = 'at most 100 characters of ASCII, from space to ~, without " and \\'
 DATE = "a date is written YYYY.MM.DD, as 2024.05.01"
 SHOWN = "a\\bca\\bca\\bca\\bca\\bca\\bca\\bca\\bca\\bca\\bca\\bca\\bca\\bca\\bca\\bca\\bca\\bca\\"
 
+# Says what helps a person below a refusal, though standard error is no terminal.
+HINTS = ["--hints", "always"]
+
 # What clap says of a missing option, and what stands below it where a seed is missing.
 MISSING = "error: the following required arguments were not provided:\n"
 MORE_INFORMATION = "For more information, try '--help'.\n"
@@ -61,6 +64,7 @@ CONDITIONS = {
 def made(name, count, workers, condition="every deal", more=(), **settings):
     text, accepts = CONDITIONS[condition]
     words = ["make", "--seed", "7", "--candidates", str(count), "--workers", str(workers), *more]
+    words += ["--hints", "always"] if workers == 3 else []
     if text is not None:
         words += ["--where", text]
     out = model.games(7, count, accepts, **settings)
@@ -115,8 +119,9 @@ def of_texts():
 
 def without_seed(command, more):
     """clap's text, and for new boards how to come to a seed."""
-    words = more.replace("<M>", "36").replace("<TEXT>", "hcp(north)>=15").split()
-    line = f"{MISSING}  --seed <S>\n\nUsage: deals {command} --seed <S> {more}\n\n{MORE_INFORMATION}"
+    words = [*more.replace("<M>", "36").replace("<TEXT>", "hcp(north)>=15").split(), *HINTS]
+    usage = f"Usage: deals {command} --seed <S> {more} --hints <WHEN>"
+    line = f"{MISSING}  --seed <S>\n\n{usage}\n\n{MORE_INFORMATION}"
     said = line if command == "pick" else line + SEED_HINTS
     return Case(f"{command}, no seed", [command, *words], 2, err=said.encode(), line=line.encode())
 
@@ -138,7 +143,8 @@ def of_tried_options():
     usage = "Usage: deals make --seed <S> --boards <M>"
     boards = ["make", "--seed", "7", "--boards", "12"]
     for words in (["--seed", "7", "--boards", "12"], ["--frist"]):
-        yield unexpected(words, words[0], "Usage: deals <COMMAND>", COMMAND_FIRST)
+        yield unexpected([*words, *HINTS], words[0], "Usage: deals <COMMAND>", COMMAND_FIRST)
+    yield unexpected(["--frist"], "--frist", "Usage: deals <COMMAND>", "")
     tip = "  tip: a similar argument exists: '--south'\n\n"
     yield unexpected([*boards, "--output", "x"], "--output", f"{tip}{usage} --south <HAND>", TO_A_FILE)
     yield unexpected([*boards, "--condition", "hcp(north)>9"], "--condition", usage, BY_WHERE)
@@ -182,7 +188,8 @@ def of_refusals():
     ):
         line += "\n"
         said = f"{line}  {advice}\n".encode()
-        yield Case(f"{line.strip()}, {more[0]}", asked(*more), 2, err=said, line=line.encode())
+        yield Case(f"{line.strip()}, {more[0]}", asked(*more, *HINTS), 2, err=said, line=line.encode())
+        yield Case(f"{line.strip()} alone, {more[0]}", asked(*more), 2, err=line.encode())
     at = "condition refused at byte "
     for text, line in (
         (" " * 1025, "condition refused: longer than 1024 bytes"),
@@ -197,7 +204,8 @@ def of_refusals():
         if line is None:
             yield Case("a sum of many", asked("--where", text), out=model.games(7, 0), workers=1)
         else:
-            yield Case(line, asked("--where", text), 3, err=None, line=line.encode() + b"\n")
+            yield Case(line, asked("--where", text, *HINTS), 3, err=None, line=line.encode() + b"\n")
+            yield Case(f"{line} alone", asked("--where", text), 3, err=line.encode() + b"\n")
 
 
 def of_more():

@@ -9,9 +9,10 @@ import harness
 import model
 
 
-def failed(reason):
-    """What is said of an output that failed, with the system's reason."""
-    return f"output failed\n  {os.strerror(reason)} (os error {reason})\n".encode()
+def failed(words, reason):
+    """What is said of an output that failed: where hints are asked for with the system's reason."""
+    more = f"  {os.strerror(reason)} (os error {reason})\n" if HINTS in words else ""
+    return f"output failed\n{more}".encode()
 
 
 
@@ -29,20 +30,28 @@ class Check:
 
 VALUES = "stream --seed 0 --count 3"
 BOARDS = "make --seed 7 --candidates 3"
+HINTS = " --hints always"
 HEADER = b"% PBN 2.1\n"
 WORDS = "make --seed 7 --candidates 1 --lane 0"
-REFUSED = b"plan refused: lane capacity\n  --lane 0: 1 to 4096 verdicts\n"
+REFUSED = b"plan refused: lane capacity\n"
 
 
 def of_output():
-    for words in (VALUES, BOARDS, BOARDS + " --workers 16", "--version", "--help", "help make"):
-        yield Check(f"a full disk, {words}", f"$DEALS {words} >/dev/full", 4, err=failed(errno.ENOSPC))
-        yield Check(f"a closed output, {words}", f"$DEALS {words} >&-", 4, err=failed(errno.EBADF))
-        yield Check(f"an output that can only be read, {words}", f"$DEALS {words} 1</dev/null", 4, err=failed(errno.EBADF))
-        yield Check(f"nobody reads, {words}", f"exec $DEALS {words}", 4, err=failed(errno.EPIPE), output="broken")
-        yield Check(f"nothing more fits, {words}", f"exec $DEALS {words}", 4, err=failed(errno.EAGAIN), output="stuck")
-    for words in (WORDS, "make --seed 7 --candidates 1 --where y"):
-        status, text = (2, REFUSED) if words == WORDS else (3, b"condition refused at byte 0: unknown word\n  y\n  ^\n")
+    for words in (VALUES, BOARDS, BOARDS + HINTS, BOARDS + HINTS + " --workers 16", "--version", "--help", "help make"):
+        yield Check(f"a full disk, {words}", f"$DEALS {words} >/dev/full", 4, err=failed(words, errno.ENOSPC))
+        yield Check(f"a closed output, {words}", f"$DEALS {words} >&-", 4, err=failed(words, errno.EBADF))
+        yield Check(f"an output that can only be read, {words}", f"$DEALS {words} 1</dev/null", 4, err=failed(words, errno.EBADF))
+        yield Check(f"nobody reads, {words}", f"exec $DEALS {words}", 4, err=failed(words, errno.EPIPE), output="broken")
+        yield Check(f"nothing more fits, {words}", f"exec $DEALS {words}", 4, err=failed(words, errno.EAGAIN), output="stuck")
+    below = b"  --lane 0: 1 to 4096 verdicts\n"
+    line = b"condition refused at byte 0: unknown word\n"
+    where = "make --seed 7 --candidates 1 --where y"
+    for words, status, text in (
+        (WORDS, 2, REFUSED),
+        (WORDS + HINTS, 2, REFUSED + below),
+        (where, 3, line),
+        (where + HINTS, 3, line + b"  y\n  ^\n"),
+    ):
         yield Check(f"refused to a full disk, {words}", f"$DEALS {words} >/dev/full", status, err=text)
         yield Check(f"refused to a closed output, {words}", f"$DEALS {words} >&-", status, err=text)
 
@@ -52,14 +61,14 @@ def of_readers():
     for workers in (1, 3, 16):
         words = f"make --seed 7 --candidates 1000000000 --workers {workers}"
         command = f"$DEALS {words} | head -n 1; exit ${{PIPESTATUS[0]}}"
-        yield Check(f"one line is read, {workers} workers", command, 4, HEADER, failed(errno.EPIPE))
+        yield Check(f"one line is read, {workers} workers", command, 4, HEADER, failed(words, errno.EPIPE))
         words += " --where '0==0 and hcp(north)>=0' --lane 4096"
         command = f"$DEALS {words} | head -n 1; exit ${{PIPESTATUS[0]}}"
-        yield Check(f"one line is read, {workers} workers and a condition", command, 4, HEADER, failed(errno.EPIPE))
+        yield Check(f"one line is read, {workers} workers and a condition", command, 4, HEADER, failed(words, errno.EPIPE))
         words = f"make --seed 7 --candidates 2000 --workers {workers}"
         yield Check(f"a reader that waits, {workers} workers", f"$DEALS {words} | (sleep 0.3; cat)", 0, model.games(7, 2000))
     command = "$DEALS stream --seed 0 --count 1000000000 | head -n 1; exit ${PIPESTATUS[0]}"
-    yield Check("one value is read", command, 4, b"366850414\n", failed(errno.EPIPE))
+    yield Check("one value is read", command, 4, b"366850414\n", failed(command, errno.EPIPE))
 
 
 def of_errors():
@@ -70,6 +79,10 @@ def of_errors():
         yield Check(f"standard error is {name}, refused", f"$DEALS {WORDS} {where}", 2)
         yield Check(f"standard error is {name}, words refused", f"$DEALS --frist {where}", 2)
         yield Check(f"standard error is {name}, output full", f"$DEALS {BOARDS} {where} >/dev/full", 4)
+    why = f"  {os.strerror(errno.EISDIR)} (os error {errno.EISDIR})\n".encode()
+    for hints, below in (("", b""), (HINTS, why)):
+        command = f"$DEALS pick --seed 7{hints} </"
+        yield Check(f"an input that can't be read{hints}", command, 7, HEADER, b"input failed\n" + below)
     yield Check("both are closed", f"$DEALS {BOARDS} >&- 2>&-", 4)
     yield Check("all three are closed", f"$DEALS {BOARDS} <&- >&- 2>&-", 4)
     yield Check("standard input is closed", f"$DEALS {BOARDS} <&-", 0, boards)

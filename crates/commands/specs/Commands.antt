@@ -56,6 +56,7 @@ make_app = command_with (codes "make") (
     ∷ flag_rule (codes "rotate")
     ∷ flag_rule (codes "report")
     ∷ option_rule (codes "progress") parsed.String
+    ∷ option_rule (codes "hints") parsed.String
     ∷ [])
 
 -- `deals find --seed S` and its further options
@@ -74,6 +75,7 @@ find_app = command_with (codes "find") (
     ∷ option_rule (codes "boards") u32_parser
     ∷ flag_rule (codes "report")
     ∷ option_rule (codes "progress") parsed.String
+    ∷ option_rule (codes "hints") parsed.String
     ∷ [])
 
 -- `deals pick --seed S` and its further options
@@ -92,6 +94,7 @@ pick_app = command_with (codes "pick") (
     ∷ option_rule (codes "dealer") parsed.String
     ∷ option_rule (codes "vulnerable") parsed.String
     ∷ flag_rule (codes "rotate")
+    ∷ option_rule (codes "hints") parsed.String
     ∷ [])
 
 -- `deals conditions`, without options

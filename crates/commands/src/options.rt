@@ -175,7 +175,15 @@ const PROGRESS: Row = Row {
     none, or never [default: auto] [possible values: auto, always, never]",
 };
 
-pub(crate) static MAKE: [Row; 21] = [
+const HINTS: Row = Row {
+    id: "hints",
+    takes: Text("WHEN"),
+    is_required: false,
+    help: "When lines that help stand below a refusal: on a terminal, also where there is \
+    none, or never [default: auto] [possible values: auto, always, never]",
+};
+
+pub(crate) static MAKE: [Row; 22] = [
     NEW_SEED,
     CANDIDATES,
     FIRST,
@@ -197,14 +205,15 @@ pub(crate) static MAKE: [Row; 21] = [
     ROTATE,
     REPORT,
     PROGRESS,
+    HINTS,
 ];
 
-pub(crate) static FIND: [Row; 13] = [
+pub(crate) static FIND: [Row; 14] = [
     NEW_SEED, CANDIDATES, FIRST, WORKERS, LANE, NORTH, EAST, SOUTH, WEST, WHERE, BOARDS, REPORT,
-    PROGRESS,
+    PROGRESS, HINTS,
 ];
 
-pub(crate) static PICK: [Row; 13] = [
+pub(crate) static PICK: [Row; 14] = [
     SEED,
     NORTH,
     EAST,
@@ -218,6 +227,7 @@ pub(crate) static PICK: [Row; 13] = [
     DEALER,
     VULNERABLE,
     ROTATE,
+    HINTS,
 ];
 
 pub(crate) static STREAM: [Row; 2] = [SEED, COUNT];

@@ -18,6 +18,8 @@ pub struct Counts<E> {
     all: Option<u64>,
     started: u64,
     due: u64,
+    /// Whether a line was drawn.
+    shows: bool,
     drawn: Drawn,
 }
 
@@ -38,15 +40,24 @@ impl<E: Write> Counts<E> {
             all,
             started: now,
             due: now.saturating_add(QUIET_MILLIS),
+            shows: false,
             drawn,
         }
     }
 
-    /// Shows how far the run is, if it is time to. Times are in milliseconds.
-    pub(crate) fn show(&mut self, now: u64, candidates: u64, boards: u64) {
-        if self.style == Style::Never || now < self.due {
-            return;
+    /// Whether it is time to show how far the run is: the line has stood long enough, or something
+    /// was written over it. Times are in milliseconds.
+    pub(crate) fn is_due(&self, now: u64) -> bool {
+        match self.style {
+            Style::Never => false,
+            Style::Redrawn if self.shows && !self.drawn.stands() => true,
+            Style::Redrawn | Style::Lines => now >= self.due,
         }
+    }
+
+    /// Shows how far the run is.
+    pub(crate) fn show(&mut self, now: u64, candidates: u64, boards: u64) {
+        self.shows = true;
         self.due = now.saturating_add(self.style.interval());
         let tally = Tally {
             candidates,

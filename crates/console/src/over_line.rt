@@ -1,4 +1,4 @@
-//! The error output, where a line of counts may stand.
+//! The line of counts on a terminal, and what is written over it.
 
 use std::alloc::{AllocError, Global};
 use std::io;
@@ -38,12 +38,17 @@ impl Drawn {
         })
     }
 
+    /// Whether a line stands.
+    pub(crate) fn stands(&self) -> bool {
+        self.stands.load(Ordering::SeqCst)
+    }
+
     /// Notes that a line stands.
     pub(crate) fn note(&self) {
         self.stands.store(true, Ordering::SeqCst);
     }
 
-    /// Wipes the line, if one stands.
+    /// Wipes the line, if one stands, on the output that it was drawn on.
     pub(crate) fn wipe<E: Write>(&self, err: &mut E) {
         if self.stands.swap(false, Ordering::SeqCst) {
             let _ = err.write_all(WIPE);
@@ -51,26 +56,32 @@ impl Drawn {
     }
 }
 
-/// A writer that wipes the line of counts before anything else is said.
+/// A writer that wipes the line of counts on the error output before it writes. Each piece is
+/// written at once.
 #[derive(Drop)]
-pub struct OverLine<E> {
+pub struct OverLine<W, E> {
+    writer: W,
     err: E,
-    drawn: Drawn,
+    /// None where the writer's bytes don't come to the terminal that the line stands on.
+    drawn: Option<Drawn>,
 }
 
-impl<E: Write> OverLine<E> {
-    pub fn new(err: E, drawn: Drawn) -> OverLine<E> {
-        OverLine { err, drawn }
+impl<W: Write, E: Write> OverLine<W, E> {
+    /// A writer over a line that may stand on `err`.
+    pub fn new(writer: W, err: E, drawn: Option<Drawn>) -> OverLine<W, E> {
+        OverLine { writer, err, drawn }
     }
 }
 
-impl<E: Write> Write for OverLine<E> {
+impl<W: Write, E: Write> Write for OverLine<W, E> {
     fn write(&mut self, buf: &[u8]) -> io::Result<usize> {
-        self.drawn.wipe(&mut self.err);
-        self.err.write(buf)
+        if let Some(drawn) = &self.drawn {
+            drawn.wipe(&mut self.err);
+        }
+        self.writer.write(buf)
     }
 
     fn flush(&mut self) -> io::Result<()> {
-        self.err.flush()
+        self.writer.flush()
     }
 }

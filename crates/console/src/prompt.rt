@@ -22,8 +22,9 @@ pub fn millis(clock: &impl Clock) -> Option<u64> {
 /// A sink over a writer that gathers, for a person who may watch. It tells the bytes that the
 /// writer tells, as a `Piped` does.
 ///
-/// Whatever it has gathered for so many milliseconds is passed on when the run says how far it is,
-/// and then the counts are shown. They are wiped when the sink is flushed or fails.
+/// When the run says how far it is, whatever was gathered for so many milliseconds is passed on; so
+/// is all that was gathered before counts are shown, and no board is missing that they count. They
+/// are wiped when the sink is flushed or fails.
 ///
 /// Any error of the writer is a fault, and so is a count of 0 for a piece that isn't empty. If
 /// passing on fails, the next `write` or `flush` is a fault.
@@ -80,13 +81,18 @@ impl<W: Write, C: Clock, E: Write> Prompt<W, C, E> {
         self.reason.as_ref()
     }
 
-    /// Passes on what was gathered, if that is due.
+    /// Whether what was gathered is due to be passed on.
+    fn is_ripe(&self, now: u64) -> bool {
+        now.saturating_sub(self.passed_on) >= self.gathered_millis
+    }
+
+    /// Passes on what was gathered, if anything was.
     fn pass_on(&mut self, now: u64)
         ensures bytes { told W.contents self.new.first.value self.new.writer
             ≡ told W.contents self.old.first.value self.old.writer }
         ensures faults { self.new.faults ≡ self.old.faults }
     {
-        if !self.gathers || now.saturating_sub(self.passed_on) < self.gathered_millis {
+        if !self.gathers {
             return;
         }
         self.gathers = false;
@@ -162,12 +168,18 @@ impl<W: Write, C: Clock, E: Write> Sink for Prompt<W, C, E> {
         }
     }
 
-    /// Passes on what was gathered and shows the counts, each if it is due.
+    /// Passes on what was gathered and shows the counts, each if it is due. Boards that are
+    /// counted were passed on.
     fn watch(&mut self, candidates: u64, boards: u64) {
         let Some(now) = millis(&self.clock) else {
             return;
         };
-        self.pass_on(now);
-        self.counts.show(now, candidates, boards);
+        if self.is_ripe(now) || self.counts.is_due(now) {
+            self.pass_on(now);
+        }
+        // What was passed on may have wiped the line.
+        if self.counts.is_due(now) {
+            self.counts.show(now, candidates, boards);
+        }
     }
 }

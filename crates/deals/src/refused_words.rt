@@ -1,6 +1,5 @@
 //! What helps a person with words that are refused, below what clap says of them.
 
-use deals_cli::read_words;
 use std::alloc::Global;
 
 /// clap's line that a seed is missing.
@@ -47,10 +46,10 @@ const INSTEAD: [(&str, &str); 16] = [
     ("--hands", FORMS),
 ];
 
-/// What helps with these refused words, if anything does; none where memory runs out.
-pub fn hint(alloc: Global, words: &[String]) -> Option<String> {
-    let refusal = read_words(alloc, words).err()?.to_string(alloc).ok()?;
-    let hint = hint_for(words.get(1)?.as_str(), refusal.as_str())?;
+/// What helps with words that clap refuses with this text, if anything does; none where memory runs
+/// out.
+pub fn hint(alloc: Global, words: &[String], refusal: &str) -> Option<String> {
+    let hint = hint_for(words.get(1)?.as_str(), refusal)?;
     String::from_str(alloc, hint).ok()
 }
 

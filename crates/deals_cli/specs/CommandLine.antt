@@ -17,8 +17,8 @@ use Rattle.requests.specs.Requests.{Making, Wish, conditions, stream, make, pick
 use Rattle.requests.specs.declared.format.Format.{Format}
 use Rattle.requests.specs.declared.format.Format.TheVariants.{Pbn, Hands, Lin, Html}
 use Rattle.requests.specs.declared.format.Format.TheVariants.{Numbers}
-use Rattle.requests.specs.declared.progress.Progress.{Progress}
-use Rattle.requests.specs.declared.progress.Progress.TheVariants.{Auto, Always, Never}
+use Rattle.requests.specs.declared.when.When.{When}
+use Rattle.requests.specs.declared.when.When.TheVariants.{Auto, Always, Never}
 
 -- the number that an option was given in decimal, if it was given
 abbrev pub number_in : Text → List Row → Option ℕ
@@ -45,8 +45,8 @@ sides =
     (codes "None", Neither) ∷ (codes "NS", NorthSouth) ∷ (codes "EW", EastWest)
     ∷ (codes "All", Both) ∷ []
 
-abbrev pub progresses : List (Text × Progress)
-progresses = (codes "auto", Auto) ∷ (codes "always", Always) ∷ (codes "never", Never) ∷ []
+abbrev pub times : List (Text × When)
+times = (codes "auto", Auto) ∷ (codes "always", Always) ∷ (codes "never", Never) ∷ []
 
 -- what a word stands for in such a table
 abbrev pub meant_by : {A : Type 0} → List (Text × A) → Text → Option A
@@ -67,7 +67,8 @@ has_unknown rows =
     is_unknown formats (codes "format") rows
     || (is_unknown dealers (codes "dealer") rows
     || (is_unknown sides (codes "vulnerable") rows
-    || is_unknown progresses (codes "progress") rows))
+    || (is_unknown times (codes "progress") rows
+    || is_unknown times (codes "hints") rows)))
 
 abbrev pub stream_wish : List Row → Wish
 stream_wish rows = stream (number_or 0 (codes "seed") rows) (number_or 0 (codes "count") rows)
@@ -107,7 +108,8 @@ making_in name rows = record {
   vulnerable = choice_in sides (codes "vulnerable") rows;
   rotate = is_set (codes "rotate") rows;
   report = is_set (codes "report") rows;
-  progress = unwrap_or (choice_in progresses (codes "progress") rows) Auto;
+  progress = unwrap_or (choice_in times (codes "progress") rows) Auto;
+  hints = unwrap_or (choice_in times (codes "hints") rows) Auto;
 }
 
 -- `pick` deals the candidates whose numbers it reads, and the others those that they try

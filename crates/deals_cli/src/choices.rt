@@ -1,5 +1,5 @@
 //! Options that have one of a few words: the format, the dealer, the vulnerability, and when counts
-//! are shown.
+//! and hints are shown.
 //!
 //! clap knows them as texts. It could compare words with a list of values itself, but the command
 //! would then hold where in memory that list is, and no two commands would be the same to a proof.
@@ -7,13 +7,16 @@
 ghost use Rattle.std.specs.Prelude.{◌≡◌, codes, is_some};
 ghost use Rattle.clap.specs.Words.{found_of, rows_of};
 ghost use Rattle.deals_cli.specs.CommandLine.{choice_in, dealers, formats, has_unknown};
-ghost use Rattle.deals_cli.specs.CommandLine.{is_unknown, meant_by, progresses, sides};
+ghost use Rattle.deals_cli.specs.CommandLine.{is_unknown, meant_by, sides, times};
 
 use crate::words::text_in;
 use boards::Vul;
 use cards::Seat;
 use clap::ArgMatches;
-use requests::{Format, Progress};
+use requests::{Format, When};
+
+/// The words that say when something is shown.
+const TIMES: &str = "auto, always, never";
 
 /// A word that is none of its option's values.
 #[derive(Clone, Copy)]
@@ -63,14 +66,14 @@ fn sides_of(word: &str) -> Option<Vul>
     }
 }
 
-/// When counts are shown, by this name.
-fn progress_of(word: &str) -> Option<Progress>
-    ensures { result ≡ meant_by progresses word.now }
+/// When something is shown, by this name.
+fn when_of(word: &str) -> Option<When>
+    ensures { result ≡ meant_by times word.now }
 {
     match word {
-        "auto" => Some(Progress::Auto),
-        "always" => Some(Progress::Always),
-        "never" => Some(Progress::Never),
+        "auto" => Some(When::Auto),
+        "always" => Some(When::Always),
+        "never" => Some(When::Never),
         _ => None,
     }
 }
@@ -105,13 +108,12 @@ pub fn sides_in(matches: &ArgMatches) -> Option<Vul>
     }
 }
 
-/// When counts are shown, as it was given, if the word says when.
-pub fn progress_in(matches: &ArgMatches) -> Option<Progress>
-    ensures { result
-        ≡ choice_in progresses (codes "progress") (rows_of (found_of matches.now)) }
+/// When something is shown, as this option was given it, if the word says when.
+pub fn when_in(matches: &ArgMatches, id: &str) -> Option<When>
+    ensures { result ≡ choice_in times id.now (rows_of (found_of matches.now)) }
 {
-    match text_in(matches, "progress") {
-        Some(word) => progress_of(word),
+    match text_in(matches, id) {
+        Some(word) => when_of(word),
         None => None,
     }
 }
@@ -149,13 +151,12 @@ fn unknown_sides<'a>(matches: &ArgMatches<'a>) -> Option<&'a str>
     }
 }
 
-/// The word that was given as a time to show counts and is none.
-fn unknown_progress<'a>(matches: &ArgMatches<'a>) -> Option<&'a str>
-    ensures { is_some result
-        ≡ is_unknown progresses (codes "progress") (rows_of (found_of matches.now)) }
+/// The word that this option was given as a time to show something and that is none.
+fn unknown_when<'a>(matches: &ArgMatches<'a>, id: &str) -> Option<&'a str>
+    ensures { is_some result ≡ is_unknown times id.now (rows_of (found_of matches.now)) }
 {
-    match text_in(matches, "progress") {
-        Some(word) if progress_of(word).is_none() => Some(word),
+    match text_in(matches, id) {
+        Some(word) if when_of(word).is_none() => Some(word),
         _ => None,
     }
 }
@@ -185,11 +186,18 @@ pub fn unknown_in<'a>(matches: &ArgMatches<'a>) -> Option<Unknown<'a>>
             values: "None, NS, EW, All",
         });
     }
-    match unknown_progress(matches) {
-        Some(word) => Some(Unknown {
+    if let Some(word) = unknown_when(matches, "progress") {
+        return Some(Unknown {
             word,
             option: "--progress <WHEN>",
-            values: "auto, always, never",
+            values: TIMES,
+        });
+    }
+    match unknown_when(matches, "hints") {
+        Some(word) => Some(Unknown {
+            word,
+            option: "--hints <WHEN>",
+            values: TIMES,
         }),
         None => None,
     }

@@ -3,34 +3,42 @@
 ghost use Rattle.std.specs.Prelude.{◌≡◌, ◌≢◌, ◌⊎◌, ◌+◌, ◌-◌, ◌^◌, ◌<◌, ◌≤◌, ◌==◌};
 ghost use Rattle.std.specs.Prelude.{if◌then◌else◌};
 ghost use Rattle.std.specs.Prelude.{None, Some, true, false, IfErr, IfOk, IsErrOf, OnOk, map};
-ghost use Rattle.std.specs.Prelude.{string_bytes};
-ghost use Rattle.clap.specs.Words.{kind_of};
+ghost use Rattle.std.specs.Prelude.{IsSome, string_bytes};
+ghost use Rattle.clap.specs.Words.{HasKind, kind_of};
 ghost use Rattle.requests.specs.Failures.{CountsInput, faults_in, is_untouched};
 ghost use Rattle.requests.specs.Failures.{status_in};
 ghost use Rattle.requests.specs.Interruptions.{LeavesFrom};
 ghost use Rattle.requests.specs.Reported.{Reports, ReportsFor, wants_report};
+ghost use Rattle.requests.specs.Options.{IsInRange, wish_of};
 ghost use Rattle.requests.specs.Requests.{Making, Wish, make};
 ghost use Rattle.requests.specs.Wishes.{Appends, AppendsFrom, IsStatus, IsStatusOf};
 ghost use Rattle.requests.specs.Wishes.{IsStatusWithInput};
-ghost use Rattle.deals_cli.specs.CommandLine.{asked};
+ghost use Rattle.deals_cli.specs.CommandLine.{asked, kinds_for};
 ghost use Rattle.deals_cli.specs.Program.{IsStatusOfNone, MayFail, MayLeave, TellsWhy};
 ghost use Rattle.deals_cli.specs.Program.{TellsWhyFrom};
 ghost use Rattle.deals_cli.specs.internal.Kinds.{IsStatusOfKind};
 
+use crate::shown::shown_text;
 use crate::words::read_words;
 use clap::Error;
 use clap::error::ErrorKind;
 use dealrun::Cause;
 use number_input::{NoBytes, Source};
-use requests::{Failure, Report, serve};
+use requests::{Failure, Report, Request, serve};
 use sinks::{Sink, put_all};
 use std::alloc::Global;
 use std::sync::Wait;
 use std::thread::Threads;
 
-/// Writes a text that was asked for, as help, and refuses any mistake.
+/// Writes a text that was asked for, as help, and refuses any mistake. Of the words it is shown what
+/// a terminal can show.
 #[tactic(auto, using(crate::proofs::Statuses::kinds))]
-fn show<O: Sink>(alloc: Global, error: &Error, out: &mut O) -> Result<(), Failure>
+fn show<O: Sink>(
+    alloc: Global,
+    words: &[String],
+    error: &Error,
+    out: &mut O,
+) -> Result<(), Failure>
     requires { O.faults out.old < 2 ^ 64 - 1 }
     ensures memory { kind_of error.now ≡ ErrorKind.OutOfMemory → IsErrOf result
         (Failure.Interrupted Cause.Memory) }
@@ -42,7 +50,7 @@ fn show<O: Sink>(alloc: Global, error: &Error, out: &mut O) -> Result<(), Failur
     if error.kind() == ErrorKind::OutOfMemory {
         return Err(Failure::Interrupted(Cause::Memory));
     }
-    let text = error.to_string(alloc)?;
+    let text = shown_text(alloc, words, error.to_string(alloc)?.as_str())?;
     if error.use_stderr() {
         return Err(Failure::CommandLine(text));
     }
@@ -50,14 +58,20 @@ fn show<O: Sink>(alloc: Global, error: &Error, out: &mut O) -> Result<(), Failur
     Ok(())
 }
 
-/// Does what the words ask for.
-fn serve_words<R: Threads + Wait + Clone + Send + 'static, I: Source, O: Sink>(
+/// Does what the words ask for, which were read as `read`.
+fn serve_read<R: Threads + Wait + Clone + Send + 'static, I: Source, O: Sink>(
     rt: &R,
     alloc: Global,
     words: &[String],
+    read: &Result<Request<'_>, Error>,
     input: &mut I,
     out: &mut O,
 ) -> Result<Option<Report>, Failure>
+    requires ok { IfOk read.now (λ r. asked (map string_bytes words.now) ≡ Some (wish_of r)) }
+    requires range { IfOk read.now IsInRange }
+    requires err { IfErr read.now (λ e.
+        IsSome (asked (map string_bytes words.now)) → kind_of e ≡ ErrorKind.OutOfMemory) }
+    requires kinds { IfErr read.now (λ e. HasKind (kinds_for (map string_bytes words.now)) e) }
     requires output { O.faults out.old < 2 ^ 64 - 1 }
     requires input { I.faults input.old < 2 ^ 64 - 1 }
     ensures text { (w : Wish) → asked (map string_bytes words.now) ≡ Some w
@@ -81,24 +95,31 @@ fn serve_words<R: Threads + Wait + Clone + Send + 'static, I: Source, O: Sink>(
     ensures faults { O.faults out.new ≡ O.faults out.old + faults_in result }
     ensures input { CountsInput result (I.faults input.old) (I.faults input.new) }
 {
-    match read_words(alloc, words) {
-        Ok(request) => serve(rt, alloc, &request, input, out),
+    match read {
+        Ok(request) => serve(rt, alloc, request, input, out),
         Err(error) => {
-            show(alloc, &error, out)?;
+            show(alloc, words, error, out)?;
             Ok(None)
         }
     }
 }
 
-/// Does what the words ask for, and flushes the output.
+/// Does what the words ask for, which `read_words` read, and flushes the output. Of the subcommands
+/// `pick` alone reads the input. It may wait for its workers and its input.
 #[tactic(auto, using(crate::proofs::Statuses::flushes))]
-fn serve_and_flush<R: Threads + Wait + Clone + Send + 'static, I: Source, O: Sink>(
+pub fn answer<R: Threads + Wait + Clone + Send + 'static, I: Source, O: Sink>(
     rt: &R,
     alloc: Global,
     words: &[String],
+    read: &Result<Request<'_>, Error>,
     input: &mut I,
     out: &mut O,
 ) -> Result<Option<Report>, Failure>
+    requires ok { IfOk read.now (λ r. asked (map string_bytes words.now) ≡ Some (wish_of r)) }
+    requires range { IfOk read.now IsInRange }
+    requires err { IfErr read.now (λ e.
+        IsSome (asked (map string_bytes words.now)) → kind_of e ≡ ErrorKind.OutOfMemory) }
+    requires kinds { IfErr read.now (λ e. HasKind (kinds_for (map string_bytes words.now)) e) }
     requires output { O.faults out.old < 2 ^ 64 - 1 }
     requires input { I.faults input.old < 2 ^ 64 - 1 }
     ensures text { (w : Wish) → asked (map string_bytes words.now) ≡ Some w
@@ -122,7 +143,7 @@ fn serve_and_flush<R: Threads + Wait + Clone + Send + 'static, I: Source, O: Sin
     ensures faults { O.faults out.new ≡ O.faults out.old + faults_in result }
     ensures input { CountsInput result (I.faults input.old) (I.faults input.new) }
 {
-    let report = serve_words(rt, alloc, words, input, out)?;
+    let report = serve_read(rt, alloc, words, read, input, out)?;
     out.flush()?;
     Ok(report)
 }
@@ -182,7 +203,8 @@ pub fn program_with_input<R: Threads + Wait + Clone + Send + 'static, I: Source,
     ensures said { (E.faults err.old ≤ E.faults err.new)
         × (E.faults err.new ≤ E.faults err.old + 1) }
 {
-    match serve_and_flush(rt, alloc, words, input, out) {
+    let read = read_words(alloc, words);
+    match answer(rt, alloc, words, &read, input, out) {
         Ok(None) => 0,
         Ok(Some(report)) => {
             let _ = report.say(err);

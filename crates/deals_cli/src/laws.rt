@@ -9,7 +9,7 @@ ghost use Rattle.deals_cli.specs.CommandLine.{asked, kinds_for};
 ghost use Rattle.hand_texts.specs.HandTexts.{none_given};
 ghost use Rattle.requests.specs.Requests.{conditions, make, pick, stream};
 ghost use Rattle.requests.specs.declared.format.Format.TheVariants.{Hands, Numbers, Pbn};
-ghost use Rattle.requests.specs.declared.progress.Progress.TheVariants.{Auto, Never};
+ghost use Rattle.requests.specs.declared.when.When.TheVariants.{Always, Auto, Never};
 
 /// `deals stream --seed 0 --count 3` asks for the first three values of seed 0.
 pub fn example_of_stream()
@@ -46,6 +46,7 @@ pub fn example_of_make()
           rotate = false;
           report = false;
           progress = Auto;
+          hints = Auto;
         }) }
 {}
 
@@ -77,6 +78,7 @@ pub fn example_of_formats()
           rotate = true;
           report = false;
           progress = Auto;
+          hints = Auto;
         }) }
     ensures refused { kinds_for
         (codes "deals" ∷ codes "make" ∷ codes "--seed" ∷ codes "0"
@@ -115,17 +117,19 @@ pub fn example_of_hands()
           rotate = false;
           report = false;
           progress = Auto;
+          hints = Auto;
         }) }
 {}
 
-/// `deals find --seed 7 --candidates 1000 --first 5 --where 'hcp(north)>=15' --progress never` asks
-/// for the numbers of those of a thousand candidates, from number 5 on, that meet the condition. A
-/// board of `find` has no number of its own.
+/// `deals find --seed 7 --candidates 1000 --first 5 --where 'hcp(north)>=15' --progress never
+/// --hints always` asks for the numbers of those of a thousand candidates, from number 5 on, that
+/// meet the condition. A board of `find` has no number of its own.
 pub fn example_of_find()
     ensures asked { asked
         (codes "deals" ∷ codes "find" ∷ codes "--seed" ∷ codes "7"
         ∷ codes "--candidates" ∷ codes "1000" ∷ codes "--first" ∷ codes "5"
-        ∷ codes "--where" ∷ codes "hcp(north)>=15" ∷ codes "--progress" ∷ codes "never" ∷ [])
+        ∷ codes "--where" ∷ codes "hcp(north)>=15" ∷ codes "--progress" ∷ codes "never"
+        ∷ codes "--hints" ∷ codes "always" ∷ [])
         ≡ Some (make record {
           seed = 7;
           candidates = Some 1000;
@@ -145,6 +149,7 @@ pub fn example_of_find()
           rotate = false;
           report = false;
           progress = Never;
+          hints = Always;
         }) }
     ensures refused { kinds_for
         (codes "deals" ∷ codes "find" ∷ codes "--seed" ∷ codes "7"

@@ -5,7 +5,8 @@ mod choices;
 mod entry;
 pub mod laws;
 mod refusals;
+mod shown;
 mod words;
 
-pub use entry::{program, program_with_input};
+pub use entry::{answer, program, program_with_input};
 pub use words::read_words;

@@ -9,13 +9,13 @@ ghost use Rattle.hand_texts.specs.HandTexts.{given_by};
 ghost use Rattle.requests.specs.Options.{IsInRange, making_of, wish_of};
 ghost use Rattle.deals_cli.specs.internal.Readings.{MakeValues, MayGive32, MayGive64, StreamValues};
 
-use crate::choices::{dealer_in, format_in, progress_in, sides_in, unknown_in};
+use crate::choices::{dealer_in, format_in, sides_in, unknown_in, when_in};
 use crate::refusals::{invalid_value, missing_end};
 use clap::error::ErrorKind;
 use clap::{ArgMatches, Error};
 use commands::command;
 use hand_texts::HandTexts;
-use requests::{Format, MakeRequest, Progress, Request, StreamRequest};
+use requests::{Format, MakeRequest, Request, StreamRequest, When};
 use std::alloc::Global;
 
 /// What an option of 32 bits was given.
@@ -110,7 +110,8 @@ fn make_request<'a>(name: &str, matches: &ArgMatches<'a>) -> MakeRequest<'a>
         vulnerable: sides_in(matches),
         rotate: is_set(matches, "rotate"),
         report: is_set(matches, "report"),
-        progress: progress_in(matches).unwrap_or(Progress::Auto),
+        progress: when_in(matches, "progress").unwrap_or(When::Auto),
+        hints: when_in(matches, "hints").unwrap_or(When::Auto),
     }
 }
 

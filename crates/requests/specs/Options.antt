@@ -26,6 +26,7 @@ making_of r = record {
   rotate = r.rotate;
   report = r.report;
   progress = r.progress;
+  hints = r.hints;
 }
 
 abbrev pub wish_of : Request → Wish

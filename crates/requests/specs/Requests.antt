@@ -4,7 +4,7 @@ use Rattle.boards.specs.declared.law2.Vul.{Vul}
 use Rattle.cards.specs.declared.seat.Seat.{Seat}
 use Rattle.hand_texts.specs.HandTexts.{GivenHands}
 use Rattle.requests.specs.declared.format.Format.{Format}
-use Rattle.requests.specs.declared.progress.Progress.{Progress}
+use Rattle.requests.specs.declared.when.When.{When}
 
 -- `make`, with what its options were given or their defaults. A field is named as its option is,
 -- and `where` as where_text, since the bare word is the language's.
@@ -27,7 +27,8 @@ pub record Making : Type 0 where
   pub vulnerable : Option Vul
   pub rotate : Bool
   pub report : Bool
-  pub progress : Progress
+  pub progress : When
+  pub hints : When
 
 pub data Wish : Type 0 where
   make : Making → Wish

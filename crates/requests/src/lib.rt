@@ -15,16 +15,16 @@ mod make;
 mod message;
 mod pick;
 mod picking_as;
-mod progress;
 mod report;
 mod request;
 mod run;
 mod stream;
+mod when;
 
 pub use failure::{Failure, LabelName};
 pub use format::Format;
 pub use make::{MakeRequest, candidates_of, planned};
-pub use progress::Progress;
 pub use report::Report;
 pub use request::{Request, serve};
 pub use stream::StreamRequest;
+pub use when::When;

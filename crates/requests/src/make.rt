@@ -20,9 +20,9 @@ ghost use Rattle.requests.specs.Wishes.{Appends, IsStatusOf};
 
 use crate::failure::{Failure, LabelName};
 use crate::format::Format;
-use crate::progress::Progress;
 use crate::report::Report;
 use crate::run::write_as;
+use crate::when::When;
 use boards::{Setting, Vul};
 use cards::{Fixed, MAX_CANDIDATES, Seat};
 use cond_lang::{Cond, parse};
@@ -67,8 +67,10 @@ pub struct MakeRequest<'a> {
     pub rotate: bool,
     /// Whether the boards and the candidates are counted for a report.
     pub report: bool,
-    /// Whether the counts are shown while the run lasts.
-    pub progress: Progress,
+    /// When the counts are shown while the run lasts.
+    pub progress: When,
+    /// When lines that help a person stand below a refusal.
+    pub hints: When,
 }
 
 /// The label of a text that was given. It is refused if and only if no label has the text.

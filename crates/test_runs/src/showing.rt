@@ -215,7 +215,8 @@ fn a_line_a_second_without_a_terminal(rt: HostRuntime) -> Result<(), Fail> {
 fn what_is_said_wipes_the_line(rt: HostRuntime) -> Result<(), Fail> {
     let desk = Desk::new(rt.alloc());
     let drawn = Drawn::new(rt.alloc())?;
-    let mut err = OverLine::new(Pen { paper: &desk.err }, drawn.try_clone()?);
+    let pen = Pen { paper: &desk.err };
+    let mut err = OverLine::new(pen, pen, Some(drawn.try_clone()?));
     let mut prompt = desk.prompt(rt.alloc(), Style::Redrawn, drawn);
     let said = say_around_a_line(&desk, &mut prompt, &mut err);
     holds(&rt, "all is said", said.is_ok());
@@ -229,12 +230,59 @@ fn what_is_said_wipes_the_line(rt: HostRuntime) -> Result<(), Fail> {
 fn say_around_a_line(
     desk: &Desk,
     prompt: &mut OnDesk<'_>,
-    err: &mut OverLine<Pen<'_>>,
+    err: &mut OverLine<Pen<'_>, Pen<'_>>,
 ) -> io::Result<()> {
     err.write_all(b"before\n")?;
     watch_at(desk, prompt, 6000, 0, 0);
     err.write_all(b"worker 1 not closed\n")?;
     err.write_all(b"more\n")
+}
+
+#[test]
+fn counted_boards_were_passed_on(rt: HostRuntime) -> Result<(), Fail> {
+    let desk = Desk::new(rt.alloc());
+    let mut prompt = desk.prompt(rt.alloc(), Style::Lines, Drawn::new(rt.alloc())?);
+    counts_two(&rt, &desk, &mut prompt);
+    Ok(())
+}
+
+/// The second board is passed on with the counts, though it isn't due yet.
+fn counts_two(rt: &impl Abort, desk: &Desk, prompt: &mut OnDesk<'_>) {
+    holds(rt, "one is put", put(prompt, b"one"));
+    watch_at(desk, prompt, 5900, 10, 1);
+    stands(rt, &desk.out, b"one");
+    holds(rt, "two is put", put(prompt, b"two"));
+    watch_at(desk, prompt, 6000, 20, 2);
+    stands(rt, &desk.out, b"two");
+    stands(rt, &desk.err, b"2%  20 of 1,000 candidates  2 boards  20 /s  49 s left\n");
+}
+
+#[test]
+fn boards_wipe_the_line_of_their_terminal(rt: HostRuntime) -> Result<(), Fail> {
+    let desk = Desk::new(rt.alloc());
+    let drawn = Drawn::new(rt.alloc())?;
+    let pen = Pen { paper: &desk.err };
+    let mut out = OverLine::new(pen, pen, Some(drawn.try_clone()?));
+    let mut prompt = desk.prompt(rt.alloc(), Style::Redrawn, drawn);
+    let written = write_over_a_line(&desk, &mut prompt, &mut out);
+    holds(&rt, "all is written", written.is_ok());
+    let text = b"\r\x1b[?7l0%  0 of 1,000 candidates  0 boards  0 /s  16 min 40 s left\
+        \x1b[K\x1b[?7h\r\x1b[Ka board\n\
+        \r\x1b[?7l0%  1 of 1,000 candidates  1 board  0 /s  16 min 39 s left\x1b[K\x1b[?7h";
+    stands(&rt, &desk.err, text);
+    Ok(())
+}
+
+/// Writes a board over a line of counts, which is drawn anew at once.
+fn write_over_a_line(
+    desk: &Desk,
+    prompt: &mut OnDesk<'_>,
+    out: &mut OverLine<Pen<'_>, Pen<'_>>,
+) -> io::Result<()> {
+    watch_at(desk, prompt, 6000, 0, 0);
+    out.write_all(b"a board\n")?;
+    watch_at(desk, prompt, 6001, 1, 1);
+    Ok(())
 }
 
 #[test]

@@ -1,15 +1,15 @@
 use Rattle.std.proofs.Common.{◌∙◌, sym, subst, map, string_bytes}
+use Rattle.requests.specs.Reported.{ReportsFor}
 use Rattle.requests.specs.Wishes.{IsStatusWithInput}
 use Rattle.requests.proofs.Refusals.{status_of-status}
-use Rattle.requests.specs.Reported.{ReportsFor}
 use Rattle.requests.specs.Requests.{make}
 use Rattle.requests.proofs.Reporting.{none_made, said, some_made}
 use Rattle.deals_cli.specs.CommandLine.{asked}
 use Rattle.deals_cli.proofs.Reporting.{heard}
 use Rattle.deals_cli.proofs.entry.program_with_input.Goals as goal
 
-pub returns-in-Err-clause-status : goal.returns-in-Err-clause-status
-returns-in-Err-clause-status g c = subst IsStatusWithInput (sym c.status.ensures) (status_of-status c.in-Err.failure)
+pub returns-clause-status : goal.returns-clause-status
+returns-clause-status g c = subst IsStatusWithInput (sym c.status.ensures) (status_of-status c.in-Err.failure)
 
 pub returns-in-Ok-None-clause-reported : goal.returns-in-Ok-None-clause-reported
 returns-in-Ok-None-clause-reported g c m is wants zero same =

@@ -1,0 +1,106 @@
+//! The program's standard streams.
+
+ghost use Rattle.std.specs.Prelude.{◌≡◌, IfOk};
+
+use clap::Error;
+use console::{Counts, Drawn, GATHERED_MILLIS, OverLine, Prompt, Style, millis};
+use requests::{MakeRequest, Request, When};
+use sinks::{Piped, Sink};
+use std::cell::Cell;
+use std::io;
+use std::io::{BufWriter, IsTerminal, Read};
+
+/// How much output is gathered before it is passed on, unless a fifth of a second passes first. A
+/// board that doesn't fit any more is passed on with the next ones, and so whole.
+const BUFFER: usize = 64 * 1024;
+
+/// The number of the error that a descriptor isn't open: EBADF.
+const NOT_OPEN: i32 = 9;
+
+/// Standard input, which is empty if it is closed.
+#[derive(Drop)]
+pub struct Given<'a> {
+    stdin: io::Stdin,
+    /// The number of the system's error, once reading failed.
+    reason: &'a Cell<Option<i32>>,
+}
+
+impl<'a> Given<'a> {
+    /// Standard input that notes there why it couldn't be read.
+    pub fn new(stdin: io::Stdin, reason: &'a Cell<Option<i32>>) -> Given<'a> {
+        Given { stdin, reason }
+    }
+}
+
+impl Read for Given<'_> {
+    fn read(&mut self, piece: &mut [u8]) -> io::Result<usize> {
+        match self.stdin.read(piece) {
+            Err(error) if error.raw_os_error() == Some(NOT_OPEN) => Ok(0),
+            Err(error) => {
+                self.reason.set(error.raw_os_error());
+                Err(error)
+            }
+            ended => ended,
+        }
+    }
+}
+
+/// Standard output, as the boards are written to it.
+pub type Output = Prompt<BufWriter<OverLine<io::Stdout, io::Stderr>>, HostRuntime, io::Stderr>;
+
+/// Standard error, over the line of counts.
+pub type Said = Piped<OverLine<io::Stderr, io::Stderr>>;
+
+/// How the counts of a run are shown.
+fn style_of(rt: &HostRuntime, progress: When) -> Style {
+    match (progress, rt.stderr().is_terminal()) {
+        (When::Auto, true) | (When::Always, true) => Style::Redrawn,
+        (When::Always, false) => Style::Lines,
+        (When::Auto, false) | (When::Never, _) => Style::Never,
+    }
+}
+
+/// The counts of this request, which are shown of a run alone.
+fn counts_of(
+    rt: &HostRuntime,
+    read: &Result<Request<'_>, Error>,
+    drawn: Drawn,
+) -> Counts<io::Stderr> {
+    let (style, all) = match read {
+        Ok(Request::Make(request)) => (style_of(rt, request.progress), request.candidates),
+        _ => (Style::Never, None),
+    };
+    let now = millis(rt).unwrap_or(0);
+    Counts::new(rt.alloc(), rt.stderr(), drawn, style, all, now)
+}
+
+/// For how many milliseconds boards are gathered: not at all where numbers are read, since the next
+/// one may come much later.
+fn gathered_millis(read: &Result<Request<'_>, Error>) -> u64 {
+    match read {
+        Ok(Request::Pick(_)) => 0,
+        _ => GATHERED_MILLIS,
+    }
+}
+
+/// The output and the error output for what the words ask for.
+///
+/// Boards on a terminal wipe the line of counts. That both are one terminal can't be known, so they
+/// do it on each.
+pub fn open(rt: &HostRuntime, read: &Result<Request<'_>, Error>) -> io::Result<(Output, Said)>
+    ensures out { IfOk result (λ r. ⟦<Output as Sink>⟧.faults r.0 ≡ 0) }
+    ensures err { IfOk result (λ r. ⟦<Said as Sink>⟧.faults r.1 ≡ 0) }
+{
+    let drawn = Drawn::new(rt.alloc())?;
+    let below = if rt.stdout().is_terminal() {
+        Some(drawn.try_clone()?)
+    } else {
+        None
+    };
+    let stdout = OverLine::new(rt.stdout(), rt.stderr(), below);
+    let stderr = OverLine::new(rt.stderr(), rt.stderr(), Some(drawn.try_clone()?));
+    let writer = BufWriter::with_capacity(rt.alloc(), BUFFER, stdout)?;
+    let counts = counts_of(rt, read, drawn);
+    let out = Prompt::new(writer, *rt, counts, gathered_millis(read));
+    Ok((out, Piped::new(stderr)))
+}

@@ -1,0 +1,92 @@
+//! clap's texts as they are shown on a terminal, whatever the words are.
+
+use std::alloc::{AllocError, Global};
+
+/// The longest word that is shown whole, and how much of a longer one is shown.
+const WHOLE: usize = 72;
+
+const PART: usize = 70;
+
+/// A byte as it is shown: printable ASCII as it is, any other as `?`.
+fn shown(byte: u8) -> char {
+    if 32 <= byte && byte < 127 {
+        char::from(byte)
+    } else {
+        '?'
+    }
+}
+
+/// Appends bytes of a word as they are shown.
+fn put_shown(out: &mut String, bytes: &[u8]) -> Result<(), AllocError> {
+    for byte in bytes {
+        out.push(shown(*byte))?;
+    }
+    Ok(())
+}
+
+/// Appends a word as it is shown, cut if it is long.
+fn put_word(out: &mut String, word: &[u8]) -> Result<(), AllocError> {
+    if word.len() <= WHOLE {
+        return put_shown(out, word);
+    }
+    put_shown(out, word.get(..PART).unwrap_or(word))?;
+    out.push_str("..")
+}
+
+/// The parts of a word that clap's texts show: all of it, what stands before its `=` and behind
+/// it, and the last part of a path, which is how the usage names the program.
+fn parts(word: &str) -> [&str; 4] {
+    let (before, behind) = word.split_once('=').unwrap_or(("", ""));
+    let (_, last) = word.rsplit_once('/').unwrap_or(("", ""));
+    [word, before, behind, last]
+}
+
+/// Whether the part stands here and isn't shown as it is: it is long, or has a line's end, which
+/// would otherwise be taken for one of clap's. A short one stands in quotes.
+fn stands(part: &[u8], text: &[u8], is_quoted: bool) -> bool {
+    let Some(rest) = text.strip_prefix(part) else {
+        return false;
+    };
+    part.len() > WHOLE || (is_quoted && rest.first() == Some(&b'\'') && part.contains(&b'\n'))
+}
+
+/// The part of one of the words that stands here and isn't shown as it is.
+fn part_at<'a>(words: &'a [String], text: &[u8], is_quoted: bool) -> Option<&'a [u8]> {
+    for word in words {
+        for part in parts(word.as_str()) {
+            let part = part.as_bytes();
+            if stands(part, text, is_quoted) {
+                return Some(part);
+            }
+        }
+    }
+    None
+}
+
+/// Returns clap's text of these words as it is shown on a terminal: a word of more than 72 bytes is
+/// cut, and a byte that would disturb the terminal, or isn't ASCII, is shown as `?`.
+///
+/// # Errors
+/// `AllocError` if an allocation failed.
+pub fn shown_text(alloc: Global, words: &[String], text: &str) -> Result<String, AllocError> {
+    let bytes = text.as_bytes();
+    let mut out = String::new(alloc);
+    let mut is_quoted = false;
+    // How many bytes still belong to a word that was shown.
+    let mut left: usize = 0;
+    for (at, byte) in bytes.iter().enumerate() {
+        if left > 0 {
+            left -= 1;
+            continue;
+        }
+        let rest = bytes.get(at..).unwrap_or(&[]);
+        if let Some(part) = part_at(words, rest, is_quoted) {
+            put_word(&mut out, part)?;
+            left = part.len().saturating_sub(1);
+        } else {
+            out.push(if *byte == b'\n' { '\n' } else { shown(*byte) })?;
+        }
+        is_quoted = *byte == b'\'';
+    }
+    Ok(out)
+}

@@ -1,0 +1,11 @@
+//! When a person is shown what programs don't read.
+
+/// When something is shown on the error output that is meant for a person: a run's counts while it
+/// lasts, or what helps below a refusal. Nothing else depends on it.
+#[derive(Clone, Copy, PartialEq, Eq, Debug)]
+pub enum When {
+    /// If the error output is a terminal.
+    Auto,
+    Always,
+    Never,
+}

@@ -1,0 +1,62 @@
+"""Boards and counts on one terminal, where standard output and standard error both go, as a person sees them."""
+
+import os
+import pty
+import re
+import subprocess
+
+import harness
+import screen
+
+# Boards that come slowly, so that counts are drawn between them, and that are all found in some seconds.
+RARE = ["--seed", "9", "--boards", "24", "--where", "hcp(north)>=30"]
+FORMATS = ("pbn", "hands", "lin", "html")
+# A line of counts, which is cut where the screen ends.
+COUNTS = re.compile(r"(\d+%  )?[\d,]+ (of [\d,]+ )?candidates  [\d,]+ boards? .*")
+# What ends the line of counts.
+DRAWN = b"\x1b[?7h"
+
+
+def pieces_of(terminal, process):
+    """What the terminal was given, cut behind each line of counts."""
+    text, is_open = b"", True
+    while is_open:
+        try:
+            piece = os.read(terminal, 65536)
+        except OSError:
+            # What a terminal says when nobody is there to write.
+            piece = b""
+        is_open = bool(piece)
+        *whole, text = (text + piece).split(DRAWN)
+        yield from (piece + DRAWN for piece in whole)
+    yield text
+
+
+def complaint_of(words):
+    """What is wrong with a row of the screen, or None."""
+    into_a_pipe = subprocess.run([harness.PROGRAM, *words, "--workers", "2"], stdout=subprocess.PIPE, check=True)
+    wanted = [line.rstrip(" ") for line in into_a_pipe.stdout.decode().split("\n")]
+    ours, theirs = pty.openpty()
+    process = subprocess.Popen([harness.PROGRAM, *words], stdin=subprocess.DEVNULL, stdout=theirs, stderr=theirs)
+    os.close(theirs)
+    seen, behind_counts = screen.Screen(), 0
+    for piece in pieces_of(ours, process):
+        seen.feed(piece)
+        lines = seen.lines()
+        if piece.endswith(DRAWN):
+            behind_counts += len(lines) > 2
+            if not COUNTS.fullmatch(lines.pop()):
+                return f"no line of counts, but {seen.lines()[-1]!r}"
+            lines.append("")
+        if lines[:-1] != wanted[: len(lines) - 1] or lines[-1]:
+            return f"the rows {lines[-6:]}"
+    os.close(ours)
+    if process.wait() or lines != wanted:
+        return f"at the end the rows {lines[-6:]}"
+    return None if behind_counts else "no board was seen while counts were drawn"
+
+
+def every():
+    """Each check's name, and what is wrong, or None."""
+    for words in [["make", "--format", form] for form in FORMATS] + [["find"], ["make", "--candidates", "90000000"]]:
+        yield f"one terminal, {' '.join(words)}", complaint_of([*words, *RARE])

@@ -1,0 +1,110 @@
+"""Runs that are stopped at a random moment, as by Ctrl-C: what stands in their file, or came through their pipe.
+
+Where boards are rare, each that was found is there or was found in the last quarter of a second, all are whole, and
+none is missing that the counts on the terminal told. Where they come fast the last one may be cut, since the kernel
+ends a write where a signal waits; all before it are right.
+"""
+
+import concurrent.futures
+import itertools
+import os
+import pty
+import random
+import re
+import signal
+import subprocess
+import tempfile
+import time
+
+import harness
+
+FORMATS = ("pbn", "hands", "lin", "html")
+# How a board begins in each format.
+BOARDS = {"pbn": rb"^\[Deal ", "hands": rb"^Board \d", "lin": rb"^qx\|", "html": rb'<section class="board"'}
+EVERY = ["--candidates", "1000000000"]
+RARE = [*EVERY, "--where", "hcp(north)>=28"]
+# When a run is stopped, in seconds: counts are drawn from the first second on.
+MOMENTS = {"every": (0.01, 0.2), "rare": (0.05, 1.8)}
+COUNTED = re.compile(rb"candidates  ([\d,]+) boards?")
+
+
+def words_of(kind, form):
+    return ["make", "--seed", "9", "--format", form, *(RARE if kind == "rare" else EVERY)]
+
+
+def read_all(descriptor):
+    """All that comes through a pipe or from a terminal, until nobody can write."""
+    pieces = []
+    while True:
+        try:
+            piece = os.read(descriptor, 1 << 20)
+        except OSError:
+            piece = b""
+        if not piece:
+            os.close(descriptor)
+            return b"".join(pieces)
+        pieces.append(piece)
+
+
+def stopped(words, into, seconds):
+    """What stands on the output of a run that is stopped after so many seconds, and what it drew on the terminal."""
+    terminal, drawn_on = pty.openpty()
+    with tempfile.TemporaryFile() as file, concurrent.futures.ThreadPoolExecutor(2) as readers:
+        reader, writer = os.pipe() if into == "pipe" else (None, os.dup(file.fileno()))
+        process = subprocess.Popen(
+            [harness.PROGRAM, *words], stdin=subprocess.DEVNULL, stdout=writer, stderr=drawn_on
+        )
+        os.close(writer)
+        os.close(drawn_on)
+        drawn = readers.submit(read_all, terminal)
+        out = readers.submit(read_all, reader) if into == "pipe" else None
+        time.sleep(seconds)
+        process.send_signal(signal.SIGINT)
+        process.wait()
+        if out is None:
+            file.seek(0)
+            return file.read(), drawn.result()
+        return out.result(), drawn.result()
+
+
+def text_of(words):
+    """What a run writes that isn't stopped."""
+    return subprocess.run([harness.PROGRAM, *words], stdout=subprocess.PIPE, check=True).stdout
+
+
+def whole_text(kind, form, boards):
+    """The text of the first boards, without what closes it."""
+    words = words_of(kind, form)
+    if boards:
+        words += ["--boards", str(boards), "--workers", "2"]
+    else:
+        words[words.index(EVERY[1])] = "0"
+    # A page is closed at its end.
+    return text_of(words).partition(b"</main>\n")[0]
+
+
+def fault_of(kind, into, form, seconds):
+    """What is wrong with the output of a stopped run, or None."""
+    words = words_of(kind, form)
+    out, drawn = stopped(words, into, seconds)
+    begun = len(re.findall(BOARDS[form], out, re.M))
+    wanted = whole_text(kind, form, begun)
+    is_whole = out in (wanted, b"")
+    if not wanted.startswith(out):
+        return f"{len(out)} bytes that don't begin the right text"
+    if kind == "rare" and not is_whole:
+        return f"{len(out)} bytes, and the last board is cut"
+    told = [int(text.replace(b",", b"")) for text in COUNTED.findall(drawn)]
+    if told and told[-1] > begun - (not is_whole):
+        return f"{begun} boards, and the counts told {told[-1]}"
+    return None
+
+
+def every(runs):
+    """Each run's name, and what is wrong with it, or None."""
+    dice = random.Random()
+    kinds = list(itertools.product(MOMENTS, ("file", "pipe"), FORMATS))
+    chosen = [(*kinds[at % len(kinds)], dice.uniform(*MOMENTS[kinds[at % len(kinds)][0]])) for at in range(runs)]
+    with concurrent.futures.ThreadPoolExecutor(os.cpu_count()) as pool:
+        for run, fault in zip(chosen, pool.map(lambda run: fault_of(*run), chosen)):
+            yield f"stopped, {run[0]} into a {run[1]}, {run[2]}, after {run[3]:.3f} s", fault
