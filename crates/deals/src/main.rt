@@ -90,7 +90,9 @@ fn main(rt: HostRuntime) -> ExitCode {
     let mut input = Reader::new(Given::new(rt.stdin(), &reason));
     let ended = answer(&rt, rt.alloc(), words, &read, &mut input, &mut out);
     let status = say(&ended, &mut err);
-    if let Err(failure) = &ended && hints {
+    if let Err(failure) = &ended
+        && hints
+    {
         let reasons = Reasons {
             output: out.reason(),
             input: reason.get(),

@@ -33,12 +33,7 @@ use std::thread::Threads;
 /// Writes a text that was asked for, as help, and refuses any mistake. Of the words it is shown what
 /// a terminal can show.
 #[tactic(auto, using(crate::proofs::Statuses::kinds))]
-fn show<O: Sink>(
-    alloc: Global,
-    words: &[String],
-    error: &Error,
-    out: &mut O,
-) -> Result<(), Failure>
+fn show<O: Sink>(alloc: Global, words: &[String], error: &Error, out: &mut O) -> Result<(), Failure>
     requires { O.faults out.old < 2 ^ 64 - 1 }
     ensures memory { kind_of error.now ≡ ErrorKind.OutOfMemory → IsErrOf result
         (Failure.Interrupted Cause.Memory) }

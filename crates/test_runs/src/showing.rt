@@ -254,7 +254,11 @@ fn counts_two(rt: &impl Abort, desk: &Desk, prompt: &mut OnDesk<'_>) {
     holds(rt, "two is put", put(prompt, b"two"));
     watch_at(desk, prompt, 6000, 20, 2);
     stands(rt, &desk.out, b"two");
-    stands(rt, &desk.err, b"2%  20 of 1,000 candidates  2 boards  20 /s  49 s left\n");
+    stands(
+        rt,
+        &desk.err,
+        b"2%  20 of 1,000 candidates  2 boards  20 /s  49 s left\n",
+    );
 }
 
 #[test]
