@@ -1,7 +1,7 @@
 //! Lines of LIN that were worked out by hand, of two candidates of seed 0, picked by their numbers.
 
 use crate::support::{equals, holds};
-use lin_text::LinPrinter;
+use notations::{AnyPrinter, Format};
 use number_input::{LineFault, NoBytes, Reader, RefusedLine};
 use picking::{PickFault, pick};
 use plans::Plan;
@@ -53,7 +53,7 @@ fn check<R: Read + Drop>(
     text: &[u8],
 ) -> std::result::Result<(), Fail> {
     let plan = Plan::new(0, 0, 0, 1, 64)?;
-    let mut printer = LinPrinter::new(rt.alloc())?;
+    let mut printer = AnyPrinter::new(rt.alloc(), Format::Lin, plan.heading())?;
     let mut input = Reader::new(reader);
     let mut sink = MemSink::new(rt.alloc());
     let ended = pick(&plan, &mut printer, &mut input, &mut sink);
@@ -91,7 +91,7 @@ fn picks_to_the_end(rt: HostRuntime) -> std::result::Result<(), Fail> {
 #[test]
 fn picks_nothing_and_into_an_output_that_fails(rt: HostRuntime) -> std::result::Result<(), Fail> {
     let plan = Plan::new(0, 0, 0, 1, 64)?;
-    let mut printer = LinPrinter::new(rt.alloc())?;
+    let mut printer = AnyPrinter::new(rt.alloc(), Format::Lin, plan.heading())?;
     picks_nothing(&rt, &plan, &mut printer);
     picks_until_the_output_fails(&rt, &plan, &mut printer);
     Ok(())
