@@ -15,8 +15,8 @@ use std::marker::Model;
 /// Prints boards in a format and under a heading, one at a time. Contracts see the two, and the
 /// text that was printed last.
 ///
-/// It takes 128 KiB of memory once, when it is created, and none to print. For numbers of candidates
-/// it takes none at all.
+/// It takes 128 KiB of memory once, when it is created, and none to print. Numbers of candidates
+/// need none at all.
 #[derive(Drop)]
 pub struct AnyPrinter {
     heading: Heading,
@@ -63,7 +63,7 @@ impl AnyPrinter {
         ensures heading { IfOk result (λ p. p.heading ≡ heading.now) }
         ensures text { IfOk result (λ p. p.text ≡ []) }
     {
-        let pen = pen_of(alloc, format, heading)?;
+        let pen = Pen::new(alloc, format, heading)?;
         let mut header = TextBuffer::new();
         put_header(&mut header, format, heading);
         Ok(AnyPrinter {
@@ -114,18 +114,20 @@ impl Notation for AnyPrinter {
     ghost some_byte = { λ printer board. layout_has_byte printer.format printer.heading board };
 }
 
-/// The pen of a format, which has written nothing.
-fn pen_of(alloc: Global, format: Format, heading: &Heading) -> Result<Pen, AllocError>
-    ensures format { IfOk result (λ pen. format_of pen ≡ format) }
-    ensures heading { IfOk result (λ pen. IsUnder heading.now pen) }
-    ensures text { IfOk result (λ pen. text_of pen [] ≡ []) }
-{
-    match format {
-        Format::Pbn => Ok(Pen::Pbn(Printer::new(alloc, heading)?)),
-        Format::Hands => Ok(Pen::Hands(SuitLetters::new(alloc)?)),
-        Format::Lin => Ok(Pen::Lin(SuitLetters::new(alloc)?)),
-        Format::Html => Ok(Pen::Html(SuitLetters::new(alloc)?)),
-        Format::Numbers => Ok(Pen::Numbers),
+impl Pen {
+    /// Returns the pen of the format, which has written nothing.
+    fn new(alloc: Global, format: Format, heading: &Heading) -> Result<Pen, AllocError>
+        ensures format { IfOk result (λ pen. format_of pen ≡ format) }
+        ensures heading { IfOk result (λ pen. IsUnder heading.now pen) }
+        ensures text { IfOk result (λ pen. text_of pen [] ≡ []) }
+    {
+        match format {
+            Format::Pbn => Ok(Pen::Pbn(Printer::new(alloc, heading)?)),
+            Format::Hands => Ok(Pen::Hands(SuitLetters::new(alloc)?)),
+            Format::Lin => Ok(Pen::Lin(SuitLetters::new(alloc)?)),
+            Format::Html => Ok(Pen::Html(SuitLetters::new(alloc)?)),
+            Format::Numbers => Ok(Pen::Numbers),
+        }
     }
 }
 

@@ -1,5 +1,5 @@
 -- A board has at least a byte, in each format.
-use Rattle.std.proofs.Common.{◌<◌, length, codes, decimal, arith}
+use Rattle.std.proofs.Common.{◌<◌, length, arith}
 use Rattle.std.proofs.lemmas.List.{length-append}
 use Rattle.boards.specs.declared.board.Board.{Board}
 use Rattle.pbn_text.specs.Games.{HeadingView}
