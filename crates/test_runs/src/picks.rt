@@ -97,7 +97,7 @@ fn picks_nothing_and_into_an_output_that_fails(rt: HostRuntime) -> std::result::
     Ok(())
 }
 
-fn picks_nothing(rt: &(impl Abort + AllocGlobal), plan: &Plan, printer: &mut LinPrinter) {
+fn picks_nothing(rt: &(impl Abort + AllocGlobal), plan: &Plan, printer: &mut AnyPrinter) {
     let mut sink = MemSink::new(rt.alloc());
     equals(rt, &pick(plan, printer, &mut NoBytes, &mut sink), &Ok(0));
     holds(rt, "nothing written", sink.bytes().is_empty());
@@ -106,7 +106,7 @@ fn picks_nothing(rt: &(impl Abort + AllocGlobal), plan: &Plan, printer: &mut Lin
 fn picks_until_the_output_fails(
     rt: &(impl Abort + AllocGlobal),
     plan: &Plan,
-    printer: &mut LinPrinter,
+    printer: &mut AnyPrinter,
 ) {
     let mut sink = Fuse::new(MemSink::new(rt.alloc()), 2, 1000, true);
     let mut input = Reader::new(b"0\n1\n".as_slice());
