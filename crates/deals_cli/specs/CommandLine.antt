@@ -14,9 +14,9 @@ use Rattle.cards.specs.declared.seat.Seat.{Seat}
 use Rattle.cards.specs.declared.seat.Seat.TheVariants.{North, East, South, West}
 use Rattle.hand_texts.specs.HandTexts.{GivenHands}
 use Rattle.requests.specs.Requests.{Making, Wish, conditions, stream, make, pick}
-use Rattle.requests.specs.declared.format.Format.{Format}
-use Rattle.requests.specs.declared.format.Format.TheVariants.{Pbn, Hands, Lin, Html}
-use Rattle.requests.specs.declared.format.Format.TheVariants.{Numbers}
+use Rattle.notations.specs.declared.format.Format.{Format}
+use Rattle.notations.specs.declared.format.Format.TheVariants.{Pbn, Hands, Lin, Html}
+use Rattle.notations.specs.declared.format.Format.TheVariants.{Numbers}
 use Rattle.requests.specs.declared.when.When.{When}
 use Rattle.requests.specs.declared.when.When.TheVariants.{Auto, Always, Never}
 

@@ -8,7 +8,7 @@ ghost use Rattle.clap.specs.declared.error.kind.ErrorKind.TheVariants.{UnknownAr
 ghost use Rattle.deals_cli.specs.CommandLine.{asked, kinds_for};
 ghost use Rattle.hand_texts.specs.HandTexts.{none_given};
 ghost use Rattle.requests.specs.Requests.{conditions, make, pick, stream};
-ghost use Rattle.requests.specs.declared.format.Format.TheVariants.{Hands, Numbers, Pbn};
+ghost use Rattle.notations.specs.declared.format.Format.TheVariants.{Hands, Numbers, Pbn};
 ghost use Rattle.requests.specs.declared.when.When.TheVariants.{Always, Auto, Never};
 
 /// `deals stream --seed 0 --count 3` asks for the first three values of seed 0.

@@ -14,7 +14,7 @@ use Rattle.conditions.specs.Meaning.{holds}
 use Rattle.dealrun.specs.Text.{accepted, accepted_among, board_of, boards_of, limited, text_in}
 use Rattle.number_input.specs.NumberTexts.{said}
 use Rattle.number_input.proofs.ReadBack.{read_back}
-use Rattle.number_lines.specs.Numbers.{number_line, numbers}
+use Rattle.notations.specs.Numbers.{number_line, numbers}
 use Rattle.picking.specs.Picked.{picked_text}
 use Rattle.plans.specs.Plans.{Planned, candidate_of}
 use Rattle.values.proofs.Ranges.{range_with_len-add}

@@ -6,7 +6,7 @@ ghost use Rattle.boards.specs.declared.setting.Setting.{Setting};
 ghost use Rattle.conditions.specs.Form.{Form};
 ghost use Rattle.dealrun.specs.Text.{accepted, text_in};
 ghost use Rattle.number_input.specs.NumberTexts.{said};
-ghost use Rattle.number_lines.specs.Numbers.{numbers};
+ghost use Rattle.notations.specs.Numbers.{numbers};
 ghost use Rattle.picking.specs.Picked.{picked_text};
 ghost use Rattle.plans.specs.Plans.{Planned};
 

@@ -6,7 +6,7 @@ use Rattle.plans.specs.Plans.{Planned}
 use Rattle.requests.specs.Makings.{Means, plan_of}
 use Rattle.requests.specs.Reports.{report_of}
 use Rattle.sinks.specs.Appended.{AppendsAll}
-use Rattle.requests.specs.declared.format.Format.{Format}
+use Rattle.notations.specs.declared.format.Format.{Format}
 use Rattle.requests.specs.Requests.{Making, Wish, conditions, stream, make, pick}
 use Rattle.requests.specs.declared.report.Report.{Report}
 

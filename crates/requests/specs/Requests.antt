@@ -3,7 +3,7 @@ use Rattle.std.specs.Prelude.{ℕ, Bool, List, Option}
 use Rattle.boards.specs.declared.law2.Vul.{Vul}
 use Rattle.cards.specs.declared.seat.Seat.{Seat}
 use Rattle.hand_texts.specs.HandTexts.{GivenHands}
-use Rattle.requests.specs.declared.format.Format.{Format}
+use Rattle.notations.specs.declared.format.Format.{Format}
 use Rattle.requests.specs.declared.when.When.{When}
 
 -- `make`, with what its options were given or their defaults. A field is named as its option is,

@@ -6,7 +6,8 @@ use Rattle.cond_lang.specs.declared.language.TheConstants.{LANGUAGE}
 use Rattle.picking.specs.Outcomes.{Picks}
 use Rattle.sinks.specs.Appended.{AppendsAll}
 use Rattle.values.specs.Values.{lines}
-use Rattle.requests.specs.Formats.{layout_of, text_as}
+use Rattle.notations.specs.Formats.{layout_of}
+use Rattle.requests.specs.Formats.{text_as}
 use Rattle.requests.specs.Makings.{IsPlanned, Means, plan_of}
 use Rattle.requests.specs.Requests.{Wish, conditions, stream, make, pick}
 

@@ -2,19 +2,16 @@
 //!
 //! A subcommand is a file: its request, with the values of its options, and the function that
 //! serves it (`make.rt`, `pick.rt`, `language.rt`, `stream.rt`). `request.rt` has one variant for
-//! each. `run.rt` runs a plan in the format that is asked for, and `picking_as.rt` deals the
-//! candidates that an input names in it.
-//! How the words of a command line become a request is no business of this crate.
+//! each, and `run.rt` runs a plan. How the words of a command line become a request is no business
+//! of this crate.
 #![tactic(auto)]
 
 mod failure;
-mod format;
 mod language;
 pub mod laws;
 mod make;
 mod message;
 mod pick;
-mod picking_as;
 mod report;
 mod request;
 mod run;
@@ -22,8 +19,8 @@ mod stream;
 mod when;
 
 pub use failure::{Failure, LabelName};
-pub use format::Format;
 pub use make::{MakeRequest, candidates_of, planned};
+pub use notations::Format;
 pub use report::Report;
 pub use request::{Request, serve};
 pub use stream::StreamRequest;

@@ -19,7 +19,6 @@ ghost use Rattle.requests.specs.Requests.{make as wish};
 ghost use Rattle.requests.specs.Wishes.{Appends, IsStatusOf};
 
 use crate::failure::{Failure, LabelName};
-use crate::format::Format;
 use crate::report::Report;
 use crate::run::write_as;
 use crate::when::When;
@@ -27,6 +26,7 @@ use boards::{Setting, Vul};
 use cards::{Fixed, MAX_CANDIDATES, Seat};
 use cond_lang::{Cond, parse};
 use hand_texts::HandTexts;
+use notations::Format;
 use pbn_text::{Date, Heading, Label};
 use plans::{Plan, PlanError};
 use sinks::Sink;

@@ -10,8 +10,8 @@ ghost use Rattle.requests.specs.Wishes.{AppendsFrom, IsStatusOf};
 
 use crate::failure::Failure;
 use crate::make::{MakeRequest, planned};
-use crate::picking_as::pick_as;
 use dealrun::Cause;
+use notations::AnyPrinter;
 use number_input::Source;
 use picking::PickFault;
 use sinks::Sink;
@@ -19,7 +19,7 @@ use std::alloc::Global;
 
 /// Writes the boards of the candidates whose numbers the input gives, under a plan and its labels.
 /// What was written before a fault of the input is passed on.
-// In line it would take the stack of a `make` too, a piece of the input for each format.
+// In line it would take the stack of a `make` too: a printer and a piece of the input.
 #[inline(never)]
 #[tactic(auto, using(crate::proofs::Statuses::endings, crate::proofs::FirstDue::picked))]
 pub fn pick<I: Source, O: Sink>(
@@ -42,7 +42,8 @@ pub fn pick<I: Source, O: Sink>(
     ensures due { IfErr result (λ e. IsPickDue (making_of request.now) e) }
 {
     let plan = planned(request)?;
-    match pick_as(alloc, &plan, request.format, input, out)? {
+    let mut printer = AnyPrinter::new(alloc, request.format, plan.heading())?;
+    match picking::pick(&plan, &mut printer, input, out) {
         Ok(_) => Ok(()),
         Err(PickFault::Output) => Err(Failure::Interrupted(Cause::Output)),
         Err(PickFault::Refused(line)) => {

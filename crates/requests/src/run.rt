@@ -2,62 +2,22 @@
 
 ghost use Rattle.std.specs.Prelude.{◌≡◌, ◌-◌, ◌^◌, ◌<◌, IfErr, IfOk, MatchResult, OnOk};
 ghost use Rattle.dealrun.specs.Outcomes.{FaultsAfter};
-ghost use Rattle.dealrun.specs.Text.{text_in};
-ghost use Rattle.requests.specs.Formats.{layout_of, text_as};
+ghost use Rattle.notations.specs.Formats.{layout_of};
+ghost use Rattle.requests.specs.Formats.{text_as};
 ghost use Rattle.requests.specs.Interruptions.{InterruptsRun};
 ghost use Rattle.requests.specs.Reported.{Counts};
 ghost use Rattle.sinks.specs.Appended.{AppendsAll};
 
-use crate::format::Format;
 use crate::report::Report;
-use boards::Notation;
 use cond_lang::Cond;
 use dealrun::{Cause, run_and_count};
-use hand_records::HandsPrinter;
-use html_page::HtmlPrinter;
 use lanes::OpenGate;
-use lin_text::LinPrinter;
-use number_lines::NumberPrinter;
-use pbn_text::Printer;
+use notations::{AnyPrinter, Format};
 use plans::Plan;
 use sinks::Sink;
 use std::alloc::Global;
 use std::sync::{Arc, Wait};
 use std::thread::Threads;
-
-/// Writes the plan's boards in a notation, which is that of a format, and counts them.
-fn write_in<R: Threads + Wait + Clone + Send + 'static, N: Notation, O: Sink>(
-    rt: &R,
-    alloc: Global,
-    plan: &Plan,
-    condition: Cond,
-    format: Format,
-    notation: &mut N,
-    out: &mut O,
-) -> Result<Report, Cause>
-    requires { O.faults out.old < 2 ^ 64 - 1 }
-    ensures text { OnOk result (AppendsAll (O.bytes out.old) (O.bytes out.new)
-        (text_in (N.layout notation.old) plan.now condition)) }
-    ensures report { IfOk result (λ r. Counts format plan.now condition r) }
-    ensures stands { IfErr result (λ cause. InterruptsRun (N.layout notation.old) plan.now condition
-        cause (O.bytes out.old) (O.bytes out.new)) }
-    ensures faults { MatchResult result
-        (λ _. O.faults out.new ≡ O.faults out.old)
-        (λ cause. FaultsAfter cause (O.faults out.old) (O.faults out.new)) }
-{
-    let Ok(gate) = Arc::new(alloc, OpenGate) else {
-        return Err(Cause::Memory);
-    };
-    match run_and_count(rt, alloc, plan, condition, notation, out, gate) {
-        Ok(counted) => Ok(Report {
-            plan: *plan,
-            format,
-            candidates: counted.candidates,
-            boards: counted.report.boards,
-        }),
-        Err(fault) => Err(fault.cause),
-    }
-}
 
 /// Writes the plan's boards in a format, and counts them.
 pub fn write_as<R: Threads + Wait + Clone + Send + 'static, O: Sink>(
@@ -78,33 +38,19 @@ pub fn write_as<R: Threads + Wait + Clone + Send + 'static, O: Sink>(
         (λ _. O.faults out.new ≡ O.faults out.old)
         (λ cause. FaultsAfter cause (O.faults out.old) (O.faults out.new)) }
 {
-    match format {
-        Format::Pbn => match Printer::new(alloc, plan.heading()) {
-            Ok(mut printer) => write_in(rt, alloc, plan, condition, format, &mut printer, out),
-            Err(_) => Err(Cause::Memory),
-        },
-        Format::Hands => match HandsPrinter::new(alloc, plan.heading()) {
-            Ok(mut printer) => write_in(rt, alloc, plan, condition, format, &mut printer, out),
-            Err(_) => Err(Cause::Memory),
-        },
-        Format::Lin => match LinPrinter::new(alloc) {
-            Ok(mut printer) => write_in(rt, alloc, plan, condition, format, &mut printer, out),
-            Err(_) => Err(Cause::Memory),
-        },
-        Format::Html => match HtmlPrinter::new(alloc, plan.heading()) {
-            Ok(mut printer) => write_in(rt, alloc, plan, condition, format, &mut printer, out),
-            Err(_) => Err(Cause::Memory),
-        },
-        Format::Numbers => {
-            write_in(
-                rt,
-                alloc,
-                plan,
-                condition,
-                format,
-                &mut NumberPrinter::new(),
-                out,
-            )
-        }
+    let Ok(mut printer) = AnyPrinter::new(alloc, format, plan.heading()) else {
+        return Err(Cause::Memory);
+    };
+    let Ok(gate) = Arc::new(alloc, OpenGate) else {
+        return Err(Cause::Memory);
+    };
+    match run_and_count(rt, alloc, plan, condition, &mut printer, out, gate) {
+        Ok(counted) => Ok(Report {
+            plan: *plan,
+            format,
+            candidates: counted.candidates,
+            boards: counted.report.boards,
+        }),
+        Err(fault) => Err(fault.cause),
     }
 }

@@ -1,7 +1,7 @@
 //! Lines of LIN that were worked out by hand, of two candidates of seed 0, picked by their numbers.
 
 use crate::support::{equals, holds};
-use lin_text::LinPrinter;
+use notations::{AnyPrinter, Format};
 use number_input::{LineFault, NoBytes, Reader, RefusedLine};
 use picking::{PickFault, pick};
 use plans::Plan;
@@ -53,7 +53,7 @@ fn check<R: Read + Drop>(
     text: &[u8],
 ) -> std::result::Result<(), Fail> {
     let plan = Plan::new(0, 0, 0, 1, 64)?;
-    let mut printer = LinPrinter::new(rt.alloc())?;
+    let mut printer = AnyPrinter::new(rt.alloc(), Format::Lin, plan.heading())?;
     let mut input = Reader::new(reader);
     let mut sink = MemSink::new(rt.alloc());
     let ended = pick(&plan, &mut printer, &mut input, &mut sink);
@@ -91,13 +91,13 @@ fn picks_to_the_end(rt: HostRuntime) -> std::result::Result<(), Fail> {
 #[test]
 fn picks_nothing_and_into_an_output_that_fails(rt: HostRuntime) -> std::result::Result<(), Fail> {
     let plan = Plan::new(0, 0, 0, 1, 64)?;
-    let mut printer = LinPrinter::new(rt.alloc())?;
+    let mut printer = AnyPrinter::new(rt.alloc(), Format::Lin, plan.heading())?;
     picks_nothing(&rt, &plan, &mut printer);
     picks_until_the_output_fails(&rt, &plan, &mut printer);
     Ok(())
 }
 
-fn picks_nothing(rt: &(impl Abort + AllocGlobal), plan: &Plan, printer: &mut LinPrinter) {
+fn picks_nothing(rt: &(impl Abort + AllocGlobal), plan: &Plan, printer: &mut AnyPrinter) {
     let mut sink = MemSink::new(rt.alloc());
     equals(rt, &pick(plan, printer, &mut NoBytes, &mut sink), &Ok(0));
     holds(rt, "nothing written", sink.bytes().is_empty());
@@ -106,7 +106,7 @@ fn picks_nothing(rt: &(impl Abort + AllocGlobal), plan: &Plan, printer: &mut Lin
 fn picks_until_the_output_fails(
     rt: &(impl Abort + AllocGlobal),
     plan: &Plan,
-    printer: &mut LinPrinter,
+    printer: &mut AnyPrinter,
 ) {
     let mut sink = Fuse::new(MemSink::new(rt.alloc()), 2, 1000, true);
     let mut input = Reader::new(b"0\n1\n".as_slice());

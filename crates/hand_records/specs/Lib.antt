@@ -1,3 +1,0 @@
-pub mod Columns
-pub mod Records
-pub mod internal

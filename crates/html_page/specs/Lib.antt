@@ -1,3 +1,0 @@
-pub mod Style
-pub mod Pages
-pub mod internal

@@ -1,2 +1,0 @@
-pub mod Lin
-pub mod internal

@@ -1,0 +1,9 @@
+pub mod Names
+pub mod Lin
+pub mod Numbers
+pub mod Columns
+pub mod Records
+pub mod Style
+pub mod Pages
+pub mod Formats
+pub mod internal

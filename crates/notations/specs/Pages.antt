@@ -1,0 +1,138 @@
+-- One page of HTML that stands alone: a header with the title and the style, a section for each
+-- board, and a footer that closes what the header opened.
+use Rattle.std.specs.Prelude.{ℕ, ◌==◌, Bool, List, [], ◌∷◌, ◌++◌, Option, Some, None, codes}
+use Rattle.std.specs.Prelude.{decimal, flat_map, if◌then◌else◌}
+use Rattle.std.specs.List.{list_all}
+use Rattle.cards.specs.declared.seat.Seat.{Seat}
+use Rattle.cards.specs.declared.seat.Seat.TheVariants.{North, East, South, West}
+use Rattle.cards.specs.declared.suit.Suit.{Suit}
+use Rattle.cards.specs.declared.suit.Suit.TheVariants.{Spades, Hearts, Diamonds, Clubs}
+use Rattle.cards.specs.Hands.{hand_of, points_of}
+use Rattle.boards.specs.declared.board.Board.{Board}
+use Rattle.boards.specs.declared.law2.Vul.{Vul}
+use Rattle.boards.specs.Layouts.{Layout}
+use Rattle.printing.specs.Letters.{or_dash, suit_letters}
+use Rattle.pbn_text.specs.Games.{HeadingView}
+use Rattle.notations.specs.Names.{seat_name, vulnerable_name}
+use Rattle.notations.specs.Style.{style}
+
+-- ---- the title
+
+-- nothing but spaces
+abbrev pub is_blank : List ℕ → Bool
+is_blank text = list_all (λ byte. byte == 0x20) text
+
+-- a label that is given and has something to be seen
+abbrev pub shown : Option (List ℕ) → List ℕ
+shown None = []
+shown (Some text) = if is_blank text then [] else text
+
+-- one text and the other, with a comma and a space between them if neither is empty
+abbrev pub joined : List ℕ → List ℕ → List ℕ
+joined [] right = right
+joined (x ∷ left) [] = x ∷ left
+joined (x ∷ left) (y ∷ right) = (x ∷ left) ++ codes ", " ++ y ∷ right
+
+abbrev pub or_boards : List ℕ → List ℕ
+or_boards [] = codes "Boards"
+or_boards (x ∷ title) = x ∷ title
+
+-- event, site and date
+abbrev pub title_of : HeadingView → List ℕ
+title_of heading =
+    or_boards (joined (joined (shown heading.event) (shown heading.site)) (shown heading.date))
+
+-- &, < and > as HTML has them in a text
+unfoldable pub escaped_byte : ℕ → List ℕ
+escaped_byte byte =
+    if byte == 0x26 then codes "&amp;"
+    else if byte == 0x3C then codes "&lt;"
+    else if byte == 0x3E then codes "&gt;"
+    else byte ∷ []
+
+abbrev pub escaped : List ℕ → List ℕ
+escaped text = flat_map escaped_byte text
+
+-- ---- the header and the footer
+
+-- up to the title
+unfoldable pub opening : List ℕ
+opening =
+    codes "<!DOCTYPE html>\n<html lang=\"en\">\n<head>\n<meta charset=\"utf-8\">\n"
+    ++ codes "<meta name=\"viewport\" content=\"width=device-width, initial-scale=1\">\n"
+
+-- the title, the style, and the title again as the heading
+unfoldable pub header_text : HeadingView → List ℕ
+header_text heading =
+    opening
+    ++ codes "<title>" ++ escaped (title_of heading) ++ codes "</title>\n<style>\n"
+    ++ style ++ codes "</style>\n</head>\n<body>\n<main>\n<h1>"
+    ++ escaped (title_of heading) ++ codes "</h1>\n"
+
+unfoldable pub footer_text : List ℕ
+footer_text = codes "</main>\n</body>\n</html>\n"
+
+-- ---- a board
+
+-- the sign of a suit, ♠, ♥, ♦ or ♣, which is a character of three bytes; the style has <b> in red
+abbrev pub sign : Suit → List ℕ
+sign Spades = codes "<i>" ++ 0xE2 ∷ 0x99 ∷ 0xA0 ∷ codes "</i>"
+sign Hearts = codes "<b>" ++ 0xE2 ∷ 0x99 ∷ 0xA5 ∷ codes "</b>"
+sign Diamonds = codes "<b>" ++ 0xE2 ∷ 0x99 ∷ 0xA6 ∷ codes "</b>"
+sign Clubs = codes "<i>" ++ 0xE2 ∷ 0x99 ∷ 0xA3 ∷ codes "</i>"
+
+-- the dash –, a character of three bytes
+abbrev pub dash : List ℕ
+dash = 0xE2 ∷ 0x80 ∷ 0x93 ∷ []
+
+-- a suit of a hand: its sign, and its ranks from the ace down or a dash
+abbrev pub suit_text : List Bool → Suit → List ℕ
+suit_text hand suit = sign suit ++ or_dash dash (suit_letters hand suit)
+
+-- its four suits, each on a line of its own
+abbrev pub suits_text : List Bool → List ℕ
+suits_text hand =
+    suit_text hand Spades ++ codes "<br>"
+    ++ suit_text hand Hearts ++ codes "<br>"
+    ++ suit_text hand Diamonds ++ codes "<br>"
+    ++ suit_text hand Clubs
+
+-- the seat of a hand, and its points
+unfoldable pub seat_text : Seat → ℕ → List ℕ
+seat_text seat points =
+    codes "<div class=\"" ++ seat_name seat ++ codes "\"><h3>" ++ seat_name seat
+    ++ codes " <small>" ++ decimal points ++ codes " HCP</small></h3>"
+
+-- the hand in a seat: the seat, the points and the suits
+unfoldable pub hand_text : Seat → List Bool → List ℕ
+hand_text seat hand = seat_text seat (points_of hand) ++ suits_text hand ++ codes "</div>\n"
+
+-- the board's number, on the table
+unfoldable pub number_text : Vul → ℕ → List ℕ
+number_text vulnerable number =
+    codes "<h2 class=\"" ++ vulnerable_name vulnerable
+    ++ codes "\">Board " ++ decimal number ++ codes "</h2>\n"
+
+-- who deals, and which sides are vulnerable
+unfoldable pub facts_text : Seat → Vul → List ℕ
+facts_text dealer vulnerable =
+    codes "<p>Dealer " ++ seat_name dealer
+    ++ codes "<br>Vul " ++ vulnerable_name vulnerable ++ codes "</p>\n"
+
+-- a section of what the board is and of its four hands
+unfoldable pub board_text : Board → List ℕ
+board_text board =
+    codes "<section class=\"board\">\n"
+    ++ number_text board.vulnerable board.number
+    ++ facts_text board.dealer board.vulnerable
+    ++ hand_text North (hand_of board.deal North)
+    ++ hand_text East (hand_of board.deal East)
+    ++ hand_text South (hand_of board.deal South)
+    ++ hand_text West (hand_of board.deal West)
+    ++ codes "</section>\n"
+
+-- ---- the notation: the header, a section for each board, and the footer
+
+abbrev pub html : HeadingView → Layout
+html heading =
+    record { header = header_text heading; board = board_text; footer = footer_text }

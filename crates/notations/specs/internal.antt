@@ -1,0 +1,4 @@
+-- What only bodies and lemmas use: no public clause names any of it.
+pub mod Parts
+pub mod Pens
+pub mod SomeByte

@@ -1,0 +1,16 @@
+//! Bridge deals in the formats that a program can be asked for: games of Portable Bridge Notation
+//! (the crate `pbn_text`), hand records, LIN, a page of HTML, and the numbers of candidates.
+//!
+//! A format is a `Format`, and an `AnyPrinter` prints boards in it. A file has what one format
+//! writes: `hands.rt`, `lin.rt`, `page.rt` and `numbers.rt`.
+#![tactic(auto)]
+
+mod format;
+mod hands;
+mod lin;
+mod numbers;
+mod page;
+mod printer;
+
+pub use format::Format;
+pub use printer::AnyPrinter;

@@ -1,0 +1,120 @@
+//! The header: the title, of the labels that are given, and the style.
+
+ghost use Rattle.std.specs.Prelude.{◌≡◌, ◌≤◌, ◌+◌, ◌*◌, ◌++◌, [], length};
+ghost use Rattle.printing.specs.declared.buffer.TheConstants.{CAPACITY};
+ghost use Rattle.notations.specs.Pages.{escaped, escaped_byte, header_text, is_blank, joined};
+ghost use Rattle.notations.specs.Pages.{opening, shown, title_of};
+
+use crate::page::style::put_style;
+use pbn_text::{Date, Heading, Label};
+use printing::TextBuffer;
+
+/// Writes the header into the empty buffer.
+pub(crate) fn put_header(text: &mut TextBuffer, heading: &Heading)
+    requires { text.old ≡ [] }
+    ensures { text.new ≡ header_text heading.now }
+{
+    let mut title = TextBuffer::new();
+    put_title(&mut title, heading);
+    put_opening(text);
+    text.put(b"<title>");
+    put_escaped(text, title.as_bytes());
+    text.put(b"</title>\n<style>\n");
+    put_style(text);
+    text.put(b"</style>\n</head>\n<body>\n<main>\n<h1>");
+    put_escaped(text, title.as_bytes());
+    text.put(b"</h1>\n");
+}
+
+/// Writes what comes before the title into the empty buffer.
+#[tactic(auto, unfolding(crate::specs::Pages::opening))]
+fn put_opening(text: &mut TextBuffer)
+    requires { text.old ≡ [] }
+    ensures text { text.new ≡ opening }
+    ensures most { length text.new ≤ 200 }
+{
+    text.put(b"<!DOCTYPE html>\n<html lang=\"en\">\n<head>\n<meta charset=\"utf-8\">\n");
+    text.put(b"<meta name=\"viewport\" content=\"width=device-width, initial-scale=1\">\n");
+}
+
+/// Writes the title into the empty buffer: event, site and date.
+fn put_title(title: &mut TextBuffer, heading: &Heading)
+    requires { title.old ≡ [] }
+    ensures text { title.new ≡ title_of heading.now }
+    ensures most { length title.new ≤ 216 }
+{
+    put_label(title, &heading.event);
+    put_label(title, &heading.site);
+    put_date(title, &heading.date);
+    if title.len() == 0 {
+        title.put(b"Boards");
+    }
+}
+
+fn put_label(title: &mut TextBuffer, label: &Option<Label>)
+    requires { length title.old + 102 ≤ CAPACITY }
+    ensures text { title.new ≡ joined title.old (shown label.now) }
+    ensures most { length title.new ≤ length title.old + 102 }
+{
+    if let Some(label) = label {
+        put_shown(title, label.as_bytes());
+    }
+}
+
+fn put_date(title: &mut TextBuffer, date: &Option<Date>)
+    requires { length title.old + 12 ≤ CAPACITY }
+    ensures text { title.new ≡ joined title.old (shown date.now) }
+    ensures most { length title.new ≤ length title.old + 12 }
+{
+    if let Some(date) = date {
+        put_shown(title, date.as_bytes());
+    }
+}
+
+/// Joins a label to the title, unless it is blank.
+fn put_shown(title: &mut TextBuffer, label: &[u8])
+    requires { length title.old + length label.now + 2 ≤ CAPACITY }
+    ensures text { title.new ≡ joined title.old (shown (Some label.now)) }
+    ensures most { length title.new ≤ length title.old + length label.now + 2 }
+{
+    if is_blank(label) {
+        return;
+    }
+    if title.len() > 0 {
+        title.put(b", ");
+    }
+    title.put(label);
+}
+
+/// Whether the text is nothing but spaces.
+fn is_blank(text: &[u8]) -> bool
+    ensures { result ≡ is_blank text.now }
+{
+    text.iter().all(|byte| *byte == b' ')
+}
+
+/// Appends the text with &, < and > as HTML has them.
+fn put_escaped(text: &mut TextBuffer, label: &[u8])
+    requires { length text.old + 5 * length label.now ≤ CAPACITY }
+    ensures text { text.new ≡ text.old ++ escaped label.now }
+    ensures most { length text.new ≤ length text.old + 5 * length label.now }
+{
+    for byte in label {
+        put_byte(text, *byte);
+    }
+}
+
+/// Appends a byte of a text.
+#[tactic(auto, unfolding(crate::specs::Pages::escaped_byte))]
+fn put_byte(text: &mut TextBuffer, byte: u8)
+    requires { length text.old + 5 ≤ CAPACITY }
+    ensures text { text.new ≡ text.old ++ escaped_byte byte }
+    ensures most { length text.new ≤ length text.old + 5 }
+{
+    match byte {
+        b'&' => text.put(b"&amp;"),
+        b'<' => text.put(b"&lt;"),
+        b'>' => text.put(b"&gt;"),
+        _ => text.put(&[byte]),
+    }
+}

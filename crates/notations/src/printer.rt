@@ -1,0 +1,145 @@
+//! The printer of any format.
+
+ghost use Rattle.std.specs.Prelude.{◌≡◌, [], IfOk};
+ghost use Rattle.notations.specs.Formats.{layout_of};
+ghost use Rattle.notations.specs.internal.Pens.{IsUnder, format_of, text_of};
+ghost use Rattle.notations.specs.internal.SomeByte.{layout_has_byte};
+
+use crate::{Format, hands, lin, numbers, page};
+use boards::{Board, Notation};
+use pbn_text::{HEADER, Heading, Printer};
+use printing::{SuitLetters, TextBuffer};
+use std::alloc::{AllocError, Global};
+use std::marker::Model;
+
+/// Prints boards in a format and under a heading, one at a time. Contracts see the two, and the
+/// text that was printed last.
+///
+/// It takes 128 KiB of memory once, when it is created, and none to print. Numbers of candidates
+/// need none at all.
+#[derive(Drop)]
+pub struct AnyPrinter {
+    heading: Heading,
+    header: TextBuffer,
+    pen: Pen,
+    text: TextBuffer,
+}
+
+/// What a board is written with: the letters of suits, unless the format has none. A printer of
+/// games has a text of its own, which keeps the lines that the games share.
+#[derive(Drop)]
+enum Pen {
+    Pbn(Printer),
+    Hands(SuitLetters),
+    Lin(SuitLetters),
+    Html(SuitLetters),
+    Numbers,
+}
+
+impl Model for AnyPrinter {
+    ghost use Rattle.std.specs.Prelude.{◌≡◌};
+    ghost use Rattle.notations.specs.Formats.{PrintingAs, layout_of};
+    ghost use Rattle.notations.specs.internal.Pens.{IsUnder, format_of, text_of};
+
+    ghost Value = { PrintingAs };
+
+    ghost view = { λ p. record {
+      format = format_of p.pen;
+      heading = p.heading;
+      text = text_of p.pen p.text;
+    } };
+
+    ghost invariant = { λ p. IsUnder p.heading p.pen
+        × (p.header ≡ (layout_of (format_of p.pen) p.heading).header) };
+}
+
+impl AnyPrinter {
+    /// Returns a printer in the format and under the heading, which has printed nothing.
+    ///
+    /// # Errors
+    /// `AllocError` if the allocation of its memory failed.
+    pub fn new(alloc: Global, format: Format, heading: &Heading) -> Result<AnyPrinter, AllocError>
+        ensures format { IfOk result (λ p. p.format ≡ format) }
+        ensures heading { IfOk result (λ p. p.heading ≡ heading.now) }
+        ensures text { IfOk result (λ p. p.text ≡ []) }
+    {
+        let pen = Pen::new(alloc, format, heading)?;
+        let mut header = TextBuffer::new();
+        put_header(&mut header, format, heading);
+        Ok(AnyPrinter {
+            heading: *heading,
+            header,
+            pen,
+            text: TextBuffer::new(),
+        })
+    }
+}
+
+impl Notation for AnyPrinter {
+    ghost layout = { λ printer. layout_of printer.format printer.heading };
+
+    ghost printed = { λ printer. printer.text };
+
+    fn header(&self) -> &[u8] {
+        self.header.as_bytes()
+    }
+
+    fn print(&mut self, board: &Board) {
+        let text = &mut self.text;
+        text.clear();
+        match &mut self.pen {
+            Pen::Pbn(printer) => printer.print(board),
+            Pen::Hands(letters) => hands::put_record(text, letters, board),
+            Pen::Lin(letters) => lin::put_line(text, letters, board),
+            Pen::Html(letters) => page::put_board(text, letters, board),
+            Pen::Numbers => numbers::put_line(text, board),
+        }
+    }
+
+    fn text(&self) -> &[u8] {
+        match &self.pen {
+            Pen::Pbn(printer) => printer.text(),
+            Pen::Hands(_) | Pen::Lin(_) | Pen::Html(_) | Pen::Numbers => self.text.as_bytes(),
+        }
+    }
+
+    #[tactic(auto, unfolding(crate::specs::Pages::footer_text))]
+    fn footer(&self) -> &[u8] {
+        match &self.pen {
+            Pen::Html(_) => page::FOOTER,
+            Pen::Pbn(_) | Pen::Hands(_) | Pen::Lin(_) | Pen::Numbers => b"",
+        }
+    }
+
+    ghost some_byte = { λ printer board. layout_has_byte printer.format printer.heading board };
+}
+
+impl Pen {
+    /// Returns the pen of the format, which has written nothing.
+    fn new(alloc: Global, format: Format, heading: &Heading) -> Result<Pen, AllocError>
+        ensures format { IfOk result (λ pen. format_of pen ≡ format) }
+        ensures heading { IfOk result (λ pen. IsUnder heading.now pen) }
+        ensures text { IfOk result (λ pen. text_of pen [] ≡ []) }
+    {
+        match format {
+            Format::Pbn => Ok(Pen::Pbn(Printer::new(alloc, heading)?)),
+            Format::Hands => Ok(Pen::Hands(SuitLetters::new(alloc)?)),
+            Format::Lin => Ok(Pen::Lin(SuitLetters::new(alloc)?)),
+            Format::Html => Ok(Pen::Html(SuitLetters::new(alloc)?)),
+            Format::Numbers => Ok(Pen::Numbers),
+        }
+    }
+}
+
+/// Writes the format's header into the empty buffer.
+fn put_header(text: &mut TextBuffer, format: Format, heading: &Heading)
+    requires { text.old ≡ [] }
+    ensures { text.new ≡ (layout_of format heading.now).header }
+{
+    match format {
+        Format::Pbn => text.put(&HEADER),
+        Format::Hands => hands::put_header(text, heading),
+        Format::Html => page::put_header(text, heading),
+        Format::Lin | Format::Numbers => {}
+    }
+}
