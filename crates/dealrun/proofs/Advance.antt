@@ -1,5 +1,5 @@
 -- One verdict more is taken and written.
-use Rattle.std.proofs.Common.{◌≡◌, ◌≢◌, ℕ, ◌+◌, ◌-◌, ◌%◌, ◌<◌, ◌≤◌, Bool, true, false, cond, List, [], ◌∷◌, ◌++◌, length, get_or, set, Option, Some, refl, sym, ◌∙◌, ap, subst, arith, inl, inr, append_assoc, length-append}
+use Rattle.std.proofs.Common.{◌≡◌, ◌≢◌, ℕ, ◌+◌, ◌-◌, ◌%◌, ◌<◌, ◌≤◌, Bool, true, false, cond, List, [], ◌∷◌, ◌++◌, All, length, get_or, set, Option, Some, refl, sym, ◌∙◌, ap, subst, arith, inl, inr, append_assoc, length-append}
 use Rattle.std.specs.Option.{ForSome}
 use Rattle.std.proofs.lemmas.Bool.{cases_eq, cases_lt}
 use Rattle.std.proofs.lemmas.List.{get_or-set_same, get_or-set_other, get_or-map, map-set, length-set, length-map, append-nil, get_or_default}
@@ -189,10 +189,10 @@ printed-none layout plan lists =
 boards-none : (plan : Planned) (lists : List (List Verdict)) → board_count plan lists 0 ≡ 0
 boards-none plan lists = ap (λ vs. length (boards_in plan vs)) (in_turn-none plan.workers lists) ∙ ap length (boards_in-none plan)
 
-fresh_turns : (plan : Planned) (lanes : List OutView) → length lanes ≡ plan.workers → ((w : ℕ) (e : OutView) → w < plan.workers → (get_or lanes w e).taken ≡ []) → TakenInTurn plan lanes 0
-fresh_turns plan lanes long fresh = record { long = long; turns_are = λ w e lt. ap length (fresh w e lt) ∙ sym (turns-none plan.workers w) }
+pub fresh_turns : (plan : Planned) (lanes : List OutView) → length lanes ≡ plan.workers → All (λ l. l.taken ≡ []) lanes → TakenInTurn plan lanes 0
+fresh_turns plan lanes long fresh = record { long = long; turns_are = λ w e lt. ap length (fresh w e (omega (arith, lt, long))) ∙ sym (turns-none plan.workers w) }
 
-pub begins : (layout : Layout) (head : List ℕ) (plan : Planned) (lanes : List OutView) (t boards : ℕ) (base bytes : Option (List ℕ)) → length lanes ≡ plan.workers → ((w : ℕ) (e : OutView) → w < plan.workers → (get_or lanes w e).taken ≡ [])
+pub begins : (layout : Layout) (head : List ℕ) (plan : Planned) (lanes : List OutView) (t boards : ℕ) (base bytes : Option (List ℕ)) → length lanes ≡ plan.workers → All (λ l. l.taken ≡ []) lanes
     → t ≡ 0 → boards ≡ 0 → head ≡ layout.header → bytes ≡ append_known base head → WriterSoFar layout plan lanes t boards base bytes
 begins layout head plan lanes t boards base bytes long fresh t_is boards_is head_is bytes_is =
     let lists = taken_lists lanes in record {
@@ -205,7 +205,7 @@ begins layout head plan lanes t boards base bytes long fresh t_is boards_is head
       short = λ i lt. absurd (omega arith);
     }
 
-pub begins_broken : (layout : Layout) (head : List ℕ) (plan : Planned) (lanes : List OutView) (t boards : ℕ) (base bytes : Option (List ℕ)) → length lanes ≡ plan.workers → ((w : ℕ) (e : OutView) → w < plan.workers → (get_or lanes w e).taken ≡ [])
+pub begins_broken : (layout : Layout) (head : List ℕ) (plan : Planned) (lanes : List OutView) (t boards : ℕ) (base bytes : Option (List ℕ)) → length lanes ≡ plan.workers → All (λ l. l.taken ≡ []) lanes
     → t ≡ 0 → boards ≡ 0 → head ≡ layout.header → AppendsPart base bytes head → WriterBrokeOff layout plan lanes t boards base bytes
 begins_broken layout head plan lanes t boards base bytes long fresh t_is boards_is head_is part =
     let lists = taken_lists lanes in

@@ -256,8 +256,8 @@ module _ (layout : Layout) (plan : Planned) (form : Form) (lanes : List OutView)
     boards_are = done.stands.boards_are;
   }
 
-  pub closed : IsFixed plan.fixed → AppendsAll mid new layout.footer → Closes layout plan form lanes boards old new
-  closed fits is = record {
+  pub closed : (t : ℕ) → end_of plan form ≡ t → IsFixed plan.fixed → AppendsAll mid new layout.footer → Closes layout plan form lanes boards t old new
+  closed t needed fits is = record {
     lanes_are = done.lanes_are;
     text_is = record {
       bytes = after_body layout.footer is;
@@ -265,6 +265,7 @@ module _ (layout : Layout) (plan : Planned) (form : Form) (lanes : List OutView)
       partitions = partitions plan form fits;
     };
     stands = stand_closed layout layout.footer plan form lanes (taken_in_all lanes) boards old mid new refl done.stands.lanes_are printed_before is;
+    candidates_are = sym needed;
   }
 
   pub footer_broken : AppendsPart mid new layout.footer → BreaksOffFooter layout plan form lanes boards old new

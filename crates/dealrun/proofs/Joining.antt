@@ -38,8 +38,8 @@ part_of_whole xs ys is = grind (arith, common_steps)
 
 module _ (n : ℕ) (lists : List (List Verdict)) (lanes : List OutView) (all : List Verdict) (old new : OutView) (short : n < length lanes) (at : (d : List Verdict) → get_or lists n d ≡ all) (unsettled : old.settled ≡ false) where
   parts_here : (how : WorkEnd) → JoinsAs all old new how → PartIfSettled all new
-  parts_here (Done closed) joins settled = (part_of_whole _ _ joins.1, joins.2)
-  parts_here (Stopped closed) joins settled = (joins.1.0, joins.2)
+  parts_here (Done closed) joins settled = part_of_whole _ _ joins.1
+  parts_here (Stopped closed) joins settled = joins.1.0
   parts_here Unclosed joins settled = cc
 
   parts_step : (how : WorkEnd) → JoinsAs all old new how → Below PartIfSettled n lists lanes → Below PartIfSettled (n + 1) lists (set lanes n new)

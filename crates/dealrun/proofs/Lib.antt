@@ -8,6 +8,5 @@ pub mod Advance
 pub mod Wholes
 pub mod Accepting
 pub mod Endings
-pub mod Ended
 pub mod Finals
 pub mod Causes

@@ -3,7 +3,7 @@
 //! A plan says which candidates are tried, and which boards are made of the accepted ones. Two runs
 //! write them, both proved to write the text that the definition gives:
 //! - `run_in`, the fast one: workers in threads of their own judge the candidates, and the caller's
-//!   thread writes (`runs.rt`, `start.rt`, `whole_text.rt`, `writer.rt`, `join.rt`, `ending.rt`).
+//!   thread writes (`runs.rt`, `start.rt`, `writer.rt`, `join.rt`, `ending.rt`).
 //! - `run_plain_in`, the reference, which reads as the definition (`reference.rt`). It runs in
 //!   tests.
 //!
@@ -20,7 +20,6 @@ mod pbn;
 mod reference;
 mod runs;
 mod start;
-mod whole_text;
 mod writer;
 
 pub use cause::Cause;
