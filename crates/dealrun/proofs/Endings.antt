@@ -20,7 +20,7 @@ use Rattle.lanes.specs.Verdicts.{turns, verdict_of}
 use Rattle.lanes.specs.Views.{OutView}
 use Rattle.lanes.specs.Prefixes.{IsPrefix}
 use Rattle.lanes.proofs.Places.{count_even, turns_less}
-use Rattle.lanes.proofs.Sums.{turn_counts, sum-turn_counts}
+use Rattle.lanes.proofs.Sums.{sum-turn_counts}
 use Rattle.lanes.proofs.VerdictLists.{length-verdicts, verdicts-are}
 use Rattle.plans.specs.Plans.{Planned, candidate_of}
 use Rattle.sinks.specs.Appended.{append_known, AppendsAll, AppendsPart}
@@ -43,9 +43,6 @@ prefix_front xs ys zs h =
 pub prefix_short : (xs zs : List Verdict) → IsPrefix xs zs → length xs ≤ length zs
 prefix_short xs zs h = grind (arith, common_steps)
 
-pub prefix_whole : (xs zs : List Verdict) → xs ≡ zs → IsPrefix xs zs
-prefix_whole xs zs h = grind (arith, common_steps)
-
 -- some lane, for where a list has none
 pub no_lane : OutView
 no_lane = record { taken = []; known = 0; ring = record { words = null_ptr; slots = null_ptr; names = (0, (0, 0)) }; settled = false; left = [] }
@@ -67,14 +64,13 @@ for_each_lane plan f g lanes long h =
     fill_by_all g (map f lanes) plan.workers (f no_lane) (simp length-map long)
     (λ k lt. get_or-map f lanes k no_lane (f no_lane) (omega (arith, lt, long)) ∙ h k no_lane lt)
 
+-- the lanes were taken in turn, as lists
+turns_as_lists : (plan : Planned) (lanes : List OutView) (m : ℕ) → TakenInTurn plan lanes m → map (λ l. length l.taken) lanes ≡ for_each_worker plan (λ w. turns plan.workers w m)
+turns_as_lists plan lanes m h = for_each_lane plan (λ l. length l.taken) (λ w. turns plan.workers w m) lanes h.long h.turns_are
+
 -- in all as many were taken as there were turns
 pub taken_total : (plan : Planned) (lanes : List OutView) (t : ℕ) → 0 < plan.workers → TakenInTurn plan lanes t → taken_in_all lanes ≡ t
-taken_total plan lanes t some h =
-    let count : OutView → ℕ = λ l. length l.taken in
-    let counts : map count lanes ≡ turn_counts plan.workers t =
-    fill_by_all (λ w. turns plan.workers w t) (map count lanes) plan.workers 0 (simp length-map h.long)
-    (λ k lt. get_or-map count lanes k no_lane 0 (omega (arith, lt, h.long)) ∙ h.turns_are k no_lane lt) in
-    ap sum counts ∙ sum-turn_counts plan.workers t some
+taken_total plan lanes t some h = ap sum (turns_as_lists plan lanes t h) ∙ sum-turn_counts plan.workers t some
 
 module _ (plan : Planned) (form : Form) (lanes : List OutView) (t : ℕ) (some : 0 < plan.workers) (le : t ≤ plan.count) (h : TakenInTurn plan lanes t)
     (parts : ByNumber plan lanes (λ w l. IsPrefix l.taken (verdicts_for plan form w))) where
@@ -153,10 +149,6 @@ module _ (plan : Planned) (form : Form) (lanes : List OutView) (t : ℕ) (some :
 -- the accepted deals are partitions, as every candidate is
 partitions : (plan : Planned) (form : Form) → IsFixed plan.fixed → All IsPartition (map (candidate_of plan) (accepted plan form))
 partitions plan form fits = All-map IsPartition (candidate_of plan) (accepted plan form) (λ k d lt. around_is_partition plan.fixed (state_before plan.seed (get_or (accepted plan form) k d)) fits)
-
--- the lanes were taken in turn, as lists
-turns_as_lists : (plan : Planned) (lanes : List OutView) (m : ℕ) → TakenInTurn plan lanes m → map (λ l. length l.taken) lanes ≡ for_each_worker plan (λ w. turns plan.workers w m)
-turns_as_lists plan lanes m h = for_each_lane plan (λ l. length l.taken) (λ w. turns plan.workers w m) lanes h.long h.turns_are
 
 -- what stands when the lanes were taken in turn and each settled one holds a beginning
 pub stand : (plan : Planned) (form : Form) (lanes : List OutView) (t : ℕ) → 0 < plan.workers → t ≤ plan.count → TakenInTurn plan lanes t → StaysShort plan lanes t
@@ -256,8 +248,8 @@ module _ (layout : Layout) (plan : Planned) (form : Form) (lanes : List OutView)
     boards_are = done.stands.boards_are;
   }
 
-  pub closed : (t : ℕ) → end_of plan form ≡ t → IsFixed plan.fixed → AppendsAll mid new layout.footer → Closes layout plan form lanes boards t old new
-  closed t needed fits is = record {
+  pub closed : (t : ℕ) → end_of plan form ≡ t → (boards ≤ t) × (t ≤ plan.count) → IsFixed plan.fixed → AppendsAll mid new layout.footer → Closes layout plan form lanes boards t old new
+  closed t needed few fits is = record {
     lanes_are = done.lanes_are;
     text_is = record {
       bytes = after_body layout.footer is;
@@ -266,6 +258,7 @@ module _ (layout : Layout) (plan : Planned) (form : Form) (lanes : List OutView)
     };
     stands = stand_closed layout layout.footer plan form lanes (taken_in_all lanes) boards old mid new refl done.stands.lanes_are printed_before is;
     candidates_are = sym needed;
+    few = few;
   }
 
   pub footer_broken : AppendsPart mid new layout.footer → BreaksOffFooter layout plan form lanes boards old new

@@ -1,9 +1,9 @@
 -- From the joins and the writer to what a run promises.
-use Rattle.std.proofs.Common.{◌≡◌, ◌≢◌, ◌<◌, ◌≤◌, ◌-◌, ◌⊎◌, ◌++◌, ℕ, true, false, List, [], All, map, take, length, get_or, Option, None, Some, MatchOption, arith, ap, ◌∙◌, sym, subst, refl, inl, inr}
+use Rattle.std.proofs.Common.{◌≡◌, ◌≢◌, ◌<◌, ◌≤◌, ◌-◌, ◌⊎◌, ◌++◌, ℕ, true, false, List, [], All, map, take, length, get_or, Option, None, Some, arith, ap, ◌∙◌, sym, subst, refl, inl, inr}
 use Rattle.std.proofs.lemmas.Bool.{cases_lt, both_ways}
 use Rattle.std.proofs.lemmas.List.{get_or-map, length-map, get_or-take, take_all}
 use Rattle.std.proofs.lemmas.List.FromFn.{get_or-map-range_with_len}
-use Rattle.std.proofs.lemmas.Option.{slice_get-get_or}
+use Rattle.std.proofs.lemmas.Option.{MatchOption-at_none, MatchOption-at_some, slice_get-get_or}
 use Rattle.boards.specs.Layouts.{Layout}
 use Rattle.conditions.specs.Form.{Form}
 use Rattle.lanes.specs.declared.verdict.Verdict.{Verdict}
@@ -78,13 +78,11 @@ module _ (plan : Planned) (form : Form) (n : ℕ) (lists : List (List Verdict)) 
 
   pub joined_settled : u ≡ None → ByNumber plan lanes (λ w l. l.settled ≡ true)
   joined_settled none w e lt =
-      let h : Below IsSettled n lists lanes = subst (λ o. MatchOption o (Below IsSettled n lists lanes) (λ u. (u < n) × Below IsSettled u lists lanes × UnsettledAt u lanes)) none joined.unclosed_is in
-      h w [] e (omega (arith, lt, all))
+      MatchOption-at_none _ _ none joined.unclosed_is w [] e (omega (arith, lt, all))
 
   pub joined_whole : s ≡ None → ByNumber plan lanes (λ w l. l.settled ≡ true → contents_of l ≡ verdicts_for plan form w)
   joined_whole none w e lt settled =
-      let h : Below WholeIfSettled n lists lanes = subst (λ o. MatchOption o (Below WholeIfSettled n lists lanes) (λ s. (s < n) × Below WholeIfSettled s lists lanes × BeginningAt s lists lanes)) none joined.stopped_is in
-      h w [] e (omega (arith, lt, all)) settled ∙ owed_at plan form lists w [] owes lt
+      MatchOption-at_none _ _ none joined.stopped_is w [] e (omega (arith, lt, all)) settled ∙ owed_at plan form lists w [] owes lt
 
   pub all_whole : s ≡ None → u ≡ None → AllWhole plan form lanes
   all_whole none_s none_u w e lt =
@@ -92,8 +90,7 @@ module _ (plan : Planned) (form : Form) (n : ℕ) (lists : List (List Verdict)) 
 
   pub least_stopped : (w : ℕ) → s ≡ Some w → length lanes ≡ plan.workers → IsLeastStopped plan form lanes w
   least_stopped w is long =
-      let h : (w < n) × Below WholeIfSettled w lists lanes × BeginningAt w lists lanes =
-      subst (λ o. MatchOption o (Below WholeIfSettled n lists lanes) (λ s. (s < n) × Below WholeIfSettled s lists lanes × BeginningAt s lists lanes)) is joined.stopped_is in
+      let h : (w < n) × Below WholeIfSettled w lists lanes × BeginningAt w lists lanes = MatchOption-at_some _ _ w is joined.stopped_is in
       let lt : w < plan.workers = omega (arith, h.0, all) in
       let here : w < length lanes = omega (arith, lt, long) in record {
         lane = get_or lanes w no_lane;
@@ -106,8 +103,7 @@ module _ (plan : Planned) (form : Form) (n : ℕ) (lists : List (List Verdict)) 
 
   pub least_unclosed : (w boards : ℕ) → u ≡ Some w → length lanes ≡ plan.workers → (plan.limit ≢ Some boards → ByNumber plan lanes (λ v l. l.settled ≡ true → contents_of l ≡ verdicts_for plan form v)) → IsLeastUnclosed plan form lanes w boards
   least_unclosed w boards is long whole =
-      let h : (w < n) × Below IsSettled w lists lanes × UnsettledAt w lanes =
-      subst (λ o. MatchOption o (Below IsSettled n lists lanes) (λ u. (u < n) × Below IsSettled u lists lanes × UnsettledAt u lanes)) is joined.unclosed_is in
+      let h : (w < n) × Below IsSettled w lists lanes × UnsettledAt w lanes = MatchOption-at_some _ _ w is joined.unclosed_is in
       let lt : w < plan.workers = omega (arith, h.0, all) in
       let here : w < length lanes = omega (arith, lt, long) in record {
         lane = get_or lanes w no_lane;

@@ -1,3 +1,5 @@
+pub mod Ranges
+pub mod ValueLemmas
 pub mod BoardLists
 pub mod Running
 pub mod Maps

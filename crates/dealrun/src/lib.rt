@@ -7,8 +7,9 @@
 //! - `run_plain_in`, the reference, which reads as the definition (`reference.rt`). It runs in
 //!   tests.
 //!
-//! They write in any notation; `run` and `run_plain` write PBN (`pbn.rt`). Plans, sinks and
-//! `stream` stand in crates of their own, and have their names here too.
+//! They write in any notation; `run` and `run_plain` write PBN (`pbn.rt`). Plans and sinks stand in
+//! crates of their own, and have their names here too. `stream` writes the values of the generator,
+//! without a plan (`values.rt`).
 #![tactic(auto)]
 
 mod cause;
@@ -20,6 +21,7 @@ mod pbn;
 mod reference;
 mod runs;
 mod start;
+mod values;
 mod writer;
 
 pub use cause::Cause;

@@ -4,11 +4,11 @@
 //! the text written (`writer.rt`), joins the workers, and reports how that ended.
 
 ghost use Rattle.std.specs.Prelude.{◌≡◌, ◌-◌, ◌^◌, ◌<◌, ◌≤◌, [], false, All, IfOk};
-ghost use Rattle.std.specs.Prelude.{MatchResult, map, vec_len};
+ghost use Rattle.std.specs.Prelude.{map, vec_len};
 ghost use Rattle.conditions.specs.Form.{Form};
 ghost use Rattle.dealrun.specs.declared.cause.Cause.TheVariants.{Memory};
-ghost use Rattle.dealrun.specs.Outcomes.{FaultsAfter, InterruptedIn, StandsCompleteIn};
-ghost use Rattle.dealrun.specs.Outcomes.{TakesWhatIsOwed, WritesTextIn};
+ghost use Rattle.dealrun.specs.Outcomes.{FailsAtOutput, StandsIn, TakesWhatIsOwed, WritesTextIn};
+ghost use Rattle.dealrun.specs.Outcomes.{report_of};
 ghost use Rattle.dealrun.specs.Text.{end_of};
 ghost use Rattle.dealrun.specs.internal.Ends.{EndsRun};
 ghost use Rattle.dealrun.specs.internal.Handles.{owed_by};
@@ -90,15 +90,10 @@ pub fn run_in<
     ensures text { IfOk result (λ r. WritesTextIn (N.layout notation.old) plan.now cond r.boards
         (S.bytes sink.old) (S.bytes sink.new)) }
     // However the run ends: the lanes as they are, and the bytes of what was taken from them.
-    ensures stands { MatchResult result
-        (λ r. StandsCompleteIn (N.layout notation.old) (N.layout notation.old).footer
-        plan.now cond r.lanes.items r.boards (S.bytes sink.old) (S.bytes sink.new))
-        (λ e. InterruptedIn (N.layout notation.old)
-        plan.now cond e.cause e.lanes.items e.boards (S.bytes sink.old) (S.bytes sink.new)) }
+    ensures stands { StandsIn (N.layout notation.old) plan.now cond result
+        (S.bytes sink.old) (S.bytes sink.new) }
     // The sink failed, once, if and only if the cause is Output.
-    ensures faults { MatchResult result
-        (λ _. S.faults sink.new ≡ S.faults sink.old)
-        (λ e. FaultsAfter e.cause (S.faults sink.old) (S.faults sink.new)) }
+    ensures faults { FailsAtOutput result (S.faults sink.old) (S.faults sink.new) }
 {
     let Counted { report, .. } = run_and_count(rt, alloc, plan, cond, notation, sink, gate)?;
     Ok(report)
@@ -134,14 +129,9 @@ pub fn run_and_count<
     ensures candidates { IfOk result (λ r. r.candidates ≡ end_of plan.now cond) }
     ensures few { IfOk result (λ r.
         (r.report.boards ≤ r.candidates) × (r.candidates ≤ plan.now.count)) }
-    ensures stands { MatchResult result
-        (λ r. StandsCompleteIn (N.layout notation.old) (N.layout notation.old).footer
-        plan.now cond r.report.lanes.items r.report.boards (S.bytes sink.old) (S.bytes sink.new))
-        (λ e. InterruptedIn (N.layout notation.old)
-        plan.now cond e.cause e.lanes.items e.boards (S.bytes sink.old) (S.bytes sink.new)) }
-    ensures faults { MatchResult result
-        (λ _. S.faults sink.new ≡ S.faults sink.old)
-        (λ e. FaultsAfter e.cause (S.faults sink.old) (S.faults sink.new)) }
+    ensures stands { StandsIn (N.layout notation.old) plan.now cond (report_of result)
+        (S.bytes sink.old) (S.bytes sink.new) }
+    ensures faults { FailsAtOutput result (S.faults sink.old) (S.faults sink.new) }
 {
     match Arc::new(alloc, AtomicBool::new(false)) {
         Ok(stop) => start_and_write(rt, alloc, plan, cond, notation, sink, gate, stop),
@@ -170,11 +160,7 @@ pub(crate) fn start_and_write<
     ensures layout { N.layout notation.new ≡ N.layout notation.old }
     ensures ends { EndsRun (N.layout notation.old) plan.now cond result
         (S.bytes sink.old) (S.bytes sink.new) }
-    ensures few { IfOk result (λ r.
-        (r.report.boards ≤ r.candidates) × (r.candidates ≤ plan.now.count)) }
-    ensures faults { MatchResult result
-        (λ _. S.faults sink.new ≡ S.faults sink.old)
-        (λ e. FaultsAfter e.cause (S.faults sink.old) (S.faults sink.new)) }
+    ensures faults { FailsAtOutput result (S.faults sink.old) (S.faults sink.new) }
 {
     let Ok((assignments, mut lanes)) = assign_all(rt, alloc, plan, &cond, &gate, &stop) else {
         return Err(out_of_memory(alloc));
@@ -227,11 +213,7 @@ fn write_all<R: Threads + Wait, N: Notation, S: Sink>(
         → Owes plan.now form (owed_by handles.items)
         → EndsRun (N.layout notation.old) plan.now form result
         (S.bytes sink.old) (S.bytes sink.new) }
-    ensures few { IfOk result (λ r.
-        (r.report.boards ≤ r.candidates) × (r.candidates ≤ plan.now.count)) }
-    ensures faults { MatchResult result
-        (λ _. S.faults sink.new ≡ S.faults sink.old)
-        (λ e. FaultsAfter e.cause (S.faults sink.old) (S.faults sink.new)) }
+    ensures faults { FailsAtOutput result (S.faults sink.old) (S.faults sink.new) }
 {
     let mut writer = Writer::new(plan, lanes);
     let written = writer.write_beside_workers(rt, notation, sink, stop);
@@ -263,7 +245,8 @@ fn write_all<R: Threads + Wait, N: Notation, S: Sink>(
 
 /// An interrupted run, as its writer left it.
 fn fault(cause: Cause, writer: Writer) -> RunFault
-    ensures { result ≡ record { cause = cause; lanes = writer.lanes; boards = writer.progress.boards } }
+    ensures { result
+        ≡ record { cause = cause; lanes = writer.lanes; boards = writer.progress.boards } }
 {
     let Writer {
         lanes,

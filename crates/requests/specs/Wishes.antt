@@ -5,7 +5,7 @@ use Rattle.cond_lang.specs.Form.{Form}
 use Rattle.cond_lang.specs.declared.language.TheConstants.{LANGUAGE}
 use Rattle.picking.specs.Outcomes.{Picks}
 use Rattle.sinks.specs.Appended.{AppendsAll}
-use Rattle.values.specs.Values.{lines}
+use Rattle.dealrun.specs.Values.{lines}
 use Rattle.requests.specs.Formats.{layout_of, text_as}
 use Rattle.requests.specs.Makings.{IsPlanned, Means, plan_of}
 use Rattle.requests.specs.Requests.{Wish, conditions, stream, make, pick}

@@ -1,5 +1,5 @@
 -- How a run ends: one that took and wrote all that its plan asks for, and one that was interrupted.
-use Rattle.std.specs.Prelude.{ℕ, ◌≡◌, List, [], length, Option, Result, MatchResult}
+use Rattle.std.specs.Prelude.{ℕ, ◌≡◌, ◌≤◌, List, [], length, Option, Result, MatchResult}
 use Rattle.boards.specs.Layouts.{Layout}
 use Rattle.conditions.specs.Form.{Form}
 use Rattle.lanes.specs.Views.{OutView}
@@ -26,6 +26,7 @@ pub record Closes (layout : Layout) (plan : Planned) (form : Form) (lanes : List
   pub text_is : WritesTextIn layout plan form boards old new
   pub stands : StandsCompleteIn layout layout.footer plan form lanes boards old new
   pub candidates_are : candidates ≡ end_of plan form
+  pub few : (boards ≤ candidates) × (candidates ≤ plan.count)
 
 -- a run that ended, with its sink's bytes before and after
 abbrev pub EndsRun : Layout → Planned → Form → Result Counted RunFault

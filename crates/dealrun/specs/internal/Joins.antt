@@ -53,19 +53,16 @@ pub record JoinedAs (n : ℕ) (lists : List (List Verdict)) (lanes : List OutVie
   pub unclosed_is : MatchOption unclosed (Below IsSettled n lists lanes)
       (λ u. (u < n) × Below IsSettled u lists lanes × UnsettledAt u lanes)
 
-abbrev pub first_of : Option ℕ → ℕ → Option ℕ
-first_of None w = Some w
-first_of (Some s) w = Some s
-
+-- these two once worker w ended so: the first such worker stays
 abbrev pub stopped_after : WorkEnd → ℕ → Option ℕ → Option ℕ
-stopped_after (Done closed) w s = s
-stopped_after (Stopped closed) w s = first_of s w
-stopped_after Unclosed w s = s
+stopped_after how w (Some s) = Some s
+stopped_after (Stopped closed) w None = Some w
+stopped_after how w None = None
 
 abbrev pub unclosed_after : WorkEnd → ℕ → Option ℕ → Option ℕ
-unclosed_after (Done closed) w u = u
-unclosed_after (Stopped closed) w u = u
-unclosed_after Unclosed w u = first_of u w
+unclosed_after how w (Some u) = Some u
+unclosed_after Unclosed w None = Some w
+unclosed_after how w None = None
 
 -- these lists are what the workers of the plan owe
 abbrev pub Owes : Planned → Form → List (List Verdict) → Type 0

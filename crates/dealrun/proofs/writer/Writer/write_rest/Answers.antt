@@ -37,5 +37,5 @@ returns-clause-ends g c base form h =
     let done = complete layout p form w.lanes.items w.progress.taken w.progress.boards base mid c.args.self.now.some le so_far (λ k d lt. (kept k d lt).0) (λ k d lt _. (kept k d lt).1) ended in
     let needed = end_is layout p form w.lanes.items w.progress.taken w.progress.boards base mid c.args.self.now.some le so_far (λ k d lt. (kept k d lt).0) (λ k d lt _. (kept k d lt).1) ended in
     MatchResult-weaker c.put_all.result c.put_all.ensures.bytes
-    (λ _ at. closed layout p form w.lanes.items w.progress.boards base mid new done w.progress.taken needed fixed (at ∙ ap (append_known mid) footer))
+    (λ _ at. closed layout p form w.lanes.items w.progress.boards base mid new done w.progress.taken needed (w.progress.fewer, le) fixed (at ∙ ap (append_known mid) footer))
     (λ _ part. (done.stands.lanes_are, inr (footer_broken layout p form w.lanes.items w.progress.boards base mid new done (subst (AppendsPart mid new) footer part))))
