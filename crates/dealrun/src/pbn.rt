@@ -2,14 +2,14 @@
 
 ghost use Rattle.std.specs.Prelude.{◌≡◌, ◌-◌, ◌^◌, ◌<◌, length, IfOk};
 ghost use Rattle.pbn_text.specs.Games.{pbn};
-ghost use Rattle.dealrun.specs.Outcomes.{FailsAtOutput, StandsIn, TakesWhatIsOwed};
-ghost use Rattle.dealrun.specs.Pbn.{WritesText};
+ghost use Rattle.dealrun.specs.Outcomes.{FailsAtOutput, StandsIn, TakesWhatIsOwed, WritesTextIn};
 ghost use Rattle.dealrun.specs.Reference.{WritesPlainIn};
 ghost use Rattle.sinks.specs.Sinks.{CountsFault};
 ghost use Rattle.dealrun.specs.Text.{accepted};
 
 use crate::reference::{PlainFault, run_plain_in};
-use crate::runs::{Counted, Report, RunFault, out_of_memory, start_and_write};
+use crate::runs::{Report, RunFault, out_of_memory, start_and_write};
+use crate::start::Shared;
 use conditions::Cond;
 use lanes::Gate;
 use pbn_text::{Printer, Reference};
@@ -50,7 +50,7 @@ pub fn run<
     // What was taken from each lane is its worker's verdicts, and all that is needed.
     ensures lanes { IfOk result (λ r. TakesWhatIsOwed plan.now cond r.lanes.items r.boards) }
     // The bytes are the games of the accepted deals, within the limit, in order.
-    ensures text { IfOk result (λ r. WritesText plan.now cond r.boards
+    ensures text { IfOk result (λ r. WritesTextIn (pbn plan.now.heading) plan.now cond r.boards
         (S.bytes sink.old) (S.bytes sink.new)) }
     // However the run ends: the lanes as they are, and the bytes of what was taken from them.
     ensures stands { StandsIn (pbn plan.now.heading) plan.now cond result
@@ -64,17 +64,9 @@ pub fn run<
     let Ok(mut printer) = Printer::new(alloc, plan.heading()) else {
         return Err(out_of_memory(alloc));
     };
-    let Counted { report, .. } = start_and_write(
-        rt,
-        alloc,
-        plan,
-        cond,
-        &mut printer,
-        sink,
-        gate,
-        stop,
-    )?;
-    Ok(report)
+    let shared = Shared { gate, stop };
+    let counted = start_and_write(rt, alloc, plan, cond, &mut printer, sink, shared)?;
+    Ok(counted.report)
 }
 
 /// Tries the plan's candidates in order, and writes the header and the games of those that meet the

@@ -17,7 +17,7 @@ ghost use Rattle.dealrun.specs.internal.Joins.{Owes};
 use crate::cause::Cause;
 use crate::ending::{Written, cause_of};
 use crate::join::join_all;
-use crate::start::{Started, assign_all, start_all};
+use crate::start::{Shared, Started, assign_all, start_all};
 use crate::writer::Writer;
 use boards::Notation;
 use conditions::Cond;
@@ -134,13 +134,15 @@ pub fn run_and_count<
     ensures faults { FailsAtOutput result (S.faults sink.old) (S.faults sink.new) }
 {
     match Arc::new(alloc, AtomicBool::new(false)) {
-        Ok(stop) => start_and_write(rt, alloc, plan, cond, notation, sink, gate, stop),
+        Ok(stop) => {
+            start_and_write(rt, alloc, plan, cond, notation, sink, Shared { gate, stop })
+        }
         Err(_) => Err(out_of_memory(alloc)),
     }
 }
 
-/// Takes the memory of the lanes and the workers, starts the workers, and writes; `stop` is their
-/// flag, which is down.
+/// Takes the memory of the lanes and the workers, starts the workers, whose flag is down, and
+/// writes.
 pub(crate) fn start_and_write<
     R: Threads + Wait + Clone + Send + 'static,
     G: Gate + Drop + Send + Sync + 'static,
@@ -153,8 +155,7 @@ pub(crate) fn start_and_write<
     cond: Cond,
     notation: &mut N,
     sink: &mut S,
-    gate: Arc<G, Global>,
-    stop: Arc<AtomicBool, Global>,
+    shared: Shared<G>,
 ) -> Result<Counted, RunFault>
     requires { S.faults sink.old < 2 ^ 64 - 1 }
     ensures layout { N.layout notation.new ≡ N.layout notation.old }
@@ -162,7 +163,7 @@ pub(crate) fn start_and_write<
         (S.bytes sink.old) (S.bytes sink.new) }
     ensures faults { FailsAtOutput result (S.faults sink.old) (S.faults sink.new) }
 {
-    let Ok((assignments, mut lanes)) = assign_all(rt, alloc, plan, &cond, &gate, &stop) else {
+    let Ok((assignments, mut lanes)) = assign_all(rt, alloc, plan, &cond, &shared) else {
         return Err(out_of_memory(alloc));
     };
     let Ok(mut handles) = Vec::with_capacity(alloc, assignments.len()) else {
@@ -170,7 +171,7 @@ pub(crate) fn start_and_write<
     };
     if !start_all(rt, assignments, &mut handles) {
         // A store to the stop flag is the core's Stop.
-        stop.store(true, Ordering::SeqCst);
+        shared.stop.store(true, Ordering::SeqCst);
         join_all(rt, handles, &mut lanes);
         return Err(RunFault {
             cause: Cause::Spawn,
@@ -178,7 +179,7 @@ pub(crate) fn start_and_write<
             boards: 0,
         });
     }
-    write_all(rt, plan, handles, lanes, notation, sink, &stop)
+    write_all(rt, plan, handles, lanes, notation, sink, &shared.stop)
 }
 
 pub(crate) fn out_of_memory(alloc: Global) -> RunFault

@@ -1,25 +1,16 @@
 -- How a run ends: one that took and wrote all that its plan asks for, and one that was interrupted.
-use Rattle.std.specs.Prelude.{ℕ, ◌≡◌, ◌≤◌, List, [], length, Option, Result, MatchResult}
+use Rattle.std.specs.Prelude.{ℕ, ◌≡◌, ◌≤◌, List, Option, Result, MatchResult}
 use Rattle.boards.specs.Layouts.{Layout}
 use Rattle.conditions.specs.Form.{Form}
 use Rattle.lanes.specs.Views.{OutView}
 use Rattle.plans.specs.Plans.{Planned}
-use Rattle.sinks.specs.Appended.{AppendsAll}
-use Rattle.dealrun.specs.Text.{accepted, end_of, text_of}
+use Rattle.dealrun.specs.Text.{end_of}
 use Rattle.dealrun.specs.Outcomes.{InterruptedIn, StandsCompleteIn}
 use Rattle.dealrun.specs.Outcomes.{TakesWhatIsOwed, WritesTextIn}
 use Rattle.dealrun.specs.declared.runs.Counted.{Counted}
 use Rattle.dealrun.specs.declared.runs.RunFault.{RunFault}
 
--- before its footer is written
-pub record Completes (layout : Layout) (plan : Planned) (form : Form) (lanes : List OutView)
-    (boards : ℕ) (old new : Option (List ℕ)) : Type 0 where
-  pub lanes_are : TakesWhatIsOwed plan form lanes boards
-  pub bytes_are : AppendsAll old new (text_of layout plan (accepted plan form))
-  pub boards_are : boards ≡ length (accepted plan form)
-  pub stands : StandsCompleteIn layout [] plan form lanes boards old new
-
--- and after; so many candidates are needed
+-- the whole text was written; so many candidates are needed
 pub record Closes (layout : Layout) (plan : Planned) (form : Form) (lanes : List OutView)
     (boards candidates : ℕ) (old new : Option (List ℕ)) : Type 0 where
   pub lanes_are : TakesWhatIsOwed plan form lanes boards

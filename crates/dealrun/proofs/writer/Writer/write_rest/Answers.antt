@@ -1,11 +1,11 @@
-use Rattle.std.proofs.Common.{◌≡◌, ◌≤◌, ◌⊎◌, ◌∙◌, Some, ap, arith, inr, subst}
+use Rattle.std.proofs.Common.{◌≡◌, ◌≤◌, ◌⊎◌, ◌∙◌, Some, ap, arith, subst}
 use Rattle.std.proofs.lemmas.Result.{MatchResult-from_err, MatchResult-weaker}
 use Rattle.sinks.specs.Appended.{append_known, AppendsPart}
 use Rattle.cards.specs.Fixed.{IsFixed}
 use Rattle.lanes.specs.Prefixes.{IsPrefix}
 use Rattle.dealrun.specs.MergedVerdicts.{verdicts_for}
 use Rattle.dealrun.specs.internal.Writing.{WriterBrokeOff, WriterSoFar}
-use Rattle.dealrun.proofs.Endings.{closed, complete, end_is, footer_broken}
+use Rattle.dealrun.proofs.Endings.{closed, footer_broken}
 use Rattle.dealrun.proofs.Finals.{stands_broken}
 use Rattle.dealrun.proofs.Wholes.{still}
 use Rattle.dealrun.proofs.writer.Writer.write_rest.Goals as goal
@@ -34,8 +34,6 @@ returns-clause-ends g c base form h =
     let fixed : IsFixed p.fixed = subst (λ q. IsFixed q.fixed) e.plan c.fixed-fixed.ensures.fixed in
     let kept = still p c.args.self.now.lanes.items w.lanes.items (λ k vs. IsPrefix vs (verdicts_for p form k)) h.so_far.in_turn.long e.lanes h.parts in
     let so_far = subst (λ q. WriterSoFar layout q w.lanes.items w.progress.taken w.progress.boards base mid) e.plan (e.wrote base h.so_far) in
-    let done = complete layout p form w.lanes.items w.progress.taken w.progress.boards base mid c.args.self.now.some le so_far (λ k d lt. (kept k d lt).0) (λ k d lt _. (kept k d lt).1) ended in
-    let needed = end_is layout p form w.lanes.items w.progress.taken w.progress.boards base mid c.args.self.now.some le so_far (λ k d lt. (kept k d lt).0) (λ k d lt _. (kept k d lt).1) ended in
     MatchResult-weaker c.put_all.result c.put_all.ensures.bytes
-    (λ _ at. closed layout p form w.lanes.items w.progress.boards base mid new done w.progress.taken needed (w.progress.fewer, le) fixed (at ∙ ap (append_known mid) footer))
-    (λ _ part. (done.stands.lanes_are, inr (footer_broken layout p form w.lanes.items w.progress.boards base mid new done (subst (AppendsPart mid new) footer part))))
+    (λ _ at. closed layout p form w.lanes.items w.progress.taken w.progress.boards base mid c.args.self.now.some le so_far kept ended new w.progress.fewer fixed (at ∙ ap (append_known mid) footer))
+    (λ _ part. footer_broken layout p form w.lanes.items w.progress.taken w.progress.boards base mid c.args.self.now.some le so_far kept ended new (subst (AppendsPart mid new) footer part))
