@@ -1,12 +1,11 @@
 -- The accepted ones among more and more candidates, and where a limit of them is met.
-use Rattle.std.proofs.Common.{◌≡◌, ℕ, zero, suc, ◌+◌, ◌==◌, ◌<◌, ◌≤◌, ◌⊎◌, Bool, true, false, cond, List, [], ◌∷◌, ◌++◌, length, get_or, map, take, Option, Some, None, refl, sym, ◌∙◌, ap, arith, inl, inr}
+use Rattle.std.proofs.Common.{◌≡◌, ℕ, zero, suc, ◌+◌, ◌==◌, ◌<◌, ◌≤◌, ◌⊎◌, Bool, true, false, cond, List, [], ◌∷◌, ◌++◌, length, get_or, map, Option, Some, None, refl, sym, ◌∙◌, ap, arith, inl, inr}
 use Rattle.std.specs.List.{range_with_len, position_or_len}
 use Rattle.std.specs.Option.{ForSome}
 use Rattle.std.proofs.lemmas.Bool.{cases_lt, ne_eqb, eq-eqb, eqb-true}
-use Rattle.std.proofs.lemmas.List.{append-nil, take_all}
+use Rattle.std.proofs.lemmas.List.{append-nil}
 use Rattle.std.proofs.lemmas.List.Sums.{position_or_len_is, passes_at_first}
 use Rattle.std.proofs.lemmas.List.FromFn.{map-range_with_len_more, length-range_with_len, get_or-range_with_len}
-use Rattle.std.proofs.Math.Seq.{take-append_seam}
 use Rattle.boards.specs.declared.board.Board.{Board}
 use Rattle.cards.specs.declared.seat.Seat.{Seat}
 use Rattle.conditions.specs.Form.{Form}
@@ -16,7 +15,7 @@ use Rattle.lanes.specs.Verdicts.{verdict_of}
 use Rattle.plans.specs.Plans.{Planned, candidate_of}
 use Rattle.dealrun.specs.Text.{accepted_among, board_of, boards_of, limited, end_of}
 use Rattle.dealrun.specs.MergedVerdicts.{boards_in}
-use Rattle.dealrun.proofs.BoardLists.{accepted_among-none, accepted_among-more, accepted_among-parts, boards_in-none, boards_in-push, boards_of-none, boards_of-more, length-boards_of}
+use Rattle.dealrun.proofs.BoardLists.{IsWithin, limited-all, limited-full, accepted_among-none, accepted_among-more, accepted_among-parts, boards_in-none, boards_in-push, boards_of-none, boards_of-more, length-boards_of}
 
 -- the boards of the accepted ones among the verdicts on these candidates
 last_board : (plan : Planned) (k : ℕ) (boards : List Board) (numbers : List ℕ) (b : Bool) → boards ≡ boards_of plan numbers
@@ -97,24 +96,14 @@ module _ (p : Planned) (form : Form) (t : ℕ) (le : t ≤ p.count) where
   needed None short = needed_none
   needed (Some most) short = needed_some most short
 
-  take_met : (most : ℕ) → counted t ≡ most → take most (accepted_among (candidate_of p) p.first form p.count) ≡ accepted_among (candidate_of p) p.first form t
-  take_met most is =
-      let split = accepted_among-parts (candidate_of p) p.first form t p.count le in
-      ap (λ n. take n (accepted_among (candidate_of p) p.first form p.count)) (sym is) ∙ ap (take (counted t)) split.is ∙ take-append_seam (accepted_among (candidate_of p) p.first form t) split.rest
-
-  within_limit : (limit : Option ℕ) → ForSome limit (λ most. counted t ≤ most) → IsEnd limit → limited limit (accepted_among (candidate_of p) p.first form p.count) ≡ accepted_among (candidate_of p) p.first form t
-  within_limit None within (inl e) = ap (accepted_among (candidate_of p) p.first form) (sym e)
-  within_limit None within (inr e) = absurd (cc)
-  within_limit (Some most) within (inl e) =
-      let few : counted t ≤ most = within most refl in
-      ap (λ n. take most (accepted_among (candidate_of p) p.first form n)) (sym e) ∙ take_all most (accepted_among (candidate_of p) p.first form t) few
-  within_limit (Some most) within (inr e) = take_met most (cc)
-
   pub end_here : IsShort p.limit → IsEnd p.limit → end_of p form ≡ t
   end_here short ended = end_is p.limit short ended
 
   pub needed_here : IsShort p.limit → t ≤ end_of p form
   needed_here short = needed p.limit short
 
-  pub accepted_here : ForSome p.limit (λ most. counted t ≤ most) → IsEnd p.limit → limited p.limit (accepted_among (candidate_of p) p.first form p.count) ≡ accepted_among (candidate_of p) p.first form t
-  accepted_here within ended = within_limit p.limit within ended
+  pub accepted_here : IsWithin p.limit (counted t) → IsEnd p.limit → limited p.limit (accepted_among (candidate_of p) p.first form p.count) ≡ accepted_among (candidate_of p) p.first form t
+  accepted_here within (inl e) = ap (λ n. limited p.limit (accepted_among (candidate_of p) p.first form n)) (sym e) ∙ limited-all p.limit (accepted_among (candidate_of p) p.first form t) within
+  accepted_here within (inr full) =
+      let split = accepted_among-parts (candidate_of p) p.first form t p.count le in
+      ap (limited p.limit) split.is ∙ limited-full p.limit (accepted_among (candidate_of p) p.first form t) split.rest full

@@ -1,6 +1,5 @@
 -- One verdict more is taken and written.
-use Rattle.std.proofs.Common.{◌≡◌, ◌≢◌, ℕ, ◌+◌, ◌-◌, ◌%◌, ◌<◌, ◌≤◌, Bool, true, false, cond, List, [], ◌∷◌, ◌++◌, length, get_or, set, Option, Some, refl, sym, ◌∙◌, ap, subst, arith, inl, inr, append_assoc, length-append}
-use Rattle.std.specs.Option.{ForSome}
+use Rattle.std.proofs.Common.{◌≡◌, ◌≢◌, ℕ, ◌+◌, ◌-◌, ◌%◌, ◌<◌, ◌≤◌, Bool, true, false, cond, List, [], ◌∷◌, ◌++◌, All, length, get_or, set, Option, Some, refl, sym, ◌∙◌, ap, subst, arith, inl, inr, append_assoc, length-append}
 use Rattle.std.proofs.lemmas.Bool.{cases_eq, cases_lt}
 use Rattle.std.proofs.lemmas.List.{get_or-set_same, get_or-set_other, get_or-map, map-set, length-set, length-map, append-nil, get_or_default}
 use Rattle.boards.specs.declared.board.Board.{Board}
@@ -16,7 +15,7 @@ use Rattle.dealrun.specs.Text.{board_of, text_of_boards}
 use Rattle.dealrun.specs.MergedVerdicts.{in_turn, boards_in, boards_after}
 use Rattle.dealrun.specs.internal.Writing.{board_text, printed, board_count, taken_lists, TakenInTurn, StaysShort, WriterSoFar, WriterBrokeOff}
 use Rattle.sinks.proofs.SinkLemmas.{append_known-append}
-use Rattle.dealrun.proofs.BoardLists.{boards_in-none, boards_in-push, text_of_boards-none, text_of_boards-more}
+use Rattle.dealrun.proofs.BoardLists.{IsWithin, within_more, boards_in-none, boards_in-push, text_of_boards-none, text_of_boards-more}
 use Rattle.dealrun.proofs.Printing.{in_turn-none, in_turn-kept, in_turn-grown, grown}
 
 more_text : (layout : Layout) (boards : List Board) (board : Board) (b : Bool)
@@ -28,14 +27,8 @@ more_boards : (boards : List Board) (board : Board) (b : Bool) → length (cond 
 more_boards boards board true = length-append boards (board ∷ [])
 more_boards boards board false = refl
 
--- a limit that is not met yet is not met by less than one game more
-not_met : (limit : Option ℕ) (boards : ℕ) → ForSome limit (λ most. boards ≤ most) → limit ≢ Some boards → ForSome limit (λ most. boards < most)
-not_met limit boards within less most is =
-    let le : boards ≤ most = within most is in
-    let ne : boards ≢ most = λ e. less (is ∙ ap (λ n. Some n) (sym e)) in omega arith
-
-one_more_within : (limit : Option ℕ) (boards : ℕ) (b : Bool) → ForSome limit (λ most. boards < most) → ForSome limit (λ most. cond b (boards + 1) boards ≤ most)
-one_more_within limit boards true h most is = omega (arith, h most is)
+one_more_within : (limit : Option ℕ) (boards : ℕ) (b : Bool) → IsWithin limit (boards + 1) → IsWithin limit (cond b (boards + 1) boards)
+one_more_within limit boards true h most is = h most is
 one_more_within limit boards false h most is = omega (arith, h most is)
 
 module _ (layout : Layout) (plan : Planned) (lanes : List OutView) (t : ℕ) (v : Verdict) (new : OutView) (some : 0 < plan.workers) (taken : TakenInTurn plan lanes t)
@@ -101,7 +94,7 @@ module _ (layout : Layout) (plan : Planned) (lanes : List OutView) (t : ℕ) (v 
   turns_more : TakenInTurn plan lanes' (t + 1)
   turns_more = record { long = simp length-set taken.long; turns_are = lane_turns }
 
-  short_more : (boards : ℕ) → boards ≡ board_count plan lists t → StaysShort plan lanes t → ForSome plan.limit (λ most. boards < most) → StaysShort plan lanes' (t + 1)
+  short_more : (boards : ℕ) → boards ≡ board_count plan lists t → StaysShort plan lanes t → IsWithin plan.limit (boards + 1) → StaysShort plan lanes' (t + 1)
   short_more boards is short less i lt most limit =
       elim (cases_lt i t) [
         | inl before ↦ let h : board_count plan lists i < most = short i before most limit in omega (arith, h, boards_kept i (omega arith))
@@ -115,7 +108,7 @@ module _ (layout : Layout) (plan : Planned) (lanes : List OutView) (t : ℕ) (v 
       → WriterSoFar layout plan lanes' (t + 1) (cond v.accepted (boards + 1) boards) base (append_known bytes (cond v.accepted (board_text layout plan boards v) []))
   step_on boards base bytes h less =
       let is = h.written.boards_are in
-      let below = not_met plan.limit boards h.within less in record {
+      let below = within_more plan.limit boards h.within less in record {
         in_turn = turns_more;
         written = record {
           bytes_are = ap (λ o. append_known o (cond v.accepted (board_text layout plan boards v) [])) h.written.bytes_are
@@ -147,8 +140,15 @@ module _ (layout : Layout) (plan : Planned) (lanes : List OutView) (t : ℕ) (v 
           before = λ _. (part.front, ap (λ bs. bs ++ part.front) same);
           boards_are = is ∙ sym (ap (board_count plan (taken_lists lanes')) back ∙ boards_kept t (omega arith));
         };
-        short = short_more boards is h.short (not_met plan.limit boards h.within less);
+        short = short_more boards is h.short (within_more plan.limit boards h.within less);
       }
+
+-- what the lane gave, by what it was
+taken_at : (plan : Planned) (lanes : List OutView) (t : ℕ) (v : Verdict) (old new : OutView) (place : ℕ) → 0 < plan.workers → TakenInTurn plan lanes t → place ≡ t % plan.workers → old ≡ get_or lanes place old → new.taken ≡ old.taken ++ v ∷ []
+    → new.taken ≡ (get_or lanes (t % plan.workers) new).taken ++ v ∷ []
+taken_at plan lanes t v old new place some taken place_is old_is took =
+    let below : place < length lanes = omega (arith, some, taken.long, place_is) in
+    took ∙ ap (λ l. l.taken ++ v ∷ []) (old_is ∙ get_or_default lanes place old new below ∙ ap (λ p. get_or lanes p new) place_is)
 
 -- the same, with the values as the writer has them
 pub on_to : (layout now : Layout) (plan : Planned) (lanes : List OutView) (t boards : ℕ) (base bytes : Option (List ℕ)) (v : Verdict) (old new : OutView) (place t' boards' : ℕ) (bytes' : Option (List ℕ))
@@ -157,29 +157,16 @@ pub on_to : (layout now : Layout) (plan : Planned) (lanes : List OutView) (t boa
     → WriterSoFar layout plan (set lanes place new) t' boards' base bytes'
 on_to layout now plan lanes t boards base bytes v old new place t' boards' bytes' some h less place_is old_is took t_is boards_is same bytes_is =
     let at = taken_at plan lanes t v old new place some h.in_turn place_is old_is took in
-    let step = step_on layout plan lanes t v new some h.in_turn at boards base bytes h less in
-    subst (λ p. WriterSoFar layout plan (set lanes p new) t' boards' base bytes') (sym place_is)
-    (subst (λ n. WriterSoFar layout plan (set lanes (t % plan.workers) new) n boards' base bytes') (sym t_is)
-    (subst (λ n. WriterSoFar layout plan (set lanes (t % plan.workers) new) (t + 1) n base bytes') (sym boards_is)
-    (subst (WriterSoFar layout plan (set lanes (t % plan.workers) new) (t + 1) (cond v.accepted (boards + 1) boards) base) (sym (bytes_is ∙ ap (λ l. append_known bytes (cond v.accepted (board_text l plan boards v) [])) same)) step)))
-  where
-    taken_at : (plan : Planned) (lanes : List OutView) (t : ℕ) (v : Verdict) (old new : OutView) (place : ℕ) → 0 < plan.workers → TakenInTurn plan lanes t → place ≡ t % plan.workers → old ≡ get_or lanes place old → new.taken ≡ old.taken ++ v ∷ []
-        → new.taken ≡ (get_or lanes (t % plan.workers) new).taken ++ v ∷ []
-    taken_at plan lanes t v old new place some taken place_is old_is took =
-        let below : place < length lanes = omega (arith, some, taken.long, place_is) in
-        took ∙ ap (λ l. l.taken ++ v ∷ []) (old_is ∙ get_or_default lanes place old new below ∙ ap (λ p. get_or lanes p new) place_is)
+    rw (place_is, t_is, boards_is, bytes_is, same) (step_on layout plan lanes t v new some h.in_turn at boards base bytes h less)
 
 pub broken_to : (layout now : Layout) (plan : Planned) (lanes : List OutView) (t boards : ℕ) (base bytes : Option (List ℕ)) (v : Verdict) (old new : OutView) (place t' boards' : ℕ) (bytes' : Option (List ℕ))
     → 0 < plan.workers → WriterSoFar layout plan lanes t boards base bytes → plan.limit ≢ Some boards → place ≡ t % plan.workers → old ≡ get_or lanes place old → new.taken ≡ old.taken ++ v ∷ []
     → t' ≡ t + 1 → v.accepted ≡ true → boards' ≡ boards → now ≡ layout → AppendsPart bytes bytes' (board_text now plan boards v)
     → WriterBrokeOff layout plan (set lanes place new) t' boards' base bytes'
 broken_to layout now plan lanes t boards base bytes v old new place t' boards' bytes' some h less place_is old_is took t_is accepted boards_is same part =
-    let below : place < length lanes = omega (arith, some, h.in_turn.long, place_is) in
-    let at : new.taken ≡ (get_or lanes (t % plan.workers) new).taken ++ v ∷ [] = took ∙ ap (λ l. l.taken ++ v ∷ []) (old_is ∙ get_or_default lanes place old new below ∙ ap (λ p. get_or lanes p new) place_is) in
+    let at = taken_at plan lanes t v old new place some h.in_turn place_is old_is took in
     let step = step_broken layout plan lanes t v new some h.in_turn at boards base bytes bytes' h less accepted (subst (λ l. AppendsPart bytes bytes' (board_text l plan boards v)) same part) in
-    subst (λ p. WriterBrokeOff layout plan (set lanes p new) t' boards' base bytes') (sym place_is)
-    (subst (λ n. WriterBrokeOff layout plan (set lanes (t % plan.workers) new) n boards' base bytes') (sym t_is)
-    (subst (λ n. WriterBrokeOff layout plan (set lanes (t % plan.workers) new) (t + 1) n base bytes') (sym boards_is) step))
+    rw (place_is, t_is, boards_is) step
 
 printed-none : (layout : Layout) (plan : Planned) (lists : List (List Verdict)) → printed layout plan lists 0 ≡ layout.header
 printed-none layout plan lists =
@@ -189,10 +176,10 @@ printed-none layout plan lists =
 boards-none : (plan : Planned) (lists : List (List Verdict)) → board_count plan lists 0 ≡ 0
 boards-none plan lists = ap (λ vs. length (boards_in plan vs)) (in_turn-none plan.workers lists) ∙ ap length (boards_in-none plan)
 
-fresh_turns : (plan : Planned) (lanes : List OutView) → length lanes ≡ plan.workers → ((w : ℕ) (e : OutView) → w < plan.workers → (get_or lanes w e).taken ≡ []) → TakenInTurn plan lanes 0
-fresh_turns plan lanes long fresh = record { long = long; turns_are = λ w e lt. ap length (fresh w e lt) ∙ sym (turns-none plan.workers w) }
+pub fresh_turns : (plan : Planned) (lanes : List OutView) → length lanes ≡ plan.workers → All (λ l. l.taken ≡ []) lanes → TakenInTurn plan lanes 0
+fresh_turns plan lanes long fresh = record { long = long; turns_are = λ w e lt. ap length (fresh w e (omega (arith, lt, long))) ∙ sym (turns-none plan.workers w) }
 
-pub begins : (layout : Layout) (head : List ℕ) (plan : Planned) (lanes : List OutView) (t boards : ℕ) (base bytes : Option (List ℕ)) → length lanes ≡ plan.workers → ((w : ℕ) (e : OutView) → w < plan.workers → (get_or lanes w e).taken ≡ [])
+pub begins : (layout : Layout) (head : List ℕ) (plan : Planned) (lanes : List OutView) (t boards : ℕ) (base bytes : Option (List ℕ)) → length lanes ≡ plan.workers → All (λ l. l.taken ≡ []) lanes
     → t ≡ 0 → boards ≡ 0 → head ≡ layout.header → bytes ≡ append_known base head → WriterSoFar layout plan lanes t boards base bytes
 begins layout head plan lanes t boards base bytes long fresh t_is boards_is head_is bytes_is =
     let lists = taken_lists lanes in record {
@@ -205,7 +192,7 @@ begins layout head plan lanes t boards base bytes long fresh t_is boards_is head
       short = λ i lt. absurd (omega arith);
     }
 
-pub begins_broken : (layout : Layout) (head : List ℕ) (plan : Planned) (lanes : List OutView) (t boards : ℕ) (base bytes : Option (List ℕ)) → length lanes ≡ plan.workers → ((w : ℕ) (e : OutView) → w < plan.workers → (get_or lanes w e).taken ≡ [])
+pub begins_broken : (layout : Layout) (head : List ℕ) (plan : Planned) (lanes : List OutView) (t boards : ℕ) (base bytes : Option (List ℕ)) → length lanes ≡ plan.workers → All (λ l. l.taken ≡ []) lanes
     → t ≡ 0 → boards ≡ 0 → head ≡ layout.header → AppendsPart base bytes head → WriterBrokeOff layout plan lanes t boards base bytes
 begins_broken layout head plan lanes t boards base bytes long fresh t_is boards_is head_is part =
     let lists = taken_lists lanes in

@@ -1,7 +1,8 @@
 -- Boards in order, and the accepted candidates in order.
-use Rattle.std.proofs.Common.{◌≡◌, ◌∙◌, ◌≤◌, ◌+◌, ◌-◌, ◌++◌, ℕ, suc, Bool, true, false, cond, List, [], ◌∷◌, length, map, take, Option, Some, None, refl, sym, ap, arith, append_assoc, length-append}
+use Rattle.std.proofs.Common.{◌≡◌, ◌≢◌, ◌∙◌, ◌≤◌, ◌+◌, ◌-◌, ◌++◌, ℕ, suc, Bool, true, false, cond, List, [], ◌∷◌, length, map, take, Option, Some, None, refl, sym, ap, arith, append_assoc, length-append}
 use Rattle.std.specs.Prelude.{filter}
 use Rattle.std.specs.List.{enumerate_from, flat_map, range_with_len}
+use Rattle.std.specs.Option.{ForSome}
 use Rattle.std.proofs.lemmas.Grind.{flat_map-append}
 use Rattle.std.proofs.lemmas.List.{append-nil, map-append, length-map, take_all}
 use Rattle.std.proofs.lemmas.List.Elements.{filter-append}
@@ -16,7 +17,7 @@ use Rattle.lanes.specs.declared.verdict.Verdict.{Verdict}
 use Rattle.plans.specs.Plans.{Planned, candidate_of}
 use Rattle.dealrun.specs.Text.{accepted_among, board_of, boards_of, limited, text_of, text_of_boards}
 use Rattle.dealrun.specs.MergedVerdicts.{boards_in}
-use Rattle.values.proofs.Ranges.{range_with_len-add, range_with_len-more}
+use Rattle.dealrun.proofs.Ranges.{range_with_len-add, range_with_len-more}
 
 -- ---- boards
 
@@ -156,31 +157,30 @@ accepted_among-parts deals first form i n h =
 
 -- no more boards than the limit
 abbrev pub IsWithin : Option ℕ → ℕ → Type 0
-IsWithin None n = Unit {0}
-IsWithin (Some most) n = n ≤ most
+IsWithin limit n = ForSome limit (λ most. n ≤ most)
 
 pub limited-full : (limit : Option ℕ) (xs ys : List ℕ) → limit ≡ Some (length xs) → limited limit (xs ++ ys) ≡ xs
 limited-full limit xs ys e = ap (λ l. limited l (xs ++ ys)) e ∙ take-append_seam xs ys
 
 pub limited-all : (limit : Option ℕ) (xs : List ℕ) → IsWithin limit (length xs) → limited limit xs ≡ xs
 limited-all None xs h = refl
-limited-all (Some most) xs h = take_all most xs h
+limited-all (Some most) xs h = take_all most xs (h most refl)
 
 pub record LimitedParts (limit : Option ℕ) (xs : List ℕ) (k : ℕ) (ys : List ℕ) : Type 0 where
   pub rest : List ℕ
   pub is : limited limit (xs ++ k ∷ [] ++ ys) ≡ xs ++ k ∷ [] ++ rest
 
-is_below : (limit : Option ℕ) (n : ℕ) → IsWithin limit n → (limit ≡ Some n → ⊥) → IsWithin limit (n + 1)
-is_below None n h not_full = tt
-is_below (Some most) n h not_full = let ne : most ≡ n → ⊥ = λ e. not_full (ap (λ m. Some m) e) in omega arith
-
-pub within_more : (limit : Option ℕ) (n : ℕ) → IsWithin limit n → (limit ≡ Some n → ⊥) → IsWithin limit (n + 1)
-within_more limit n h not_full = is_below limit n h not_full
+-- a limit that is not met yet is not met by less than one board more
+pub within_more : (limit : Option ℕ) (n : ℕ) → IsWithin limit n → limit ≢ Some n → IsWithin limit (n + 1)
+within_more limit n within less most is =
+    let le : n ≤ most = within most is in
+    let ne : n ≢ most = λ e. less (is ∙ ap (λ n. Some n) (sym e)) in omega arith
 
 -- the next accepted candidate is within the limit
 pub limited-next : (limit : Option ℕ) (xs : List ℕ) (k : ℕ) (ys : List ℕ) → IsWithin limit (length xs + 1) → LimitedParts limit xs k ys
 limited-next None xs k ys h = record { rest = ys; is = refl }
 limited-next (Some most) xs k ys h =
+    let few : length xs + 1 ≤ most = h most refl in
     let n : ℕ = most - (length xs + 1) in
     let len : length (xs ++ k ∷ []) ≡ length xs + 1 = rw length-append refl in
     let e : most ≡ length (xs ++ k ∷ []) + n = rw len (omega arith) in

@@ -1,5 +1,5 @@
 -- From how a run ended to what its cause says, or to what may still be written.
-use Rattle.std.proofs.Common.{◌≡◌, ◌≢◌, ◌<◌, ◌≤◌, ℕ, true, List, [], map, length, get_or, Option, None, Some, MatchOption, Result, Ok, Err, MatchResult, OnOk, OnErr, IfErr, arith, ◌∙◌, sym, subst, refl}
+use Rattle.std.proofs.Common.{◌≡◌, ◌<◌, ◌≤◌, ℕ, true, List, [], map, Option, None, Some, MatchOption, ap, arith, refl, subst, sym}
 use Rattle.boards.specs.Layouts.{Layout}
 use Rattle.conditions.specs.Form.{Form}
 use Rattle.lanes.specs.declared.verdict.Verdict.{Verdict}
@@ -8,14 +8,15 @@ use Rattle.lanes.specs.Prefixes.{IsPrefix}
 use Rattle.plans.specs.Plans.{Planned}
 use Rattle.dealrun.specs.MergedVerdicts.{verdicts_for}
 use Rattle.dealrun.specs.Outcomes.{contents_of, InterruptedIn, StandsCompleteIn}
+use Rattle.dealrun.specs.declared.cause.Cause.{Cause}
 use Rattle.dealrun.specs.declared.ending.Written.{Written}
 use Rattle.dealrun.specs.declared.ending.Written.TheVariants.{Failed, Full, Open}
+use Rattle.dealrun.specs.declared.writer.Writer.{Writer}
 use Rattle.dealrun.specs.internal.Causes.{cause_by}
-use Rattle.dealrun.specs.internal.Ends.{Closes}
-use Rattle.dealrun.specs.internal.Joins.{AllParts, AllWhole, ByNumber, JoinedAs, Owes}
-use Rattle.dealrun.specs.internal.Writing.{KeepsContents, WriterSoFar, WroteBeside}
+use Rattle.dealrun.specs.internal.Joins.{AllParts, ByNumber, JoinedAs, Owes}
+use Rattle.dealrun.specs.internal.Writing.{HasRest, WriterSoFar, WroteBeside}
 use Rattle.dealrun.proofs.Endings.{stand_complete}
-use Rattle.dealrun.proofs.Finals.{all_whole, gives_up_still, goes_on_still, joined_parts, joined_settled, joined_whole, least_stopped, least_unclosed, same_at, stands_broken}
+use Rattle.dealrun.proofs.Finals.{all_whole, gives_up_still, goes_on_still, joined_parts, joined_settled, joined_whole, least_stopped, least_unclosed, stands_broken}
 
 -- lanes from which the same was taken
 pub wrote_still : (layout : Layout) (plan : Planned) (written : Written) (lanes lanes' : List OutView) (t boards : ℕ) (old new : Option (List ℕ)) → map (λ l. l.taken) lanes' ≡ map (λ l. l.taken) lanes
@@ -23,12 +24,6 @@ pub wrote_still : (layout : Layout) (plan : Planned) (written : Written) (lanes 
 wrote_still layout plan Failed lanes lanes' t boards old new same h = gives_up_still layout plan lanes lanes' t boards old new same h
 wrote_still layout plan Full lanes lanes' t boards old new same h = (goes_on_still layout plan lanes lanes' t boards old new same h.0, h.1)
 wrote_still layout plan Open lanes lanes' t boards old new same h = (goes_on_still layout plan lanes lanes' t boards old new same h.0, h.1)
-
--- the rest may be written
-pub record Resumes (layout : Layout) (plan : Planned) (form : Form) (lanes : List OutView) (t boards : ℕ) (old new : Option (List ℕ)) : Type 0 where
-  pub so_far : WriterSoFar layout plan lanes t boards old new
-  pub parts : AllParts plan form lanes
-  pub whole : plan.limit ≢ Some boards → AllWhole plan form lanes
 
 -- all workers of a plan were joined
 module _ (layout : Layout) (plan : Planned) (form : Form) (n : ℕ) (lists : List (List Verdict)) (lanes : List OutView) (t boards : ℕ) (old new : Option (List ℕ)) (some : 0 < plan.workers) (all : n ≡ plan.workers) (le : t ≤ plan.count)
@@ -44,7 +39,7 @@ module _ (layout : Layout) (plan : Planned) (form : Form) (n : ℕ) (lists : Lis
   stands s u wrote joined = stand_complete layout plan form lanes t boards old new some le wrote (parts s u joined)
 
   pub at_end : (written : Written) (s u : Option ℕ) → WroteBeside layout plan written lanes t boards old new → JoinedAs n lists lanes s u
-      → MatchOption (cause_by written s u) (Resumes layout plan form lanes t boards old new) (λ cause. InterruptedIn layout plan form cause lanes boards old new)
+      → MatchOption (cause_by written s u) (HasRest layout plan form lanes t boards old new) (λ cause. InterruptedIn layout plan form cause lanes boards old new)
   at_end Failed s u wrote joined = stands_broken layout plan form lanes t boards old new some le (parts s u joined) wrote
   at_end Full s None wrote joined = record {
     so_far = wrote.0;
@@ -70,34 +65,18 @@ module _ (layout : Layout) (plan : Planned) (form : Form) (n : ℕ) (lists : Lis
     least_stopped plan form n lists lanes (Some w) u all owes joined w refl wrote.0.in_turn.long,
   )
 
--- the lanes hold the same in all
-pub parts_kept : (plan : Planned) (form : Form) (lanes lanes' : List OutView) → length lanes ≡ plan.workers → KeepsContents lanes lanes' → AllParts plan form lanes → AllParts plan form lanes'
-parts_kept plan form lanes lanes' long kept h w e lt =
-    let inside : w < length lanes = omega (arith, lt, long) in
-    let was = h w e lt in
-    let same : contents_of (get_or lanes' w e) ≡ contents_of (get_or lanes w e) = same_at (λ (l : OutView). contents_of l) lanes' lanes w e kept.1 inside in
-    (same_at (λ (l : OutView). l.settled) lanes' lanes w e kept.0 inside ∙ was.0, subst (λ xs. IsPrefix xs (verdicts_for plan form w)) (sym same) was.1)
+-- what follows once the workers of a writer were joined
+pub at_join : (layout now : Layout) (plan : Planned) (form : Form) (w : Writer) (n : ℕ) (lists : List (List Verdict)) (lanes : List OutView) (written : Written) (s u : Option ℕ) (cause : Option Cause) (old new : Option (List ℕ))
+    → now ≡ layout → w.plan ≡ plan → n ≡ plan.workers → Owes plan form lists → map (λ l. l.taken) lanes ≡ map (λ l. l.taken) w.lanes.items → WroteBeside layout w.plan written w.lanes.items w.progress.taken w.progress.boards old new
+    → JoinedAs n lists lanes s u → cause ≡ cause_by written s u
+    → MatchOption cause (HasRest now w.plan form lanes w.progress.taken w.progress.boards old new) (λ cause. InterruptedIn layout plan form cause lanes w.progress.boards old new)
+at_join layout now plan form w n lists lanes written s u cause old new same plan_is all owes taken wrote joined cause_is =
+    subst (λ p. MatchOption cause (HasRest now w.plan form lanes w.progress.taken w.progress.boards old new) (λ cause. InterruptedIn layout p form cause lanes w.progress.boards old new)) plan_is
+    (subst (λ l. MatchOption cause (HasRest l w.plan form lanes w.progress.taken w.progress.boards old new) (λ cause. InterruptedIn layout w.plan form cause lanes w.progress.boards old new)) (sym same)
+    (subst (λ o. MatchOption o (HasRest layout w.plan form lanes w.progress.taken w.progress.boards old new) (λ cause. InterruptedIn layout w.plan form cause lanes w.progress.boards old new)) (sym cause_is)
+    (at_end layout w.plan form n lists lanes w.progress.taken w.progress.boards old new w.some (omega (arith, ap (λ p. p.workers) plan_is)) w.few (subst (λ p. Owes p form lists) (sym plan_is) owes) written s u
+    (wrote_still layout w.plan written w.lanes.items lanes w.progress.taken w.progress.boards old new taken wrote) joined)))
 
--- the same in an equal layout
-pub closes_at : (layout now : Layout) (plan : Planned) (form : Form) (lanes : List OutView) (boards : ℕ) (old new : Option (List ℕ)) → now ≡ layout
-    → Closes now plan form lanes boards old new → Closes layout plan form lanes boards old new
-closes_at layout now plan form lanes boards old new same h = subst (λ l. Closes l plan form lanes boards old new) same h
-
--- what follows from a cause, and from none
-pub from_some : {A : Type 0} (o o' : Option A) (x : A) (R : Type 0) (P : A → Type 0) → o ≡ o' → o ≡ Some x → MatchOption o' R P → P x
-from_some o o' x R P same is h = subst (λ p. MatchOption p R P) (sym same ∙ is) h
-
-pub from_none : {A : Type 0} (o o' : Option A) (R : Type 0) (P : A → Type 0) → o ≡ o' → o ≡ None → MatchOption o' R P → R
-from_none o o' R P same is h = subst (λ p. MatchOption p R P) (sym same ∙ is) h
-
--- what follows where a result is Ok, and where it is Err
-pub if_written : {T E : Type 0} (r : Result T E) (A B P : Type 0) → (A → P) → MatchResult r (λ _. A) (λ _. B) → OnOk r P
-if_written (Ok x) A B P f h = f h
-if_written (Err x) A B P f h = tt
-
-pub if_broken : {T E : Type 0} (r : Result T E) (A B P : Type 0) → (B → P) → MatchResult r (λ _. A) (λ _. B) → OnErr r P
-if_broken (Ok x) A B P f h = tt
-if_broken (Err x) A B P f h = f h
-
-pub if_err_is : {A E : Type 0} (r : Result A E) (e x : E) (P : E → Type 0) → r ≡ Err e → e ≡ x → P x → IfErr r P
-if_err_is r e x P is same h = subst (λ s. IfErr s P) (sym is) (subst P (sym same) h)
+-- what is said in an equal layout and of an equal plan
+pub said_at : (P : Layout → Planned → Type 0) (layout now : Layout) (plan other : Planned) → now ≡ layout → other ≡ plan → P now other → P layout plan
+said_at P layout now plan other same is h = subst (P layout) is (subst (λ l. P l other) same h)

@@ -3,7 +3,7 @@ use Rattle.std.proofs.Common.{◌≡◌, ◌≢◌, ℕ, zero, suc, ◌+◌, ◌
 use Rattle.std.specs.List.{range_with_len, cons_option, slice_get}
 use Rattle.std.specs.Option.{ForSome}
 use Rattle.std.proofs.lemmas.Grind.{common_steps}
-use Rattle.std.proofs.lemmas.List.{get_or-map, length-map, get_or-take, take_all, take-take, nil_from_length, append-nil}
+use Rattle.std.proofs.lemmas.List.{get_or-map, length-map, get_or-take, take_all, take-take, nil_from_length}
 use Rattle.std.proofs.Math.Seq.{take-append_seam}
 use Rattle.std.proofs.lemmas.List.FromFn.{fill_by_all, get_or-map-range_with_len, map-range_with_len_more, get_or-enumerate_from, length-enumerate_from}
 use Rattle.std.proofs.lemmas.Option.{slice_get-get_or}
@@ -20,16 +20,17 @@ use Rattle.lanes.specs.Verdicts.{turns, verdict_of}
 use Rattle.lanes.specs.Views.{OutView}
 use Rattle.lanes.specs.Prefixes.{IsPrefix}
 use Rattle.lanes.proofs.Places.{count_even, turns_less}
-use Rattle.lanes.proofs.Sums.{turn_counts, sum-turn_counts}
+use Rattle.lanes.proofs.Sums.{sum-turn_counts}
 use Rattle.lanes.proofs.VerdictLists.{length-verdicts, verdicts-are}
 use Rattle.plans.specs.Plans.{Planned, candidate_of}
 use Rattle.sinks.specs.Appended.{append_known, AppendsAll, AppendsPart}
 use Rattle.dealrun.specs.Text.{accepted_among, accepted, boards_of, text_of, text_of_boards, end_of}
 use Rattle.dealrun.specs.MergedVerdicts.{verdicts_for, at_turn, in_turn, boards_in, boards_taken, taken_in_all}
-use Rattle.dealrun.specs.internal.Joins.{ByNumber}
-use Rattle.dealrun.specs.internal.Ends.{Closes, Completes}
+use Rattle.dealrun.specs.declared.cause.Cause.TheVariants.{Output}
+use Rattle.dealrun.specs.internal.Joins.{AllParts, ByNumber}
+use Rattle.dealrun.specs.internal.Ends.{Closes}
 use Rattle.dealrun.specs.internal.Writing.{board_count, printed, taken_lists, TakenInTurn, StaysShort, WroteTaken, WriterSoFar}
-use Rattle.dealrun.specs.Outcomes.{EachLane, AllSettled, for_each_worker, contents_of, AreLanesConsistent, TakesWhatIsOwed, BreaksOffFooter, StandsCompleteIn}
+use Rattle.dealrun.specs.Outcomes.{EachLane, AllSettled, for_each_worker, contents_of, AreLanesConsistent, TakesWhatIsOwed, InterruptedIn, StandsCompleteIn}
 use Rattle.dealrun.proofs.BoardLists.{length-boards_of}
 use Rattle.sinks.proofs.SinkLemmas.{append_known-append, append_known-nil}
 use Rattle.dealrun.proofs.Printing.{in_turn-none, in_turn-more}
@@ -42,9 +43,6 @@ prefix_front xs ys zs h =
 
 pub prefix_short : (xs zs : List Verdict) → IsPrefix xs zs → length xs ≤ length zs
 prefix_short xs zs h = grind (arith, common_steps)
-
-pub prefix_whole : (xs zs : List Verdict) → xs ≡ zs → IsPrefix xs zs
-prefix_whole xs zs h = grind (arith, common_steps)
 
 -- some lane, for where a list has none
 pub no_lane : OutView
@@ -67,14 +65,13 @@ for_each_lane plan f g lanes long h =
     fill_by_all g (map f lanes) plan.workers (f no_lane) (simp length-map long)
     (λ k lt. get_or-map f lanes k no_lane (f no_lane) (omega (arith, lt, long)) ∙ h k no_lane lt)
 
+-- the lanes were taken in turn, as lists
+turns_as_lists : (plan : Planned) (lanes : List OutView) (m : ℕ) → TakenInTurn plan lanes m → map (λ l. length l.taken) lanes ≡ for_each_worker plan (λ w. turns plan.workers w m)
+turns_as_lists plan lanes m h = for_each_lane plan (λ l. length l.taken) (λ w. turns plan.workers w m) lanes h.long h.turns_are
+
 -- in all as many were taken as there were turns
 pub taken_total : (plan : Planned) (lanes : List OutView) (t : ℕ) → 0 < plan.workers → TakenInTurn plan lanes t → taken_in_all lanes ≡ t
-taken_total plan lanes t some h =
-    let count : OutView → ℕ = λ l. length l.taken in
-    let counts : map count lanes ≡ turn_counts plan.workers t =
-    fill_by_all (λ w. turns plan.workers w t) (map count lanes) plan.workers 0 (simp length-map h.long)
-    (λ k lt. get_or-map count lanes k no_lane 0 (omega (arith, lt, h.long)) ∙ h.turns_are k no_lane lt) in
-    ap sum counts ∙ sum-turn_counts plan.workers t some
+taken_total plan lanes t some h = ap sum (turns_as_lists plan lanes t h) ∙ sum-turn_counts plan.workers t some
 
 module _ (plan : Planned) (form : Form) (lanes : List OutView) (t : ℕ) (some : 0 < plan.workers) (le : t ≤ plan.count) (h : TakenInTurn plan lanes t)
     (parts : ByNumber plan lanes (λ w l. IsPrefix l.taken (verdicts_for plan form w))) where
@@ -154,10 +151,6 @@ module _ (plan : Planned) (form : Form) (lanes : List OutView) (t : ℕ) (some :
 partitions : (plan : Planned) (form : Form) → IsFixed plan.fixed → All IsPartition (map (candidate_of plan) (accepted plan form))
 partitions plan form fits = All-map IsPartition (candidate_of plan) (accepted plan form) (λ k d lt. around_is_partition plan.fixed (state_before plan.seed (get_or (accepted plan form) k d)) fits)
 
--- the lanes were taken in turn, as lists
-turns_as_lists : (plan : Planned) (lanes : List OutView) (m : ℕ) → TakenInTurn plan lanes m → map (λ l. length l.taken) lanes ≡ for_each_worker plan (λ w. turns plan.workers w m)
-turns_as_lists plan lanes m h = for_each_lane plan (λ l. length l.taken) (λ w. turns plan.workers w m) lanes h.long h.turns_are
-
 -- what stands when the lanes were taken in turn and each settled one holds a beginning
 pub stand : (plan : Planned) (form : Form) (lanes : List OutView) (t : ℕ) → 0 < plan.workers → t ≤ plan.count → TakenInTurn plan lanes t → StaysShort plan lanes t
     → ByNumber plan lanes (λ w l. l.settled ≡ true → IsPrefix (contents_of l) (verdicts_for plan form w)) → AreLanesConsistent plan form lanes
@@ -194,21 +187,20 @@ whole_lane plan form l w front sent same =
     let none : length l.left ≡ 0 = omega (arith, short, same, length-append l.taken l.left) in
     (front ∙ take_all (length l.taken) (verdicts_for plan form w) (omega (arith, same)), nil_from_length l.left none)
 
--- a run that took what was needed completes
-module _ (layout : Layout) (plan : Planned) (form : Form) (lanes : List OutView) (t boards : ℕ) (old new : Option (List ℕ)) (some : 0 < plan.workers) (le : t ≤ plan.count) (h : WriterSoFar layout plan lanes t boards old new)
-    (settled : ByNumber plan lanes (λ w l. l.settled ≡ true)) (parts : ByNumber plan lanes (λ w l. l.settled ≡ true → IsPrefix (contents_of l) (verdicts_for plan form w)))
-    (ended : (t ≡ plan.count) ⊎ (plan.limit ≡ Some boards)) where
+-- a run that took what was needed, and what follows its boards
+module _ (layout : Layout) (plan : Planned) (form : Form) (lanes : List OutView) (t boards : ℕ) (old mid : Option (List ℕ)) (some : 0 < plan.workers) (le : t ≤ plan.count) (h : WriterSoFar layout plan lanes t boards old mid)
+    (parts : AllParts plan form lanes) (ended : (t ≡ plan.count) ⊎ (plan.limit ≡ Some boards)) where
   long : length lanes ≡ plan.workers
   long = h.in_turn.long
 
   sent : ByNumber plan lanes (λ w l. IsPrefix (contents_of l) (verdicts_for plan form w))
-  sent w e lt = parts w e lt (settled w e lt)
+  sent w e lt = (parts w e lt).1
 
   fronts : ByNumber plan lanes (λ w l. IsPrefix l.taken (verdicts_for plan form w))
   fronts w e lt = prefix_front (get_or lanes w e).taken (get_or lanes w e).left (verdicts_for plan form w) (sent w e lt)
 
-  pub end_is : end_of plan form ≡ t
-  end_is = ends plan form lanes t some le h.in_turn fronts layout boards old new h.written h.within h.short ended
+  end_is : end_of plan form ≡ t
+  end_is = ends plan form lanes t some le h.in_turn fronts layout boards old mid h.written h.within h.short ended
 
   all_needed : plan.limit ≢ Some boards → t ≡ plan.count
   all_needed less = elim (ended) [ inl e ↦ e | inr e ↦ absurd (less e) ]
@@ -223,7 +215,7 @@ module _ (layout : Layout) (plan : Planned) (form : Form) (lanes : List OutView)
     taken =
         for_each_lane plan (λ l. l.taken) (λ w. take (turns plan.workers w (end_of plan form)) (verdicts_for plan form w)) lanes long
         (λ w e lt. fronts w e lt ∙ ap (λ n. take n (verdicts_for plan form w)) (h.in_turn.turns_are w e lt ∙ ap (turns plan.workers w) (sym end_is)));
-    settled = λ k d lt. settled k d (omega (arith, lt, long));
+    settled = λ k d lt. (parts k d (omega (arith, lt, long))).0;
     sent = each_number plan (λ w l. IsPrefix (contents_of l) (verdicts_for plan form w)) lanes long sent;
     whole = λ less. (
       for_each_lane plan (λ l. l.taken) (verdicts_for plan form) lanes long (λ w e lt. (whole less w e lt).0),
@@ -231,52 +223,47 @@ module _ (layout : Layout) (plan : Planned) (form : Form) (lanes : List OutView)
     );
   }
 
-  pub complete : Completes layout plan form lanes boards old new
-  complete = record {
-    lanes_are = lanes_complete;
-    bytes_are = whole_text plan form lanes t some le h.in_turn fronts layout boards old new h.written h.within h.short ended;
-    boards_are = all_boards plan form lanes t some le h.in_turn fronts layout boards old new h.written h.within h.short ended;
-    stands = stand_complete layout plan form lanes t boards old new some le h parts;
-  }
+  boards_counted : boards ≡ length (accepted plan form)
+  boards_counted = all_boards plan form lanes t some le h.in_turn fronts layout boards old mid h.written h.within h.short ended
 
--- ---- the footer
+  consistent : AreLanesConsistent plan form lanes
+  consistent = stand plan form lanes t some le h.in_turn h.short (λ w e lt _. sent w e lt)
 
-module _ (layout : Layout) (plan : Planned) (form : Form) (lanes : List OutView) (boards : ℕ) (old mid new : Option (List ℕ)) (done : Completes layout plan form lanes boards old mid) where
   abbrev body : List ℕ
   body = text_of layout plan (accepted plan form)
 
   -- the footer, or its beginning, comes after all boards
-  after_body : (end : List ℕ) → new ≡ append_known mid end → new ≡ append_known old (body ++ end)
-  after_body end is = is ∙ ap (λ o. append_known o end) done.bytes_are ∙ append_known-append old body end
+  after_body : (new : Option (List ℕ)) (end : List ℕ) → new ≡ append_known mid end → new ≡ append_known old (body ++ end)
+  after_body new end is =
+      is ∙ ap (λ o. append_known o end) (whole_text plan form lanes t some le h.in_turn fronts layout boards old mid h.written h.within h.short ended)
+      ∙ append_known-append old body end
 
-  -- what was printed, without an end
-  printed_before : WroteTaken layout plan lanes (taken_in_all lanes) boards old mid
-  printed_before = record {
-    bytes_are = done.stands.bytes_are ∙ ap (append_known old) (append-nil (printed layout plan (taken_lists lanes) (taken_in_all lanes)));
-    boards_are = done.stands.boards_are;
-  }
-
-  pub closed : IsFixed plan.fixed → AppendsAll mid new layout.footer → Closes layout plan form lanes boards old new
-  closed fits is = record {
-    lanes_are = done.lanes_are;
+  pub closed : (new : Option (List ℕ)) → boards ≤ t → IsFixed plan.fixed → AppendsAll mid new layout.footer → Closes layout plan form lanes boards t old new
+  closed new few fits is = record {
+    lanes_are = lanes_complete;
     text_is = record {
-      bytes = after_body layout.footer is;
-      boards_are = done.boards_are;
+      bytes = after_body new layout.footer is;
+      boards_are = boards_counted;
       partitions = partitions plan form fits;
     };
-    stands = stand_closed layout layout.footer plan form lanes (taken_in_all lanes) boards old mid new refl done.stands.lanes_are printed_before is;
+    stands = stand_closed layout layout.footer plan form lanes t boards old mid new (taken_total plan lanes t some h.in_turn) consistent h.written is;
+    candidates_are = sym end_is;
+    few = (few, le);
   }
 
-  pub footer_broken : AppendsPart mid new layout.footer → BreaksOffFooter layout plan form lanes boards old new
-  footer_broken part = record {
-    lanes_are = done.lanes_are;
-    part = record {
-      front = body ++ part.front;
-      rest = part.rest;
-      is_text = append_assoc body part.front part.rest ∙ ap (λ l. body ++ l) part.is_text;
-      is_proper = part.is_proper;
-      appended = after_body part.front part.appended;
-    };
-    before = (part.front, refl);
-    boards_are = done.boards_are;
-  }
+  pub footer_broken : (new : Option (List ℕ)) → AppendsPart mid new layout.footer → InterruptedIn layout plan form Output lanes boards old new
+  footer_broken new part = (
+    consistent,
+    inr (record {
+      lanes_are = lanes_complete;
+      part = record {
+        front = body ++ part.front;
+        rest = part.rest;
+        is_text = append_assoc body part.front part.rest ∙ ap (λ l. body ++ l) part.is_text;
+        is_proper = part.is_proper;
+        appended = after_body new part.front part.appended;
+      };
+      before = (part.front, refl);
+      boards_are = boards_counted;
+    }),
+  )

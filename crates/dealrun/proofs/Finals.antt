@@ -1,23 +1,22 @@
 -- From the joins and the writer to what a run promises.
-use Rattle.std.proofs.Common.{◌≡◌, ◌≢◌, ◌<◌, ◌≤◌, ◌-◌, ◌⊎◌, ◌++◌, ℕ, true, false, List, [], All, map, take, length, get_or, Option, None, Some, MatchOption, Result, Ok, Err, MatchResult, OnOk, OnErr, IfOk, IfErr, arith, ap, ◌∙◌, sym, subst, refl, inl, inr}
+use Rattle.std.proofs.Common.{◌≡◌, ◌≢◌, ◌<◌, ◌≤◌, ◌-◌, ◌⊎◌, ◌++◌, ℕ, true, false, List, [], All, map, take, length, get_or, Option, None, Some, arith, ap, ◌∙◌, sym, subst, refl, inl, inr}
 use Rattle.std.proofs.lemmas.Bool.{cases_lt, both_ways}
 use Rattle.std.proofs.lemmas.List.{get_or-map, length-map, get_or-take, take_all}
 use Rattle.std.proofs.lemmas.List.FromFn.{get_or-map-range_with_len}
-use Rattle.std.proofs.lemmas.Option.{slice_get-get_or}
+use Rattle.std.proofs.lemmas.Option.{MatchOption-at_none, MatchOption-at_some, slice_get-get_or}
 use Rattle.boards.specs.Layouts.{Layout}
 use Rattle.conditions.specs.Form.{Form}
 use Rattle.lanes.specs.declared.verdict.Verdict.{Verdict}
 use Rattle.lanes.specs.Views.{OutView}
 use Rattle.lanes.specs.Prefixes.{IsPrefix, IsProperPrefix}
-use Rattle.lanes.proofs.Places.{turns-none}
 use Rattle.plans.specs.Plans.{Planned}
 use Rattle.sinks.specs.Appended.{append_known}
 use Rattle.dealrun.specs.MergedVerdicts.{verdicts_for, taken_in_all}
 use Rattle.dealrun.specs.internal.Joins.{ByNumber, Owes, JoinedAs, Below, WholeIfSettled, IsSettled, BeginningAt, UnsettledAt, AllWhole}
 use Rattle.dealrun.specs.internal.Writing.{board_count, printed, TakenInTurn, StaysShort, WriterSoFar, WriterBrokeOff}
 use Rattle.dealrun.specs.Outcomes.{contents_of, AreLanesConsistent, BreaksOffLastPiece, IsLeastStopped, IsLeastUnclosed, InterruptedIn, BreaksOffFooter}
-use Rattle.dealrun.specs.declared.cause.Cause.{Cause}
-use Rattle.dealrun.specs.declared.cause.Cause.TheVariants.{Memory, Spawn}
+use Rattle.dealrun.specs.declared.cause.Cause.TheVariants.{Spawn}
+use Rattle.dealrun.proofs.Advance.{fresh_turns}
 use Rattle.dealrun.proofs.Endings.{taken_total, stand, each_number, each_lane, no_lane}
 
 -- lists that f cannot tell apart have elements that it cannot tell apart
@@ -75,26 +74,23 @@ owed_at plan form lists k d owes lt = ap (λ ls. get_or ls k d) owes ∙ get_or-
 module _ (plan : Planned) (form : Form) (n : ℕ) (lists : List (List Verdict)) (lanes : List OutView) (s u : Option ℕ) (all : n ≡ plan.workers) (owes : Owes plan form lists)
     (joined : JoinedAs n lists lanes s u) where
   pub joined_parts : ByNumber plan lanes (λ w l. l.settled ≡ true → IsPrefix (contents_of l) (verdicts_for plan form w))
-  joined_parts w e lt settled = subst (IsPrefix (contents_of (get_or lanes w e))) (owed_at plan form lists w [] owes lt) (joined.parts w [] e (omega (arith, lt, all)) settled).0
+  joined_parts w e lt settled = subst (IsPrefix (contents_of (get_or lanes w e))) (owed_at plan form lists w [] owes lt) (joined.parts w [] e (omega (arith, lt, all)) settled)
 
   pub joined_settled : u ≡ None → ByNumber plan lanes (λ w l. l.settled ≡ true)
   joined_settled none w e lt =
-      let h : Below IsSettled n lists lanes = subst (λ o. MatchOption o (Below IsSettled n lists lanes) (λ u. (u < n) × Below IsSettled u lists lanes × UnsettledAt u lanes)) none joined.unclosed_is in
-      h w [] e (omega (arith, lt, all))
+      MatchOption-at_none _ _ none joined.unclosed_is w [] e (omega (arith, lt, all))
 
   pub joined_whole : s ≡ None → ByNumber plan lanes (λ w l. l.settled ≡ true → contents_of l ≡ verdicts_for plan form w)
   joined_whole none w e lt settled =
-      let h : Below WholeIfSettled n lists lanes = subst (λ o. MatchOption o (Below WholeIfSettled n lists lanes) (λ s. (s < n) × Below WholeIfSettled s lists lanes × BeginningAt s lists lanes)) none joined.stopped_is in
-      h w [] e (omega (arith, lt, all)) settled ∙ owed_at plan form lists w [] owes lt
+      MatchOption-at_none _ _ none joined.stopped_is w [] e (omega (arith, lt, all)) settled ∙ owed_at plan form lists w [] owes lt
 
   pub all_whole : s ≡ None → u ≡ None → AllWhole plan form lanes
   all_whole none_s none_u w e lt =
-      let settled = joined_settled none_u w e lt in (settled, joined_whole none_s w e lt settled, (joined.parts w [] e (omega (arith, lt, all)) settled).1)
+      let settled = joined_settled none_u w e lt in (settled, joined_whole none_s w e lt settled)
 
   pub least_stopped : (w : ℕ) → s ≡ Some w → length lanes ≡ plan.workers → IsLeastStopped plan form lanes w
   least_stopped w is long =
-      let h : (w < n) × Below WholeIfSettled w lists lanes × BeginningAt w lists lanes =
-      subst (λ o. MatchOption o (Below WholeIfSettled n lists lanes) (λ s. (s < n) × Below WholeIfSettled s lists lanes × BeginningAt s lists lanes)) is joined.stopped_is in
+      let h : (w < n) × Below WholeIfSettled w lists lanes × BeginningAt w lists lanes = MatchOption-at_some _ _ w is joined.stopped_is in
       let lt : w < plan.workers = omega (arith, h.0, all) in
       let here : w < length lanes = omega (arith, lt, long) in record {
         lane = get_or lanes w no_lane;
@@ -107,8 +103,7 @@ module _ (plan : Planned) (form : Form) (n : ℕ) (lists : List (List Verdict)) 
 
   pub least_unclosed : (w boards : ℕ) → u ≡ Some w → length lanes ≡ plan.workers → (plan.limit ≢ Some boards → ByNumber plan lanes (λ v l. l.settled ≡ true → contents_of l ≡ verdicts_for plan form v)) → IsLeastUnclosed plan form lanes w boards
   least_unclosed w boards is long whole =
-      let h : (w < n) × Below IsSettled w lists lanes × UnsettledAt w lanes =
-      subst (λ o. MatchOption o (Below IsSettled n lists lanes) (λ u. (u < n) × Below IsSettled u lists lanes × UnsettledAt u lanes)) is joined.unclosed_is in
+      let h : (w < n) × Below IsSettled w lists lanes × UnsettledAt w lanes = MatchOption-at_some _ _ w is joined.unclosed_is in
       let lt : w < plan.workers = omega (arith, h.0, all) in
       let here : w < length lanes = omega (arith, lt, long) in record {
         lane = get_or lanes w no_lane;
@@ -132,9 +127,9 @@ pub not_started : (layout : Layout) (plan : Planned) (form : Form) (n : ℕ) (li
     → map (λ l. l.taken) lanes ≡ map (λ l. l.taken) idle → All (λ l. (l.taken ≡ []) × (l.settled ≡ false)) idle → InterruptedIn layout plan form Spawn lanes 0 old old
 not_started layout plan form n lists all idle lanes s u old some long few owes some_of joined rest same fresh =
     let lens : length lanes ≡ length idle = simp length-map at (ap length same) in
-    let none : (w : ℕ) (e : OutView) → w < plan.workers → (get_or lanes w e).taken ≡ [] =
-    λ w e lt. let short : w < length idle = omega (arith, lt, long, lens) in same_at (λ (l : OutView). l.taken) lanes idle w e same short ∙ (fresh w e short).0 in
-    let in_turn : TakenInTurn plan lanes 0 = record { long = long; turns_are = λ w e lt. ap length (none w e lt) ∙ sym (turns-none plan.workers w) } in
+    let none : All (λ l. l.taken ≡ []) lanes =
+    λ w e lt. let short : w < length idle = omega (arith, lt, lens) in same_at (λ (l : OutView). l.taken) lanes idle w e same short ∙ (fresh w e short).0 in
+    let in_turn = fresh_turns plan lanes long none in
     let total = taken_total plan lanes 0 some in_turn in (
       stand plan form lanes 0 some (omega arith) in_turn (λ i lt. absurd (omega arith)) parts,
       total,
@@ -154,37 +149,10 @@ not_started layout plan form n lists all idle lanes s u old some long few owes s
         elim (cases_lt w n) [
           | inl started ↦
               let mine : get_or lists w [] ≡ verdicts_for plan form w = ap (λ ls. get_or ls w []) some_of ∙ get_or-take n all w [] started ∙ owed_at plan form all w [] owes lt in
-              subst (IsPrefix (contents_of (get_or lanes w e))) mine (joined.parts w [] e started settled).0
+              subst (IsPrefix (contents_of (get_or lanes w e))) mine (joined.parts w [] e started settled)
           | inr not_so ↦ absurd (both_ways _ (rest w e not_so (omega (arith, lt, long))) settled)
         ]
-
-pub memory_stands : (layout : Layout) (plan : Planned) (form : Form) (cause : Cause) (lanes : List OutView) (boards : ℕ) (old : Option (List ℕ)) → cause ≡ Memory → lanes ≡ [] → boards ≡ 0 → InterruptedIn layout plan form cause lanes boards old old
-memory_stands layout plan form cause lanes boards old is none zero_boards = subst (λ x. InterruptedIn layout plan form x lanes boards old old) (sym is) (none, zero_boards, refl)
-
-pub on_error : {A E : Type 0} (r : Result A E) (x : E) (P : Type 0) → r ≡ Err x → OnErr r P → P
-on_error r x P is h = subst (λ s. OnErr s P) is h
-
-pub on_ok : {A E : Type 0} (r : Result A E) (x : A) (P : Type 0) → r ≡ Ok x → OnOk r P → P
-on_ok r x P is h = subst (λ s. OnOk s P) is h
-
-pub if_ok : {A E : Type 0} (r : Result A E) (P Q : A → Type 0) → ((x : A) → P x → Q x) → IfOk r P → IfOk r Q
-if_ok (Ok x) P Q f h = f x h
-if_ok (Err e) P Q f h = h
-
--- what holds of a result either way
-pub either : {A E : Type 0} (r : Result A E) (P P' : A → Type 0) (Q Q' : E → Type 0) → ((x : A) → P x → P' x) → ((e : E) → Q e → Q' e) → IfOk r P → IfErr r Q → MatchResult r P' Q'
-either (Ok x) P P' Q Q' f g ok err = f x ok
-either (Err e) P P' Q Q' f g ok err = g e err
 
 -- all workers were started: their handles owe what the plan's workers owe
 pub all_owe : (plan : Planned) (form : Form) (n : ℕ) (lists all : List (List Verdict)) → lists ≡ take n all → n ≡ length all → Owes plan form all → Owes plan form lists
 all_owe plan form n lists all some whole owes = some ∙ take_all n all (omega (arith, whole)) ∙ owes
-
--- the same in an equal layout
-pub so_far_at : {plan : Planned} {lanes : List OutView} {t boards : ℕ} {old new : Option (List ℕ)} (layout now : Layout) → now ≡ layout
-    → WriterSoFar layout plan lanes t boards old new → WriterSoFar now plan lanes t boards old new
-so_far_at {plan} {lanes} {t} {boards} {old} {new} layout now same h = subst (λ l. WriterSoFar l plan lanes t boards old new) (sym same) h
-
-pub interrupted_at : (layout now : Layout) (plan : Planned) (form : Form) (cause : Cause) (lanes : List OutView) (boards : ℕ) (old new : Option (List ℕ)) → now ≡ layout
-    → InterruptedIn now plan form cause lanes boards old new → InterruptedIn layout plan form cause lanes boards old new
-interrupted_at layout now plan form cause lanes boards old new same h = subst (λ l. InterruptedIn l plan form cause lanes boards old new) same h

@@ -38,8 +38,8 @@ part_of_whole xs ys is = grind (arith, common_steps)
 
 module _ (n : ℕ) (lists : List (List Verdict)) (lanes : List OutView) (all : List Verdict) (old new : OutView) (short : n < length lanes) (at : (d : List Verdict) → get_or lists n d ≡ all) (unsettled : old.settled ≡ false) where
   parts_here : (how : WorkEnd) → JoinsAs all old new how → PartIfSettled all new
-  parts_here (Done closed) joins settled = (part_of_whole _ _ joins.1, joins.2)
-  parts_here (Stopped closed) joins settled = (joins.1.0, joins.2)
+  parts_here (Done closed) joins settled = part_of_whole _ _ joins.1
+  parts_here (Stopped closed) joins settled = joins.1.0
   parts_here Unclosed joins settled = cc
 
   parts_step : (how : WorkEnd) → JoinsAs all old new how → Below PartIfSettled n lists lanes → Below PartIfSettled (n + 1) lists (set lanes n new)
@@ -62,9 +62,7 @@ module _ (n : ℕ) (lists : List (List Verdict)) (lanes : List OutView) (all : L
     λ d e. subst (λ l. (l.settled ≡ true) × IsProperPrefix (contents_of l) (get_or lists n d)) (sym (get_or-set_same lanes n new e short)) (joins.0, subst (IsProperPrefix (contents_of new)) (sym (at d)) joins.1),
   )
   stopped_step Unclosed None joins h = more_below WholeIfSettled n lists lanes new short h (λ d settled. cc)
-  stopped_step (Done closed) (Some s) joins h = (omega arith, below_kept WholeIfSettled n lists lanes new short s (omega arith) h.1, beginning_kept s h.0 h.2)
-  stopped_step (Stopped closed) (Some s) joins h = (omega arith, below_kept WholeIfSettled n lists lanes new short s (omega arith) h.1, beginning_kept s h.0 h.2)
-  stopped_step Unclosed (Some s) joins h = (omega arith, below_kept WholeIfSettled n lists lanes new short s (omega arith) h.1, beginning_kept s h.0 h.2)
+  stopped_step how (Some s) joins h = (omega arith, below_kept WholeIfSettled n lists lanes new short s (omega arith) h.1, beginning_kept s h.0 h.2)
 
   unclosed_step : (how : WorkEnd) (u : Option ℕ) → JoinsAs all old new how
       → MatchOption u (Below IsSettled n lists lanes) (λ u. (u < n) × Below IsSettled u lists lanes × UnsettledAt u lanes)
@@ -73,20 +71,12 @@ module _ (n : ℕ) (lists : List (List Verdict)) (lanes : List OutView) (all : L
   unclosed_step (Stopped closed) None joins h = more_below IsSettled n lists lanes new short h (λ d. joins.0)
   unclosed_step Unclosed None joins h =
       (omega arith, below_kept IsSettled n lists lanes new short n (omega arith) h, λ e. subst (λ l. l.settled ≡ false) (sym (get_or-set_same lanes n new e short)) (ap (λ l. l.settled) joins ∙ unsettled))
-  unclosed_step (Done closed) (Some u) joins h = (omega arith, below_kept IsSettled n lists lanes new short u (omega arith) h.1, unsettled_kept u h.0 h.2)
-  unclosed_step (Stopped closed) (Some u) joins h = (omega arith, below_kept IsSettled n lists lanes new short u (omega arith) h.1, unsettled_kept u h.0 h.2)
-  unclosed_step Unclosed (Some u) joins h = (omega arith, below_kept IsSettled n lists lanes new short u (omega arith) h.1, unsettled_kept u h.0 h.2)
-
-  pub join_step : (how : WorkEnd) (s u : Option ℕ) → JoinsAs all old new how → JoinedAs n lists lanes s u
-      → JoinedAs (n + 1) lists (set lanes n new) (stopped_after how n s) (unclosed_after how n u)
-  join_step how s u joins h = record {
-    parts = parts_step how joins h.parts;
-    stopped_is = stopped_step how s joins h.stopped_is;
-    unclosed_is = unclosed_step how u joins h.unclosed_is;
-  }
+  unclosed_step how (Some u) joins h = (omega arith, below_kept IsSettled n lists lanes new short u (omega arith) h.1, unsettled_kept u h.0 h.2)
 
   pub join_step_to : (how : WorkEnd) (s u s' u' : Option ℕ) → JoinsAs all old new how → JoinedAs n lists lanes s u → s' ≡ stopped_after how n s → u' ≡ unclosed_after how n u
       → JoinedAs (n + 1) lists (set lanes n new) s' u'
-  join_step_to how s u s' u' joins h same_s same_u =
-      subst (λ x. JoinedAs (n + 1) lists (set lanes n new) x u') (sym same_s)
-      (subst (λ x. JoinedAs (n + 1) lists (set lanes n new) (stopped_after how n s) x) (sym same_u) (join_step how s u joins h))
+  join_step_to how s u s' u' joins h same_s same_u = rw (same_s, same_u) (record {
+    parts = parts_step how joins h.parts;
+    stopped_is = stopped_step how s joins h.stopped_is;
+    unclosed_is = unclosed_step how u joins h.unclosed_is;
+  })

@@ -1,3 +1,5 @@
+pub mod Ranges
+pub mod ValueLemmas
 pub mod BoardLists
 pub mod Running
 pub mod Maps
@@ -8,6 +10,5 @@ pub mod Advance
 pub mod Wholes
 pub mod Accepting
 pub mod Endings
-pub mod Ended
 pub mod Finals
 pub mod Causes

@@ -1,5 +1,5 @@
 -- The plain run, candidate by candidate.
-use Rattle.std.proofs.Common.{◌≡◌, ◌∙◌, ◌<◌, ◌≤◌, ◌+◌, ◌++◌, ℕ, Bool, true, false, List, [], ◌∷◌, length, take, Option, Some, None, refl, sym, ap, subst, arith, append_assoc, length-append}
+use Rattle.std.proofs.Common.{◌≡◌, ◌∙◌, ◌<◌, ◌≤◌, ◌⊎◌, ◌+◌, ◌++◌, ℕ, Bool, true, false, List, [], ◌∷◌, length, take, Option, Some, refl, sym, ap, subst, arith, append_assoc, length-append}
 use Rattle.std.proofs.lemmas.List.{append-nil, take_all}
 use Rattle.std.proofs.Math.Seq.{take-append_seam}
 use Rattle.boards.specs.Layouts.{Layout}
@@ -11,7 +11,8 @@ use Rattle.sinks.specs.Appended.{append_known, AppendsAll, AppendsPart}
 use Rattle.dealrun.specs.Reference.{BreaksOffIn}
 use Rattle.dealrun.specs.Text.{accepted, accepted_among, board_of, limited, text_of}
 use Rattle.sinks.proofs.SinkLemmas.{append_known-append}
-use Rattle.dealrun.proofs.BoardLists.{IsWithin, accepted_among-more, accepted_among-none, accepted_among-parts, limited-all, limited-full, limited-next, text_of-append, text_of-more, text_of-none, within_more}
+use Rattle.dealrun.proofs.Accepting.{accepted_here}
+use Rattle.dealrun.proofs.BoardLists.{IsWithin, accepted_among-more, accepted_among-none, accepted_among-parts, limited-next, text_of-append, text_of-more, text_of-none, within_more}
 
 -- after i candidates: the accepted ones among them were written, within the limit
 pub record Running (layout : Layout) (plan : Planned) (form : Form) (i boards : ℕ) (base now : Option (List ℕ)) : Type 0 where
@@ -20,15 +21,11 @@ pub record Running (layout : Layout) (plan : Planned) (form : Form) (i boards : 
   pub within : IsWithin plan.limit boards
   pub bytes : AppendsAll base now (text_of layout plan (accepted_among (candidate_of plan) plan.first form i))
 
-nothing_within : (limit : Option ℕ) → IsWithin limit 0
-nothing_within None = tt
-nothing_within (Some most) = omega arith
-
 pub running_none : (layout : Layout) (plan : Planned) (form : Form) (base now : Option (List ℕ)) (text : List ℕ) → text ≡ layout.header → AppendsAll base now text → Running layout plan form 0 0 base now
 running_none layout plan form base now text is e = record {
   count = sym (ap length (accepted_among-none (candidate_of plan) plan.first form));
   few = omega arith;
-  within = nothing_within plan.limit;
+  within = λ most _. omega arith;
   bytes = e ∙ ap (append_known base) (is ∙ sym (ap (text_of layout plan) (accepted_among-none (candidate_of plan) plan.first form) ∙ text_of-none layout plan));
 }
 
@@ -82,24 +79,15 @@ pub record Ended (layout : Layout) (plan : Planned) (form : Form) (boards : ℕ)
   pub bytes : AppendsAll base now (text_of layout plan (accepted plan form))
   pub count : boards ≡ length (accepted plan form)
 
-ended_by : (layout : Layout) (plan : Planned) (form : Form) (i boards : ℕ) (base now : Option (List ℕ)) → Running layout plan form i boards base now → accepted plan form ≡ accepted_among (candidate_of plan) plan.first form i
+pub ended : (layout : Layout) (plan : Planned) (form : Form) (i boards : ℕ) (base now : Option (List ℕ)) → Running layout plan form i boards base now → i ≤ plan.count → (i ≡ plan.count) ⊎ (plan.limit ≡ Some boards)
     → Ended layout plan form boards base now
-ended_by layout plan form i boards base now r same = record {
-  bytes = r.bytes ∙ ap (λ xs. append_known base (text_of layout plan xs)) (sym same);
-  count = r.count ∙ sym (ap length same);
-}
-
-pub ended_full : (layout : Layout) (plan : Planned) (form : Form) (i boards : ℕ) (base now : Option (List ℕ)) → Running layout plan form i boards base now → i ≤ plan.count → plan.limit ≡ Some boards → Ended layout plan form boards base now
-ended_full layout plan form i boards base now r h full =
-    let parts = accepted_among-parts (candidate_of plan) plan.first form i plan.count h in
-    ended_by layout plan form i boards base now r
-    (ap (limited plan.limit) parts.is ∙ limited-full plan.limit (accepted_among (candidate_of plan) plan.first form i) parts.rest (full ∙ ap (λ n. Some n) r.count))
-
-pub ended_all : (layout : Layout) (plan : Planned) (form : Form) (i boards : ℕ) (base now : Option (List ℕ)) → Running layout plan form i boards base now → i ≡ plan.count → Ended layout plan form boards base now
-ended_all layout plan form i boards base now r e =
-    let within : IsWithin plan.limit (length (accepted_among (candidate_of plan) plan.first form i)) = subst (IsWithin plan.limit) r.count r.within in
-    ended_by layout plan form i boards base now r
-    (ap (λ n. limited plan.limit (accepted_among (candidate_of plan) plan.first form n)) (sym e) ∙ limited-all plan.limit (accepted_among (candidate_of plan) plan.first form i) within)
+ended layout plan form i boards base now r le done =
+    let same : accepted plan form ≡ accepted_among (candidate_of plan) plan.first form i =
+    accepted_here plan form i le (subst (IsWithin plan.limit) r.count r.within) (subst (λ n. (i ≡ plan.count) ⊎ (plan.limit ≡ Some n)) r.count done) in
+    record {
+      bytes = r.bytes ∙ ap (λ xs. append_known base (text_of layout plan xs)) (sym same);
+      count = r.count ∙ sym (ap length same);
+    }
 
 -- ---- a fault
 

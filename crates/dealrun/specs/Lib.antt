@@ -1,12 +1,12 @@
--- The first five stand in the crates below, and have their names here too.
+-- The first four stand in the crates below, and have their names here too.
 pub use Rattle.sinks.specs.Appended
 pub use Rattle.sinks.specs.Sinks
 pub use Rattle.sinks.specs.Fuses
-pub use Rattle.values.specs.Values
 pub use Rattle.plans.specs.Plans
 pub mod Text
 pub mod MergedVerdicts
 pub mod Outcomes
 pub mod Pbn
 pub mod Reference
+pub mod Values
 pub mod internal

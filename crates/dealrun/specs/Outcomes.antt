@@ -1,7 +1,8 @@
 -- What holds when a run returns. The headline is two records: what was taken from the lanes of a
 -- run that ended Ok, and what was written. The rest says what holds however a run ends.
 use Rattle.std.specs.Prelude.{ℕ, ◌+◌, ◌-◌, ◌≡◌, ◌≢◌, ◌<◌, ◌≤◌, ◌⊎◌, List, [], ◌++◌, All, length}
-use Rattle.std.specs.Prelude.{map, take, Option, Some, true, false, slice_get}
+use Rattle.std.specs.Prelude.{map, take, Option, Some, Result, Ok, Err, MatchResult, true, false}
+use Rattle.std.specs.Prelude.{slice_get}
 use Rattle.std.specs.List.{enumerate_from, range_with_len}
 use Rattle.boards.specs.Layouts.{Layout}
 use Rattle.cards.specs.Deals.{IsPartition}
@@ -12,6 +13,9 @@ use Rattle.lanes.specs.Views.{OutView}
 use Rattle.lanes.specs.Prefixes.{IsPrefix, IsProperPrefix}
 use Rattle.dealrun.specs.declared.cause.Cause.{Cause}
 use Rattle.dealrun.specs.declared.cause.Cause.TheVariants.{Memory, Spawn, Output, Stopped, Unclosed}
+use Rattle.dealrun.specs.declared.runs.Counted.{Counted}
+use Rattle.dealrun.specs.declared.runs.Report.{Report}
+use Rattle.dealrun.specs.declared.runs.RunFault.{RunFault}
 use Rattle.plans.specs.Plans.{Planned, candidate_of}
 use Rattle.sinks.specs.Appended.{AppendsAll, AppendsPart}
 use Rattle.dealrun.specs.Text.{accepted_among, accepted, boards_of, end_of}
@@ -153,3 +157,21 @@ InterruptedIn layout plan form (Unclosed w) lanes boards old new =
 abbrev pub FaultsAfter : Cause → ℕ → ℕ → Type 0
 FaultsAfter Output old new = new ≡ old + 1
 FaultsAfter _ old new = new ≡ old
+
+-- ---- what each run says, however it ends
+
+-- the lanes as they are, and the bytes of what was taken from them
+abbrev pub StandsIn : Layout → Planned → Form → Result Report RunFault
+    → Option (List ℕ) → Option (List ℕ) → Type 0
+StandsIn layout plan form r old new = MatchResult r
+    (λ r. StandsCompleteIn layout layout.footer plan form r.lanes.items r.boards old new)
+    (λ e. InterruptedIn layout plan form e.cause e.lanes.items e.boards old new)
+
+-- the report of a run that counts its candidates too
+abbrev pub report_of : Result Counted RunFault → Result Report RunFault
+report_of (Ok c) = Ok c.report
+report_of (Err e) = Err e
+
+-- the sink failed, once, if and only if the cause is Output
+abbrev pub FailsAtOutput : {A : Type 0} → Result A RunFault → ℕ → ℕ → Type 0
+FailsAtOutput r old new = MatchResult r (λ _. new ≡ old) (λ e. FaultsAfter e.cause old new)

@@ -1,24 +1,9 @@
--- The run in Portable Bridge Notation: the definitions of any layout, at PBN's under the plan's
--- heading. PBN has no footer.
-use Rattle.std.specs.Prelude.{ℕ, List, [], Option}
+-- The text of a plan in Portable Bridge Notation, under the plan's heading. PBN has no footer.
+use Rattle.std.specs.Prelude.{ℕ, List}
 use Rattle.conditions.specs.Form.{Form}
-use Rattle.lanes.specs.Views.{OutView}
 use Rattle.pbn_text.specs.Games.{pbn}
-use Rattle.dealrun.specs.declared.cause.Cause.{Cause}
 use Rattle.plans.specs.Plans.{Planned}
 use Rattle.dealrun.specs.Text.{text_in}
-use Rattle.dealrun.specs.Outcomes.{InterruptedIn, StandsCompleteIn, WritesTextIn}
 
 abbrev pub text : Planned → Form → List ℕ
 text plan form = text_in (pbn plan.heading) plan form
-
-abbrev pub WritesText : Planned → Form → ℕ → Option (List ℕ) → Option (List ℕ) → Type 0
-WritesText plan = WritesTextIn (pbn plan.heading) plan
-
-abbrev pub StandsComplete : Planned → Form → List OutView → ℕ
-    → Option (List ℕ) → Option (List ℕ) → Type 0
-StandsComplete plan = StandsCompleteIn (pbn plan.heading) [] plan
-
-abbrev pub InterruptedOutcome : Planned → Form → Cause → List OutView → ℕ
-    → Option (List ℕ) → Option (List ℕ) → Type 0
-InterruptedOutcome plan = InterruptedIn (pbn plan.heading) plan

@@ -1,10 +1,12 @@
--- What the reference run leaves if its sink fails.
+-- What the reference run writes, and what it leaves if its sink fails.
 use Rattle.std.specs.Prelude.{◌<◌, ◌≤◌, ℕ, ◌+◌, List, ◌++◌, length, take, Option}
+use Rattle.std.specs.Prelude.{MatchResult, Result}
 use Rattle.boards.specs.Layouts.{Layout}
-use Rattle.pbn_text.specs.Games.{pbn}
-use Rattle.sinks.specs.Appended.{AppendsPart}
+use Rattle.conditions.specs.Form.{Form}
+use Rattle.sinks.specs.Appended.{AppendsAll, AppendsPart}
 use Rattle.plans.specs.Plans.{Planned}
-use Rattle.dealrun.specs.Text.{text_of}
+use Rattle.dealrun.specs.Text.{accepted, text_in, text_of}
+use Rattle.dealrun.specs.declared.reference.PlainFault.{PlainFault}
 
 -- a text was broken off: a proper prefix of it was appended, with this many whole boards
 pub record BreaksOffIn (layout : Layout) (old new : Option (List ℕ)) (plan : Planned)
@@ -17,7 +19,9 @@ pub record BreaksOffIn (layout : Layout) (old new : Option (List ℕ)) (plan : P
   pub broken : boards < length numbers
       → length part.front < length (text_of layout plan (take (boards + 1) numbers))
 
--- the same of a text in Portable Bridge Notation
-abbrev pub BreaksOffText : Option (List ℕ) → Option (List ℕ) → Planned → List ℕ → ℕ → Type 0
-BreaksOffText old new plan numbers boards =
-    BreaksOffIn (pbn plan.heading) old new plan numbers boards
+-- what the reference run writes: the whole text, or a part of it where its sink failed
+abbrev pub WritesPlainIn : Layout → Planned → Form → Result ℕ PlainFault
+    → Option (List ℕ) → Option (List ℕ) → Type 0
+WritesPlainIn layout plan form r old new = MatchResult r
+    (λ _. AppendsAll old new (text_in layout plan form))
+    (λ e. BreaksOffIn layout old new plan (accepted plan form) e.boards)

@@ -3,12 +3,13 @@
 //! A plan says which candidates are tried, and which boards are made of the accepted ones. Two runs
 //! write them, both proved to write the text that the definition gives:
 //! - `run_in`, the fast one: workers in threads of their own judge the candidates, and the caller's
-//!   thread writes (`runs.rt`, `start.rt`, `whole_text.rt`, `writer.rt`, `join.rt`, `ending.rt`).
+//!   thread writes (`runs.rt`, `start.rt`, `writer.rt`, `join.rt`, `ending.rt`).
 //! - `run_plain_in`, the reference, which reads as the definition (`reference.rt`). It runs in
 //!   tests.
 //!
-//! They write in any notation; `run` and `run_plain` write PBN (`pbn.rt`). Plans, sinks and
-//! `stream` stand in crates of their own, and have their names here too.
+//! They write in any notation; `run` and `run_plain` write PBN (`pbn.rt`). Plans and sinks stand in
+//! crates of their own, and have their names here too. `stream` writes the values of the generator,
+//! without a plan (`values.rt`).
 #![tactic(auto)]
 
 mod cause;
@@ -20,7 +21,7 @@ mod pbn;
 mod reference;
 mod runs;
 mod start;
-mod whole_text;
+mod values;
 mod writer;
 
 pub use cause::Cause;

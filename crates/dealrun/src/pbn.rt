@@ -1,16 +1,15 @@
 //! The runs that write Portable Bridge Notation: the runs in any notation, at PBN's printers.
 
-ghost use Rattle.std.specs.Prelude.{◌≡◌, ◌-◌, ◌^◌, ◌<◌, length, IfOk, MatchResult};
-ghost use Rattle.dealrun.specs.Outcomes.{FaultsAfter, TakesWhatIsOwed};
-ghost use Rattle.dealrun.specs.Reference.{BreaksOffText};
-ghost use Rattle.dealrun.specs.Pbn.{InterruptedOutcome, StandsComplete, WritesText};
-ghost use Rattle.dealrun.specs.Pbn.{text};
-ghost use Rattle.sinks.specs.Appended.{AppendsAll};
+ghost use Rattle.std.specs.Prelude.{◌≡◌, ◌-◌, ◌^◌, ◌<◌, length, IfOk};
+ghost use Rattle.pbn_text.specs.Games.{pbn};
+ghost use Rattle.dealrun.specs.Outcomes.{FailsAtOutput, StandsIn, TakesWhatIsOwed, WritesTextIn};
+ghost use Rattle.dealrun.specs.Reference.{WritesPlainIn};
 ghost use Rattle.sinks.specs.Sinks.{CountsFault};
 ghost use Rattle.dealrun.specs.Text.{accepted};
 
 use crate::reference::{PlainFault, run_plain_in};
-use crate::runs::{Counted, Report, RunFault, out_of_memory, start_and_write};
+use crate::runs::{Report, RunFault, out_of_memory, start_and_write};
+use crate::start::Shared;
 use conditions::Cond;
 use lanes::Gate;
 use pbn_text::{Printer, Reference};
@@ -51,18 +50,13 @@ pub fn run<
     // What was taken from each lane is its worker's verdicts, and all that is needed.
     ensures lanes { IfOk result (λ r. TakesWhatIsOwed plan.now cond r.lanes.items r.boards) }
     // The bytes are the games of the accepted deals, within the limit, in order.
-    ensures text { IfOk result (λ r. WritesText plan.now cond r.boards
+    ensures text { IfOk result (λ r. WritesTextIn (pbn plan.now.heading) plan.now cond r.boards
         (S.bytes sink.old) (S.bytes sink.new)) }
     // However the run ends: the lanes as they are, and the bytes of what was taken from them.
-    ensures stands { MatchResult result
-        (λ r. StandsComplete plan.now cond r.lanes.items r.boards
-        (S.bytes sink.old) (S.bytes sink.new))
-        (λ e. InterruptedOutcome plan.now cond e.cause e.lanes.items e.boards
-        (S.bytes sink.old) (S.bytes sink.new)) }
+    ensures stands { StandsIn (pbn plan.now.heading) plan.now cond result
+        (S.bytes sink.old) (S.bytes sink.new) }
     // The sink failed, once, if and only if the cause is Output.
-    ensures faults { MatchResult result
-        (λ _. S.faults sink.new ≡ S.faults sink.old)
-        (λ e. FaultsAfter e.cause (S.faults sink.old) (S.faults sink.new)) }
+    ensures faults { FailsAtOutput result (S.faults sink.old) (S.faults sink.new) }
 {
     let Ok(stop) = Arc::new(alloc, AtomicBool::new(false)) else {
         return Err(out_of_memory(alloc));
@@ -70,17 +64,9 @@ pub fn run<
     let Ok(mut printer) = Printer::new(alloc, plan.heading()) else {
         return Err(out_of_memory(alloc));
     };
-    let Counted { report, .. } = start_and_write(
-        rt,
-        alloc,
-        plan,
-        cond,
-        &mut printer,
-        sink,
-        gate,
-        stop,
-    )?;
-    Ok(report)
+    let shared = Shared { gate, stop };
+    let counted = start_and_write(rt, alloc, plan, cond, &mut printer, sink, shared)?;
+    Ok(counted.report)
 }
 
 /// Tries the plan's candidates in order, and writes the header and the games of those that meet the
@@ -93,10 +79,8 @@ pub fn run<
 /// number of whole games in it.
 pub fn run_plain<S: Sink>(plan: &Plan, cond: &Cond, sink: &mut S) -> Result<u64, PlainFault>
     requires { S.faults sink.old < 2 ^ 64 - 1 }
-    ensures bytes { MatchResult result
-        (λ _. AppendsAll (S.bytes sink.old) (S.bytes sink.new) (text plan.now cond.now))
-        (λ e. BreaksOffText (S.bytes sink.old) (S.bytes sink.new) plan.now
-        (accepted plan.now cond.now) e.boards) }
+    ensures bytes { WritesPlainIn (pbn plan.now.heading) plan.now cond.now result
+        (S.bytes sink.old) (S.bytes sink.new) }
     ensures boards { IfOk result (λ boards. boards ≡ length (accepted plan.now cond.now)) }
     ensures faults { CountsFault (S.faults sink.old) (S.faults sink.new) result }
 {

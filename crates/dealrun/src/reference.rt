@@ -4,8 +4,8 @@
 ghost use Rattle.std.specs.Prelude.{◌≡◌, ◌-◌, ◌<◌, ◌^◌, length, IfOk, MatchResult};
 ghost use Rattle.sinks.specs.Appended.{AppendsAll};
 ghost use Rattle.sinks.specs.Sinks.{CountsFault};
-ghost use Rattle.dealrun.specs.Reference.{BreaksOffIn};
-ghost use Rattle.dealrun.specs.Text.{accepted, text_in, text_of};
+ghost use Rattle.dealrun.specs.Reference.{BreaksOffIn, WritesPlainIn};
+ghost use Rattle.dealrun.specs.Text.{accepted, text_of};
 
 use crate::next_board::{is_full, put_board};
 use boards::Notation;
@@ -75,11 +75,8 @@ pub fn run_plain_in<N: Notation, S: Sink>(
 ) -> Result<u64, PlainFault>
     requires { S.faults sink.old < 2 ^ 64 - 1 }
     ensures layout { N.layout notation.new ≡ N.layout notation.old }
-    ensures bytes { MatchResult result
-        (λ _. AppendsAll (S.bytes sink.old) (S.bytes sink.new)
-        (text_in (N.layout notation.old) plan.now cond.now))
-        (λ e. BreaksOffIn (N.layout notation.old) (S.bytes sink.old) (S.bytes sink.new)
-        plan.now (accepted plan.now cond.now) e.boards) }
+    ensures bytes { WritesPlainIn (N.layout notation.old) plan.now cond.now result
+        (S.bytes sink.old) (S.bytes sink.new) }
     ensures boards { IfOk result (λ boards. boards ≡ length (accepted plan.now cond.now)) }
     ensures faults { CountsFault (S.faults sink.old) (S.faults sink.new) result }
 {

@@ -1,24 +1,24 @@
 //! A run: the workers beside the writer, from the first allocation to how it ended.
 //!
-//! `run_in` makes the stop flag, `start_and_write` the lanes and the workers, and `write_to_end`
-//! reports how the writing of the text ended (`whole_text.rt`).
+//! `run_in` makes the stop flag, `start_and_write` the lanes and the workers, and `write_all` has
+//! the text written (`writer.rt`), joins the workers, and reports how that ended.
 
 ghost use Rattle.std.specs.Prelude.{◌≡◌, ◌-◌, ◌^◌, ◌<◌, ◌≤◌, [], false, All, IfOk};
-ghost use Rattle.std.specs.Prelude.{IfErr, MatchResult, map, vec_len};
+ghost use Rattle.std.specs.Prelude.{map, vec_len};
 ghost use Rattle.conditions.specs.Form.{Form};
 ghost use Rattle.dealrun.specs.declared.cause.Cause.TheVariants.{Memory};
-ghost use Rattle.dealrun.specs.Outcomes.{FaultsAfter, InterruptedIn, StandsCompleteIn};
-ghost use Rattle.dealrun.specs.Outcomes.{TakesWhatIsOwed, WritesTextIn};
+ghost use Rattle.dealrun.specs.Outcomes.{FailsAtOutput, StandsIn, TakesWhatIsOwed, WritesTextIn};
+ghost use Rattle.dealrun.specs.Outcomes.{report_of};
 ghost use Rattle.dealrun.specs.Text.{end_of};
-ghost use Rattle.dealrun.specs.internal.Ends.{Closes, EndsRun};
+ghost use Rattle.dealrun.specs.internal.Ends.{EndsRun};
 ghost use Rattle.dealrun.specs.internal.Handles.{owed_by};
 ghost use Rattle.dealrun.specs.internal.Joins.{Owes};
 
 use crate::cause::Cause;
+use crate::ending::{Written, cause_of};
 use crate::join::join_all;
-use crate::start::{Started, assign_all, start_all};
-use crate::whole_text::write_all;
-use crate::writer::Progress;
+use crate::start::{Shared, Started, assign_all, start_all};
+use crate::writer::Writer;
 use boards::Notation;
 use conditions::Cond;
 use lanes::{Gate, LaneOut};
@@ -90,15 +90,10 @@ pub fn run_in<
     ensures text { IfOk result (λ r. WritesTextIn (N.layout notation.old) plan.now cond r.boards
         (S.bytes sink.old) (S.bytes sink.new)) }
     // However the run ends: the lanes as they are, and the bytes of what was taken from them.
-    ensures stands { MatchResult result
-        (λ r. StandsCompleteIn (N.layout notation.old) (N.layout notation.old).footer
-        plan.now cond r.lanes.items r.boards (S.bytes sink.old) (S.bytes sink.new))
-        (λ e. InterruptedIn (N.layout notation.old)
-        plan.now cond e.cause e.lanes.items e.boards (S.bytes sink.old) (S.bytes sink.new)) }
+    ensures stands { StandsIn (N.layout notation.old) plan.now cond result
+        (S.bytes sink.old) (S.bytes sink.new) }
     // The sink failed, once, if and only if the cause is Output.
-    ensures faults { MatchResult result
-        (λ _. S.faults sink.new ≡ S.faults sink.old)
-        (λ e. FaultsAfter e.cause (S.faults sink.old) (S.faults sink.new)) }
+    ensures faults { FailsAtOutput result (S.faults sink.old) (S.faults sink.new) }
 {
     let Counted { report, .. } = run_and_count(rt, alloc, plan, cond, notation, sink, gate)?;
     Ok(report)
@@ -110,7 +105,6 @@ pub fn run_in<
 /// # Errors
 ///
 /// Those of `run_in`.
-#[tactic(auto, using(crate::proofs::Ended::ended))]
 pub fn run_and_count<
     R: Threads + Wait + Clone + Send + 'static,
     G: Gate + Drop + Send + Sync + 'static,
@@ -135,23 +129,20 @@ pub fn run_and_count<
     ensures candidates { IfOk result (λ r. r.candidates ≡ end_of plan.now cond) }
     ensures few { IfOk result (λ r.
         (r.report.boards ≤ r.candidates) × (r.candidates ≤ plan.now.count)) }
-    ensures stands { MatchResult result
-        (λ r. StandsCompleteIn (N.layout notation.old) (N.layout notation.old).footer
-        plan.now cond r.report.lanes.items r.report.boards (S.bytes sink.old) (S.bytes sink.new))
-        (λ e. InterruptedIn (N.layout notation.old)
-        plan.now cond e.cause e.lanes.items e.boards (S.bytes sink.old) (S.bytes sink.new)) }
-    ensures faults { MatchResult result
-        (λ _. S.faults sink.new ≡ S.faults sink.old)
-        (λ e. FaultsAfter e.cause (S.faults sink.old) (S.faults sink.new)) }
+    ensures stands { StandsIn (N.layout notation.old) plan.now cond (report_of result)
+        (S.bytes sink.old) (S.bytes sink.new) }
+    ensures faults { FailsAtOutput result (S.faults sink.old) (S.faults sink.new) }
 {
     match Arc::new(alloc, AtomicBool::new(false)) {
-        Ok(stop) => start_and_write(rt, alloc, plan, cond, notation, sink, gate, stop),
+        Ok(stop) => {
+            start_and_write(rt, alloc, plan, cond, notation, sink, Shared { gate, stop })
+        }
         Err(_) => Err(out_of_memory(alloc)),
     }
 }
 
-/// Takes the memory of the lanes and the workers, starts the workers, and writes; `stop` is their
-/// flag, which is down.
+/// Takes the memory of the lanes and the workers, starts the workers, whose flag is down, and
+/// writes.
 pub(crate) fn start_and_write<
     R: Threads + Wait + Clone + Send + 'static,
     G: Gate + Drop + Send + Sync + 'static,
@@ -164,15 +155,15 @@ pub(crate) fn start_and_write<
     cond: Cond,
     notation: &mut N,
     sink: &mut S,
-    gate: Arc<G, Global>,
-    stop: Arc<AtomicBool, Global>,
+    shared: Shared<G>,
 ) -> Result<Counted, RunFault>
     requires { S.faults sink.old < 2 ^ 64 - 1 }
     ensures layout { N.layout notation.new ≡ N.layout notation.old }
     ensures ends { EndsRun (N.layout notation.old) plan.now cond result
-        (S.bytes sink.old) (S.bytes sink.new) (S.faults sink.old) (S.faults sink.new) }
+        (S.bytes sink.old) (S.bytes sink.new) }
+    ensures faults { FailsAtOutput result (S.faults sink.old) (S.faults sink.new) }
 {
-    let Ok((assignments, mut lanes)) = assign_all(rt, alloc, plan, &cond, &gate, &stop) else {
+    let Ok((assignments, mut lanes)) = assign_all(rt, alloc, plan, &cond, &shared) else {
         return Err(out_of_memory(alloc));
     };
     let Ok(mut handles) = Vec::with_capacity(alloc, assignments.len()) else {
@@ -180,7 +171,7 @@ pub(crate) fn start_and_write<
     };
     if !start_all(rt, assignments, &mut handles) {
         // A store to the stop flag is the core's Stop.
-        stop.store(true, Ordering::SeqCst);
+        shared.stop.store(true, Ordering::SeqCst);
         join_all(rt, handles, &mut lanes);
         return Err(RunFault {
             cause: Cause::Spawn,
@@ -188,7 +179,7 @@ pub(crate) fn start_and_write<
             boards: 0,
         });
     }
-    write_to_end(rt, plan, handles, lanes, notation, sink, &stop)
+    write_all(rt, plan, handles, lanes, notation, sink, &shared.stop)
 }
 
 pub(crate) fn out_of_memory(alloc: Global) -> RunFault
@@ -201,8 +192,9 @@ pub(crate) fn out_of_memory(alloc: Global) -> RunFault
     }
 }
 
-/// Writes the whole text, and reports how that ended.
-fn write_to_end<R: Threads + Wait, N: Notation, S: Sink>(
+/// Writes while the workers run, joins them, and writes the rest unless the run is interrupted.
+/// Once nothing more is to be written, the workers are stopped.
+fn write_all<R: Threads + Wait, N: Notation, S: Sink>(
     rt: &R,
     plan: &Plan,
     handles: Vec<Started>,
@@ -212,54 +204,59 @@ fn write_to_end<R: Threads + Wait, N: Notation, S: Sink>(
     stop: &AtomicBool,
 ) -> Result<Counted, RunFault>
     requires faults { S.faults sink.old < 2 ^ 64 - 1 }
-    requires counts { (vec_len handles ≡ plan.now.workers)
-        × (vec_len lanes ≡ plan.now.workers)
-        × (plan.now.workers ≤ 16) }
-    requires some { 0 < plan.now.workers }
-    requires owed { (form : Form) × Owes plan.now form (owed_by handles.items) }
+    requires counts { (vec_len handles ≡ plan.now.workers) × (vec_len lanes ≡ plan.now.workers) }
+    requires workers { (0 < plan.now.workers) × (plan.now.workers ≤ 16) }
     requires rings { map (λ h. h.promise.lane.value.ring) handles.items
         ≡ map (λ l. l.ring) lanes.items }
     requires idle { All (λ l. (l.taken ≡ []) × (l.settled ≡ false)) lanes.items }
     ensures layout { N.layout notation.new ≡ N.layout notation.old }
-    ensures closes { IfOk result (λ r. (form : Form)
+    ensures ends { (form : Form)
         → Owes plan.now form (owed_by handles.items)
-        → Closes (N.layout notation.old) plan.now form r.report.lanes.items r.report.boards
-        (S.bytes sink.old) (S.bytes sink.new)) }
-    ensures few { IfOk result (λ r.
-        (r.report.boards ≤ r.candidates) × (r.candidates ≤ plan.now.count)) }
-    ensures ends { IfOk result (λ r. (form : Form)
-        → Owes plan.now form (owed_by handles.items)
-        → r.candidates ≡ end_of plan.now form) }
-    ensures stands { IfErr result (λ e. (form : Form)
-        → Owes plan.now form (owed_by handles.items)
-        → InterruptedIn (N.layout notation.old) plan.now form e.cause e.lanes.items e.boards
-        (S.bytes sink.old) (S.bytes sink.new)) }
-    ensures faults { MatchResult result
-        (λ _. S.faults sink.new ≡ S.faults sink.old)
-        (λ e. FaultsAfter e.cause (S.faults sink.old) (S.faults sink.new)) }
+        → EndsRun (N.layout notation.old) plan.now form result
+        (S.bytes sink.old) (S.bytes sink.new) }
+    ensures faults { FailsAtOutput result (S.faults sink.old) (S.faults sink.new) }
 {
-    let mut lanes = lanes;
-    let mut progress = Progress::new(plan);
-    let ended = write_all(
-        rt,
-        plan,
-        handles,
-        &mut lanes,
-        notation,
-        sink,
-        &mut progress,
-        stop,
-    );
-    let boards = progress.boards;
-    match ended {
-        Ok(()) => Ok(Counted {
-            report: Report { lanes, boards },
-            candidates: progress.taken,
-        }),
-        Err(cause) => Err(RunFault {
-            cause,
+    let mut writer = Writer::new(plan, lanes);
+    let written = writer.write_beside_workers(rt, notation, sink, stop);
+    if !matches!(written, Written::Open) {
+        // A store to the stop flag is the core's Stop.
+        stop.store(true, Ordering::SeqCst);
+    }
+    let joined = join_all(rt, handles, &mut writer.lanes);
+    match cause_of(written, joined) {
+        Some(cause) => return Err(fault(cause, writer)),
+        None => {}
+    }
+    if writer.write_rest(rt, notation, sink, stop).is_err() {
+        return Err(fault(Cause::Output, writer));
+    }
+    let Writer {
+        lanes,
+        progress,
+        ..
+    } = writer;
+    Ok(Counted {
+        report: Report {
             lanes,
-            boards,
-        }),
+            boards: progress.boards,
+        },
+        candidates: progress.taken,
+    })
+}
+
+/// An interrupted run, as its writer left it.
+fn fault(cause: Cause, writer: Writer) -> RunFault
+    ensures { result
+        ≡ record { cause = cause; lanes = writer.lanes; boards = writer.progress.boards } }
+{
+    let Writer {
+        lanes,
+        progress,
+        ..
+    } = writer;
+    RunFault {
+        cause,
+        lanes,
+        boards: progress.boards,
     }
 }

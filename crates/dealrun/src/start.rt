@@ -33,12 +33,11 @@ impl Promise<WorkEnd> for EndsAsAssigned {
 /// The handle of a worker that was started.
 pub(crate) type Started = PromisedHandle<WorkEnd, EndsAsAssigned>;
 
-/// What a worker has of the run that all have.
+/// What all workers of a run have: their gate, and the flag that stops them.
 #[derive(Drop)]
-struct Lent<R, G> {
-    rt: R,
-    gate: Arc<G, Global>,
-    stop: Arc<AtomicBool, Global>,
+pub(crate) struct Shared<G> {
+    pub(crate) gate: Arc<G, Global>,
+    pub(crate) stop: Arc<AtomicBool, Global>,
 }
 
 /// All that a worker starts with.
@@ -46,7 +45,8 @@ struct Lent<R, G> {
 pub(crate) struct Assignment<R, G> {
     job: JobAround,
     lane: LaneIn,
-    lent: Lent<R, G>,
+    rt: R,
+    shared: Shared<G>,
     ghost fresh: { lane.sent ≡ [] },
 }
 
@@ -78,16 +78,11 @@ fn job_of(plan: &Plan, cond: &Cond, worker: u32) -> Result<JobAround, AllocError
     Ok(Job { seed, share, cond }.around(*plan.fixed()))
 }
 
-/// What a worker is lent. `Err` only if it can't be cloned.
-fn lend<R: Clone, G: Drop>(
-    rt: &R,
-    gate: &Arc<G, Global>,
-    stop: &Arc<AtomicBool, Global>,
-) -> Result<Lent<R, G>, AllocError> {
-    Ok(Lent {
-        rt: rt.clone()?,
-        gate: Arc::try_clone(gate)?,
-        stop: Arc::try_clone(stop)?,
+/// What a worker has of it. `Err` only if it can't be cloned.
+fn share<G: Drop>(shared: &Shared<G>) -> Result<Shared<G>, AllocError> {
+    Ok(Shared {
+        gate: Arc::try_clone(&shared.gate)?,
+        stop: Arc::try_clone(&shared.stop)?,
     })
 }
 
@@ -100,8 +95,7 @@ fn assign<R: Clone, G: Drop>(
     cond: &Cond,
     worker: u32,
     pace: Pace,
-    gate: &Arc<G, Global>,
-    stop: &Arc<AtomicBool, Global>,
+    shared: &Shared<G>,
 ) -> Result<(Assignment<R, G>, LaneOut), AllocError>
     requires { worker < plan.now.workers }
     ensures job { IfOk result (λ r.
@@ -113,8 +107,15 @@ fn assign<R: Clone, G: Drop>(
     let Ok((lane, taker)) = lane_in_blocks(alloc, plan.capacity(), pace) else {
         return Err(AllocError);
     };
-    let lent = lend(rt, gate, stop)?;
-    Ok((Assignment { job, lane, lent }, taker))
+    let rt = rt.clone()?;
+    let shared = share(shared)?;
+    let assignment = Assignment {
+        job,
+        lane,
+        rt,
+        shared,
+    };
+    Ok((assignment, taker))
 }
 
 /// The assignments of all workers of a plan, and the other ends of their lanes. `Err` only if an
@@ -124,8 +125,7 @@ pub(crate) fn assign_all<R: Threads + Clone, G: Drop>(
     alloc: Global,
     plan: &Plan,
     cond: &Cond,
-    gate: &Arc<G, Global>,
-    stop: &Arc<AtomicBool, Global>,
+    shared: &Shared<G>,
 ) -> Result<(Vec<Assignment<R, G>>, Vec<LaneOut>), AllocError>
     ensures len { IfOk result (λ r. (vec_len r.0 ≡ plan.now.workers)
         × (vec_len r.1 ≡ plan.now.workers)) }
@@ -140,7 +140,7 @@ pub(crate) fn assign_all<R: Threads + Clone, G: Drop>(
     let mut assignments = Vec::new(alloc);
     let mut lanes = Vec::new(alloc);
     for worker in 0..plan.workers() {
-        let (assignment, lane) = assign(rt, alloc, plan, cond, worker, pace, gate, stop)?;
+        let (assignment, lane) = assign(rt, alloc, plan, cond, worker, pace, shared)?;
         assignments.push(assignment)?;
         lanes.push(lane)?;
     }
@@ -156,12 +156,13 @@ fn start<T: Threads, R: Wait + Drop + Send + 'static, G: Gate + Drop + Send + Sy
         ≡ verdicts_around assignment.job) }
     ensures ring { IfSome result (λ h. h.promise.lane.value.ring ≡ assignment.lane.ring) }
 {
-    let Assignment { job, lane, lent } = assignment;
-    let Lent {
+    let Assignment {
+        job,
+        lane,
         rt: mine,
-        gate,
-        stop,
-    } = lent;
+        shared,
+    } = assignment;
+    let Shared { gate, stop } = shared;
     let promise = EndsAsAssigned {
         job: Snapshot::of(&job),
         lane: Snapshot::of(&lane),

@@ -1,16 +1,8 @@
 //! The writer of a run: it takes the verdicts in turn and writes the boards of the accepted ones.
 
-ghost use Rattle.std.specs.Prelude.{◌≡◌, ◌-◌, ◌+◌, ◌<◌, ◌≤◌, ◌^◌, ◌↔◌, ◌++◌, [], ◌∷◌, ℕ, List};
-ghost use Rattle.std.specs.Prelude.{Option, cond, map, vec_len, OnOk, OnErr, MatchResult, IfOk};
-ghost use Rattle.std.specs.Prelude.{IsTrue, slice_index_or, true, Some, ◌⊎◌, ◌≢◌};
-ghost use Rattle.lanes.specs.declared.verdict.Verdict.{Verdict};
-ghost use Rattle.sinks.specs.Appended.{append_known, AppendsPart};
-ghost use Rattle.sinks.specs.Sinks.{CountsFault};
-ghost use Rattle.dealrun.specs.internal.Writing.{board_text, KeepsContents, KeepsLanes};
-ghost use Rattle.dealrun.specs.internal.Writing.{WriterBrokeOff, WriterSoFar};
-ghost use Rattle.dealrun.specs.internal.Joins.{AllWhole};
-ghost use Rattle.conditions.specs.Form.{Form};
+ghost use Rattle.std.specs.Prelude.{◌≡◌, ◌<◌, ◌≤◌, vec_len};
 
+use crate::ending::Written;
 use crate::next_board::{is_full, put_board};
 use boards::Notation;
 use lanes::{LaneOut, Turns, Verdict};
@@ -35,24 +27,10 @@ pub(crate) struct Progress {
 }
 
 impl Progress {
-    /// No verdict was taken.
-    pub(crate) fn new(plan: &Plan) -> Progress
-        ensures start { (result.taken ≡ 0) × (result.boards ≡ 0) }
-        ensures workers { result.turns.workers ≡ plan.now.workers }
-    {
-        Progress {
-            turns: Turns::at_start(plan.workers()),
-            taken: 0,
-            boards: 0,
-        }
-    }
-
-    /// Whether the plan's limit of boards is met.
-    pub(crate) fn is_full(&self, plan: &Plan) -> bool
-        ensures { IsTrue result ↔ (plan.now.limit ≡ Some self.now.boards) }
-    {
-        is_full(plan, self.boards)
-    }
+    ghost use Rattle.std.specs.Prelude.{◌≡◌, ◌-◌, ◌+◌, ◌<◌, ◌^◌, [], cond, true, OnOk, OnErr};
+    ghost use Rattle.sinks.specs.Appended.{append_known, AppendsPart};
+    ghost use Rattle.sinks.specs.Sinks.{CountsFault};
+    ghost use Rattle.dealrun.specs.internal.Writing.{board_text};
 
     /// Counts a verdict that was taken, and writes its board if it is accepted. Now and then the
     /// sink hears how far that is.
@@ -95,129 +73,167 @@ impl Progress {
     }
 }
 
-/// Takes the verdicts in turn and writes their boards, until all were taken, the limit of boards is
-/// met, or there is none and the flag is up.
-fn write_while_running<R: Wait, N: Notation, S: Sink>(
-    rt: &R,
-    plan: &Plan,
-    lanes: &mut Vec<LaneOut>,
-    notation: &mut N,
-    sink: &mut S,
-    progress: &mut Progress,
-    stop: &AtomicBool,
-) -> Result<(), SinkFault>
-    requires faults { S.faults sink.old < 2 ^ 64 - 1 }
-    requires counts { (vec_len lanes.old ≡ plan.now.workers)
-        × (progress.old.turns.workers ≡ plan.now.workers)
-        × (progress.old.taken ≤ plan.now.count) }
-    ensures same { KeepsLanes lanes.old.items lanes.new.items }
-    ensures layout { N.layout notation.new ≡ N.layout notation.old }
-    ensures counts { (vec_len lanes.new ≡ vec_len lanes.old)
-        × (progress.new.turns.workers ≡ plan.now.workers)
-        × (progress.new.taken ≤ plan.now.count) }
-    ensures faults { CountsFault (S.faults sink.old) (S.faults sink.new) result }
-    ensures broken { OnErr result ((base : Option (List ℕ))
-        → WriterSoFar (N.layout notation.old) plan.now lanes.old.items
-        progress.old.taken progress.old.boards base (S.bytes sink.old)
-        → WriterBrokeOff (N.layout notation.old) plan.now lanes.new.items
-        progress.new.taken progress.new.boards base (S.bytes sink.new)) }
-    ensures written { OnOk result ((base : Option (List ℕ))
-        → WriterSoFar (N.layout notation.old) plan.now lanes.old.items
-        progress.old.taken progress.old.boards base (S.bytes sink.old)
-        → WriterSoFar (N.layout notation.old) plan.now lanes.new.items
-        progress.new.taken progress.new.boards base (S.bytes sink.new)) }
-{
-    for _taken in progress.taken..plan.count() {
-        if progress.is_full(plan) {
-            return Ok(());
-        }
-        let lane = &mut lanes[progress.turns.lane() as usize];
-        if !lane.wait_for_verdict(rt, stop) {
-            return Ok(());
-        }
-        let verdict = lane.take_known();
-        progress.write(plan, notation, sink, &verdict)?;
-    }
-    Ok(())
+/// The writer: the plan, the lanes that it takes from, and how far it has come.
+#[derive(Drop)]
+pub(crate) struct Writer {
+    pub(crate) plan: Plan,
+    pub(crate) lanes: Vec<LaneOut>,
+    pub(crate) progress: Progress,
+    ghost some: { 0 < plan.workers },
+    ghost long: { vec_len lanes ≡ plan.workers },
+    ghost workers: { progress.turns.workers ≡ plan.workers },
+    ghost few: { progress.taken ≤ plan.count },
 }
 
-/// Writes the header, and then the boards as `write_while_running` does.
-pub(crate) fn write_header_and_boards<R: Wait, N: Notation, S: Sink>(
-    rt: &R,
-    plan: &Plan,
-    lanes: &mut Vec<LaneOut>,
-    notation: &mut N,
-    sink: &mut S,
-    progress: &mut Progress,
-    stop: &AtomicBool,
-) -> Result<(), SinkFault>
-    requires faults { S.faults sink.old < 2 ^ 64 - 1 }
-    requires counts { (vec_len lanes.old ≡ plan.now.workers)
-        × (progress.old.turns.workers ≡ plan.now.workers)
-        × (progress.old.taken ≡ 0)
-        × (progress.old.boards ≡ 0) }
-    requires fresh { (w : ℕ) (e : _)
-        → w < plan.now.workers
-        → (slice_index_or lanes.old.items w e).taken ≡ [] }
-    ensures same { KeepsLanes lanes.old.items lanes.new.items }
-    ensures layout { N.layout notation.new ≡ N.layout notation.old }
-    ensures counts { (vec_len lanes.new ≡ vec_len lanes.old)
-        × (progress.new.turns.workers ≡ plan.now.workers)
-        × (progress.new.taken ≤ plan.now.count) }
-    ensures faults { CountsFault (S.faults sink.old) (S.faults sink.new) result }
-    ensures broken { OnErr result (WriterBrokeOff (N.layout notation.old) plan.now lanes.new.items
-        progress.new.taken progress.new.boards (S.bytes sink.old) (S.bytes sink.new)) }
-    ensures written { OnOk result (WriterSoFar (N.layout notation.old) plan.now lanes.new.items
-        progress.new.taken progress.new.boards (S.bytes sink.old) (S.bytes sink.new)) }
-{
-    put_all(sink, notation.header())?;
-    write_while_running(rt, plan, lanes, notation, sink, progress, stop)?;
-    Ok(())
-}
+impl Writer {
+    ghost use Rattle.std.specs.Prelude.{◌≡◌, ◌-◌, ◌^◌, ◌<◌, ◌↔◌, ℕ, IsTrue, List, MatchResult};
+    ghost use Rattle.std.specs.Prelude.{OnOk, Option, Some, vec_len};
+    ghost use Rattle.conditions.specs.Form.{Form};
+    ghost use Rattle.dealrun.specs.Outcomes.{InterruptedIn};
+    ghost use Rattle.dealrun.specs.declared.cause.Cause.TheVariants.{Output};
+    ghost use Rattle.sinks.specs.Sinks.{CountsFault};
+    ghost use Rattle.dealrun.specs.internal.Ends.{Closes};
+    ghost use Rattle.dealrun.specs.internal.Writing.{BrokeOff, FaultsBeside, GoesOn, HasEnough};
+    ghost use Rattle.dealrun.specs.internal.Writing.{IsFresh, KeepsLanes, Resumes, WroteBeside};
 
-/// Takes what is left of the lanes and writes it, until the limit of boards is met. Unless that is
-/// met already, the workers sent all.
-pub(crate) fn write_remaining<N: Notation, S: Sink>(
-    plan: &Plan,
-    lanes: &mut Vec<LaneOut>,
-    notation: &mut N,
-    sink: &mut S,
-    progress: &mut Progress,
-) -> Result<(), SinkFault>
-    requires faults { S.faults sink.old < 2 ^ 64 - 1 }
-    requires counts { (vec_len lanes.old ≡ plan.now.workers)
-        × (progress.old.turns.workers ≡ plan.now.workers)
-        × (progress.old.taken ≤ plan.now.count) }
-    requires whole { (form : Form)
-        × (plan.now.limit ≢ Some progress.old.boards → AllWhole plan.now form lanes.old.items) }
-    requires begun { (base : Option (List ℕ))
-        × WriterSoFar (N.layout notation.old) plan.now lanes.old.items
-        progress.old.taken progress.old.boards base (S.bytes sink.old) }
-    ensures len { vec_len lanes.new ≡ vec_len lanes.old }
-    ensures kept { KeepsContents lanes.old.items lanes.new.items }
-    ensures layout { N.layout notation.new ≡ N.layout notation.old }
-    ensures counts { progress.new.taken ≤ plan.now.count }
-    ensures faults { CountsFault (S.faults sink.old) (S.faults sink.new) result }
-    ensures broken { OnErr result ((base : Option (List ℕ))
-        → WriterSoFar (N.layout notation.old) plan.now lanes.old.items
-        progress.old.taken progress.old.boards base (S.bytes sink.old)
-        → WriterBrokeOff (N.layout notation.old) plan.now lanes.new.items
-        progress.new.taken progress.new.boards base (S.bytes sink.new)) }
-    ensures written { OnOk result ((base : Option (List ℕ))
-        → WriterSoFar (N.layout notation.old) plan.now lanes.old.items
-        progress.old.taken progress.old.boards base (S.bytes sink.old)
-        → WriterSoFar (N.layout notation.old) plan.now lanes.new.items
-        progress.new.taken progress.new.boards base (S.bytes sink.new)) }
-    ensures end { OnOk result ((progress.new.taken ≡ plan.now.count)
-        ⊎ (plan.now.limit ≡ Some progress.new.boards)) }
-{
-    for _taken in progress.taken..plan.count() {
-        if progress.is_full(plan) {
-            return Ok(());
+    /// The writer of a plan's run, which took no verdict from these lanes yet.
+    pub(crate) fn new(plan: &Plan, lanes: Vec<LaneOut>) -> Writer
+        requires { vec_len lanes ≡ plan.now.workers }
+        ensures given { (result.plan ≡ plan.now) × (result.lanes ≡ lanes) }
+        ensures start { (result.progress.taken ≡ 0) × (result.progress.boards ≡ 0) }
+    {
+        let turns = Turns::at_start(plan.workers());
+        let progress = Progress {
+            turns,
+            taken: 0,
+            boards: 0,
+        };
+        Writer {
+            plan: *plan,
+            lanes,
+            progress,
         }
-        let lane = &mut lanes[progress.turns.lane() as usize];
-        let verdict = lane.take_known();
-        progress.write(plan, notation, sink, &verdict)?;
     }
-    Ok(())
+
+    /// Whether the plan's limit of boards is met.
+    fn is_full(&self) -> bool
+        ensures { IsTrue result ↔ (self.now.plan.limit ≡ Some self.now.progress.boards) }
+    {
+        is_full(&self.plan, self.progress.boards)
+    }
+
+    /// Takes the verdicts in turn and writes their boards, until all were taken, the limit of
+    /// boards is met, or there is none and the flag is up.
+    fn write_boards<R: Wait, N: Notation, S: Sink>(
+        &mut self,
+        rt: &R,
+        notation: &mut N,
+        sink: &mut S,
+        stop: &AtomicBool,
+    ) -> Result<(), SinkFault>
+        requires { S.faults sink.old < 2 ^ 64 - 1 }
+        ensures plan { self.new.plan ≡ self.old.plan }
+        ensures lanes { KeepsLanes self.old.lanes.items self.new.lanes.items }
+        ensures layout { N.layout notation.new ≡ N.layout notation.old }
+        ensures faults { CountsFault (S.faults sink.old) (S.faults sink.new) result }
+        ensures wrote { (base : Option (List ℕ))
+            → GoesOn (N.layout notation.old) self.old base (S.bytes sink.old)
+            → MatchResult result
+            (λ _. GoesOn (N.layout notation.old) self.new base (S.bytes sink.new))
+            (λ _. BrokeOff (N.layout notation.old) self.new base (S.bytes sink.new)) }
+        ensures end { OnOk result ((base : Option (List ℕ)) (form : Form)
+            → Resumes (N.layout notation.old) form self.old base (S.bytes sink.old)
+            → HasEnough self.new) }
+    {
+        for _taken in self.progress.taken..self.plan.count() {
+            if self.is_full() {
+                return Ok(());
+            }
+            let lane = &mut self.lanes[self.progress.turns.lane() as usize];
+            if !lane.wait_for_verdict(rt, stop) {
+                // Its contract says that nothing is left in the lane if it is settled.
+                let _settled = lane.is_settled();
+                return Ok(());
+            }
+            let verdict = lane.take_known();
+            self.progress.write(&self.plan, notation, sink, &verdict)?;
+        }
+        Ok(())
+    }
+
+    /// Writes the header, and then the boards as `write_boards` does.
+    fn write_header_and_boards<R: Wait, N: Notation, S: Sink>(
+        &mut self,
+        rt: &R,
+        notation: &mut N,
+        sink: &mut S,
+        stop: &AtomicBool,
+    ) -> Result<(), SinkFault>
+        requires faults { S.faults sink.old < 2 ^ 64 - 1 }
+        requires fresh { IsFresh self.old }
+        ensures plan { self.new.plan ≡ self.old.plan }
+        ensures lanes { KeepsLanes self.old.lanes.items self.new.lanes.items }
+        ensures layout { N.layout notation.new ≡ N.layout notation.old }
+        ensures faults { CountsFault (S.faults sink.old) (S.faults sink.new) result }
+        ensures wrote { MatchResult result
+            (λ _. GoesOn (N.layout notation.old) self.new (S.bytes sink.old) (S.bytes sink.new))
+            (λ _. BrokeOff (N.layout notation.old) self.new
+            (S.bytes sink.old) (S.bytes sink.new)) }
+    {
+        put_all(sink, notation.header())?;
+        self.write_boards(rt, notation, sink, stop)
+    }
+
+    /// Writes while the workers run.
+    pub(crate) fn write_beside_workers<R: Wait, N: Notation, S: Sink>(
+        &mut self,
+        rt: &R,
+        notation: &mut N,
+        sink: &mut S,
+        stop: &AtomicBool,
+    ) -> Written
+        requires faults { S.faults sink.old < 2 ^ 64 - 1 }
+        requires fresh { IsFresh self.old }
+        ensures plan { self.new.plan ≡ self.old.plan }
+        ensures lanes { KeepsLanes self.old.lanes.items self.new.lanes.items }
+        ensures layout { N.layout notation.new ≡ N.layout notation.old }
+        ensures faults { FaultsBeside result (S.faults sink.old) (S.faults sink.new) }
+        ensures wrote { WroteBeside (N.layout notation.old) self.new.plan result
+            self.new.lanes.items self.new.progress.taken self.new.progress.boards
+            (S.bytes sink.old) (S.bytes sink.new) }
+    {
+        match self.write_header_and_boards(rt, notation, sink, stop) {
+            Ok(()) if self.is_full() => Written::Full,
+            Ok(()) => Written::Open,
+            Err(_) => Written::Failed,
+        }
+    }
+
+    /// Writes what is left in the lanes, and the footer. Unless the limit of boards is met already,
+    /// the workers sent all, so it waits for none.
+    pub(crate) fn write_rest<R: Wait, N: Notation, S: Sink>(
+        &mut self,
+        rt: &R,
+        notation: &mut N,
+        sink: &mut S,
+        stop: &AtomicBool,
+    ) -> Result<(), SinkFault>
+        requires { S.faults sink.old < 2 ^ 64 - 1 }
+        ensures plan { self.new.plan ≡ self.old.plan }
+        ensures layout { N.layout notation.new ≡ N.layout notation.old }
+        ensures faults { CountsFault (S.faults sink.old) (S.faults sink.new) result }
+        ensures ends { (base : Option (List ℕ)) (form : Form)
+            → Resumes (N.layout notation.old) form self.old base (S.bytes sink.old)
+            → MatchResult result
+            (λ _. Closes (N.layout notation.old) self.old.plan form self.new.lanes.items
+            self.new.progress.boards self.new.progress.taken base (S.bytes sink.new))
+            (λ _. InterruptedIn (N.layout notation.old) self.old.plan form Output
+            self.new.lanes.items self.new.progress.boards base (S.bytes sink.new)) }
+    {
+        self.write_boards(rt, notation, sink, stop)?;
+        // Its contract says that no seat has more than thirteen fixed cards: each deal is a
+        // partition.
+        let _fixed = self.plan.fixed();
+        put_all(sink, notation.footer())
+    }
 }

@@ -17,7 +17,7 @@ use Rattle.number_input.proofs.ReadBack.{read_back}
 use Rattle.notations.specs.Numbers.{number_line, numbers}
 use Rattle.picking.specs.Picked.{picked_text}
 use Rattle.plans.specs.Plans.{Planned, candidate_of}
-use Rattle.values.proofs.Ranges.{range_with_len-add}
+use Rattle.dealrun.proofs.Ranges.{range_with_len-add}
 
 abbrev line_of : ℕ → List ℕ
 line_of n = decimal n ++ 10 ∷ []

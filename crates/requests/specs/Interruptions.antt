@@ -11,7 +11,7 @@ use Rattle.picking.specs.declared.fault.PickFault.{PickFault}
 use Rattle.picking.specs.declared.fault.PickFault.TheVariants as picks
 use Rattle.plans.specs.Plans.{Planned}
 use Rattle.sinks.specs.Appended.{AppendsPart}
-use Rattle.values.specs.Values.{lines}
+use Rattle.dealrun.specs.Values.{lines}
 use Rattle.notations.specs.Formats.{layout_of}
 use Rattle.requests.specs.Makings.{Means, plan_of}
 use Rattle.requests.specs.Requests.{Making, Wish, conditions, stream, make, pick}

@@ -5,7 +5,7 @@ use Rattle.cond_lang.specs.Form.{Form}
 use Rattle.cond_lang.specs.declared.language.TheConstants.{LANGUAGE}
 use Rattle.picking.specs.Outcomes.{Picks}
 use Rattle.sinks.specs.Appended.{AppendsAll}
-use Rattle.values.specs.Values.{lines}
+use Rattle.dealrun.specs.Values.{lines}
 use Rattle.notations.specs.Formats.{layout_of}
 use Rattle.requests.specs.Formats.{text_as}
 use Rattle.requests.specs.Makings.{IsPlanned, Means, plan_of}

@@ -33,5 +33,5 @@ pub fn stream<O: Sink>(request: &StreamRequest, out: &mut O) -> Result<(), Failu
     ensures faults { O.faults out.new ≡ O.faults out.old + faults_in result }
     ensures due { IfErr result (IsDueFor (wish request.now.seed request.now.count)) }
 {
-    Ok(values::stream(request.seed, request.count, out)?)
+    Ok(dealrun::stream(request.seed, request.count, out)?)
 }

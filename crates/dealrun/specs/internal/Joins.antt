@@ -1,6 +1,6 @@
 -- What is known of the lanes once their workers were joined, lane by lane: item k of a list is said
 -- of with any default, as `slice_index_or lanes k e`, where k is within the list.
-use Rattle.std.specs.Prelude.{◌≡◌, ◌<◌, ℕ, true, false, List, length, map, slice_index_or}
+use Rattle.std.specs.Prelude.{◌≡◌, ◌<◌, ℕ, true, false, List, map, slice_index_or}
 use Rattle.std.specs.Prelude.{Option, Some, None, MatchOption}
 use Rattle.std.specs.List.{range_with_len}
 use Rattle.lanes.specs.declared.verdict.Verdict.{Verdict}
@@ -13,15 +13,10 @@ use Rattle.plans.specs.Plans.{Planned}
 use Rattle.dealrun.specs.MergedVerdicts.{verdicts_for}
 use Rattle.dealrun.specs.Outcomes.{contents_of}
 
--- the verdicts that are known to wait are those that are left
-abbrev pub KnowsRest : OutView → Type 0
-KnowsRest l = l.known ≡ length l.left
-
 -- the lane of a worker that owed the verdicts `all`, before and after the worker was joined
 abbrev pub JoinsAs : List Verdict → OutView → OutView → WorkEnd → Type 0
-JoinsAs all old new (Done closed) = (new.settled ≡ true) × (contents_of new ≡ all) × KnowsRest new
-JoinsAs all old new (Stopped closed) =
-    (new.settled ≡ true) × IsProperPrefix (contents_of new) all × KnowsRest new
+JoinsAs all old new (Done closed) = (new.settled ≡ true) × (contents_of new ≡ all)
+JoinsAs all old new (Stopped closed) = (new.settled ≡ true) × IsProperPrefix (contents_of new) all
 JoinsAs all old new Unclosed = new ≡ old
 
 -- P holds of each of the first n lanes and its worker's verdicts
@@ -31,7 +26,7 @@ Below P n lists lanes = (k : ℕ) (d : List Verdict) (e : OutView) → k < n
     → P (slice_index_or lists k d) (slice_index_or lanes k e)
 
 abbrev pub PartIfSettled : List Verdict → OutView → Type 0
-PartIfSettled all l = l.settled ≡ true → IsPrefix (contents_of l) all × KnowsRest l
+PartIfSettled all l = l.settled ≡ true → IsPrefix (contents_of l) all
 
 abbrev pub WholeIfSettled : List Verdict → OutView → Type 0
 WholeIfSettled all l = l.settled ≡ true → contents_of l ≡ all
@@ -58,23 +53,16 @@ pub record JoinedAs (n : ℕ) (lists : List (List Verdict)) (lanes : List OutVie
   pub unclosed_is : MatchOption unclosed (Below IsSettled n lists lanes)
       (λ u. (u < n) × Below IsSettled u lists lanes × UnsettledAt u lanes)
 
-abbrev pub first_of : Option ℕ → ℕ → Option ℕ
-first_of None w = Some w
-first_of (Some s) w = Some s
-
+-- these two once worker w ended so: the first such worker stays
 abbrev pub stopped_after : WorkEnd → ℕ → Option ℕ → Option ℕ
-stopped_after (Done closed) w s = s
-stopped_after (Stopped closed) w s = first_of s w
-stopped_after Unclosed w s = s
+stopped_after how w (Some s) = Some s
+stopped_after (Stopped closed) w None = Some w
+stopped_after how w None = None
 
 abbrev pub unclosed_after : WorkEnd → ℕ → Option ℕ → Option ℕ
-unclosed_after (Done closed) w u = u
-unclosed_after (Stopped closed) w u = u
-unclosed_after Unclosed w u = first_of u w
-
--- a lane that is settled, of a worker that sent all
-abbrev pub IsWhole : List Verdict → OutView → Type 0
-IsWhole all l = (l.settled ≡ true) × (contents_of l ≡ all) × KnowsRest l
+unclosed_after how w (Some u) = Some u
+unclosed_after Unclosed w None = Some w
+unclosed_after how w None = None
 
 -- these lists are what the workers of the plan owe
 abbrev pub Owes : Planned → Form → List (List Verdict) → Type 0
@@ -84,13 +72,12 @@ Owes plan form lists = lists ≡ map (verdicts_for plan form) (range_with_len 0 
 abbrev pub ByNumber : Planned → List OutView → (ℕ → OutView → Type 0) → Type 0
 ByNumber plan lanes P = (w : ℕ) (e : OutView) → w < plan.workers → P w (slice_index_or lanes w e)
 
--- every lane is whole
+-- every lane is settled, and holds all of its worker's verdicts
 abbrev pub AllWhole : Planned → Form → List OutView → Type 0
-AllWhole plan form lanes = (w : ℕ) (e : OutView) → w < plan.workers
-    → IsWhole (verdicts_for plan form w) (slice_index_or lanes w e)
+AllWhole plan form lanes = ByNumber plan lanes
+    (λ w l. (l.settled ≡ true) × (contents_of l ≡ verdicts_for plan form w))
 
--- every lane is settled, and holds the first of its worker's verdicts
+-- or the first of them
 abbrev pub AllParts : Planned → Form → List OutView → Type 0
-AllParts plan form lanes = (w : ℕ) (e : OutView) → w < plan.workers
-    → ((slice_index_or lanes w e).settled ≡ true)
-    × IsPrefix (contents_of (slice_index_or lanes w e)) (verdicts_for plan form w)
+AllParts plan form lanes = ByNumber plan lanes
+    (λ w l. (l.settled ≡ true) × IsPrefix (contents_of l) (verdicts_for plan form w))

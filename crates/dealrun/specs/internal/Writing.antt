@@ -1,8 +1,9 @@
 -- How far a writer has come that takes verdicts in turn and writes the boards of the accepted ones.
-use Rattle.std.specs.Prelude.{ℕ, ◌≡◌, ◌≢◌, ◌+◌, ◌<◌, ◌≤◌, List, length, map, Option, Some}
-use Rattle.std.specs.Prelude.{slice_index_or}
+use Rattle.std.specs.Prelude.{ℕ, ◌≡◌, ◌≢◌, ◌+◌, ◌<◌, ◌≤◌, ◌⊎◌, List, [], length, map, All, Option}
+use Rattle.std.specs.Prelude.{Some, None, if◌then◌else◌, slice_index_or}
 use Rattle.std.specs.Option.{ForSome}
 use Rattle.boards.specs.Layouts.{Layout}
+use Rattle.conditions.specs.Form.{Form}
 use Rattle.lanes.specs.declared.verdict.Verdict.{Verdict}
 use Rattle.lanes.specs.Verdicts.{turns}
 use Rattle.lanes.specs.Views.{OutView}
@@ -11,8 +12,10 @@ use Rattle.sinks.specs.Appended.{append_known}
 use Rattle.dealrun.specs.Text.{board_of, text_of_boards}
 use Rattle.dealrun.specs.MergedVerdicts.{boards_after}
 use Rattle.dealrun.specs.Outcomes.{BreaksOffLastPiece, contents_of}
+use Rattle.dealrun.specs.internal.Joins.{AllParts, AllWhole}
 use Rattle.dealrun.specs.declared.ending.Written.{Written}
 use Rattle.dealrun.specs.declared.ending.Written.TheVariants.{Failed, Full, Open}
+use Rattle.dealrun.specs.declared.writer.Writer.{Writer}
 
 -- what was taken from each lane
 abbrev pub taken_lists : List OutView → List (List Verdict)
@@ -31,17 +34,15 @@ printed layout plan lists m = text_of_boards layout (boards_after plan lists m)
 abbrev pub board_count : Planned → List (List Verdict) → ℕ → ℕ
 board_count plan lists m = length (boards_after plan lists m)
 
--- the rings, and which lanes are settled, did not change
-abbrev pub KeepsLanes : List OutView → List OutView → Type 0
-KeepsLanes old new =
-    (map (λ l. l.ring) new ≡ map (λ l. l.ring) old)
-    × (map (λ l. l.settled) new ≡ map (λ l. l.settled) old)
+-- what a settled lane holds in all, taken and left
+abbrev pub held : OutView → Option (List Verdict)
+held l = if l.settled then Some (contents_of l) else None
 
--- which lanes are settled, and what each holds in all, did not change
-abbrev pub KeepsContents : List OutView → List OutView → Type 0
-KeepsContents old new =
-    (map (λ l. l.settled) new ≡ map (λ l. l.settled) old)
-    × (map (λ l. contents_of l) new ≡ map (λ l. contents_of l) old)
+-- the rings, and what each settled lane holds, did not change
+pub record KeepsLanes (old new : List OutView) : Type 0 where
+  pub rings : map (λ l. l.ring) new ≡ map (λ l. l.ring) old
+  pub settled : map (λ l. l.settled) new ≡ map (λ l. l.settled) old
+  pub contents : map held new ≡ map held old
 
 -- the lanes were taken in turn, none skipped
 pub record TakenInTurn (plan : Planned) (lanes : List OutView) (m : ℕ) : Type 0 where
@@ -75,7 +76,26 @@ pub record WriterBrokeOff (layout : Layout) (plan : Planned) (lanes : List OutVi
   pub broken : BreaksOffLastPiece layout plan lanes m boards old new
   pub short : StaysShort plan lanes m
 
--- where the writer stands once it has written so much beside the workers
+-- nothing was taken or written
+pub record IsFresh (w : Writer) : Type 0 where
+  pub taken : w.progress.taken ≡ 0
+  pub boards : w.progress.boards ≡ 0
+  pub lanes : All (λ l. l.taken ≡ []) w.lanes.items
+
+abbrev pub GoesOn : Layout → Writer → Option (List ℕ) → Option (List ℕ) → Type 0
+GoesOn layout w =
+    WriterSoFar layout w.plan w.lanes.items w.progress.taken w.progress.boards
+
+abbrev pub BrokeOff : Layout → Writer → Option (List ℕ) → Option (List ℕ) → Type 0
+BrokeOff layout w =
+    WriterBrokeOff layout w.plan w.lanes.items w.progress.taken w.progress.boards
+
+-- so much is taken that no more is needed
+abbrev pub HasEnough : Writer → Type 0
+HasEnough w =
+    (w.progress.taken ≡ w.plan.count) ⊎ (w.plan.limit ≡ Some w.progress.boards)
+
+-- where it stands once it has written so much beside the workers
 abbrev pub WroteBeside : Layout → Planned → Written → List OutView → ℕ → ℕ
     → Option (List ℕ) → Option (List ℕ) → Type 0
 WroteBeside layout plan Failed lanes m boards old new =
@@ -88,5 +108,15 @@ WroteBeside layout plan Open lanes m boards old new =
 -- the sink failed once, or not at all
 abbrev pub FaultsBeside : Written → ℕ → ℕ → Type 0
 FaultsBeside Failed old new = new ≡ old + 1
-FaultsBeside Full old new = new ≡ old
-FaultsBeside Open old new = new ≡ old
+FaultsBeside _ old new = new ≡ old
+
+-- the rest may be written
+pub record HasRest (layout : Layout) (plan : Planned) (form : Form) (lanes : List OutView)
+    (m boards : ℕ) (old new : Option (List ℕ)) : Type 0 where
+  pub so_far : WriterSoFar layout plan lanes m boards old new
+  pub parts : AllParts plan form lanes
+  pub whole : plan.limit ≢ Some boards → AllWhole plan form lanes
+
+abbrev pub Resumes : Layout → Form → Writer → Option (List ℕ) → Option (List ℕ) → Type 0
+Resumes layout form w =
+    HasRest layout w.plan form w.lanes.items w.progress.taken w.progress.boards

@@ -1,6 +1,6 @@
-use Rattle.std.proofs.Common.{◌≡◌, ◌+◌, ◌∙◌, true, refl, arith, ap, sym, subst}
+use Rattle.std.proofs.Common.{◌≡◌, ◌+◌, ◌∙◌, true, refl, arith, ap, inr, sym, subst}
 use Rattle.cards.specs.CandidateWalks.{GoesOnAt}
-use Rattle.dealrun.proofs.Running.{breaks_board, breaks_header, ended_full, running_next, running_none, running_skip}
+use Rattle.dealrun.proofs.Running.{breaks_board, breaks_header, ended, running_next, running_none, running_skip}
 use Rattle.dealrun.proofs.Results.{at_err, at_ok}
 use Rattle.dealrun.proofs.reference.write_accepted.Goals as goal
 use Rattle.dealrun.proofs.reference.write_accepted.Goals.{then-holds+else-is_err-2, else-holds}
@@ -23,11 +23,11 @@ loop-place-init g c =
 
 pub returns-then-is_full-clause-bytes : goal.returns-then-is_full-clause-bytes
 returns-then-is_full-clause-bytes g c =
-    (ended_full (g.N.Notation.layout c.args.notation.now) c.args.plan.now c.args.cond.now c.loop-place.place c.loop-place.boards _ _ c.loop-place.invariant.running (omega (arith, c.count-place-end.ensures.value)) (c.is_full.ensures.0 c.if-is_full.true)).bytes
+    (ended (g.N.Notation.layout c.args.notation.now) c.args.plan.now c.args.cond.now c.loop-place.place c.loop-place.boards _ _ c.loop-place.invariant.running (omega (arith, c.count-place-end.ensures.value)) (inr (c.is_full.ensures.0 c.if-is_full.true))).bytes
 
 pub returns-then-is_full-clause-boards : goal.returns-then-is_full-clause-boards
 returns-then-is_full-clause-boards g c =
-    (ended_full (g.N.Notation.layout c.args.notation.now) c.args.plan.now c.args.cond.now c.loop-place.place c.loop-place.boards (g.S.Sink.bytes c.args.sink.now) (g.S.Sink.bytes c.loop-place.sink) c.loop-place.invariant.running (omega (arith, c.count-place-end.ensures.value)) (c.is_full.ensures.0 c.if-is_full.true)).count
+    (ended (g.N.Notation.layout c.args.notation.now) c.args.plan.now c.args.cond.now c.loop-place.place c.loop-place.boards (g.S.Sink.bytes c.args.sink.now) (g.S.Sink.bytes c.loop-place.sink) c.loop-place.invariant.running (omega (arith, c.count-place-end.ensures.value)) (inr (c.is_full.ensures.0 c.if-is_full.true))).count
 
 pub returns-then-is_err-2-clause-bytes : goal.returns-then-is_err-2-clause-bytes
 returns-then-is_err-2-clause-bytes g c =

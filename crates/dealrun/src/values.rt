@@ -2,7 +2,7 @@
 
 ghost use Rattle.std.specs.Prelude.{◌≡◌, ◌-◌, ◌^◌, ◌<◌, ◌≤◌};
 ghost use Rattle.sinks.specs.Sinks.{CountsFault, AppendsOrBreaksOff};
-ghost use Rattle.values.specs.Values.{line, lines};
+ghost use Rattle.dealrun.specs.Values.{line, lines};
 
 use arrayvec::ArrayVec;
 use itoa::Buffer;

@@ -1,11 +1,11 @@
 use Rattle.std.proofs.Common.{◌≡◌, ◌∙◌, rules, sym, ap}
 use Rattle.std.proofs.lemmas.Result.{MatchResult-from_err}
 use Rattle.lcg48.specs.Sequence.{step, value_of}
-use Rattle.values.specs.Values.{line}
+use Rattle.dealrun.specs.Values.{line}
 use Rattle.sinks.specs.Appended.{append_known}
 use Rattle.sinks.proofs.SinkLemmas.{append_known-nil}
-use Rattle.values.proofs.ValueLemmas.{lines-none, lines_appended, next_line, part_of_lines, state-more, state-none}
-use Rattle.values.proofs.lines.stream.Goals as goal
+use Rattle.dealrun.proofs.ValueLemmas.{lines-none, lines_appended, next_line, part_of_lines, state-more, state-none}
+use Rattle.dealrun.proofs.values.stream.Goals as goal
 
 pub loop-init : goal.loop-init
 loop-init g c = record {

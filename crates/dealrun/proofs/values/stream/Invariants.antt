@@ -1,8 +1,8 @@
 use Rattle.std.proofs.Common.{◌≡◌}
 use Rattle.lcg48.specs.Sequence.{state_at}
-use Rattle.values.specs.Values.{lines}
+use Rattle.dealrun.specs.Values.{lines}
 use Rattle.sinks.specs.Appended.{AppendsAll}
-use Rattle.values.proofs.lines.stream.Given as goal
+use Rattle.dealrun.proofs.values.stream.Given as goal
 
 abbrev pub invariant-loop : goal.invariant-loop
 invariant-loop g l = record {
