@@ -30,8 +30,8 @@ use std::alloc::Global;
 use std::sync::Wait;
 use std::thread::Threads;
 
-/// Writes a text that was asked for, as help, and refuses any mistake. Of the words it is shown what
-/// a terminal can show.
+/// Writes a text that was asked for, as help, and refuses any mistake. The words in it are shown as
+/// a terminal can show them.
 #[tactic(auto, using(crate::proofs::Statuses::kinds))]
 fn show<O: Sink>(alloc: Global, words: &[String], error: &Error, out: &mut O) -> Result<(), Failure>
     requires { O.faults out.old < 2 ^ 64 - 1 }

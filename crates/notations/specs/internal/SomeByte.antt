@@ -11,7 +11,8 @@ use Rattle.notations.specs.Records.{record_text}
 use Rattle.notations.specs.declared.format.Format.{Format}
 use Rattle.notations.specs.declared.format.Format.TheVariants.{Pbn, Hands, Lin, Html, Numbers}
 
-pub layout_has_byte : (format : Format) (heading : HeadingView) (board : Board) → 0 < length ((layout_of format heading).board board)
+pub layout_has_byte : (format : Format) (heading : HeadingView) (board : Board)
+    → 0 < length ((layout_of format heading).board board)
 unfolding lin_line board_text record_text
 layout_has_byte Pbn heading board = game_has_byte heading board
 layout_has_byte Hands heading board = simp length-append (omega arith)
