@@ -23,7 +23,7 @@ class Screen:
     def feed(self, given):
         """Shows what comes next. A character or a sequence that isn't whole yet waits for the rest."""
         text = self.left + self.decoder.decode(given)
-        at, whole = 0, re.search(r"(\x1b(\[\??7?)?)?$", text).start()
+        at, whole = 0, re.search(r"(\x1b(\[\??7?)?)?\Z", text).start()
         while at < whole:
             piece = PIECE.match(text, at, whole)
             if not piece:
