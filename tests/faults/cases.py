@@ -146,9 +146,9 @@ def of_tried_options():
         yield unexpected([*words, *HINTS], words[0], "Usage: deals <COMMAND>", COMMAND_FIRST)
     yield unexpected(["--frist"], "--frist", "Usage: deals <COMMAND>", "")
     tip = "  tip: a similar argument exists: '--south'\n\n"
-    yield unexpected([*boards, "--output", "x"], "--output", f"{tip}{usage} --south <HAND>", TO_A_FILE)
-    yield unexpected([*boards, "--condition", "hcp(north)>9"], "--condition", usage, BY_WHERE)
-    yield unexpected([*boards, "-n", "12"], "-n", "Usage: deals make [OPTIONS] --seed <S>", HOW_MANY)
+    yield unexpected([*boards, "--output", "x", *HINTS], "--output", f"{tip}{usage} --south <HAND>", TO_A_FILE)
+    yield unexpected([*boards, "--condition", "hcp(north)>9", *HINTS], "--condition", usage, BY_WHERE)
+    yield unexpected([*boards, "-n", "12", *HINTS], "-n", "Usage: deals make [OPTIONS] --seed <S>", HOW_MANY)
     yield unexpected([*boards, "--nothing-like-it"], "--nothing-like-it", usage, "")
 
 
