@@ -77,7 +77,7 @@ pub fn answer<R: Threads + Wait + Clone + Send + 'static, I: Source, O: Sink>(
         → IfOk result (ReportsFor w) }
     ensures no_report { asked (map string_bytes words.now) ≡ None
         → IfOk result (λ r. r ≡ None) }
-    ensures says { IsStatusFor (map string_bytes words.now) (status_in result) }
+    ensures asked { IsStatusFor (map string_bytes words.now) (status_in result) }
     ensures due { (w : Wish) → asked (map string_bytes words.now) ≡ Some w
         → IfErr result (MayFail w) }
     ensures stands { (w : Wish) → asked (map string_bytes words.now) ≡ Some w
@@ -125,7 +125,7 @@ pub fn program_with_input<R: Threads + Wait + Clone + Send + 'static, I: Source,
         (O.bytes out.old) (O.bytes out.new) }
     // The status says what of it was accepted, and what refused; for words that ask for nothing,
     // whether they ask for help, or are refused.
-    ensures says { IsStatusFor (map string_bytes words.now) result }
+    ensures asked { IsStatusFor (map string_bytes words.now) result }
     // If it isn't 0, it is the status of the first failure that is due: the output has what that
     // leaves, the input failed if that says so, and the error output has its line, unless it failed
     // itself.
@@ -185,7 +185,7 @@ pub fn program<R: Threads + Wait + Clone + Send + 'static, O: Sink, E: Sink>(
         → Appends w (O.bytes out.old) (O.bytes out.new) }
     // The status says what of it was accepted, and what refused; for words that ask for nothing,
     // whether they ask for help, or are refused.
-    ensures says { IsStatusFor (map string_bytes words.now) result }
+    ensures asked { IsStatusFor (map string_bytes words.now) result }
     // If it isn't 0, it is the status of the first failure that is due: the output has what that
     // leaves, and the error output its line, unless it failed itself.
     ensures told { (w : Wish) → asked (map string_bytes words.now) ≡ Some w → result ≢ 0
