@@ -1,14 +1,13 @@
 //! The commands of the program, as `clap` knows them.
 
-ghost use Rattle.std.specs.Prelude.{◌≡◌, IfOk, false};
+ghost use Rattle.std.specs.Prelude.{◌≡◌, IfOk, false, fold, map};
 ghost use Rattle.clap.specs.Words.{app_of, with_subcommand};
 ghost use Rattle.clap.specs.declared.Command.TheViews.{out-Command as fields_of};
-ghost use Rattle.commands.specs.Commands.{conditions_app, deals, deals_top, find_app, make_app};
-ghost use Rattle.commands.specs.Commands.{pick_app, stream_app};
-ghost use Rattle.commands.specs.internal.Steps.{with_dealers, with_makers};
+ghost use Rattle.commands.specs.Commands.{deals, deals_top};
+ghost use Rattle.commands.specs.internal.Rows.{app_for, top_for};
 
 use crate::options::{FIND, MAKE, PICK, STREAM};
-use crate::row::with_rows;
+use crate::row::{Row, with_rows};
 use crate::texts::{
     ABOUT, CONDITIONS_EXAMPLES, FIND_EXAMPLES, LANGUAGE_AND_STATUSES, MAKE_EXAMPLES, PICK_EXAMPLES,
     STREAM_EXAMPLES,
@@ -16,67 +15,78 @@ use crate::texts::{
 use clap::Command;
 use std::alloc::{AllocError, Global};
 
-fn make_command<'a>(alloc: Global) -> Result<Command<'a>, AllocError>
-    ensures app { IfOk result (λ c. app_of c ≡ make_app) }
+/// A subcommand, with its help.
+pub(crate) struct Subcommand {
+    pub(crate) name: &'static str,
+    /// The program's name and its own, as `clap` names it in a refusal.
+    in_full: &'static str,
+    about: &'static str,
+    pub(crate) rows: &'static [Row],
+    examples: &'static str,
+}
+
+/// The subcommands, in the order of the help.
+static SUBCOMMANDS: [Subcommand; 5] = [
+    Subcommand {
+        name: "make",
+        in_full: "deals make",
+        about: "Writes bridge deals in Portable Bridge Notation, as hand records, LIN or a page",
+        rows: MAKE,
+        examples: MAKE_EXAMPLES,
+    },
+    Subcommand {
+        name: "find",
+        in_full: "deals find",
+        about: "Prints the numbers of the deals that make would write, one per line",
+        rows: FIND,
+        examples: FIND_EXAMPLES,
+    },
+    Subcommand {
+        name: "pick",
+        in_full: "deals pick",
+        about: "Writes the boards of the deals whose numbers standard input gives",
+        rows: PICK,
+        examples: PICK_EXAMPLES,
+    },
+    Subcommand {
+        name: "conditions",
+        in_full: "deals conditions",
+        about: "Prints all that --where understands, with ten examples",
+        rows: &[],
+        examples: CONDITIONS_EXAMPLES,
+    },
+    Subcommand {
+        name: "stream",
+        in_full: "deals stream",
+        about: "Prints the nrand48 values of a seed, one per line",
+        rows: STREAM,
+        examples: STREAM_EXAMPLES,
+    },
+];
+
+/// The subcommand as `clap` has it.
+fn command_of<'a>(alloc: Global, sub: &Subcommand) -> Result<Command<'a>, AllocError>
+    ensures app { IfOk result (λ c. app_of c ≡ app_for sub.now) }
     ensures local { IfOk result (λ c. (fields_of c).has_globals ≡ false) }
 {
-    let command = Command::new(alloc, "make")
-        .about("Writes bridge deals in Portable Bridge Notation, as hand records, LIN or a page")
-        .after_help(MAKE_EXAMPLES);
-    with_rows(alloc, command, &MAKE)
+    let command = Command::new(alloc, sub.name)
+        .about(sub.about)
+        .after_help(sub.examples);
+    with_rows(alloc, command, sub.rows)
 }
 
-fn find_command<'a>(alloc: Global) -> Result<Command<'a>, AllocError>
-    ensures app { IfOk result (λ c. app_of c ≡ find_app) }
-    ensures local { IfOk result (λ c. (fields_of c).has_globals ≡ false) }
-{
-    let command = Command::new(alloc, "find")
-        .about("Prints the numbers of the deals that make would write, one per line")
-        .after_help(FIND_EXAMPLES);
-    with_rows(alloc, command, &FIND)
-}
-
-fn pick_command<'a>(alloc: Global) -> Result<Command<'a>, AllocError>
-    ensures app { IfOk result (λ c. app_of c ≡ pick_app) }
-    ensures local { IfOk result (λ c. (fields_of c).has_globals ≡ false) }
-{
-    let command = Command::new(alloc, "pick")
-        .about("Writes the boards of the deals whose numbers standard input gives")
-        .after_help(PICK_EXAMPLES);
-    with_rows(alloc, command, &PICK)
-}
-
-fn conditions_command<'a>(alloc: Global) -> Command<'a>
-    ensures app { app_of result ≡ conditions_app }
-    ensures local { (fields_of result).has_globals ≡ false }
-{
-    Command::new(alloc, "conditions")
-        .about("Prints all that --where understands, with ten examples")
-        .after_help(CONDITIONS_EXAMPLES)
-}
-
-fn stream_command<'a>(alloc: Global) -> Result<Command<'a>, AllocError>
-    ensures app { IfOk result (λ c. app_of c ≡ stream_app) }
-    ensures local { IfOk result (λ c. (fields_of c).has_globals ≡ false) }
-{
-    let command = Command::new(alloc, "stream")
-        .about("Prints the nrand48 values of a seed, one per line")
-        .after_help(STREAM_EXAMPLES);
-    with_rows(alloc, command, &STREAM)
-}
-
-/// The command `make`, or `find` or `pick` if it has that name, as clap names it in a refusal.
+/// The command `make`, or `find` or `pick` if it has that name, as `clap` names it in a refusal.
 ///
 /// # Errors
 /// `AllocError` if an allocation failed.
 pub fn named_command<'a>(alloc: Global, name: &str) -> Result<Command<'a>, AllocError> {
-    if name == "find" {
-        return find_command(alloc)?.bin_name("deals find");
-    }
-    if name == "pick" {
-        return pick_command(alloc)?.bin_name("deals pick");
-    }
-    make_command(alloc)?.bin_name("deals make")
+    let [make, find, pick, ..] = &SUBCOMMANDS;
+    let sub = match name {
+        "find" => find,
+        "pick" => pick,
+        _ => make,
+    };
+    command_of(alloc, sub)?.bin_name(sub.in_full)
 }
 
 /// The program's name, without subcommands.
@@ -91,36 +101,20 @@ fn top<'a>(alloc: Global) -> Command<'a>
         .subcommand_required(true)
 }
 
-/// The program's name with the subcommand that makes boards.
-fn with_make<'a>(alloc: Global) -> Result<Command<'a>, AllocError>
-    ensures app { IfOk result (λ c. app_of c ≡ with_subcommand deals_top make_app.top) }
-    ensures local { IfOk result (λ c. (fields_of c).has_globals ≡ false) }
+/// The command with each of these subcommands.
+fn with_subcommands<'a>(
+    alloc: Global,
+    command: Command<'a>,
+    subs: &[Subcommand],
+) -> Result<Command<'a>, AllocError>
+    ensures { IfOk result (λ c. app_of c
+        ≡ fold with_subcommand (app_of command.entry) (map top_for subs.entry.now)) }
 {
-    top(alloc).subcommand(make_command(alloc)?)
-}
-
-/// The program's name with the subcommands that try candidates.
-fn with_makers<'a>(alloc: Global) -> Result<Command<'a>, AllocError>
-    ensures app { IfOk result (λ c. app_of c ≡ with_makers) }
-    ensures local { IfOk result (λ c. (fields_of c).has_globals ≡ false) }
-{
-    with_make(alloc)?.subcommand(find_command(alloc)?)
-}
-
-/// The program's name with the subcommands that deal candidates.
-fn with_dealers<'a>(alloc: Global) -> Result<Command<'a>, AllocError>
-    ensures app { IfOk result (λ c. app_of c ≡ with_dealers) }
-    ensures local { IfOk result (λ c. (fields_of c).has_globals ≡ false) }
-{
-    with_makers(alloc)?.subcommand(pick_command(alloc)?)
-}
-
-/// The program's name with all subcommands but the last.
-fn with_conditions<'a>(alloc: Global) -> Result<Command<'a>, AllocError>
-    ensures app { IfOk result (λ c. app_of c ≡ with_subcommand with_dealers conditions_app.top) }
-    ensures local { IfOk result (λ c. (fields_of c).has_globals ≡ false) }
-{
-    with_dealers(alloc)?.subcommand(conditions_command(alloc))
+    let mut command = command;
+    for sub in subs {
+        command = command.subcommand(command_of(alloc, sub)?)?;
+    }
+    Ok(command)
 }
 
 /// The program's whole command line.
@@ -130,5 +124,5 @@ fn with_conditions<'a>(alloc: Global) -> Result<Command<'a>, AllocError>
 pub fn command<'a>(alloc: Global) -> Result<Command<'a>, AllocError>
     ensures { IfOk result (λ c. app_of c ≡ deals) }
 {
-    with_conditions(alloc)?.subcommand(stream_command(alloc)?)
+    with_subcommands(alloc, top(alloc), &SUBCOMMANDS)
 }

@@ -3,231 +3,123 @@
 use crate::row::Row;
 use crate::row::Takes::{Count, Nothing, Text, U32, U64};
 
-const SEED: Row = Row {
-    id: "seed",
-    takes: U32("S"),
-    is_required: true,
-    help: "The seed, 0 to 4294967295",
-};
+/// An option by its id, what it takes, and its help.
+macro_rules! optional {
+    ($id:literal $takes:expr => $help:literal) => {
+        Row {
+            id: $id,
+            takes: $takes,
+            is_required: false,
+            help: $help,
+        }
+    };
+}
 
-const NEW_SEED: Row = Row {
-    id: "seed",
-    takes: U32("S"),
-    is_required: true,
-    help: "The seed, 0 to 4294967295; to draw one: od -An -N4 -tu4 /dev/urandom",
-};
+macro_rules! required {
+    ($id:literal $takes:expr => $help:literal) => {
+        Row {
+            id: $id,
+            takes: $takes,
+            is_required: true,
+            help: $help,
+        }
+    };
+}
 
-const COUNT: Row = Row {
-    id: "count",
-    takes: Count("N"),
-    is_required: true,
-    help: "How many values, 0 to 1099511627776",
-};
+const SEED: Row = required! { "seed" U32("S") => "The seed, 0 to 4294967295" };
 
-const CANDIDATES: Row = Row {
-    id: "candidates",
-    takes: U64("N"),
-    is_required: false,
-    help: "How many candidates are tried; first + N is at most 1099511627776 \
-    [default: all from the first on, where --boards is given]",
-};
+const NEW_SEED: Row = required! { "seed" U32("S") =>
+    "The seed, 0 to 4294967295; to draw one: od -An -N4 -tu4 /dev/urandom" };
 
-const FIRST: Row = Row {
-    id: "first",
-    takes: U64("K"),
-    is_required: false,
-    help: "The number of the first candidate [default: 0]",
-};
+const COUNT: Row = required! { "count" Count("N") => "How many values, 0 to 1099511627776" };
 
-const WORKERS: Row = Row {
-    id: "workers",
-    takes: U32("W"),
-    is_required: false,
-    help: "How many workers, 1 to 16; one fewer than the machine has cores is the \
-    fastest [default: 1]",
-};
+const CANDIDATES: Row = optional! { "candidates" U64("N") =>
+    "How many candidates are tried; first + N is at most 1099511627776 \
+    [default: all from the first on, where --boards is given]" };
 
-const LANE: Row = Row {
-    id: "lane",
-    takes: U32("C"),
-    is_required: false,
-    help: "How many verdicts a worker may be ahead of the writer, 1 to 4096; with several \
-    workers 4096 is the fastest [default: 64]",
-};
+const FIRST: Row = optional! { "first" U64("K") =>
+    "The number of the first candidate [default: 0]" };
 
-const NORTH: Row = Row {
-    id: "north",
-    takes: Text("HAND"),
-    is_required: false,
-    help: "The cards that North holds, as AKQ32.K..A: the spades, hearts, diamonds and \
-    clubs, parted by three dots; the rest is dealt [default: none]",
-};
+const WORKERS: Row = optional! { "workers" U32("W") =>
+    "How many workers, 1 to 16; one fewer than the machine has cores is the \
+    fastest [default: 1]" };
 
-const EAST: Row = Row {
-    id: "east",
-    takes: Text("HAND"),
-    is_required: false,
-    help: "The cards that East holds, like North's [default: none]",
-};
+const LANE: Row = optional! { "lane" U32("C") =>
+    "How many verdicts a worker may be ahead of the writer, 1 to 4096; with several \
+    workers 4096 is the fastest [default: 64]" };
 
-const SOUTH: Row = Row {
-    id: "south",
-    takes: Text("HAND"),
-    is_required: false,
-    help: "The cards that South holds, like North's [default: none]",
-};
+const NORTH: Row = optional! { "north" Text("HAND") =>
+    "The cards that North holds, as AKQ32.K..A: the spades, hearts, diamonds and \
+    clubs, parted by three dots; the rest is dealt [default: none]" };
 
-const WEST: Row = Row {
-    id: "west",
-    takes: Text("HAND"),
-    is_required: false,
-    help: "The cards that West holds, like North's [default: none]",
-};
+const EAST: Row = optional! { "east" Text("HAND") =>
+    "The cards that East holds, like North's [default: none]" };
 
-const WHERE: Row = Row {
-    id: "where",
-    takes: Text("TEXT"),
-    is_required: false,
-    help: "The condition that a deal has to meet [default: every deal]",
-};
+const SOUTH: Row = optional! { "south" Text("HAND") =>
+    "The cards that South holds, like North's [default: none]" };
 
-const BOARDS: Row = Row {
-    id: "boards",
-    takes: U32("M"),
-    is_required: false,
-    help: "Stops after M boards, 1 to 4294967295; fewer mean that the candidates held \
-    no more [default: no limit]",
-};
+const WEST: Row = optional! { "west" Text("HAND") =>
+    "The cards that West holds, like North's [default: none]" };
 
-const FIRST_BOARD: Row = Row {
-    id: "first-board",
-    takes: U64("B"),
-    is_required: false,
-    help: "The number of the first board, 1 to 1099511627776 [default: 1]",
-};
+const WHERE: Row = optional! { "where" Text("TEXT") =>
+    "The condition that a deal has to meet [default: every deal]" };
 
-const EVENT: Row = Row {
-    id: "event",
-    takes: Text("TEXT"),
-    is_required: false,
-    help: "The event, at most 100 characters of ASCII without \" and \\ [default: no line]",
-};
+const BOARDS: Row = optional! { "boards" U32("M") =>
+    "Stops after M boards, 1 to 4294967295; fewer mean that the candidates held \
+    no more [default: no limit]" };
 
-const SITE: Row = Row {
-    id: "site",
-    takes: Text("TEXT"),
-    is_required: false,
-    help: "The place, like the event [default: no line]",
-};
+const FROM_BOARD: Row = optional! { "first-board" U64("B") =>
+    "The number of the first board, 1 to 1099511627776 [default: 1]" };
 
-const DATE: Row = Row {
-    id: "date",
-    takes: Text("DATE"),
-    is_required: false,
-    help: "The date, as 2024.05.01 [default: no line]",
-};
+const EVENT: Row = optional! { "event" Text("TEXT") =>
+    "The event, at most 100 characters of ASCII without \" and \\ [default: no line]" };
 
-const FORMAT: Row = Row {
-    id: "format",
-    takes: Text("FORMAT"),
-    is_required: false,
-    help: "The notation: Portable Bridge Notation, hand records for print, LIN, or a \
-    page of HTML [default: pbn] [possible values: pbn, hands, lin, html]",
-};
+const SITE: Row = optional! { "site" Text("TEXT") =>
+    "The place, like the event [default: no line]" };
 
-const DEALER: Row = Row {
-    id: "dealer",
-    takes: Text("SEAT"),
-    is_required: false,
-    help: "The dealer of every board [default: by its number, as Law 2 says] \
-    [possible values: N, E, S, W]",
-};
+const DATE: Row = optional! { "date" Text("DATE") => "The date, as 2024.05.01 [default: no line]" };
 
-const VULNERABLE: Row = Row {
-    id: "vulnerable",
-    takes: Text("SIDES"),
-    is_required: false,
-    help: "The vulnerability of every board [default: by its number, as Law 2 \
-    says] [possible values: None, NS, EW, All]",
-};
+const FORMAT: Row = optional! { "format" Text("FORMAT") =>
+    "The notation: Portable Bridge Notation, hand records for print, LIN, or a \
+    page of HTML [default: pbn] [possible values: pbn, hands, lin, html]" };
 
-const ROTATE: Row = Row {
-    id: "rotate",
-    takes: Nothing,
-    is_required: false,
-    help: "Turns each deal, so that the hand which the condition calls north is the \
-    dealer's, east's the next one's, and so on",
-};
+const DEALER: Row = optional! { "dealer" Text("SEAT") =>
+    "The dealer of every board [default: by its number, as Law 2 says] \
+    [possible values: N, E, S, W]" };
 
-const REPORT: Row = Row {
-    id: "report",
-    takes: Nothing,
-    is_required: false,
-    help: "Says afterwards how many boards there are, from which candidates, and where \
-    to go on",
-};
+const VULNERABLE: Row = optional! { "vulnerable" Text("SIDES") =>
+    "The vulnerability of every board [default: by its number, as Law 2 \
+    says] [possible values: None, NS, EW, All]" };
 
-const PROGRESS: Row = Row {
-    id: "progress",
-    takes: Text("WHEN"),
-    is_required: false,
-    help: "When counts are shown while it lasts: on a terminal, also where there is \
-    none, or never [default: auto] [possible values: auto, always, never]",
-};
+const ROTATE: Row = optional! { "rotate" Nothing =>
+    "Turns each deal, so that the hand which the condition calls north is the \
+    dealer's, east's the next one's, and so on" };
 
-const HINTS: Row = Row {
-    id: "hints",
-    takes: Text("WHEN"),
-    is_required: false,
-    help: "When lines that help stand below a refusal: on a terminal, also where there is \
-    none, or never [default: auto] [possible values: auto, always, never]",
-};
+const REPORT: Row = optional! { "report" Nothing =>
+    "Says afterwards how many boards there are, from which candidates, and where \
+    to go on" };
 
-pub(crate) static MAKE: [Row; 22] = [
-    NEW_SEED,
-    CANDIDATES,
-    FIRST,
-    WORKERS,
-    LANE,
-    NORTH,
-    EAST,
-    SOUTH,
-    WEST,
-    WHERE,
-    BOARDS,
-    FIRST_BOARD,
-    EVENT,
-    SITE,
-    DATE,
-    FORMAT,
-    DEALER,
-    VULNERABLE,
-    ROTATE,
-    REPORT,
-    PROGRESS,
-    HINTS,
+const PROGRESS: Row = optional! { "progress" Text("WHEN") =>
+    "When counts are shown while it lasts: on a terminal, also where there is \
+    none, or never [default: auto] [possible values: auto, always, never]" };
+
+const HINTS: Row = optional! { "hints" Text("WHEN") =>
+    "When lines that help stand below a refusal: on a terminal, also where there is \
+    none, or never [default: auto] [possible values: auto, always, never]" };
+
+pub(crate) const MAKE: &[Row] = &[
+    NEW_SEED, CANDIDATES, FIRST, WORKERS, LANE, NORTH, EAST, SOUTH, WEST, WHERE, BOARDS,
+    FROM_BOARD, EVENT, SITE, DATE, FORMAT, DEALER, VULNERABLE, ROTATE, REPORT, PROGRESS, HINTS,
 ];
 
-pub(crate) static FIND: [Row; 14] = [
+pub(crate) const FIND: &[Row] = &[
     NEW_SEED, CANDIDATES, FIRST, WORKERS, LANE, NORTH, EAST, SOUTH, WEST, WHERE, BOARDS, REPORT,
     PROGRESS, HINTS,
 ];
 
-pub(crate) static PICK: [Row; 14] = [
-    SEED,
-    NORTH,
-    EAST,
-    SOUTH,
-    WEST,
-    FIRST_BOARD,
-    EVENT,
-    SITE,
-    DATE,
-    FORMAT,
-    DEALER,
-    VULNERABLE,
-    ROTATE,
-    HINTS,
+pub(crate) const PICK: &[Row] = &[
+    SEED, NORTH, EAST, SOUTH, WEST, FROM_BOARD, EVENT, SITE, DATE, FORMAT, DEALER, VULNERABLE,
+    ROTATE, HINTS,
 ];
 
-pub(crate) static STREAM: [Row; 2] = [SEED, COUNT];
+pub(crate) const STREAM: &[Row] = &[SEED, COUNT];

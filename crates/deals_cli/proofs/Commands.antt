@@ -1,15 +1,15 @@
 -- The options of each subcommand as built, and what a parse without a fault says of their values.
-use Rattle.std.proofs.Common.{◌≡◌, ◌⊎◌, ◌≤◌, ℕ, false, List, [], ◌∷◌, None, refl, inl, inr, codes, lit≤, lit<, ◌<◌, length, arith}
+use Rattle.std.proofs.Common.{◌≡◌, ◌⊎◌, ◌≤◌, ℕ, false, List, [], ◌∷◌, Some, None, refl, inl, inr, codes, lit≤}
 use Rattle.clap.specs.Simple.{Shape, built, filled, new_shape}
 use Rattle.clap.specs.Faults.{level_fault}
-use Rattle.clap.specs.Walk.{Row, Rule, Text, nothing_held, one_of, rows_after, values_or_missing}
+use Rattle.clap.specs.Walk.{Row, Rule, Text, arg_by_id, nothing_held, one_of, rows_after}
 use Rattle.clap.specs.declared.builder.value_parser.ValueParser.{ValueParser}
 use Rattle.clap.specs.declared.builder.value_parser.ValueParser.TheVariants.{Unsigned}
 use Rattle.clap.proofs.ValueTestLemmas.{accepts-Accepts}
-use Rattle.commands.specs.Commands.{count_parser, deals, flag_rule, option_rule, required, u32_parser}
+use Rattle.commands.specs.Commands.{count_parser, deals, option_rule, required, u32_parser}
 use Rattle.deals_cli.specs.internal.Readings.{Gives32, GivesUpTo, HasValue, MakeValues, MayGive32, MayGive64, StreamValues}
 use Rattle.deals_cli.proofs.Plain.{plain_of}
-use Rattle.deals_cli.proofs.Walks.{PlainRules, absent_value, given_value, level_checked, level_passing, passed_value, required_given}
+use Rattle.deals_cli.proofs.Walks.{IsIn, Passing, PlainRules, absent_value, given_value, level_checked, level_passing, passed_value, required_given}
 
 abbrev first_shape : List Shape → Shape
 first_shape [] = new_shape []
@@ -35,18 +35,6 @@ conditions_built = first_shape (rest_of (rest_of (rest_of (built deals).subs)))
 abbrev pub stream_built : Shape
 stream_built = first_shape (rest_of (rest_of (rest_of (rest_of (built deals).subs))))
 
-plain_make : PlainRules make_built.rules
-plain_make = plain_of make_built.rules refl
-
-plain_find : PlainRules find_built.rules
-plain_find = plain_of find_built.rules refl
-
-plain_pick : PlainRules pick_built.rules
-plain_pick = plain_of pick_built.rules refl
-
-plain_stream : PlainRules stream_built.rules
-plain_stream = plain_of stream_built.rules refl
-
 -- ---- numbers
 
 -- the option as built
@@ -55,6 +43,9 @@ rule32 id = filled (option_rule id u32_parser)
 
 abbrev rule64 : ℕ → Text → Rule
 rule64 most id = filled (option_rule id (Unsigned 0 most))
+
+abbrev any64 : Text → Rule
+any64 = rule64 18446744073709551615
 
 gives32 : (id : Text) (rows : List Row) → HasValue (rule32 id) rows → Gives32 id rows
 gives32 id rows v = record {
@@ -71,83 +62,69 @@ gives_up_to most fits id rows v = record {
   fits = fits;
 }
 
-may32 : (id : Text) (rows : List Row) → (one_of id rows ≡ None) ⊎ HasValue (rule32 id) rows → MayGive32 id rows
-may32 id rows (inl none) = inl none
-may32 id rows (inr v) = inr (gives32 id rows v)
+-- the command has this option, or none of its name
+abbrev MayHave : List Rule → Rule → Type 0
+MayHave c a = (arg_by_id c a.id ≡ Some a) ⊎ (arg_by_id c a.id ≡ None)
 
-may64 : (id : Text) (rows : List Row) → (one_of id rows ≡ None) ⊎ HasValue (rule64 18446744073709551615 id) rows → MayGive64 id rows
-may64 id rows (inl none) = inl none
-may64 id rows (inr v) = inr (gives_up_to 18446744073709551615 (lit≤ tt) id rows v)
+may_have_value : (c : List Rule) (rows : List Row) (a : Rule) → MayHave c a → Passing c rows → (one_of a.id rows ≡ None) ⊎ HasValue a rows
+may_have_value c rows a (inl own) pass = passed_value c rows a own pass
+may_have_value c rows a (inr none) pass = inl (absent_value c rows a.id none pass)
 
--- the values of a required option pass on to the same option where it is not
-optional : (parser : ValueParser) (id : Text) (rows : List Row) → HasValue (filled (required (option_rule id parser))) rows → HasValue (filled (option_rule id parser)) rows
-optional parser id rows v = record { text = v.text; read = v.read; passed = v.passed }
+may32 : (c : List Rule) (rows : List Row) (id : Text) → MayHave c (rule32 id) → Passing c rows → MayGive32 id rows
+may32 c rows id has pass = elim (may_have_value c rows (rule32 id) has pass) [ inl none ↦ inl none | inr v ↦ inr (gives32 id rows v) ]
+
+may64 : (c : List Rule) (rows : List Row) (id : Text) → MayHave c (any64 id) → Passing c rows → MayGive64 id rows
+may64 c rows id has pass = elim (may_have_value c rows (any64 id) has pass) [ inl none ↦ inl none | inr v ↦ inr (gives_up_to 18446744073709551615 (lit≤ tt) id rows v) ]
+
+-- a required option has a value
+required_value : (s : Shape) → PlainRules s.rules → s.subcommand_negates_reqs ≡ false → (parser : ValueParser) (id : Text) → IsIn (filled (required (option_rule id parser))) s.rules
+    → (words : List Text) → level_fault s [] nothing_held words false [] ≡ [] → HasValue (filled (option_rule id parser)) (rows_after s.rules [] words)
+required_value s plain negates parser id is words f =
+    let rule = filled (required (option_rule id parser)) in
+    let rows = rows_after s.rules [] words in
+    let given = required_given s rows false rule is negates refl (level_checked s [] words false [] f) in
+    let v = given_value s.rules rows rule (plain.own rule is) (level_passing s [] words false [] plain f) given in
+    record { text = v.text; read = v.read; passed = v.passed }
 
 -- ---- the subcommands with options
 
 pub stream_values : (words : List Text) → level_fault stream_built [] nothing_held words false [] ≡ [] → StreamValues (rows_after stream_built.rules [] words)
 stream_values words f =
-    let rows = rows_after stream_built.rules [] words in
-    let pass = level_passing stream_built [] words false [] plain_stream f in
-    let checked = level_checked stream_built [] words false [] f in
+    let value = required_value stream_built (plain_of stream_built.rules refl) refl in
     record {
-      seed = gives32 (codes "seed") rows (optional u32_parser (codes "seed") rows
-          (given_value stream_built.rules rows (filled (required (option_rule (codes "seed") u32_parser))) refl pass
-          (required_given stream_built rows false _ (inl refl) refl refl checked)));
-      count = gives_up_to 1099511627776 (lit≤ tt) (codes "count") rows (optional count_parser (codes "count") rows
-          (given_value stream_built.rules rows (filled (required (option_rule (codes "count") count_parser))) refl pass
-          (required_given stream_built rows false _ (inr (inl refl)) refl refl checked)));
+      seed = gives32 (codes "seed") _ (value u32_parser (codes "seed") (inl refl) words f);
+      count = gives_up_to 1099511627776 (lit≤ tt) (codes "count") _ (value count_parser (codes "count") (inr (inl refl)) words f);
+    }
+
+-- which options of numbers a command has
+abbrev Numbers : List Rule → Type 0
+Numbers c =
+    MayHave c (any64 (codes "candidates")) × MayHave c (any64 (codes "first")) × MayHave c (rule32 (codes "workers"))
+    × MayHave c (rule32 (codes "lane")) × MayHave c (rule32 (codes "boards")) × MayHave c (any64 (codes "first-board"))
+
+-- a command that requires a seed, and may have the other numbers
+deal_values : (s : Shape) → PlainRules s.rules → s.subcommand_negates_reqs ≡ false → IsIn (filled (required (option_rule (codes "seed") u32_parser))) s.rules → Numbers s.rules
+    → (words : List Text) → level_fault s [] nothing_held words false [] ≡ [] → MakeValues (rows_after s.rules [] words)
+deal_values s plain negates seed (candidates, first, workers, lane, boards, first_board) words f =
+    let rows = rows_after s.rules [] words in
+    let pass = level_passing s [] words false [] plain f in
+    record {
+      seed = gives32 (codes "seed") rows (required_value s plain negates u32_parser (codes "seed") seed words f);
+      candidates = may64 s.rules rows (codes "candidates") candidates pass;
+      first = may64 s.rules rows (codes "first") first pass;
+      workers = may32 s.rules rows (codes "workers") workers pass;
+      lane = may32 s.rules rows (codes "lane") lane pass;
+      boards = may32 s.rules rows (codes "boards") boards pass;
+      first_board = may64 s.rules rows (codes "first-board") first_board pass;
     }
 
 pub make_values : (words : List Text) → level_fault make_built [] nothing_held words false [] ≡ [] → MakeValues (rows_after make_built.rules [] words)
-make_values words f =
-    let rows = rows_after make_built.rules [] words in
-    let pass = level_passing make_built [] words false [] plain_make f in
-    let checked = level_checked make_built [] words false [] f in
-    record {
-      seed = gives32 (codes "seed") rows (optional u32_parser (codes "seed") rows
-          (given_value make_built.rules rows (filled (required (option_rule (codes "seed") u32_parser))) refl pass
-          (required_given make_built rows false _ (inl refl) refl refl checked)));
-      candidates = may64 (codes "candidates") rows (passed_value make_built.rules rows (rule64 18446744073709551615 (codes "candidates")) refl pass);
-      first = may64 (codes "first") rows (passed_value make_built.rules rows (rule64 18446744073709551615 (codes "first")) refl pass);
-      workers = may32 (codes "workers") rows (passed_value make_built.rules rows (rule32 (codes "workers")) refl pass);
-      lane = may32 (codes "lane") rows (passed_value make_built.rules rows (rule32 (codes "lane")) refl pass);
-      boards = may32 (codes "boards") rows (passed_value make_built.rules rows (rule32 (codes "boards")) refl pass);
-      first_board = may64 (codes "first-board") rows (passed_value make_built.rules rows (rule64 18446744073709551615 (codes "first-board")) refl pass);
-    }
+make_values = deal_values make_built (plain_of make_built.rules refl) refl (inl refl) (inl refl, inl refl, inl refl, inl refl, inl refl, inl refl)
 
 -- `find` has no option of the first board
 pub find_values : (words : List Text) → level_fault find_built [] nothing_held words false [] ≡ [] → MakeValues (rows_after find_built.rules [] words)
-find_values words f =
-    let rows = rows_after find_built.rules [] words in
-    let pass = level_passing find_built [] words false [] plain_find f in
-    let checked = level_checked find_built [] words false [] f in
-    record {
-      seed = gives32 (codes "seed") rows (optional u32_parser (codes "seed") rows
-          (given_value find_built.rules rows (filled (required (option_rule (codes "seed") u32_parser))) refl pass
-          (required_given find_built rows false _ (inl refl) refl refl checked)));
-      candidates = may64 (codes "candidates") rows (passed_value find_built.rules rows (rule64 18446744073709551615 (codes "candidates")) refl pass);
-      first = may64 (codes "first") rows (passed_value find_built.rules rows (rule64 18446744073709551615 (codes "first")) refl pass);
-      workers = may32 (codes "workers") rows (passed_value find_built.rules rows (rule32 (codes "workers")) refl pass);
-      lane = may32 (codes "lane") rows (passed_value find_built.rules rows (rule32 (codes "lane")) refl pass);
-      boards = may32 (codes "boards") rows (passed_value find_built.rules rows (rule32 (codes "boards")) refl pass);
-      first_board = inl (absent_value find_built.rules rows (codes "first-board") refl pass);
-    }
+find_values = deal_values find_built (plain_of find_built.rules refl) refl (inl refl) (inl refl, inl refl, inl refl, inl refl, inl refl, inr refl)
 
 -- `pick` has no option of which candidates are tried, nor of how
 pub pick_values : (words : List Text) → level_fault pick_built [] nothing_held words false [] ≡ [] → MakeValues (rows_after pick_built.rules [] words)
-pick_values words f =
-    let rows = rows_after pick_built.rules [] words in
-    let pass = level_passing pick_built [] words false [] plain_pick f in
-    let checked = level_checked pick_built [] words false [] f in
-    record {
-      seed = gives32 (codes "seed") rows (optional u32_parser (codes "seed") rows
-          (given_value pick_built.rules rows (filled (required (option_rule (codes "seed") u32_parser))) refl pass
-          (required_given pick_built rows false _ (inl refl) refl refl checked)));
-      candidates = inl (absent_value pick_built.rules rows (codes "candidates") refl pass);
-      first = inl (absent_value pick_built.rules rows (codes "first") refl pass);
-      workers = inl (absent_value pick_built.rules rows (codes "workers") refl pass);
-      lane = inl (absent_value pick_built.rules rows (codes "lane") refl pass);
-      boards = inl (absent_value pick_built.rules rows (codes "boards") refl pass);
-      first_board = may64 (codes "first-board") rows (passed_value pick_built.rules rows (rule64 18446744073709551615 (codes "first-board")) refl pass);
-    }
+pick_values = deal_values pick_built (plain_of pick_built.rules refl) refl (inl refl) (inr refl, inr refl, inr refl, inr refl, inr refl, inl refl)

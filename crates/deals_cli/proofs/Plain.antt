@@ -1,5 +1,5 @@
 -- Whether a table of rules is plain, as a test that is computed.
-use Rattle.std.proofs.Common.{◌≡◌, ◌⊎◌, ◌&&◌, Bool, true, false, not, List, [], ◌∷◌, Some, find, nat_lt, length, refl, sym, ap, subst, inl, inr, ◌∙◌, arith, ◌<◌, cond, lit<}
+use Rattle.std.proofs.Common.{◌≡◌, ◌⊎◌, ◌&&◌, Bool, true, false, not, List, [], ◌∷◌, Some, nat_lt, length, refl, inl, inr, arith, ◌<◌}
 use Rattle.std.specs.List.{list_any, list_all}
 use Rattle.std.specs.Str.{bytes_eq}
 use Rattle.std.proofs.lemmas.Bool.{ltb-true}

@@ -1,6 +1,6 @@
 -- How the program ends for words that ask for nothing, for others `Wishes` of `requests` says it;
 -- and what it says and leaves of a failure.
-use Rattle.std.specs.Prelude.{◌≡◌, ◌⊎◌, ℕ, Bool, true, false, List, [], Option, Some}
+use Rattle.std.specs.Prelude.{◌≡◌, ◌⊎◌, ℕ, Bool, true, false, List, [], Option, None, Some}
 use Rattle.clap.specs.Kinds.{IsAmong}
 use Rattle.clap.specs.Walk.{Text}
 use Rattle.clap.specs.declared.error.kind.ErrorKind.{ErrorKind}
@@ -11,10 +11,11 @@ use Rattle.requests.specs.Failures.{status_of}
 use Rattle.requests.specs.FirstRefusal.{IsDueFor}
 use Rattle.requests.specs.Interruptions.{LeavesFrom}
 use Rattle.requests.specs.Lines.{line_of}
-use Rattle.requests.specs.Requests.{Wish}
+use Rattle.requests.specs.Reported.{Reports, wants_report}
+use Rattle.requests.specs.Requests.{Making, Wish, make}
 use Rattle.requests.specs.declared.failure.Failure.{Failure}
 use Rattle.requests.specs.declared.failure.Failure.TheVariants.{Interrupted, Input}
-use Rattle.deals_cli.specs.CommandLine.{kinds_for}
+use Rattle.deals_cli.specs.CommandLine.{asked, kinds_for}
 pub use Rattle.requests.specs.Makings.{CanDate, CanLabel, HasLabels, HasNumbers, IsPlanned}
 pub use Rattle.requests.specs.Makings.{Means, plan_of}
 pub use Rattle.requests.specs.Wishes.{Appends, AppendsFrom, HasInput, HasMeaning, HasPlan, HasRun}
@@ -46,6 +47,19 @@ pub record IsStatusOfNone (words : List Text) (status : ℕ) : Type 0 where
   pub refused : status ≡ 2 → MayRefuse words
   -- there is no condition, no run and no input
   pub neither : (status ≡ 3) ⊎ (status ≡ 6) ⊎ (status ≡ 7) → ⊥
+
+-- what the program's status says of words, by what they ask for
+pub record IsStatusFor (words : List Text) (status : ℕ) : Type 0 where
+  pub wished : (w : Wish) → asked words ≡ Some w → IsStatusOf w status
+  pub unasked : asked words ≡ None → IsStatusOfNone words status
+
+-- what the error output was given by words that were done: the report that they ask for, if it took
+-- all, and nothing if they ask for none
+pub record HasReport (words : List Text) (took_all : Type 0)
+    (old new : Option (List ℕ)) : Type 0 where
+  pub reported : (m : Making) → asked words ≡ Some (make m) → m.report ≡ true → took_all
+      → Reports m old new
+  pub quiet : wants_report (asked words) ≡ false → new ≡ old
 
 -- a wish fails so: memory ran out, as it may while the words are read, or the failure is due
 abbrev pub MayFail : Wish → Failure → Type 0

@@ -7,14 +7,12 @@ ghost use Rattle.std.specs.Prelude.{IsSome, string_bytes};
 ghost use Rattle.clap.specs.Words.{HasKind, kind_of};
 ghost use Rattle.requests.specs.Failures.{CountsInput, faults_in, is_untouched};
 ghost use Rattle.requests.specs.Failures.{status_in};
-ghost use Rattle.requests.specs.Interruptions.{LeavesFrom};
-ghost use Rattle.requests.specs.Reported.{Reports, ReportsFor, wants_report};
+ghost use Rattle.requests.specs.Reported.{ReportsFor};
 ghost use Rattle.requests.specs.Options.{IsInRange, wish_of};
-ghost use Rattle.requests.specs.Requests.{Making, Wish, make};
-ghost use Rattle.requests.specs.Wishes.{Appends, AppendsFrom, IsStatus, IsStatusOf};
-ghost use Rattle.requests.specs.Wishes.{IsStatusWithInput};
+ghost use Rattle.requests.specs.Requests.{Wish};
+ghost use Rattle.requests.specs.Wishes.{Appends, AppendsFrom, IsStatus, IsStatusWithInput};
 ghost use Rattle.deals_cli.specs.CommandLine.{asked, kinds_for};
-ghost use Rattle.deals_cli.specs.Program.{IsStatusOfNone, MayFail, MayLeave, TellsWhy};
+ghost use Rattle.deals_cli.specs.Program.{HasReport, IsStatusFor, MayFail, MayLeave, TellsWhy};
 ghost use Rattle.deals_cli.specs.Program.{TellsWhyFrom};
 ghost use Rattle.deals_cli.specs.internal.Kinds.{IsStatusOfKind};
 
@@ -30,8 +28,8 @@ use std::alloc::Global;
 use std::sync::Wait;
 use std::thread::Threads;
 
-/// Writes a text that was asked for, as help, and refuses any mistake. The words in it are shown as
-/// a terminal can show them.
+/// Writes a text that was asked for, as help, and flushes the output; refuses any mistake. The words
+/// in the text are shown as a terminal can show them.
 #[tactic(auto, using(crate::proofs::Statuses::kinds))]
 fn show<O: Sink>(alloc: Global, words: &[String], error: &Error, out: &mut O) -> Result<(), Failure>
     requires { O.faults out.old < 2 ^ 64 - 1 }
@@ -50,53 +48,8 @@ fn show<O: Sink>(alloc: Global, words: &[String], error: &Error, out: &mut O) ->
         return Err(Failure::CommandLine(text));
     }
     put_all(out, text.as_bytes())?;
+    out.flush()?;
     Ok(())
-}
-
-/// Does what the words ask for, which were read as `read`.
-fn serve_read<R: Threads + Wait + Clone + Send + 'static, I: Source, O: Sink>(
-    rt: &R,
-    alloc: Global,
-    words: &[String],
-    read: &Result<Request<'_>, Error>,
-    input: &mut I,
-    out: &mut O,
-) -> Result<Option<Report>, Failure>
-    requires ok { IfOk read.now (λ r. asked (map string_bytes words.now) ≡ Some (wish_of r)) }
-    requires range { IfOk read.now IsInRange }
-    requires err { IfErr read.now (λ e.
-        IsSome (asked (map string_bytes words.now)) → kind_of e ≡ ErrorKind.OutOfMemory) }
-    requires kinds { IfErr read.now (λ e. HasKind (kinds_for (map string_bytes words.now)) e) }
-    requires output { O.faults out.old < 2 ^ 64 - 1 }
-    requires input { I.faults input.old < 2 ^ 64 - 1 }
-    ensures text { (w : Wish) → asked (map string_bytes words.now) ≡ Some w
-        → OnOk result (AppendsFrom w (I.rest input.old) (I.rest input.new)
-        (O.bytes out.old) (O.bytes out.new)) }
-    ensures report { (w : Wish) → asked (map string_bytes words.now) ≡ Some w
-        → IfOk result (ReportsFor w) }
-    ensures no_report { asked (map string_bytes words.now) ≡ None
-        → IfOk result (λ r. r ≡ None) }
-    ensures wished { (w : Wish) → asked (map string_bytes words.now) ≡ Some w
-        → IsStatusOf w (status_in result) }
-    ensures due { (w : Wish) → asked (map string_bytes words.now) ≡ Some w
-        → IfErr result (MayFail w) }
-    ensures stands { (w : Wish) → asked (map string_bytes words.now) ≡ Some w
-        → IfErr result (λ e. LeavesFrom w e (I.rest input.old) (I.rest input.new)
-        (O.bytes out.old) (O.bytes out.new)) }
-    ensures unasked { asked (map string_bytes words.now) ≡ None
-        → IsStatusOfNone (map string_bytes words.now) (status_in result) }
-    ensures untouched { IfErr result (λ e. is_untouched e ≡ true
-        → O.bytes out.new ≡ O.bytes out.old) }
-    ensures faults { O.faults out.new ≡ O.faults out.old + faults_in result }
-    ensures input { CountsInput result (I.faults input.old) (I.faults input.new) }
-{
-    match read {
-        Ok(request) => serve(rt, alloc, request, input, out),
-        Err(error) => {
-            show(alloc, words, error, out)?;
-            Ok(None)
-        }
-    }
 }
 
 /// Does what the words ask for, which `read_words` read, and flushes the output. Of the subcommands
@@ -124,23 +77,28 @@ pub fn answer<R: Threads + Wait + Clone + Send + 'static, I: Source, O: Sink>(
         → IfOk result (ReportsFor w) }
     ensures no_report { asked (map string_bytes words.now) ≡ None
         → IfOk result (λ r. r ≡ None) }
-    ensures wished { (w : Wish) → asked (map string_bytes words.now) ≡ Some w
-        → IsStatusOf w (status_in result) }
+    ensures asked { IsStatusFor (map string_bytes words.now) (status_in result) }
     ensures due { (w : Wish) → asked (map string_bytes words.now) ≡ Some w
         → IfErr result (MayFail w) }
     ensures stands { (w : Wish) → asked (map string_bytes words.now) ≡ Some w
         → IfErr result (λ e. MayLeave w e (I.rest input.old) (I.rest input.new)
         (O.bytes out.old) (O.bytes out.new)) }
-    ensures unasked { asked (map string_bytes words.now) ≡ None
-        → IsStatusOfNone (map string_bytes words.now) (status_in result) }
     ensures untouched { IfErr result (λ e. is_untouched e ≡ true
         → O.bytes out.new ≡ O.bytes out.old) }
     ensures faults { O.faults out.new ≡ O.faults out.old + faults_in result }
     ensures input { CountsInput result (I.faults input.old) (I.faults input.new) }
 {
-    let report = serve_read(rt, alloc, words, read, input, out)?;
-    out.flush()?;
-    Ok(report)
+    match read {
+        Ok(request) => {
+            let report = serve(rt, alloc, request, input, out)?;
+            out.flush()?;
+            Ok(report)
+        }
+        Err(error) => {
+            show(alloc, words, error, out)?;
+            Ok(None)
+        }
+    }
 }
 
 /// Runs the program over an input, and returns its exit status. Of the subcommands `pick` alone
@@ -165,9 +123,9 @@ pub fn program_with_input<R: Threads + Wait + Clone + Send + 'static, I: Source,
     ensures text { (w : Wish) → asked (map string_bytes words.now) ≡ Some w → result ≡ 0
         → AppendsFrom w (I.rest input.old) (I.rest input.new)
         (O.bytes out.old) (O.bytes out.new) }
-    // The status says what of it was accepted, and what refused.
-    ensures wished { (w : Wish) → asked (map string_bytes words.now) ≡ Some w
-        → IsStatusOf w result }
+    // The status says what of it was accepted, and what refused; for words that ask for nothing,
+    // whether they ask for help, or are refused.
+    ensures asked { IsStatusFor (map string_bytes words.now) result }
     // If it isn't 0, it is the status of the first failure that is due: the output has what that
     // leaves, the input failed if that says so, and the error output has its line, unless it failed
     // itself.
@@ -175,9 +133,6 @@ pub fn program_with_input<R: Threads + Wait + Clone + Send + 'static, I: Source,
         → TellsWhyFrom w result (I.rest input.old) (I.rest input.new)
         (I.faults input.new ≡ I.faults input.old + 1) (O.bytes out.old) (O.bytes out.new)
         (E.faults err.new ≡ E.faults err.old) (E.bytes err.old) (E.bytes err.new) }
-    // For words that ask for nothing it says whether they ask for help, or are refused.
-    ensures unasked { asked (map string_bytes words.now) ≡ None
-        → IsStatusOfNone (map string_bytes words.now) result }
     // There are seven statuses.
     ensures status { IsStatusWithInput result }
     // Nothing was written if something is refused or memory ran out.
@@ -188,12 +143,9 @@ pub fn program_with_input<R: Threads + Wait + Clone + Send + 'static, I: Source,
     // The input failed with status 7 alone, or before the output did.
     ensures input { result ≢ 4 → result ≢ 7 → I.faults input.new ≡ I.faults input.old }
     // With status 0 a report that was asked for is on the error output, unless that failed itself,
-    ensures reported { (m : Making) → asked (map string_bytes words.now) ≡ Some (make m)
-        → m.report ≡ true → result ≡ 0 → E.faults err.new ≡ E.faults err.old
-        → Reports m (E.bytes err.old) (E.bytes err.new) }
     // and else nothing.
-    ensures quiet { result ≡ 0 → wants_report (asked (map string_bytes words.now)) ≡ false
-        → E.bytes err.new ≡ E.bytes err.old }
+    ensures report { result ≡ 0 → HasReport (map string_bytes words.now)
+        (E.faults err.new ≡ E.faults err.old) (E.bytes err.old) (E.bytes err.new) }
     // A fault of the error output is at most one, and ends nothing.
     ensures said { (E.faults err.old ≤ E.faults err.new)
         × (E.faults err.new ≤ E.faults err.old + 1) }
@@ -231,17 +183,14 @@ pub fn program<R: Threads + Wait + Clone + Send + 'static, O: Sink, E: Sink>(
     // What the words ask for was written, if the status is 0.
     ensures text { (w : Wish) → asked (map string_bytes words.now) ≡ Some w → result ≡ 0
         → Appends w (O.bytes out.old) (O.bytes out.new) }
-    // The status says what of it was accepted, and what refused.
-    ensures wished { (w : Wish) → asked (map string_bytes words.now) ≡ Some w
-        → IsStatusOf w result }
+    // The status says what of it was accepted, and what refused; for words that ask for nothing,
+    // whether they ask for help, or are refused.
+    ensures asked { IsStatusFor (map string_bytes words.now) result }
     // If it isn't 0, it is the status of the first failure that is due: the output has what that
     // leaves, and the error output its line, unless it failed itself.
     ensures told { (w : Wish) → asked (map string_bytes words.now) ≡ Some w → result ≢ 0
         → TellsWhy w result (O.bytes out.old) (O.bytes out.new)
         (E.faults err.new ≡ E.faults err.old) (E.bytes err.old) (E.bytes err.new) }
-    // For words that ask for nothing it says whether they ask for help, or are refused.
-    ensures unasked { asked (map string_bytes words.now) ≡ None
-        → IsStatusOfNone (map string_bytes words.now) result }
     // There are six statuses.
     ensures status { IsStatus result }
     // Nothing was written if something is refused or memory ran out.
@@ -250,12 +199,9 @@ pub fn program<R: Threads + Wait + Clone + Send + 'static, O: Sink, E: Sink>(
     // The status is 4 if and only if the output failed, once.
     ensures output { O.faults out.new ≡ O.faults out.old + (if result == 4 then 1 else 0) }
     // With status 0 a report that was asked for is on the error output, unless that failed itself,
-    ensures reported { (m : Making) → asked (map string_bytes words.now) ≡ Some (make m)
-        → m.report ≡ true → result ≡ 0 → E.faults err.new ≡ E.faults err.old
-        → Reports m (E.bytes err.old) (E.bytes err.new) }
     // and else nothing.
-    ensures quiet { result ≡ 0 → wants_report (asked (map string_bytes words.now)) ≡ false
-        → E.bytes err.new ≡ E.bytes err.old }
+    ensures report { result ≡ 0 → HasReport (map string_bytes words.now)
+        (E.faults err.new ≡ E.faults err.old) (E.bytes err.old) (E.bytes err.new) }
     // A fault of the error output is at most one, and ends nothing.
     ensures said { (E.faults err.old ≤ E.faults err.new)
         × (E.faults err.new ≤ E.faults err.old + 1) }

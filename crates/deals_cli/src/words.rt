@@ -9,7 +9,7 @@ ghost use Rattle.hand_texts.specs.HandTexts.{given_by};
 ghost use Rattle.requests.specs.Options.{IsInRange, making_of, wish_of};
 ghost use Rattle.deals_cli.specs.internal.Readings.{MakeValues, MayGive32, MayGive64, StreamValues};
 
-use crate::choices::{dealer_in, format_in, sides_in, unknown_in, when_in};
+use crate::choices::{DEALER, FORMAT, HINTS, PROGRESS, VULNERABLE, unknown_in};
 use crate::refusals::{invalid_value, missing_end};
 use clap::error::ErrorKind;
 use clap::{ArgMatches, Error};
@@ -71,7 +71,7 @@ fn format_by(name: &str, matches: &ArgMatches) -> Format
     if name == "find" {
         return Format::Numbers;
     }
-    format_in(matches).unwrap_or(Format::Pbn)
+    FORMAT.given(matches).unwrap_or(Format::Pbn)
 }
 
 /// The texts of hands that the options were given.
@@ -106,12 +106,12 @@ fn make_request<'a>(name: &str, matches: &ArgMatches<'a>) -> MakeRequest<'a>
         date: text_in(matches, "date"),
         hands: hands_in(matches),
         format: format_by(name, matches),
-        dealer: dealer_in(matches),
-        vulnerable: sides_in(matches),
+        dealer: DEALER.given(matches),
+        vulnerable: VULNERABLE.given(matches),
         rotate: is_set(matches, "rotate"),
         report: is_set(matches, "report"),
-        progress: when_in(matches, "progress").unwrap_or(When::Auto),
-        hints: when_in(matches, "hints").unwrap_or(When::Auto),
+        progress: PROGRESS.given(matches).unwrap_or(When::Auto),
+        hints: HINTS.given(matches).unwrap_or(When::Auto),
     }
 }
 

@@ -1,4 +1,4 @@
-use Rattle.std.proofs.Common.{◌∙◌, sym, subst, map, string_bytes}
+use Rattle.std.proofs.Common.{◌∙◌, refl, sym, subst, map, string_bytes}
 use Rattle.requests.specs.Reported.{ReportsFor}
 use Rattle.requests.specs.Wishes.{IsStatusWithInput}
 use Rattle.requests.proofs.Refusals.{status_of-status}
@@ -11,17 +11,17 @@ use Rattle.deals_cli.proofs.entry.program_with_input.Goals as goal
 pub returns-clause-status : goal.returns-clause-status
 returns-clause-status g c = subst IsStatusWithInput (sym c.status.ensures) (status_of-status c.in-Err.failure)
 
-pub returns-in-Ok-None-clause-reported : goal.returns-in-Ok-None-clause-reported
-returns-in-Ok-None-clause-reported g c m is wants zero same =
-    absurd (some_made m (subst (λ o. ReportsFor (make m) o) c.in-Ok-None.field-0-is (c.in-Ok-None.ensures.report (make m) is)) wants)
+pub returns-in-Ok-None-clause-report : goal.returns-in-Ok-None-clause-report
+returns-in-Ok-None-clause-report g c zero = record {
+  reported = λ m is wants same. absurd (some_made m (subst (λ o. ReportsFor (make m) o) c.in-Ok-None.field-0-is (c.in-Ok-None.ensures.report (make m) is)) wants);
+  quiet = λ quiet. refl;
+}
 
-pub returns-in-Ok-Some-clause-reported : goal.returns-in-Ok-Some-clause-reported
-returns-in-Ok-Some-clause-reported g c m is wants zero same =
-    said m c.in-Ok-Some.report _ _ (subst (λ o. ReportsFor (make m) o) c.in-Ok-Some.field-0-is (c.in-Ok-Some.ensures.report (make m) is))
-    (heard c.say.result _ _ _ c.say.ensures.faults same c.say.ensures.text)
-
-pub returns-in-Ok-Some-clause-quiet : goal.returns-in-Ok-Some-clause-quiet
-returns-in-Ok-Some-clause-quiet g c zero quiet =
-    absurd (none_made (asked (map string_bytes c.args.words.now)) c.in-Ok-Some.report
-    (λ w is. subst (λ o. ReportsFor w o) c.in-Ok-Some.field-0-is (c.in-Ok-Some.ensures.report w is))
-    (λ is. sym c.in-Ok-Some.field-0-is ∙ c.in-Ok-Some.ensures.no_report is) quiet)
+pub returns-in-Ok-Some-clause-report : goal.returns-in-Ok-Some-clause-report
+returns-in-Ok-Some-clause-report g c zero = record {
+  reported = λ m is wants same. said m c.in-Ok-Some.report _ _ (subst (λ o. ReportsFor (make m) o) c.in-Ok-Some.field-0-is (c.in-Ok-Some.ensures.report (make m) is))
+      (heard c.say.result _ _ _ c.say.ensures.faults same c.say.ensures.text);
+  quiet = λ quiet. absurd (none_made (asked (map string_bytes c.args.words.now)) c.in-Ok-Some.report
+      (λ w is. subst (λ o. ReportsFor w o) c.in-Ok-Some.field-0-is (c.in-Ok-Some.ensures.report w is))
+      (λ is. sym c.in-Ok-Some.field-0-is ∙ c.in-Ok-Some.ensures.no_report is) quiet);
+}
