@@ -8,11 +8,11 @@ mod failing_sinks;
 #[cfg(test)]
 mod failures;
 #[cfg(test)]
+mod formats;
+#[cfg(test)]
 mod gates;
 #[cfg(test)]
 mod interrupted;
-#[cfg(test)]
-mod notations;
 #[cfg(test)]
 mod plain;
 #[cfg(test)]
