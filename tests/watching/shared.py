@@ -4,12 +4,14 @@ import os
 import pty
 import re
 import subprocess
+import time
 
 import harness
 import screen
 
-# Boards that come slowly, so that counts are drawn between them, and that are all found in some seconds.
-RARE = ["--seed", "9", "--boards", "24", "--where", "hcp(north)>=30"]
+# Boards that come slowly, so that counts are drawn between them, and for how many seconds at least.
+RARE = ["--seed", "9", "--where", "hcp(north)>=30"]
+SECONDS = 2.5
 FORMATS = ("pbn", "hands", "lin", "html")
 # A line of counts, which is cut where the screen ends.
 COUNTS = re.compile(r"(\d+%  )?[\d,]+ (of [\d,]+ )?candidates  [\d,]+ boards? .*")
@@ -32,10 +34,22 @@ def pieces_of(terminal, process):
     yield text
 
 
+def lasting(words):
+    """The words with as many boards as take so long, and what they write into a pipe."""
+    boards, seconds = 6, 0
+    while seconds < SECONDS:
+        boards *= 2
+        limited = [*words, "--boards", str(boards)]
+        began = time.monotonic()
+        text = subprocess.run([harness.PROGRAM, *limited], stdout=subprocess.PIPE, check=True).stdout
+        seconds = time.monotonic() - began
+    return limited, text
+
+
 def complaint_of(words):
     """What is wrong with a row of the screen, or None."""
-    into_a_pipe = subprocess.run([harness.PROGRAM, *words, "--workers", "2"], stdout=subprocess.PIPE, check=True)
-    wanted = [line.rstrip(" ") for line in into_a_pipe.stdout.decode().split("\n")]
+    words, text = lasting(words)
+    wanted = [line.rstrip(" ") for line in text.decode().split("\n")]
     ours, theirs = pty.openpty()
     process = subprocess.Popen([harness.PROGRAM, *words], stdin=subprocess.DEVNULL, stdout=theirs, stderr=theirs)
     os.close(theirs)
@@ -58,5 +72,5 @@ def complaint_of(words):
 
 def every():
     """Each check's name, and what is wrong, or None."""
-    for words in [["make", "--format", form] for form in FORMATS] + [["find"], ["make", "--candidates", "90000000"]]:
+    for words in [["make", "--format", form] for form in FORMATS] + [["find"], ["make", "--candidates", "900000000"]]:
         yield f"one terminal, {' '.join(words)}", complaint_of([*words, *RARE])

@@ -21,6 +21,8 @@ import harness
 FORMATS = ("pbn", "hands", "lin", "html")
 # How a board begins in each format.
 BOARDS = {"pbn": rb"^\[Deal ", "hands": rb"^Board \d", "lin": rb"^qx\|", "html": rb'<section class="board"'}
+# How one ends.
+ENDS = {"pbn": b"\n\n", "hands": b"\n\n", "lin": b"\n", "html": b"</section>\n"}
 EVERY = ["--candidates", "1000000000"]
 RARE = [*EVERY, "--where", "hcp(north)>=28"]
 # When a run is stopped, in seconds: counts are drawn from the first second on.
@@ -88,9 +90,9 @@ def fault_of(kind, into, form, seconds):
     words = words_of(kind, form)
     out, drawn = stopped(words, into, seconds)
     begun = len(re.findall(BOARDS[form], out, re.M))
-    wanted = whole_text(kind, form, begun)
-    is_whole = out in (wanted, b"")
-    if not wanted.startswith(out):
+    is_whole = out.endswith(ENDS[form]) if begun else out in (b"", whole_text(kind, form, 0))
+    # A board may be cut before it is counted.
+    if not whole_text(kind, form, begun + 1).startswith(out):
         return f"{len(out)} bytes that don't begin the right text"
     if kind == "rare" and not is_whole:
         return f"{len(out)} bytes, and the last board is cut"
