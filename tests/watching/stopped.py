@@ -24,7 +24,8 @@ BOARDS = {"pbn": rb"^\[Deal ", "hands": rb"^Board \d", "lin": rb"^qx\|", "html":
 # How one ends.
 ENDS = {"pbn": b"\n\n", "hands": b"\n\n", "lin": b"\n", "html": b"</section>\n"}
 EVERY = ["--candidates", "1000000000"]
-RARE = [*EVERY, "--where", "hcp(north)>=28"]
+# So rare that what is gathered between two looks at the clock goes into a pipe in one piece: up to 4,096 bytes.
+RARE = [*EVERY, "--where", "hcp(north)>=30"]
 # When a run is stopped, in seconds: counts are drawn from the first second on.
 MOMENTS = {"every": (0.01, 0.2), "rare": (0.05, 1.8)}
 COUNTED = re.compile(rb"candidates  ([\d,]+) boards?")
@@ -35,7 +36,7 @@ def words_of(kind, form):
 
 
 def read_all(descriptor):
-    """All that comes through a pipe or from a terminal, until nobody can write."""
+    """All that a terminal was given, until nobody can write."""
     pieces = []
     while True:
         try:
@@ -51,22 +52,22 @@ def read_all(descriptor):
 def stopped(words, into, seconds):
     """What stands on the output of a run that is stopped after so many seconds, and what it drew on the terminal."""
     terminal, drawn_on = pty.openpty()
-    with tempfile.TemporaryFile() as file, concurrent.futures.ThreadPoolExecutor(2) as readers:
-        reader, writer = os.pipe() if into == "pipe" else (None, os.dup(file.fileno()))
+    with tempfile.TemporaryFile() as file, concurrent.futures.ThreadPoolExecutor(1) as readers:
+        cat = subprocess.Popen(["cat"], stdin=subprocess.PIPE, stdout=file) if into == "pipe" else None
+        output = cat.stdin if cat else file
         process = subprocess.Popen(
-            [harness.PROGRAM, *words], stdin=subprocess.DEVNULL, stdout=writer, stderr=drawn_on
+            [harness.PROGRAM, *words], stdin=subprocess.DEVNULL, stdout=output, stderr=drawn_on
         )
-        os.close(writer)
         os.close(drawn_on)
         drawn = readers.submit(read_all, terminal)
-        out = readers.submit(read_all, reader) if into == "pipe" else None
         time.sleep(seconds)
         process.send_signal(signal.SIGINT)
         process.wait()
-        if out is None:
-            file.seek(0)
-            return file.read(), drawn.result()
-        return out.result(), drawn.result()
+        if cat:
+            cat.stdin.close()
+            cat.wait()
+        file.seek(0)
+        return file.read(), drawn.result()
 
 
 def text_of(words):
