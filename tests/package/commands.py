@@ -1,21 +1,30 @@
 """What the built program's help, its man page and its completions say of commands and options."""
 
+import atexit
 import os
 import pathlib
 import pty
 import re
 import select
+import shutil
 import subprocess
+import tempfile
 import time
 
 import harness
 
-PACKAGE = harness.TOP / "package"
-MAN = PACKAGE / "deals.1"
+# Where the man page and the completions are, which package/pages makes.
+PAGES = pathlib.Path(tempfile.gettempdir()) / f"deals-pages-{os.getpid()}"
+MAN = PAGES / "deals.1"
 # The seconds that a shell has for an answer.
 PATIENCE = 60
 OPTION = re.compile(r"^ +(?:(-\w), )?(--[a-z-]+)(?: <\w+>)? +(.*)$", re.M)
 LONG = re.compile(r"(?<![\w-])--[a-z][a-z-]*")
+
+
+def make_pages():
+    atexit.register(shutil.rmtree, PAGES)
+    subprocess.run([harness.TOP / "package/pages", harness.PROGRAM, PAGES], check=True)
 
 
 def told(*words):
@@ -130,13 +139,13 @@ def in_bash(line):
         'source "$1"; COMP_WORDS=($2); [[ $2 != *" " ]] || COMP_WORDS+=(""); '
         'COMP_CWORD=$((${#COMP_WORDS[@]} - 1)); _deals; printf "%s\\n" "${COMPREPLY[@]}"'
     )
-    words = ["bash", "--norc", "-c", script, "", PACKAGE / "completions/deals.bash", line]
+    words = ["bash", "--norc", "-c", script, "", PAGES / "deals.bash", line]
     return subprocess.run(words, capture_output=True, text=True, check=True).stdout.split()
 
 
 def in_fish(line):
     script = 'source $argv[1]; complete -C $argv[2] | string replace -r "\\t.*" ""; true'
-    words = ["fish", "--no-config", "-c", script, PACKAGE / "completions/deals.fish", line]
+    words = ["fish", "--no-config", "-c", script, PAGES / "deals.fish", line]
     nowhere = {name: "/nonexistent" for name in ("HOME", "XDG_CONFIG_HOME", "XDG_DATA_HOME")}
     environment = {**os.environ, **nowhere}
     return subprocess.run(words, capture_output=True, text=True, check=True, env=environment).stdout.split()
@@ -146,6 +155,6 @@ def zsh():
     """A zsh with our completion."""
     shell = Terminal(["zsh", "-f", "-i"])
     shell.do("setopt no_beep no_list_beep; bindkey -e; LISTMAX=1000")
-    folder = str(PACKAGE / "completions").replace("'", "'\\''")
+    folder = str(PAGES).replace("'", "'\\''")
     shell.do(f"fpath=('{folder}' $fpath); autoload -Uz compinit; compinit -u -D")
     return shell

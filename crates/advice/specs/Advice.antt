@@ -2,19 +2,18 @@
 -- refusal.
 use Rattle.std.specs.Prelude.{◌≡◌, ◌-◌, ◌^◌, ℕ, List, [], ◌++◌, codes, decimal, length}
 use Rattle.std.specs.Prelude.{map, nat_le, nat_lt, take, if◌then◌else◌}
-use Rattle.std.specs.Prelude.{Option, None, Some, unwrap_or}
+use Rattle.std.specs.Prelude.{Option, None, Some, false, unwrap_or}
 use Rattle.cards.specs.declared.seat.Seat.{Seat}
 use Rattle.cards.specs.declared.seat.Seat.TheVariants as seat
-use Rattle.hand_texts.specs.HandFaults.{IsFaultOf}
-use Rattle.hand_texts.specs.HandRules.{rule_of}
-use Rattle.hand_texts.specs.HandTexts.{before, given_at}
-use Rattle.hand_texts.specs.declared.fault.HandFault.{HandFault}
+use Rattle.predeal.specs.HandFaults.{IsFaultOf}
+use Rattle.predeal.specs.HandRules.{rule_of}
+use Rattle.predeal.specs.PredealtHands.{before, given_at, is_refused_at}
+use Rattle.predeal.specs.declared.fault.HandFault.{HandFault}
 use Rattle.hints.specs.Excerpt.{shown}
 use Rattle.plans.specs.declared.plan.PlanError.{PlanError}
 use Rattle.plans.specs.declared.plan.PlanError.TheVariants as plan
-use Rattle.requests.specs.FirstRefusal.{IsDueOf}
-use Rattle.requests.specs.Makings.{IsPlanned, candidates_of}
-use Rattle.requests.specs.Requests.{Making}
+use Rattle.requests.specs.Makings.{candidates_of, first_board_of}
+use Rattle.requests.specs.Requests.{Look, Search}
 use Rattle.requests.specs.declared.failure.Failure.{Failure}
 use Rattle.requests.specs.declared.failure.Failure.TheVariants.{Plan, Label, Hand}
 use Rattle.requests.specs.declared.failure.LabelName.{LabelName}
@@ -27,17 +26,17 @@ range_line option value least most unit =
     ++ codes " to " ++ decimal most ++ unit ++ codes "\n"
 
 -- the range that a plan's number is out of
-abbrev pub plan_advice : Making → PlanError → List ℕ
-plan_advice m plan.Range =
-    if nat_lt (2 ^ 40) m.first then range_line (codes "first") m.first 0 (2 ^ 40) []
-    else range_line (codes "candidates") (candidates_of m) 0 (2 ^ 40 - m.first)
+abbrev pub plan_advice : Search → Look → PlanError → List ℕ
+plan_advice s l plan.Range =
+    if nat_lt (2 ^ 40) s.first then range_line (codes "first") s.first 0 (2 ^ 40) []
+    else range_line (codes "candidates") (candidates_of s) 0 (2 ^ 40 - s.first)
     (codes " from this --first on")
-plan_advice m plan.Workers = range_line (codes "workers") m.workers 1 16 (codes " workers")
-plan_advice m plan.Capacity = range_line (codes "lane") m.lane 1 4096 (codes " verdicts")
-plan_advice m plan.Boards =
-    range_line (codes "boards") (unwrap_or m.boards 0) 1 (2 ^ 32 - 1) (codes " boards")
-plan_advice m plan.FirstBoard =
-    range_line (codes "first-board") (unwrap_or m.first_board 1) 1 (2 ^ 40) []
+plan_advice s l plan.Workers = range_line (codes "workers") s.workers 1 16 (codes " workers")
+plan_advice s l plan.Capacity = range_line (codes "lane") s.lane 1 4096 (codes " verdicts")
+plan_advice s l plan.Boards =
+    range_line (codes "boards") (unwrap_or s.boards 0) 1 (2 ^ 32 - 1) (codes " boards")
+plan_advice s l plan.FirstBoard =
+    range_line (codes "first-board") (first_board_of l) 1 (2 ^ 40) []
 
 -- a text as it is shown; of more than 72 bytes the first 70, and two dots
 abbrev pub shown_text : List ℕ → List ℕ
@@ -63,10 +62,10 @@ abbrev pub date_rule : List ℕ
 date_rule = codes "a date is written YYYY.MM.DD, as 2024.05.01"
 
 -- what the label may be
-abbrev pub label_advice : Making → LabelName → List ℕ
-label_advice m label.Event = text_line (codes "event") m.event label_rule
-label_advice m label.Site = text_line (codes "site") m.site label_rule
-label_advice m label.Date = text_line (codes "date") m.date date_rule
+abbrev pub label_advice : Look → LabelName → List ℕ
+label_advice l label.Event = text_line (codes "event") l.event label_rule
+label_advice l label.Site = text_line (codes "site") l.site label_rule
+label_advice l label.Date = text_line (codes "date") l.date date_rule
 
 -- the option of a seat's hand
 abbrev pub seat_option : Seat → List ℕ
@@ -76,21 +75,18 @@ seat_option seat.South = codes "south"
 seat_option seat.West = codes "west"
 
 -- a line that names a fault of the text that is given for a seat's hand
-pub record IsHandAdvice (m : Making) (holder : Seat) (line : List ℕ) : Type 0 where
+pub record IsHandAdvice (s : Search) (holder : Seat) (line : List ℕ) : Type 0 where
   pub text : List ℕ
-  pub given : given_at m.hands holder ≡ Some text
+  pub given : given_at s.hands holder ≡ Some text
   pub fault : HandFault
-  pub is_fault : IsFaultOf (before holder m.hands) text fault
+  pub is_fault : IsFaultOf (before holder s.hands) text fault
   pub says : line ≡ given_text (seat_option holder) text ++ rule_of fault ++ codes "\n"
 
--- the line for the refusal of a plan, a label or a hand
-abbrev pub IsAdviceOn : Making → Failure → List ℕ → Type 0
-IsAdviceOn m (Plan error) line = line ≡ plan_advice m error
-IsAdviceOn m (Label name) line = line ≡ label_advice m name
-IsAdviceOn m (Hand holder) line = IsHandAdvice m holder line
-IsAdviceOn m _ line = ⊥
-
--- no line where there is such a plan, and else that of the first refusal
-abbrev pub Advises : Making → Option (List ℕ) → Type 0
-Advises m None = IsPlanned m
-Advises m (Some line) = (failure : Failure) × IsDueOf m failure × IsAdviceOn m failure line
+-- the line below the refusal of a plan, a label or a hand; there is none below another failure, nor
+-- where the text of a hand is none that is refused
+abbrev pub IsAdviceOn : Search → Look → Failure → Option (List ℕ) → Type 0
+IsAdviceOn s l (Plan error) line = line ≡ Some (plan_advice s l error)
+IsAdviceOn s l (Label name) line = line ≡ Some (label_advice l name)
+IsAdviceOn s l (Hand holder) None = is_refused_at s.hands holder ≡ false
+IsAdviceOn s l (Hand holder) (Some line) = IsHandAdvice s holder line
+IsAdviceOn s l failure line = line ≡ None

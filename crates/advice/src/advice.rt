@@ -2,20 +2,19 @@
 //! given, and what it takes.
 
 ghost use Rattle.std.specs.Prelude.{◌≡◌, ◌++◌, [], map, option_map, string_bytes, unwrap_or};
-ghost use Rattle.std.specs.Prelude.{IfOk, IfSome, OnOk};
-ghost use Rattle.advice.specs.Advice.{Advises, given_text, label_advice, plan_advice, range_line};
-ghost use Rattle.advice.specs.Advice.{seat_option, shown_text, text_line};
-ghost use Rattle.requests.specs.Makings.{candidates_of};
-ghost use Rattle.requests.specs.Options.{making_of};
-ghost use Rattle.advice.specs.internal.Hands.{SaysOfHand};
+ghost use Rattle.std.specs.Prelude.{IfOk, OnOk};
+ghost use Rattle.advice.specs.Advice.{IsAdviceOn, given_text, label_advice, plan_advice};
+ghost use Rattle.advice.specs.Advice.{range_line, seat_option, shown_text, text_line};
+ghost use Rattle.requests.specs.Options.{look_of, search_of};
+ghost use Rattle.requests.specs.Requests.{Look as ALook};
 
+use boards::MAX_LABEL_LEN;
 use cards::{MAX_CANDIDATES, Seat};
 use hints::put_shown;
 use itoa::Buffer;
 use lanes::{MAX_CAPACITY, MAX_WORKERS};
-use pbn_text::MAX_LABEL_LEN;
 use plans::PlanError;
-use requests::{Failure, LabelName, MakeRequest, candidates_of, planned};
+use requests::{Failure, LabelName, Look, Search};
 use std::alloc::{AllocError, Global};
 
 /// The longest text that is shown whole, and how much of a longer one is shown.
@@ -23,86 +22,73 @@ const WHOLE: usize = 72;
 
 const PART: usize = 70;
 
-/// Returns what helps a person with a refused request, to stand below the line that names the
-/// refusal: a line with the first option that is refused, what it was given, and what it takes.
-/// Without a refused plan, label or hand there is none.
+/// Returns what helps a person with a request that is refused so, to stand below the line that names
+/// the refusal: a line with the option, what it was given, and what it takes. There is none unless a
+/// plan, a label or a hand is refused.
 ///
 /// What a label or a hand was given is shown as on a terminal, cut to 72 columns.
 ///
 /// # Errors
 /// `AllocError` if an allocation failed.
-#[tactic(auto, using(crate::proofs::Advised::not_interrupted))]
-pub fn advise(alloc: Global, request: &MakeRequest<'_>) -> Result<Option<String>, AllocError>
-    ensures { IfOk result (λ line. Advises (making_of request.now) (option_map string_bytes line)) }
+pub fn advise(
+    alloc: Global,
+    search: &Search<'_>,
+    look: &Look<'_>,
+    failure: &Failure,
+) -> Result<Option<String>, AllocError>
+    ensures { IfOk result (λ line. IsAdviceOn (search_of search.now) (look_of look.now) failure.now
+        (option_map string_bytes line)) }
 {
-    match planned(request) {
-        Ok(_) => Ok(None),
-        Err(Failure::Plan(error)) => Ok(Some(of_plan(alloc, request, error)?)),
-        Err(Failure::Label(name)) => Ok(Some(of_label(alloc, request, name)?)),
-        Err(Failure::Hand(seat)) => Ok(of_hand(alloc, request, seat)?),
-        Err(_) => Ok(None),
+    match failure {
+        Failure::Plan(error) => Ok(Some(of_plan(alloc, search, look, *error)?)),
+        Failure::Label(name) => Ok(Some(of_label(alloc, look, *name)?)),
+        Failure::Hand(seat) => of_hand(alloc, search, *seat),
+        _ => Ok(None),
     }
 }
 
 /// The line for the number of a plan.
-fn of_plan(alloc: Global, request: &MakeRequest<'_>, error: PlanError) -> Result<String, AllocError>
-    ensures { IfOk result (λ line.
-        string_bytes line ≡ plan_advice (making_of request.now) error) }
+fn of_plan(
+    alloc: Global,
+    search: &Search<'_>,
+    look: &Look<'_>,
+    error: PlanError,
+) -> Result<String, AllocError>
+    ensures { IfOk result (λ line. string_bytes line
+        ≡ plan_advice (search_of search.now) (look_of look.now) error) }
 {
     match error {
-        PlanError::Range => of_candidates(alloc, request),
+        PlanError::Range => of_candidates(alloc, search),
         PlanError::Workers => {
-            let workers = u64::from(MAX_WORKERS);
-            of_number(
-                alloc,
-                "workers",
-                u64::from(request.workers),
-                1,
-                workers,
-                " workers",
-            )
+            let workers = u64::from(search.workers);
+            of_number(alloc, "workers", workers, 1, u64::from(MAX_WORKERS), " workers")
         }
         PlanError::Capacity => {
-            let verdicts = u64::from(MAX_CAPACITY);
-            of_number(
-                alloc,
-                "lane",
-                u64::from(request.lane),
-                1,
-                verdicts,
-                " verdicts",
-            )
+            let lane = u64::from(search.lane);
+            of_number(alloc, "lane", lane, 1, u64::from(MAX_CAPACITY), " verdicts")
         }
         PlanError::Boards => {
-            let boards = u64::from(request.boards.unwrap_or(0));
+            let boards = u64::from(search.boards.unwrap_or(0));
             of_number(alloc, "boards", boards, 1, u64::from(u32::MAX), " boards")
         }
         PlanError::FirstBoard => {
-            let first = request.first_board.unwrap_or(1);
-            of_number(alloc, "first-board", first, 1, MAX_CANDIDATES, "")
+            of_number(alloc, "first-board", look.first_board(), 1, MAX_CANDIDATES, "")
         }
     }
 }
 
 /// The line for candidates that there aren't: for the first, if there isn't even that.
-fn of_candidates(alloc: Global, request: &MakeRequest<'_>) -> Result<String, AllocError>
-    ensures { IfOk result (λ line.
-        string_bytes line ≡ plan_advice (making_of request.now) PlanError.Range) }
+fn of_candidates(alloc: Global, search: &Search<'_>) -> Result<String, AllocError>
+    ensures { IfOk result (λ line. (l : ALook) → string_bytes line
+        ≡ plan_advice (search_of search.now) l PlanError.Range) }
 {
-    let first = request.first;
+    let first = search.first;
     if first > MAX_CANDIDATES {
         return of_number(alloc, "first", first, 0, MAX_CANDIDATES, "");
     }
-    let candidates = candidates_of(request);
     let most = MAX_CANDIDATES - first;
-    of_number(
-        alloc,
-        "candidates",
-        candidates,
-        0,
-        most,
-        " from this --first on",
-    )
+    let candidates = search.candidates();
+    of_number(alloc, "candidates", candidates, 0, most, " from this --first on")
 }
 
 /// The line for a number that is out of range.
@@ -132,30 +118,25 @@ fn of_number(
 }
 
 /// The line for a label that can't be written.
-fn of_label(alloc: Global, request: &MakeRequest<'_>, name: LabelName) -> Result<String, AllocError>
-    ensures { IfOk result (λ line.
-        string_bytes line ≡ label_advice (making_of request.now) name) }
+fn of_label(alloc: Global, look: &Look<'_>, name: LabelName) -> Result<String, AllocError>
+    ensures { IfOk result (λ line. string_bytes line ≡ label_advice (look_of look.now) name) }
 {
     match name {
-        LabelName::Event => of_text(alloc, "event", request.event, LABEL_RULE),
-        LabelName::Site => of_text(alloc, "site", request.site, LABEL_RULE),
-        LabelName::Date => of_text(alloc, "date", request.date, DATE_RULE),
+        LabelName::Event => of_text(alloc, "event", look.event, LABEL_RULE),
+        LabelName::Site => of_text(alloc, "site", look.site, LABEL_RULE),
+        LabelName::Date => of_text(alloc, "date", look.date, DATE_RULE),
     }
 }
 
-/// The line for a text that is no hand, or has a card of an earlier one; none if it is a hand.
-fn of_hand(
-    alloc: Global,
-    request: &MakeRequest<'_>,
-    seat: Seat,
-) -> Result<Option<String>, AllocError>
-    ensures { IfOk result (λ line.
-        SaysOfHand (making_of request.now) seat (option_map string_bytes line)) }
+/// The line for a text that isn't a hand, or has a card of an earlier one; none if it is one.
+fn of_hand(alloc: Global, search: &Search<'_>, seat: Seat) -> Result<Option<String>, AllocError>
+    ensures { IfOk result (λ line. (l : ALook) → IsAdviceOn (search_of search.now) l
+        (Failure.Hand seat) (option_map string_bytes line)) }
 {
-    let Some(text) = request.hands.given_at(seat) else {
+    let Some(text) = search.hands.given_at(seat) else {
         return Ok(None);
     };
-    let Some(fault) = request.hands.fault_at(seat) else {
+    let Some(fault) = search.hands.fault_at(seat) else {
         return Ok(None);
     };
     let mut line = String::new(alloc);

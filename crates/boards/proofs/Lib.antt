@@ -1,1 +1,5 @@
 mod Rotating
+pub mod Copies
+pub mod Dates
+pub mod Sets
+pub mod Letters

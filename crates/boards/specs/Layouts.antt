@@ -1,9 +1,18 @@
 -- How a notation lays a text out: what comes before the boards, the text of each board, and what
 -- comes after them.
-use Rattle.std.specs.Prelude.{ℕ, List}
+use Rattle.std.specs.Prelude.{◌≡◌, ℕ, List}
 use Rattle.boards.specs.declared.board.Board.{Board}
 
 pub record Layout : Type 0 where
   pub header : List ℕ
   pub board : Board → List ℕ
-  pub footer : List ℕ
+  -- of these boards, which so many candidates gave
+  pub footer : List Board → ℕ → List ℕ
+
+-- the footer of a notation that has the same one behind all boards
+abbrev pub ends_with : List ℕ → List Board → ℕ → List ℕ
+ends_with text boards tried = text
+
+-- the footer doesn't depend on how many candidates were tried
+abbrev pub EndsAlike : Layout → Type 0
+EndsAlike layout = (boards : List Board) (m n : ℕ) → layout.footer boards m ≡ layout.footer boards n

@@ -1,16 +1,23 @@
-//! Boards, as a run makes them, and notations, which write them as text.
+//! Boards, as a run makes them, and what notations have, which write them as text.
 //!
 //! A run decides what a board is: its number, its deal, and its dealer and vulnerability, by Law 2
-//! or by a `Setting`. A `Notation` writes boards and knows nothing of runs.
+//! or by a `Setting`; a `Heading` has the labels of all of them. A `Notation` writes boards and
+//! knows nothing of runs. To write one, notations share a `TextBuffer` and the `SuitLetters`.
 #![tactic(auto)]
 
 mod board;
+mod buffer;
+mod heading;
 mod law2;
 pub mod laws;
 mod notation;
 mod setting;
+mod suit_letters;
 
 pub use board::Board;
+pub use buffer::{CAPACITY, TextBuffer};
+pub use heading::{Date, Heading, Label, MAX_LABEL_LEN};
 pub use law2::{Vul, dealer, vulnerable};
 pub use notation::Notation;
 pub use setting::Setting;
+pub use suit_letters::SuitLetters;

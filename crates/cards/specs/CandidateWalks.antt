@@ -18,3 +18,8 @@ pub record GoesOnAt (candidates : CandidatesView) (around : List (Option Seat)) 
   pub some : 1 ≤ step
   pub stride_is : candidates.stride ≡ 51 * step
   pub fixed_are : candidates.fixed ≡ around
+
+-- the seed whose candidates are dealt, and the cards that are fixed
+pub record Source : Type 0 where
+  pub seed : ℕ
+  pub fixed : List (Option Seat)

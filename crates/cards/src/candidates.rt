@@ -12,7 +12,7 @@ use lcg48::{Lcg48, Steps, Stride};
 use std::marker::Model;
 
 /// The draws of one candidate: one for each exchange of the 52 cards.
-const DRAWS: u64 = 51;
+pub(crate) const DRAWS: u64 = 51;
 
 /// How many candidates of a seed are told apart by their numbers, 0 to 2^40 - 1.
 ///

@@ -5,6 +5,7 @@
 #![tactic(auto)]
 
 mod around;
+mod by_number;
 mod candidates;
 mod card;
 mod deal;
@@ -22,6 +23,7 @@ mod settle;
 mod suit;
 pub mod testing;
 
+pub use by_number::DealsByNumber;
 pub use candidates::{Candidates, MAX_CANDIDATES};
 pub use card::Card;
 pub use deal::Deal;

@@ -11,11 +11,12 @@ use Rattle.lanes.proofs.Places.{turns-none}
 use Rattle.lanes.proofs.Sums.{turns-here, turns-elsewhere}
 use Rattle.plans.specs.Plans.{Planned}
 use Rattle.sinks.specs.Appended.{append_known, AppendsPart}
-use Rattle.dealrun.specs.Text.{board_of, text_of_boards}
+use Rattle.plans.specs.Text.{board_of, text_of_boards}
 use Rattle.dealrun.specs.MergedVerdicts.{in_turn, boards_in, boards_after}
 use Rattle.dealrun.specs.internal.Writing.{board_text, printed, board_count, taken_lists, TakenInTurn, StaysShort, WriterSoFar, WriterBrokeOff}
 use Rattle.sinks.proofs.SinkLemmas.{append_known-append}
-use Rattle.dealrun.proofs.BoardLists.{IsWithin, within_more, boards_in-none, boards_in-push, text_of_boards-none, text_of_boards-more}
+use Rattle.plans.proofs.BoardLists.{IsWithin, within_more, text_of_boards-none, text_of_boards-more}
+use Rattle.dealrun.proofs.VerdictBoards.{boards_in-none, boards_in-push}
 use Rattle.dealrun.proofs.Printing.{in_turn-none, in_turn-kept, in_turn-grown, grown}
 
 more_text : (layout : Layout) (boards : List Board) (board : Board) (b : Bool)
@@ -104,9 +105,10 @@ module _ (layout : Layout) (plan : Planned) (lanes : List OutView) (t : ℕ) (v 
             omega (arith, same, less most limit)
       ]
 
-  pub step_on : (boards : ℕ) (base bytes : Option (List ℕ)) → WriterSoFar layout plan lanes t boards base bytes → plan.limit ≢ Some boards
-      → WriterSoFar layout plan lanes' (t + 1) (cond v.accepted (boards + 1) boards) base (append_known bytes (cond v.accepted (board_text layout plan boards v) []))
-  step_on boards base bytes h less =
+  pub step_on : (has has' : List Board → Type 0) (boards : ℕ) (base bytes : Option (List ℕ)) → WriterSoFar layout has plan lanes t boards base bytes → plan.limit ≢ Some boards
+      → ((bs : List Board) → has bs → has' (cond v.accepted (bs ++ board_of plan boards v.number v.deal ∷ []) bs))
+      → WriterSoFar layout has' plan lanes' (t + 1) (cond v.accepted (boards + 1) boards) base (append_known bytes (cond v.accepted (board_text layout plan boards v) []))
+  step_on has has' boards base bytes h less grows =
       let is = h.written.boards_are in
       let below = within_more plan.limit boards h.within less in record {
         in_turn = turns_more;
@@ -115,13 +117,14 @@ module _ (layout : Layout) (plan : Planned) (lanes : List OutView) (t : ℕ) (v 
               ∙ append_known-append base (printed layout plan lists t) (cond v.accepted (board_text layout plan boards v) []) ∙ ap (append_known base) (sym (printed_more boards is));
           boards_are = boards_more boards is;
         };
+        printed = subst has' (ap (λ n. cond v.accepted (boards_after plan lists t ++ board_of plan n v.number v.deal ∷ []) (boards_after plan lists t)) is ∙ sym all_more) (grows (boards_after plan lists t) h.printed);
         within = one_more_within plan.limit boards v.accepted below;
         short = short_more boards is h.short below;
       }
 
-  pub step_broken : (boards : ℕ) (base bytes bytes' : Option (List ℕ)) → WriterSoFar layout plan lanes t boards base bytes → plan.limit ≢ Some boards → v.accepted ≡ true
+  pub step_broken : (has : List Board → Type 0) (boards : ℕ) (base bytes bytes' : Option (List ℕ)) → WriterSoFar layout has plan lanes t boards base bytes → plan.limit ≢ Some boards → v.accepted ≡ true
       → AppendsPart bytes bytes' (board_text layout plan boards v) → WriterBrokeOff layout plan lanes' (t + 1) boards base bytes'
-  step_broken boards base bytes bytes' h less accepted part =
+  step_broken has boards base bytes bytes' h less accepted part =
       let is = h.written.boards_are in
       let before : List ℕ = printed layout plan lists t in
       let back : t + 1 - 1 ≡ t = omega arith in
@@ -151,21 +154,22 @@ taken_at plan lanes t v old new place some taken place_is old_is took =
     took ∙ ap (λ l. l.taken ++ v ∷ []) (old_is ∙ get_or_default lanes place old new below ∙ ap (λ p. get_or lanes p new) place_is)
 
 -- the same, with the values as the writer has them
-pub on_to : (layout now : Layout) (plan : Planned) (lanes : List OutView) (t boards : ℕ) (base bytes : Option (List ℕ)) (v : Verdict) (old new : OutView) (place t' boards' : ℕ) (bytes' : Option (List ℕ))
-    → 0 < plan.workers → WriterSoFar layout plan lanes t boards base bytes → plan.limit ≢ Some boards → place ≡ t % plan.workers → old ≡ get_or lanes place old → new.taken ≡ old.taken ++ v ∷ []
+pub on_to : (layout now : Layout) (has has' : List Board → Type 0) (plan : Planned) (lanes : List OutView) (t boards : ℕ) (base bytes : Option (List ℕ)) (v : Verdict) (old new : OutView) (place t' boards' : ℕ) (bytes' : Option (List ℕ))
+    → 0 < plan.workers → WriterSoFar layout has plan lanes t boards base bytes → plan.limit ≢ Some boards → place ≡ t % plan.workers → old ≡ get_or lanes place old → new.taken ≡ old.taken ++ v ∷ []
     → t' ≡ t + 1 → boards' ≡ cond v.accepted (boards + 1) boards → now ≡ layout → bytes' ≡ append_known bytes (cond v.accepted (board_text now plan boards v) [])
-    → WriterSoFar layout plan (set lanes place new) t' boards' base bytes'
-on_to layout now plan lanes t boards base bytes v old new place t' boards' bytes' some h less place_is old_is took t_is boards_is same bytes_is =
+    → ((bs : List Board) → has bs → has' (cond v.accepted (bs ++ board_of plan boards v.number v.deal ∷ []) bs))
+    → WriterSoFar layout has' plan (set lanes place new) t' boards' base bytes'
+on_to layout now has has' plan lanes t boards base bytes v old new place t' boards' bytes' some h less place_is old_is took t_is boards_is same bytes_is grows =
     let at = taken_at plan lanes t v old new place some h.in_turn place_is old_is took in
-    rw (place_is, t_is, boards_is, bytes_is, same) (step_on layout plan lanes t v new some h.in_turn at boards base bytes h less)
+    rw (place_is, t_is, boards_is, bytes_is, same) (step_on layout plan lanes t v new some h.in_turn at has has' boards base bytes h less grows)
 
-pub broken_to : (layout now : Layout) (plan : Planned) (lanes : List OutView) (t boards : ℕ) (base bytes : Option (List ℕ)) (v : Verdict) (old new : OutView) (place t' boards' : ℕ) (bytes' : Option (List ℕ))
-    → 0 < plan.workers → WriterSoFar layout plan lanes t boards base bytes → plan.limit ≢ Some boards → place ≡ t % plan.workers → old ≡ get_or lanes place old → new.taken ≡ old.taken ++ v ∷ []
+pub broken_to : (layout now : Layout) (has : List Board → Type 0) (plan : Planned) (lanes : List OutView) (t boards : ℕ) (base bytes : Option (List ℕ)) (v : Verdict) (old new : OutView) (place t' boards' : ℕ) (bytes' : Option (List ℕ))
+    → 0 < plan.workers → WriterSoFar layout has plan lanes t boards base bytes → plan.limit ≢ Some boards → place ≡ t % plan.workers → old ≡ get_or lanes place old → new.taken ≡ old.taken ++ v ∷ []
     → t' ≡ t + 1 → v.accepted ≡ true → boards' ≡ boards → now ≡ layout → AppendsPart bytes bytes' (board_text now plan boards v)
     → WriterBrokeOff layout plan (set lanes place new) t' boards' base bytes'
-broken_to layout now plan lanes t boards base bytes v old new place t' boards' bytes' some h less place_is old_is took t_is accepted boards_is same part =
+broken_to layout now has plan lanes t boards base bytes v old new place t' boards' bytes' some h less place_is old_is took t_is accepted boards_is same part =
     let at = taken_at plan lanes t v old new place some h.in_turn place_is old_is took in
-    let step = step_broken layout plan lanes t v new some h.in_turn at boards base bytes bytes' h less accepted (subst (λ l. AppendsPart bytes bytes' (board_text l plan boards v)) same part) in
+    let step = step_broken layout plan lanes t v new some h.in_turn at has boards base bytes bytes' h less accepted (subst (λ l. AppendsPart bytes bytes' (board_text l plan boards v)) same part) in
     rw (place_is, t_is, boards_is) step
 
 printed-none : (layout : Layout) (plan : Planned) (lists : List (List Verdict)) → printed layout plan lists 0 ≡ layout.header
@@ -173,21 +177,25 @@ printed-none layout plan lists =
     ap (λ vs. text_of_boards layout (boards_in plan vs)) (in_turn-none plan.workers lists) ∙ ap (text_of_boards layout) (boards_in-none plan)
     ∙ text_of_boards-none layout
 
+boards_after-none : (plan : Planned) (lists : List (List Verdict)) → boards_after plan lists 0 ≡ []
+boards_after-none plan lists = ap (boards_in plan) (in_turn-none plan.workers lists) ∙ boards_in-none plan
+
 boards-none : (plan : Planned) (lists : List (List Verdict)) → board_count plan lists 0 ≡ 0
 boards-none plan lists = ap (λ vs. length (boards_in plan vs)) (in_turn-none plan.workers lists) ∙ ap length (boards_in-none plan)
 
 pub fresh_turns : (plan : Planned) (lanes : List OutView) → length lanes ≡ plan.workers → All (λ l. l.taken ≡ []) lanes → TakenInTurn plan lanes 0
 fresh_turns plan lanes long fresh = record { long = long; turns_are = λ w e lt. ap length (fresh w e (omega (arith, lt, long))) ∙ sym (turns-none plan.workers w) }
 
-pub begins : (layout : Layout) (head : List ℕ) (plan : Planned) (lanes : List OutView) (t boards : ℕ) (base bytes : Option (List ℕ)) → length lanes ≡ plan.workers → All (λ l. l.taken ≡ []) lanes
-    → t ≡ 0 → boards ≡ 0 → head ≡ layout.header → bytes ≡ append_known base head → WriterSoFar layout plan lanes t boards base bytes
-begins layout head plan lanes t boards base bytes long fresh t_is boards_is head_is bytes_is =
+pub begins : (layout : Layout) (has : List Board → Type 0) (head : List ℕ) (plan : Planned) (lanes : List OutView) (t boards : ℕ) (base bytes : Option (List ℕ)) → length lanes ≡ plan.workers → All (λ l. l.taken ≡ []) lanes
+    → t ≡ 0 → boards ≡ 0 → head ≡ layout.header → bytes ≡ append_known base head → has [] → WriterSoFar layout has plan lanes t boards base bytes
+begins layout has head plan lanes t boards base bytes long fresh t_is boards_is head_is bytes_is none =
     let lists = taken_lists lanes in record {
       in_turn = subst (TakenInTurn plan lanes) (sym t_is) (fresh_turns plan lanes long fresh);
       written = record {
         bytes_are = bytes_is ∙ ap (append_known base) (head_is ∙ sym (ap (printed layout plan lists) t_is ∙ printed-none layout plan lists));
         boards_are = boards_is ∙ sym (ap (board_count plan lists) t_is ∙ boards-none plan lists);
       };
+      printed = subst has (sym (ap (boards_after plan lists) t_is ∙ boards_after-none plan lists)) none;
       within = λ most _. omega arith;
       short = λ i lt. absurd (omega arith);
     }

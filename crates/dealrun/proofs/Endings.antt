@@ -8,6 +8,7 @@ use Rattle.std.proofs.Math.Seq.{take-append_seam}
 use Rattle.std.proofs.lemmas.List.FromFn.{fill_by_all, get_or-map-range_with_len, map-range_with_len_more, get_or-enumerate_from, length-enumerate_from}
 use Rattle.std.proofs.lemmas.Option.{slice_get-get_or}
 use denote.RawPtr.{null_ptr}
+use Rattle.boards.specs.declared.board.Board.{Board}
 use Rattle.boards.specs.Layouts.{Layout}
 use Rattle.cards.specs.Candidates.{state_before}
 use Rattle.cards.specs.Deals.{IsPartition}
@@ -24,17 +25,18 @@ use Rattle.lanes.proofs.Sums.{sum-turn_counts}
 use Rattle.lanes.proofs.VerdictLists.{length-verdicts, verdicts-are}
 use Rattle.plans.specs.Plans.{Planned, candidate_of}
 use Rattle.sinks.specs.Appended.{append_known, AppendsAll, AppendsPart}
-use Rattle.dealrun.specs.Text.{accepted_among, accepted, boards_of, text_of, text_of_boards, end_of}
+use Rattle.plans.specs.Text.{accepted_among, accepted, boards_of, text_of, text_of_boards, end_of}
 use Rattle.dealrun.specs.MergedVerdicts.{verdicts_for, at_turn, in_turn, boards_in, boards_taken, taken_in_all}
 use Rattle.dealrun.specs.declared.cause.Cause.TheVariants.{Output}
 use Rattle.dealrun.specs.internal.Joins.{AllParts, ByNumber}
 use Rattle.dealrun.specs.internal.Ends.{Closes}
 use Rattle.dealrun.specs.internal.Writing.{board_count, printed, taken_lists, TakenInTurn, StaysShort, WroteTaken, WriterSoFar}
-use Rattle.dealrun.specs.Outcomes.{EachLane, AllSettled, for_each_worker, contents_of, AreLanesConsistent, TakesWhatIsOwed, InterruptedIn, StandsCompleteIn}
-use Rattle.dealrun.proofs.BoardLists.{length-boards_of}
+use Rattle.dealrun.specs.Outcomes.{EachLane, AllSettled, for_each_worker, contents_of, AreLanesConsistent, TakesWhatIsOwed, InterruptedIn, StandsCompleteIn, footer_taken}
+use Rattle.plans.proofs.BoardLists.{length-boards_of}
 use Rattle.sinks.proofs.SinkLemmas.{append_known-append, append_known-nil}
 use Rattle.dealrun.proofs.Printing.{in_turn-none, in_turn-more}
-use Rattle.dealrun.proofs.Accepting.{boards_are, end_here, needed_here, accepted_here}
+use Rattle.plans.proofs.Accepting.{end_here, needed_here, accepted_here}
+use Rattle.dealrun.proofs.VerdictBoards.{boards_are}
 
 -- a list's beginning, when more follows it in a beginning
 pub prefix_front : (xs ys zs : List Verdict) → IsPrefix (xs ++ ys) zs → IsPrefix xs zs
@@ -138,7 +140,7 @@ module _ (plan : Planned) (form : Form) (lanes : List OutView) (t : ℕ) (some :
     pub ends : end_of plan form ≡ t
     ends = end_here plan form t le (short_candidates short) ended_here
 
-    accepted_is : accepted plan form ≡ accepted_among (candidate_of plan) plan.first form t
+    pub accepted_is : accepted plan form ≡ accepted_among (candidate_of plan) plan.first form t
     accepted_is = accepted_here plan form t le within_here ended_here
 
     pub whole_text : new ≡ append_known old (text_of layout plan (accepted plan form))
@@ -175,9 +177,9 @@ stand_closed layout closing plan form lanes m boards old mid new total lanes_are
       boards_are = all.boards_are;
     }
 
-pub stand_complete : (layout : Layout) (plan : Planned) (form : Form) (lanes : List OutView) (t boards : ℕ) (old new : Option (List ℕ)) → 0 < plan.workers → t ≤ plan.count → WriterSoFar layout plan lanes t boards old new
+pub stand_complete : (layout : Layout) (has : List Board → Type 0) (plan : Planned) (form : Form) (lanes : List OutView) (t boards : ℕ) (old new : Option (List ℕ)) → 0 < plan.workers → t ≤ plan.count → WriterSoFar layout has plan lanes t boards old new
     → ByNumber plan lanes (λ w l. l.settled ≡ true → IsPrefix (contents_of l) (verdicts_for plan form w)) → StandsCompleteIn layout [] plan form lanes boards old new
-stand_complete layout plan form lanes t boards old new some le h parts =
+stand_complete layout has plan form lanes t boards old new some le h parts =
     stand_closed layout [] plan form lanes t boards old new new (taken_total plan lanes t some h.in_turn) (stand plan form lanes t some le h.in_turn h.short parts) h.written (sym (append_known-nil new))
 
 -- a lane whose worker's verdicts were all taken, as many as were sent
@@ -188,7 +190,7 @@ whole_lane plan form l w front sent same =
     (front ∙ take_all (length l.taken) (verdicts_for plan form w) (omega (arith, same)), nil_from_length l.left none)
 
 -- a run that took what was needed, and what follows its boards
-module _ (layout : Layout) (plan : Planned) (form : Form) (lanes : List OutView) (t boards : ℕ) (old mid : Option (List ℕ)) (some : 0 < plan.workers) (le : t ≤ plan.count) (h : WriterSoFar layout plan lanes t boards old mid)
+module _ (layout : Layout) (has : List Board → Type 0) (plan : Planned) (form : Form) (lanes : List OutView) (t boards : ℕ) (old mid : Option (List ℕ)) (some : 0 < plan.workers) (le : t ≤ plan.count) (h : WriterSoFar layout has plan lanes t boards old mid)
     (parts : AllParts plan form lanes) (ended : (t ≡ plan.count) ⊎ (plan.limit ≡ Some boards)) where
   long : length lanes ≡ plan.workers
   long = h.in_turn.long
@@ -238,20 +240,31 @@ module _ (layout : Layout) (plan : Planned) (form : Form) (lanes : List OutView)
       is ∙ ap (λ o. append_known o end) (whole_text plan form lanes t some le h.in_turn fronts layout boards old mid h.written h.within h.short ended)
       ∙ append_known-append old body end
 
-  pub closed : (new : Option (List ℕ)) → boards ≤ t → IsFixed plan.fixed → AppendsAll mid new layout.footer → Closes layout plan form lanes boards t old new
-  closed new few fits is = record {
-    lanes_are = lanes_complete;
-    text_is = record {
-      bytes = after_body new layout.footer is;
-      boards_are = boards_counted;
-      partitions = partitions plan form fits;
-    };
-    stands = stand_closed layout layout.footer plan form lanes t boards old mid new (taken_total plan lanes t some h.in_turn) consistent h.written is;
-    candidates_are = sym end_is;
-    few = (few, le);
-  }
+  -- what was taken are the boards of the whole text, and all that is needed
+  boards_all : boards_taken plan lanes t ≡ boards_of plan (accepted plan form)
+  boards_all = taken_boards plan form lanes t some le h.in_turn fronts t (omega arith) ∙ ap (boards_of plan) (sym (accepted_is plan form lanes t some le h.in_turn fronts layout boards old mid h.written h.within h.short ended))
 
-  pub footer_broken : (new : Option (List ℕ)) → AppendsPart mid new layout.footer → InterruptedIn layout plan form Output lanes boards old new
+  abbrev foot : List ℕ
+  foot = layout.footer (boards_taken plan lanes t) t
+
+  foot_is : foot ≡ layout.footer (boards_of plan (accepted plan form)) (end_of plan form)
+  foot_is = ap (λ bs. layout.footer bs t) boards_all ∙ ap (layout.footer (boards_of plan (accepted plan form))) (sym end_is)
+
+  pub closed : (new : Option (List ℕ)) → boards ≤ t → IsFixed plan.fixed → AppendsAll mid new foot → Closes layout plan form lanes boards t old new
+  closed new few fits is =
+      let total = taken_total plan lanes t some h.in_turn in record {
+        lanes_are = lanes_complete;
+        text_is = record {
+          bytes = after_body new foot is ∙ ap (λ l. append_known old (body ++ l)) foot_is;
+          boards_are = boards_counted;
+          partitions = partitions plan form fits;
+        };
+        stands = stand_closed layout (footer_taken layout plan lanes) plan form lanes t boards old mid new total consistent h.written (is ∙ ap (λ m. append_known mid (layout.footer (boards_taken plan lanes m) m)) (sym total));
+        candidates_are = sym end_is;
+        few = (few, le);
+      }
+
+  pub footer_broken : (new : Option (List ℕ)) → AppendsPart mid new foot → InterruptedIn layout plan form Output lanes boards old new
   footer_broken new part = (
     consistent,
     inr (record {
@@ -259,7 +272,7 @@ module _ (layout : Layout) (plan : Planned) (form : Form) (lanes : List OutView)
       part = record {
         front = body ++ part.front;
         rest = part.rest;
-        is_text = append_assoc body part.front part.rest ∙ ap (λ l. body ++ l) part.is_text;
+        is_text = append_assoc body part.front part.rest ∙ ap (λ l. body ++ l) (part.is_text ∙ foot_is);
         is_proper = part.is_proper;
         appended = after_body new part.front part.appended;
       };

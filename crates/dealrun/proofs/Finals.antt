@@ -4,6 +4,7 @@ use Rattle.std.proofs.lemmas.Bool.{cases_lt, both_ways}
 use Rattle.std.proofs.lemmas.List.{get_or-map, length-map, get_or-take, take_all}
 use Rattle.std.proofs.lemmas.List.FromFn.{get_or-map-range_with_len}
 use Rattle.std.proofs.lemmas.Option.{MatchOption-at_none, MatchOption-at_some, slice_get-get_or}
+use Rattle.boards.specs.declared.board.Board.{Board}
 use Rattle.boards.specs.Layouts.{Layout}
 use Rattle.conditions.specs.Form.{Form}
 use Rattle.lanes.specs.declared.verdict.Verdict.{Verdict}
@@ -11,7 +12,7 @@ use Rattle.lanes.specs.Views.{OutView}
 use Rattle.lanes.specs.Prefixes.{IsPrefix, IsProperPrefix}
 use Rattle.plans.specs.Plans.{Planned}
 use Rattle.sinks.specs.Appended.{append_known}
-use Rattle.dealrun.specs.MergedVerdicts.{verdicts_for, taken_in_all}
+use Rattle.dealrun.specs.MergedVerdicts.{boards_after, verdicts_for, taken_in_all}
 use Rattle.dealrun.specs.internal.Joins.{ByNumber, Owes, JoinedAs, Below, WholeIfSettled, IsSettled, BeginningAt, UnsettledAt, AllWhole}
 use Rattle.dealrun.specs.internal.Writing.{board_count, printed, TakenInTurn, StaysShort, WriterSoFar, WriterBrokeOff}
 use Rattle.dealrun.specs.Outcomes.{contents_of, AreLanesConsistent, BreaksOffLastPiece, IsLeastStopped, IsLeastUnclosed, InterruptedIn, BreaksOffFooter}
@@ -37,13 +38,14 @@ module _ (layout : Layout) (plan : Planned) (lanes lanes' : List OutView) (t boa
   short_still : StaysShort plan lanes t → StaysShort plan lanes' t
   short_still h i lt most is = subst (λ ls. board_count plan ls i < most) (sym same) (h i lt most is)
 
-  pub goes_on_still : WriterSoFar layout plan lanes t boards old new → WriterSoFar layout plan lanes' t boards old new
-  goes_on_still h = record {
+  pub goes_on_still : (has : List Board → Type 0) → WriterSoFar layout has plan lanes t boards old new → WriterSoFar layout has plan lanes' t boards old new
+  goes_on_still has h = record {
     in_turn = in_turn_still h.in_turn;
     written = record {
       bytes_are = h.written.bytes_are ∙ ap (λ ls. append_known old (printed layout plan ls t)) (sym same);
       boards_are = h.written.boards_are ∙ ap (λ ls. board_count plan ls t) (sym same);
     };
+    printed = subst (λ ls. has (boards_after plan ls t)) (sym same) h.printed;
     within = h.within;
     short = short_still h.short;
   }

@@ -1,14 +1,10 @@
-pub mod Ranges
 pub mod ValueLemmas
-pub mod BoardLists
-pub mod Running
 pub mod Maps
-pub mod Results
 pub mod Joining
+pub mod VerdictBoards
 pub mod Printing
 pub mod Advance
 pub mod Wholes
-pub mod Accepting
 pub mod Endings
 pub mod Finals
 pub mod Causes

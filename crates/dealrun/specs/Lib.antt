@@ -1,12 +1,12 @@
--- The first four stand in the crates below, and have their names here too.
+-- The first six stand in the crates below, and have their names here too.
 pub use Rattle.sinks.specs.Appended
 pub use Rattle.sinks.specs.Sinks
 pub use Rattle.sinks.specs.Fuses
 pub use Rattle.plans.specs.Plans
-pub mod Text
+pub use Rattle.plans.specs.Text
+pub use Rattle.plans.specs.Reference
 pub mod MergedVerdicts
 pub mod Outcomes
 pub mod Pbn
-pub mod Reference
 pub mod Values
 pub mod internal

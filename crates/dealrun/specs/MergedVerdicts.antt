@@ -8,7 +8,7 @@ use Rattle.lanes.specs.declared.verdict.Verdict.{Verdict}
 use Rattle.lanes.specs.Verdicts.{verdicts}
 use Rattle.lanes.specs.Views.{OutView}
 use Rattle.plans.specs.Plans.{Planned, candidate_of}
-use Rattle.dealrun.specs.Text.{board_of}
+use Rattle.plans.specs.Text.{board_of}
 
 -- all verdicts of worker w
 abbrev pub verdicts_for : Planned → Form → ℕ → List Verdict

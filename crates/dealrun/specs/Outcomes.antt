@@ -18,8 +18,8 @@ use Rattle.dealrun.specs.declared.runs.Report.{Report}
 use Rattle.dealrun.specs.declared.runs.RunFault.{RunFault}
 use Rattle.plans.specs.Plans.{Planned, candidate_of}
 use Rattle.sinks.specs.Appended.{AppendsAll, AppendsPart}
-use Rattle.dealrun.specs.Text.{accepted_among, accepted, boards_of, end_of}
-use Rattle.dealrun.specs.Text.{text_of_boards, text_of, text_in}
+use Rattle.plans.specs.Text.{accepted_among, accepted, boards_of, end_of}
+use Rattle.plans.specs.Text.{text_of_boards, text_of, text_in}
 use Rattle.dealrun.specs.MergedVerdicts.{verdicts_for, taken_in_all, boards_taken}
 
 -- one item for each worker of the plan, by its number
@@ -134,6 +134,11 @@ pub record StandsCompleteIn (layout : Layout) (closing : List ℕ) (plan : Plann
       (text_of_boards layout (boards_taken plan lanes (taken_in_all lanes)) ++ closing)
   pub boards_are : boards ≡ length (boards_taken plan lanes (taken_in_all lanes))
 
+-- the footer behind the boards of what was taken
+abbrev pub footer_taken : Layout → Planned → List OutView → List ℕ
+footer_taken layout plan lanes =
+    layout.footer (boards_taken plan lanes (taken_in_all lanes)) (taken_in_all lanes)
+
 -- a run that was interrupted, by its cause: it wrote no footer
 abbrev pub InterruptedIn : Layout → Planned → Form → Cause → List OutView → ℕ
     → Option (List ℕ) → Option (List ℕ) → Type 0
@@ -164,7 +169,8 @@ FaultsAfter _ old new = new ≡ old
 abbrev pub StandsIn : Layout → Planned → Form → Result Report RunFault
     → Option (List ℕ) → Option (List ℕ) → Type 0
 StandsIn layout plan form r old new = MatchResult r
-    (λ r. StandsCompleteIn layout layout.footer plan form r.lanes.items r.boards old new)
+    (λ r. StandsCompleteIn layout (footer_taken layout plan r.lanes.items) plan form
+    r.lanes.items r.boards old new)
     (λ e. InterruptedIn layout plan form e.cause e.lanes.items e.boards old new)
 
 -- the report of a run that counts its candidates too

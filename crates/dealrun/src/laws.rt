@@ -6,7 +6,7 @@ ghost use Rattle.boards.specs.declared.setting.Setting.{Setting};
 ghost use Rattle.conditions.specs.Form.{Form};
 ghost use Rattle.plans.specs.Plans.{Planned};
 ghost use Rattle.dealrun.specs.Pbn.{text};
-ghost use Rattle.dealrun.specs.Text.{accepted, end_of, text_in};
+ghost use Rattle.plans.specs.Text.{accepted, end_of, text_in};
 
 /// The text of a plan, in any layout and in PBN, and the candidates that it accepts, are the same
 /// for every number of workers and every capacity of their lanes.

@@ -4,11 +4,11 @@
 //! write them, both proved to write the text that the definition gives:
 //! - `run_in`, the fast one: workers in threads of their own judge the candidates, and the caller's
 //!   thread writes (`runs.rt`, `start.rt`, `writer.rt`, `join.rt`, `ending.rt`).
-//! - `run_plain_in`, the reference, which reads as the definition (`reference.rt`). It runs in
+//! - `run_plain_in`, the reference of the crate `plans`, which reads as the definition. It runs in
 //!   tests.
 //!
-//! They write in any notation; `run` and `run_plain` write PBN (`pbn.rt`). Plans and sinks stand in
-//! crates of their own, and have their names here too. `stream` writes the values of the generator,
+//! They write in any notation; `run` and `run_plain` write PBN (`pbn.rt`). What the crates `plans`
+//! and `sinks` export has its names here too. `stream` writes the values of the generator,
 //! without a plan (`values.rt`).
 #![tactic(auto)]
 
@@ -16,9 +16,7 @@ mod cause;
 mod ending;
 mod join;
 pub mod laws;
-mod next_board;
 mod pbn;
-mod reference;
 mod runs;
 mod start;
 mod values;
@@ -26,8 +24,7 @@ mod writer;
 
 pub use cause::Cause;
 pub use pbn::{run, run_plain};
-pub use plans::{Plan, PlanError};
-pub use reference::{PlainFault, run_plain_in};
+pub use plans::{PlainFault, Plan, PlanError, run_plain_in};
 pub use runs::{Counted, Report, RunFault, run_and_count, run_in};
 pub use sinks::{Fuse, MemSink, Piped, Sink, SinkFault, put_all};
 pub use values::stream;

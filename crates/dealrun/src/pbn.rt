@@ -3,17 +3,16 @@
 ghost use Rattle.std.specs.Prelude.{◌≡◌, ◌-◌, ◌^◌, ◌<◌, length, IfOk};
 ghost use Rattle.pbn_text.specs.Games.{pbn};
 ghost use Rattle.dealrun.specs.Outcomes.{FailsAtOutput, StandsIn, TakesWhatIsOwed, WritesTextIn};
-ghost use Rattle.dealrun.specs.Reference.{WritesPlainIn};
+ghost use Rattle.plans.specs.Reference.{WritesPlainIn};
 ghost use Rattle.sinks.specs.Sinks.{CountsFault};
-ghost use Rattle.dealrun.specs.Text.{accepted};
+ghost use Rattle.plans.specs.Text.{accepted};
 
-use crate::reference::{PlainFault, run_plain_in};
 use crate::runs::{Report, RunFault, out_of_memory, start_and_write};
 use crate::start::Shared;
 use conditions::Cond;
 use lanes::Gate;
 use pbn_text::{Printer, Reference};
-use plans::Plan;
+use plans::{PlainFault, Plan, run_plain_in};
 use sinks::Sink;
 use std::alloc::Global;
 use std::sync::atomic::AtomicBool;

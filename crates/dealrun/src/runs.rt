@@ -9,7 +9,7 @@ ghost use Rattle.conditions.specs.Form.{Form};
 ghost use Rattle.dealrun.specs.declared.cause.Cause.TheVariants.{Memory};
 ghost use Rattle.dealrun.specs.Outcomes.{FailsAtOutput, StandsIn, TakesWhatIsOwed, WritesTextIn};
 ghost use Rattle.dealrun.specs.Outcomes.{report_of};
-ghost use Rattle.dealrun.specs.Text.{end_of};
+ghost use Rattle.plans.specs.Text.{end_of};
 ghost use Rattle.dealrun.specs.internal.Ends.{EndsRun};
 ghost use Rattle.dealrun.specs.internal.Handles.{owed_by};
 ghost use Rattle.dealrun.specs.internal.Joins.{Owes};
@@ -54,8 +54,9 @@ pub struct RunFault {
     pub boards: u64,
 }
 
-/// Writes the boards of the accepted candidates of a plan in a notation, judged by the plan's
-/// workers in threads of their own: the notation's header, the boards in order, and its footer.
+/// Writes the boards of the accepted candidates of a plan in a notation that has printed nothing,
+/// judged by the plan's workers in threads of their own: the notation's header, the boards in
+/// order, and its footer.
 ///
 /// All memory is taken first: a lane and a clone of the condition for each worker. Then one worker
 /// starts for each lane, and the caller's thread writes while they run. It may wait for its
@@ -81,7 +82,8 @@ pub fn run_in<
     sink: &mut S,
     gate: Arc<G, Global>,
 ) -> Result<Report, RunFault>
-    requires { S.faults sink.old < 2 ^ 64 - 1 }
+    requires faults { S.faults sink.old < 2 ^ 64 - 1 }
+    requires printed { N.has_printed notation.old [] }
     ensures layout { N.layout notation.new ≡ N.layout notation.old }
     // What was taken from each lane is its worker's verdicts, and all that is needed.
     ensures lanes { IfOk result (λ r. TakesWhatIsOwed plan.now cond r.lanes.items r.boards) }
@@ -119,7 +121,8 @@ pub fn run_and_count<
     sink: &mut S,
     gate: Arc<G, Global>,
 ) -> Result<Counted, RunFault>
-    requires { S.faults sink.old < 2 ^ 64 - 1 }
+    requires faults { S.faults sink.old < 2 ^ 64 - 1 }
+    requires printed { N.has_printed notation.old [] }
     ensures layout { N.layout notation.new ≡ N.layout notation.old }
     ensures lanes { IfOk result (λ r.
         TakesWhatIsOwed plan.now cond r.report.lanes.items r.report.boards) }
@@ -157,7 +160,8 @@ pub(crate) fn start_and_write<
     sink: &mut S,
     shared: Shared<G>,
 ) -> Result<Counted, RunFault>
-    requires { S.faults sink.old < 2 ^ 64 - 1 }
+    requires faults { S.faults sink.old < 2 ^ 64 - 1 }
+    requires printed { N.has_printed notation.old [] }
     ensures layout { N.layout notation.new ≡ N.layout notation.old }
     ensures ends { EndsRun (N.layout notation.old) plan.now cond result
         (S.bytes sink.old) (S.bytes sink.new) }
@@ -204,6 +208,7 @@ fn write_all<R: Threads + Wait, N: Notation, S: Sink>(
     stop: &AtomicBool,
 ) -> Result<Counted, RunFault>
     requires faults { S.faults sink.old < 2 ^ 64 - 1 }
+    requires printed { N.has_printed notation.old [] }
     requires counts { (vec_len handles ≡ plan.now.workers) × (vec_len lanes ≡ plan.now.workers) }
     requires workers { (0 < plan.now.workers) × (plan.now.workers ≤ 16) }
     requires rings { map (λ h. h.promise.lane.value.ring) handles.items

@@ -3,10 +3,9 @@
 ghost use Rattle.std.specs.Prelude.{◌≡◌, ◌<◌, ◌≤◌, vec_len};
 
 use crate::ending::Written;
-use crate::next_board::{is_full, put_board};
 use boards::Notation;
 use lanes::{LaneOut, Turns, Verdict};
-use plans::Plan;
+use plans::{Plan, is_full, put_board};
 use sinks::{Sink, SinkFault, put_all};
 use std::sync::Wait;
 use std::sync::atomic::AtomicBool;
@@ -27,10 +26,13 @@ pub(crate) struct Progress {
 }
 
 impl Progress {
-    ghost use Rattle.std.specs.Prelude.{◌≡◌, ◌-◌, ◌+◌, ◌<◌, ◌^◌, [], cond, true, OnOk, OnErr};
+    ghost use Rattle.std.specs.Prelude.{◌≡◌, ◌-◌, ◌+◌, ◌<◌, ◌^◌, ◌++◌, ◌∷◌, [], cond, true};
+    ghost use Rattle.std.specs.Prelude.{List, OnErr, OnOk};
     ghost use Rattle.sinks.specs.Appended.{append_known, AppendsPart};
     ghost use Rattle.sinks.specs.Sinks.{CountsFault};
     ghost use Rattle.dealrun.specs.internal.Writing.{board_text};
+    ghost use Rattle.boards.specs.declared.board.Board.{Board};
+    ghost use Rattle.plans.specs.Text.{board_of};
 
     /// Counts a verdict that was taken, and writes its board if it is accepted. Now and then the
     /// sink hears how far that is.
@@ -54,6 +56,10 @@ impl Progress {
         ensures bytes { OnOk result (S.bytes sink.new ≡ append_known (S.bytes sink.old)
             (cond verdict.now.accepted
             (board_text (N.layout notation.old) plan.now self.old.boards verdict.now) [])) }
+        ensures printed { OnOk result ((before : List Board)
+            → N.has_printed notation.old before
+            → N.has_printed notation.new (cond verdict.now.accepted (before
+            ++ board_of plan.now self.old.boards verdict.now.number verdict.now.deal ∷ []) before)) }
         ensures broken { OnErr result ((verdict.now.accepted ≡ true)
             × (self.new.boards ≡ self.old.boards)
             × AppendsPart (S.bytes sink.old) (S.bytes sink.new)
@@ -86,8 +92,8 @@ pub(crate) struct Writer {
 }
 
 impl Writer {
-    ghost use Rattle.std.specs.Prelude.{◌≡◌, ◌-◌, ◌^◌, ◌<◌, ◌↔◌, ℕ, IsTrue, List, MatchResult};
-    ghost use Rattle.std.specs.Prelude.{OnOk, Option, Some, vec_len};
+    ghost use Rattle.std.specs.Prelude.{◌≡◌, ◌-◌, ◌^◌, ◌<◌, ◌↔◌, [], ℕ, IsTrue, List};
+    ghost use Rattle.std.specs.Prelude.{MatchResult, OnOk, Option, Some, vec_len};
     ghost use Rattle.conditions.specs.Form.{Form};
     ghost use Rattle.dealrun.specs.Outcomes.{InterruptedIn};
     ghost use Rattle.dealrun.specs.declared.cause.Cause.TheVariants.{Output};
@@ -137,12 +143,15 @@ impl Writer {
         ensures layout { N.layout notation.new ≡ N.layout notation.old }
         ensures faults { CountsFault (S.faults sink.old) (S.faults sink.new) result }
         ensures wrote { (base : Option (List ℕ))
-            → GoesOn (N.layout notation.old) self.old base (S.bytes sink.old)
+            → GoesOn (N.layout notation.old) (N.has_printed notation.old) self.old base
+            (S.bytes sink.old)
             → MatchResult result
-            (λ _. GoesOn (N.layout notation.old) self.new base (S.bytes sink.new))
+            (λ _. GoesOn (N.layout notation.old) (N.has_printed notation.new) self.new base
+            (S.bytes sink.new))
             (λ _. BrokeOff (N.layout notation.old) self.new base (S.bytes sink.new)) }
         ensures end { OnOk result ((base : Option (List ℕ)) (form : Form)
-            → Resumes (N.layout notation.old) form self.old base (S.bytes sink.old)
+            → Resumes (N.layout notation.old) (N.has_printed notation.old) form self.old base
+            (S.bytes sink.old)
             → HasEnough self.new) }
     {
         for _taken in self.progress.taken..self.plan.count() {
@@ -171,12 +180,14 @@ impl Writer {
     ) -> Result<(), SinkFault>
         requires faults { S.faults sink.old < 2 ^ 64 - 1 }
         requires fresh { IsFresh self.old }
+        requires printed { N.has_printed notation.old [] }
         ensures plan { self.new.plan ≡ self.old.plan }
         ensures lanes { KeepsLanes self.old.lanes.items self.new.lanes.items }
         ensures layout { N.layout notation.new ≡ N.layout notation.old }
         ensures faults { CountsFault (S.faults sink.old) (S.faults sink.new) result }
         ensures wrote { MatchResult result
-            (λ _. GoesOn (N.layout notation.old) self.new (S.bytes sink.old) (S.bytes sink.new))
+            (λ _. GoesOn (N.layout notation.old) (N.has_printed notation.new) self.new
+            (S.bytes sink.old) (S.bytes sink.new))
             (λ _. BrokeOff (N.layout notation.old) self.new
             (S.bytes sink.old) (S.bytes sink.new)) }
     {
@@ -194,13 +205,14 @@ impl Writer {
     ) -> Written
         requires faults { S.faults sink.old < 2 ^ 64 - 1 }
         requires fresh { IsFresh self.old }
+        requires printed { N.has_printed notation.old [] }
         ensures plan { self.new.plan ≡ self.old.plan }
         ensures lanes { KeepsLanes self.old.lanes.items self.new.lanes.items }
         ensures layout { N.layout notation.new ≡ N.layout notation.old }
         ensures faults { FaultsBeside result (S.faults sink.old) (S.faults sink.new) }
-        ensures wrote { WroteBeside (N.layout notation.old) self.new.plan result
-            self.new.lanes.items self.new.progress.taken self.new.progress.boards
-            (S.bytes sink.old) (S.bytes sink.new) }
+        ensures wrote { WroteBeside (N.layout notation.old) (N.has_printed notation.new)
+            self.new.plan result self.new.lanes.items self.new.progress.taken
+            self.new.progress.boards (S.bytes sink.old) (S.bytes sink.new) }
     {
         match self.write_header_and_boards(rt, notation, sink, stop) {
             Ok(()) if self.is_full() => Written::Full,
@@ -223,7 +235,8 @@ impl Writer {
         ensures layout { N.layout notation.new ≡ N.layout notation.old }
         ensures faults { CountsFault (S.faults sink.old) (S.faults sink.new) result }
         ensures ends { (base : Option (List ℕ)) (form : Form)
-            → Resumes (N.layout notation.old) form self.old base (S.bytes sink.old)
+            → Resumes (N.layout notation.old) (N.has_printed notation.old) form self.old base
+            (S.bytes sink.old)
             → MatchResult result
             (λ _. Closes (N.layout notation.old) self.old.plan form self.new.lanes.items
             self.new.progress.boards self.new.progress.taken base (S.bytes sink.new))
@@ -234,6 +247,6 @@ impl Writer {
         // Its contract says that no seat has more than thirteen fixed cards: each deal is a
         // partition.
         let _fixed = self.plan.fixed();
-        put_all(sink, notation.footer())
+        notation.put_footer(self.progress.taken, sink)
     }
 }

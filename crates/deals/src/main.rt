@@ -13,8 +13,8 @@ ghost use Rattle.std.specs.Prelude.{◌-◌, ◌<◌, ◌^◌};
 
 use crate::person::{Reasons, help, hints_of, is_time, note};
 use crate::streams::{Given, Said, open};
-use deals_cli::{answer, read_words};
-use number_input::Reader;
+use deals_cli::{perform, prepare, read_words};
+use picking::Reader;
 use requests::{Failure, Report};
 use sinks::{Piped, Sink, put_all};
 use std::cell::Cell;
@@ -83,12 +83,17 @@ fn main(rt: HostRuntime) -> ExitCode {
         Err(error) => return not_begun(&rt, &error),
     };
     let hints = is_time(&rt, hints_of(words, &read));
-    if hints {
-        put_note(&rt, note(rt.alloc(), &read));
-    }
     let reason = Cell::new(None);
     let mut input = Reader::new(Given::new(rt.stdin(), &reason));
-    let ended = answer(&rt, rt.alloc(), words, &read, &mut input, &mut out);
+    let ended = match prepare(rt.alloc(), words, &read) {
+        Ok(task) => {
+            if hints {
+                put_note(&rt, note(rt.alloc(), &task));
+            }
+            perform(&rt, rt.alloc(), task, &mut input, &mut out)
+        }
+        Err(failure) => Err(failure),
+    };
     let status = say(&ended, &mut err);
     if let Err(failure) = &ended
         && hints

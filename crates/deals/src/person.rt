@@ -4,10 +4,11 @@
 use crate::refused_words;
 use advice::advise;
 use clap::Error;
-use cond_lang::{CondError, parse};
+use cond_lang::CondError;
+use deals_cli::Task;
 use dealrun::Cause;
 use hints::explain;
-use requests::{Failure, MakeRequest, Request, When};
+use requests::{Failure, Job, Request, Search, When};
 use std::alloc::Global;
 use std::io;
 use std::io::IsTerminal;
@@ -15,8 +16,7 @@ use std::io::IsTerminal;
 /// When hints are said, by the option `--hints`: also where it stands among words that are refused.
 pub fn hints_of(words: &[String], read: &Result<Request<'_>, Error>) -> When {
     match read {
-        Ok(Request::Make(request) | Request::Pick(request)) => request.hints,
-        Ok(Request::Conditions | Request::Stream(_)) => When::Auto,
+        Ok(request) => request.hints(),
         Err(_) => hints_among(words),
     }
 }
@@ -55,30 +55,17 @@ pub fn is_time(rt: &HostRuntime, when: When) -> bool {
     }
 }
 
-/// The plan that was asked for, of a run or of numbers that are read.
-fn planned<'a>(read: &'a Result<Request<'a>, Error>) -> Option<&'a MakeRequest<'a>> {
-    match read {
-        Ok(Request::Make(request) | Request::Pick(request)) => Some(request),
-        _ => None,
-    }
-}
-
-/// What there is to note of a run that isn't refused, before its search begins; none where memory
-/// runs out.
-pub fn note(alloc: Global, read: &Result<Request<'_>, Error>) -> Option<String> {
-    let Ok(Request::Make(request)) = read else {
-        return None;
-    };
-    let condition = parse(alloc, request.where_text?.as_bytes()).ok()?;
-    match advise(alloc, request) {
-        Ok(None) => hints::note(alloc, &condition).unwrap_or(None),
+/// What there is to note of a run before its search begins; none where memory runs out.
+pub fn note(alloc: Global, task: &Task) -> Option<String> {
+    match task {
+        Task::Do(Job::Boards(job)) => hints::note(alloc, &job.condition).unwrap_or(None),
         _ => None,
     }
 }
 
 /// What helps with a refused condition.
-fn explanation(alloc: Global, request: &MakeRequest<'_>, error: CondError) -> Option<String> {
-    explain(alloc, request.where_text?.as_bytes(), error).ok()
+fn explanation(alloc: Global, search: &Search<'_>, error: CondError) -> Option<String> {
+    explain(alloc, search.where_text?.as_bytes(), error).ok()
 }
 
 /// The system's reason, by the number of its error.
@@ -106,9 +93,13 @@ pub fn help(
     match failure {
         Failure::CommandLine(text) => refused_words::hint(alloc, words, text.as_str()),
         Failure::Plan(_) | Failure::Label(_) | Failure::Hand(_) => {
-            advise(alloc, planned(read)?).unwrap_or(None)
+            let (search, look) = read.as_ref().ok()?.plans()?;
+            advise(alloc, &search, &look, failure).unwrap_or(None)
         }
-        Failure::Condition(error) => explanation(alloc, planned(read)?, *error),
+        Failure::Condition(error) => {
+            let (search, _) = read.as_ref().ok()?.plans()?;
+            explanation(alloc, &search, *error)
+        }
         Failure::Interrupted(Cause::Output) => {
             let reason = reasons.output?;
             format!(in alloc; "  {reason}\n").ok()

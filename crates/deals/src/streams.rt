@@ -4,7 +4,7 @@ ghost use Rattle.std.specs.Prelude.{◌≡◌, IfOk};
 
 use clap::Error;
 use console::{Counts, Drawn, GATHERED_MILLIS, OverLine, Prompt, Style, millis};
-use requests::{MakeRequest, Request, When};
+use requests::{Request, When};
 use sinks::{Piped, Sink};
 use std::cell::Cell;
 use std::io;
@@ -67,7 +67,9 @@ fn counts_of(
     drawn: Drawn,
 ) -> Counts<io::Stderr> {
     let (style, all) = match read {
-        Ok(Request::Make(request)) => (style_of(rt, request.progress), request.candidates),
+        Ok(Request::Make { search, notices, .. } | Request::Find { search, notices }) => {
+            (style_of(rt, notices.progress), search.candidates)
+        }
         _ => (Style::Never, None),
     };
     let now = millis(rt).unwrap_or(0);
@@ -78,7 +80,7 @@ fn counts_of(
 /// one may come much later.
 fn gathered_millis(read: &Result<Request<'_>, Error>) -> u64 {
     match read {
-        Ok(Request::Pick(_)) => 0,
+        Ok(Request::Pick { .. }) => 0,
         _ => GATHERED_MILLIS,
     }
 }

@@ -17,8 +17,8 @@ use Rattle.clap.specs.declared.error.kind.ErrorKind.TheVariants.{InvalidValue, M
 use Rattle.clap.specs.declared.parser.matches.ArgMatches.{ArgMatches}
 use Rattle.clap.specs.declared.parser.matches.ArgMatches.TheViews.{out-ArgMatches, out-SubCommand}
 use Rattle.clap.specs.declared.parser.matches.SubCommand.{SubCommand}
-use Rattle.commands.specs.Commands.{deals}
-use Rattle.deals_cli.specs.CommandLine.{asked, end_kinds, further_kinds, has_no_end, has_unknown, kinds_by, kinds_for, made_by, making_in, stream_wish, unless_fault, wish_by, wish_in}
+use Rattle.deals_cli.specs.Commands.{deals}
+use Rattle.deals_cli.specs.CommandLine.{asked, end_kinds, further_kinds, has_no_end, has_unknown, kinds_by, kinds_for, made_by, search_in, stream_wish, unless_fault, wish_by, wish_in}
 use Rattle.deals_cli.specs.internal.Readings.{MakeValues, StreamValues}
 use Rattle.requests.specs.Requests.{Wish, conditions}
 use Rattle.deals_cli.proofs.Commands.{conditions_built, find_built, find_values, make_built, make_values, pick_built, pick_values, stream_built, stream_values}
@@ -163,8 +163,8 @@ pub record IsRefused (words : List Text) (kind : ErrorKind) : Type 0 where
 -- words that name `make`, `find` or `pick` ask for it if each word is one of its option's values and an end is given,
 -- and else they are refused
 pub record AsksMake (words : List Text) (name : Text) (rows : List Row) : Type 0 where
-  pub ends : has_unknown rows ≡ false → has_no_end name (making_in name rows) ≡ false → asked words ≡ Some (made_by name (making_in name rows))
-  pub no_end : has_unknown rows ≡ false → has_no_end name (making_in name rows) ≡ true → IsRefused words MissingRequiredArgument
+  pub ends : has_unknown rows ≡ false → has_no_end name (search_in rows) ≡ false → asked words ≡ Some (made_by name (search_in rows) rows)
+  pub no_end : has_unknown rows ≡ false → has_no_end name (search_in rows) ≡ true → IsRefused words MissingRequiredArgument
   pub unknown : has_unknown rows ≡ true → IsRefused words InvalidValue
 
 -- the subcommand isn't one of the others
@@ -188,15 +188,15 @@ asks_make words name makes f n = record {
     found = (name, n.rows)
 
     wish : Option Wish
-    wish = Some (made_by name (making_in name n.rows))
+    wish = Some (made_by name (search_in n.rows) n.rows)
 
     wishes : unless_fault (kinds_by found) (Some (wish_by found)) ≡ unless_fault (kinds_by found) wish
     wishes = rw (makes.0, makes.1) refl
 
-    known : {b : Bool} → has_unknown n.rows ≡ b → kinds_by found ≡ (if b then InvalidValue ∷ [] else end_kinds name (making_in name n.rows))
-    known {b} u = rw (makes.0, makes.1) (ap (λ (x : Bool). if x then InvalidValue ∷ [] else end_kinds name (making_in name n.rows)) u)
+    known : {b : Bool} → has_unknown n.rows ≡ b → kinds_by found ≡ (if b then InvalidValue ∷ [] else end_kinds name (search_in n.rows))
+    known {b} u = rw (makes.0, makes.1) (ap (λ (x : Bool). if x then InvalidValue ∷ [] else end_kinds name (search_in n.rows)) u)
 
-    ending : {b : Bool} → has_no_end name (making_in name n.rows) ≡ b → end_kinds name (making_in name n.rows) ≡ (if b then MissingRequiredArgument ∷ [] else [])
+    ending : {b : Bool} → has_no_end name (search_in n.rows) ≡ b → end_kinds name (search_in n.rows) ≡ (if b then MissingRequiredArgument ∷ [] else [])
     ending {b} e = ap (λ (x : Bool). if x then MissingRequiredArgument ∷ [] else []) e
 
 -- what the words ask for, by the name of the subcommand that was met

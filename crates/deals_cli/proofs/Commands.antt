@@ -6,7 +6,7 @@ use Rattle.clap.specs.Walk.{Row, Rule, Text, arg_by_id, nothing_held, one_of, ro
 use Rattle.clap.specs.declared.builder.value_parser.ValueParser.{ValueParser}
 use Rattle.clap.specs.declared.builder.value_parser.ValueParser.TheVariants.{Unsigned}
 use Rattle.clap.proofs.ValueTestLemmas.{accepts-Accepts}
-use Rattle.commands.specs.Commands.{count_parser, deals, option_rule, required, u32_parser}
+use Rattle.deals_cli.specs.Commands.{count_parser, deals, option_rule, required, u32_parser}
 use Rattle.deals_cli.specs.internal.Readings.{Gives32, GivesUpTo, HasValue, MakeValues, MayGive32, MayGive64, StreamValues}
 use Rattle.deals_cli.proofs.Plain.{plain_of}
 use Rattle.deals_cli.proofs.Walks.{IsIn, Passing, PlainRules, absent_value, given_value, level_checked, level_passing, passed_value, required_given}
@@ -109,12 +109,14 @@ deal_values s plain negates seed (candidates, first, workers, lane, boards, firs
     let rows = rows_after s.rules [] words in
     let pass = level_passing s [] words false [] plain f in
     record {
-      seed = gives32 (codes "seed") rows (required_value s plain negates u32_parser (codes "seed") seed words f);
-      candidates = may64 s.rules rows (codes "candidates") candidates pass;
-      first = may64 s.rules rows (codes "first") first pass;
-      workers = may32 s.rules rows (codes "workers") workers pass;
-      lane = may32 s.rules rows (codes "lane") lane pass;
-      boards = may32 s.rules rows (codes "boards") boards pass;
+      search = record {
+        seed = gives32 (codes "seed") rows (required_value s plain negates u32_parser (codes "seed") seed words f);
+        candidates = may64 s.rules rows (codes "candidates") candidates pass;
+        first = may64 s.rules rows (codes "first") first pass;
+        workers = may32 s.rules rows (codes "workers") workers pass;
+        lane = may32 s.rules rows (codes "lane") lane pass;
+        boards = may32 s.rules rows (codes "boards") boards pass;
+      };
       first_board = may64 s.rules rows (codes "first-board") first_board pass;
     }
 

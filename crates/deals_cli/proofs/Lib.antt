@@ -1,3 +1,4 @@
+pub mod Rows
 pub mod Walks
 pub mod Plain
 pub mod Help
@@ -6,5 +7,6 @@ pub mod Commands
 pub mod Numbers
 pub mod Asked
 pub mod Statuses
+pub mod Answering
 pub mod Reporting
 pub mod NoInput

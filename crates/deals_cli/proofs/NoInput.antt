@@ -3,8 +3,8 @@ use Rattle.std.proofs.Common.{◌≡◌, ◌∙◌, ℕ, zero, suc, List, [], Op
 use Rattle.std.proofs.lemmas.List.{append-nil}
 use Rattle.clap.specs.Walk.{Text}
 use Rattle.dealrun.specs.declared.cause.Cause.TheVariants as cause
-use Rattle.number_input.specs.NumberTexts.{said}
-use Rattle.number_input.specs.declared.refusal.RefusedLine.{RefusedLine}
+use Rattle.picking.specs.NumberTexts.{said}
+use Rattle.picking.specs.declared.refusal.RefusedLine.{RefusedLine}
 use Rattle.picking.specs.declared.fault.PickFault.TheVariants.{Refused}
 use Rattle.requests.specs.Failures.{status_of}
 use Rattle.requests.specs.Interruptions.{EndsFor}
@@ -20,10 +20,10 @@ nothing_refused line is = cc
 
 -- an input without bytes has no line that is refused
 no_line_ended : (w : Wish) (line : RefusedLine) (old new : Option (List ℕ)) → EndsFor w (Refused line) (Some []) (Some []) old new → ⊥
-no_line_ended (pick m) line old new e =
+no_line_ended (pick seed hands l hints) line old new e =
     let none : e.given ≡ [] = sym (e.consumed ∙ append-nil e.given) in
     nothing_refused line (subst (λ (t : List ℕ). (said t).refused ≡ Some line) none e.written.0)
-no_line_ended (make m) line old new e = e
+no_line_ended (make s l notices) line old new e = e
 no_line_ended conditions line old new e = e
 no_line_ended (stream seed count) line old new e = e
 

@@ -7,16 +7,16 @@ use Rattle.clap.specs.Words.{Kinds, Row, Text, fault_of, first_of, one_of, subco
 use Rattle.clap.specs.Kinds.{or_else}
 use Rattle.clap.specs.declared.error.kind.ErrorKind.TheVariants.{InvalidValue}
 use Rattle.clap.specs.declared.error.kind.ErrorKind.TheVariants.{MissingRequiredArgument}
-use Rattle.commands.specs.Commands.{deals}
+use Rattle.deals_cli.specs.Commands.{deals}
 use Rattle.boards.specs.declared.law2.Vul.{Vul}
 use Rattle.boards.specs.declared.law2.Vul.TheVariants.{Neither, NorthSouth, EastWest, Both}
 use Rattle.cards.specs.declared.seat.Seat.{Seat}
 use Rattle.cards.specs.declared.seat.Seat.TheVariants.{North, East, South, West}
-use Rattle.hand_texts.specs.HandTexts.{GivenHands}
-use Rattle.requests.specs.Requests.{Making, Wish, conditions, stream, make, pick}
+use Rattle.predeal.specs.PredealtHands.{GivenHands}
+use Rattle.requests.specs.Requests.{Look, Search, Wish, conditions, make, numbers_look, pick, stream}
+use Rattle.requests.specs.declared.request.Notices.{Notices}
 use Rattle.notations.specs.declared.format.Format.{Format}
 use Rattle.notations.specs.declared.format.Format.TheVariants.{Pbn, Hands, Lin, Html}
-use Rattle.notations.specs.declared.format.Format.TheVariants.{Numbers}
 use Rattle.requests.specs.declared.when.When.{When}
 use Rattle.requests.specs.declared.when.When.TheVariants.{Auto, Always, Never}
 
@@ -73,12 +73,6 @@ has_unknown rows =
 abbrev pub stream_wish : List Row → Wish
 stream_wish rows = stream (number_or 0 (codes "seed") rows) (number_or 0 (codes "count") rows)
 
--- `find` is a run of the same, whose boards are written as their candidates' numbers
-abbrev pub format_in : Text → List Row → Format
-format_in name rows =
-    if bytes_eq name (codes "find") then Numbers
-    else unwrap_or (choice_in formats (codes "format") rows) Pbn
-
 -- the texts of hands that the options were given
 abbrev pub hands_in : List Row → GivenHands
 hands_in rows = record {
@@ -88,9 +82,9 @@ hands_in rows = record {
   west = first_of (codes "west") rows;
 }
 
--- by the subcommand's name and what its options were given
-abbrev pub making_in : Text → List Row → Making
-making_in name rows = record {
+-- what options of a search were given, or their defaults
+abbrev pub search_in : List Row → Search
+search_in rows = record {
   seed = number_or 0 (codes "seed") rows;
   candidates = number_in (codes "candidates") rows;
   first = number_or 0 (codes "first") rows;
@@ -98,46 +92,63 @@ making_in name rows = record {
   lane = number_or 64 (codes "lane") rows;
   where_text = first_of (codes "where") rows;
   boards = number_in (codes "boards") rows;
+  hands = hands_in rows;
+}
+
+-- what options of the boards' look were given, or their defaults
+abbrev pub look_in : List Row → Look
+look_in rows = record {
+  format = unwrap_or (choice_in formats (codes "format") rows) Pbn;
   first_board = number_in (codes "first-board") rows;
   event = first_of (codes "event") rows;
   site = first_of (codes "site") rows;
   date = first_of (codes "date") rows;
-  hands = hands_in rows;
-  format = format_in name rows;
   dealer = choice_in dealers (codes "dealer") rows;
   vulnerable = choice_in sides (codes "vulnerable") rows;
   rotate = is_set (codes "rotate") rows;
-  report = is_set (codes "report") rows;
-  progress = unwrap_or (choice_in times (codes "progress") rows) Auto;
-  hints = unwrap_or (choice_in times (codes "hints") rows) Auto;
 }
 
--- `pick` deals the candidates whose numbers it reads, and the others those that they try
-abbrev pub made_by : Text → Making → Wish
-made_by name m = if bytes_eq name (codes "pick") then pick m else make m
+abbrev pub when_in : Text → List Row → When
+when_in id rows = unwrap_or (choice_in times id rows) Auto
+
+abbrev pub notices_in : List Row → Notices
+notices_in rows = record {
+  report = is_set (codes "report") rows;
+  progress = when_in (codes "progress") rows;
+  hints = when_in (codes "hints") rows;
+}
+
+-- `find` writes the numbers of what it finds, and `pick` deals the candidates whose numbers it reads
+abbrev pub made_by : Text → Search → List Row → Wish
+made_by name s rows =
+    if bytes_eq name (codes "find") then make s numbers_look (notices_in rows)
+    else (if bytes_eq name (codes "pick")
+    then pick s.seed s.hands (look_in rows) (when_in (codes "hints") rows)
+    else make s (look_in rows) (notices_in rows))
 
 -- by the subcommand's name and what its options were given
 abbrev pub wish_by : Text × List Row → Wish
 wish_by p =
     if bytes_eq p.0 (codes "stream") then stream_wish p.1
-    else (if bytes_eq p.0 (codes "conditions") then conditions else made_by p.0 (making_in p.0 p.1))
+    else (if bytes_eq p.0 (codes "conditions") then conditions
+    else made_by p.0 (search_in p.1) p.1)
 
 -- the wish of the subcommand that the words name, by clap's function of the words
 abbrev pub wish_in : List Text → Option Wish
 wish_in words = option_map wish_by (subcommand_of deals words)
 
 -- all but `pick` need a number of candidates, or a limit of boards
-abbrev pub has_no_end : Text → Making → Bool
-has_no_end name m =
-    not (bytes_eq name (codes "pick")) && (not (is_some m.candidates) && not (is_some m.boards))
+abbrev pub has_no_end : Text → Search → Bool
+has_no_end name s =
+    not (bytes_eq name (codes "pick")) && (not (is_some s.candidates) && not (is_some s.boards))
 
-abbrev pub end_kinds : Text → Making → Kinds
-end_kinds name m = if has_no_end name m then MissingRequiredArgument ∷ [] else []
+abbrev pub end_kinds : Text → Search → Kinds
+end_kinds name s = if has_no_end name s then MissingRequiredArgument ∷ [] else []
 
 -- clap reads those words as texts: one that stands for nothing is refused as clap refuses a value
 abbrev pub make_kinds : Text → List Row → Kinds
 make_kinds name rows =
-    if has_unknown rows then InvalidValue ∷ [] else end_kinds name (making_in name rows)
+    if has_unknown rows then InvalidValue ∷ [] else end_kinds name (search_in rows)
 
 -- by the subcommand's name and what its options were given
 abbrev pub kinds_by : Text × List Row → Kinds

@@ -1,21 +1,31 @@
 -- How the program ends for words that ask for nothing, for others `Wishes` of `requests` says it;
 -- and what it says and leaves of a failure.
 use Rattle.std.specs.Prelude.{◌≡◌, ◌⊎◌, ℕ, Bool, true, false, List, [], Option, None, Some}
-use Rattle.clap.specs.Kinds.{IsAmong}
+use Rattle.std.specs.Prelude.{Result, Ok, Err, IfErr, IfOk, IsSome, OnOk}
+use Rattle.clap.specs.Kinds.{HasKind, IsAmong}
+use Rattle.clap.specs.Words.{kind_of}
+use Rattle.clap.specs.declared.error.Error.{Error}
 use Rattle.clap.specs.Walk.{Text}
 use Rattle.clap.specs.declared.error.kind.ErrorKind.{ErrorKind}
 use Rattle.clap.specs.declared.error.kind.ErrorKind.TheVariants as kind
 use Rattle.dealrun.specs.declared.cause.Cause.TheVariants.{Memory, Output}
 use Rattle.sinks.specs.Appended.{AppendsAll}
-use Rattle.requests.specs.Failures.{status_of}
+use Rattle.requests.specs.Failures.{is_refusal, is_untouched, status_in, status_of}
 use Rattle.requests.specs.FirstRefusal.{IsDueFor}
 use Rattle.requests.specs.Interruptions.{LeavesFrom}
 use Rattle.requests.specs.Lines.{line_of}
-use Rattle.requests.specs.Reported.{Reports, wants_report}
-use Rattle.requests.specs.Requests.{Making, Wish, make}
+use Rattle.requests.specs.Reported.{Reports, ReportsFor, wants_report}
+use Rattle.requests.specs.Jobs.{IsReady}
+use Rattle.requests.specs.Options.{wish_of}
+use Rattle.requests.specs.Requests.{Look, Search, Wish, make}
+use Rattle.requests.specs.declared.report.Report.{Report}
+use Rattle.requests.specs.declared.request.Notices.{Notices}
+use Rattle.requests.specs.declared.request.Request.{Request}
 use Rattle.requests.specs.declared.failure.Failure.{Failure}
 use Rattle.requests.specs.declared.failure.Failure.TheVariants.{Interrupted, Input}
 use Rattle.deals_cli.specs.CommandLine.{asked, kinds_for}
+use Rattle.deals_cli.specs.declared.task.Task.{Task}
+use Rattle.deals_cli.specs.declared.task.Task.TheVariants.{Show, Do}
 pub use Rattle.requests.specs.Makings.{CanDate, CanLabel, HasLabels, HasNumbers, IsPlanned}
 pub use Rattle.requests.specs.Makings.{Means, plan_of}
 pub use Rattle.requests.specs.Wishes.{Appends, AppendsFrom, HasInput, HasMeaning, HasPlan, HasRun}
@@ -53,14 +63,6 @@ pub record IsStatusFor (words : List Text) (status : ℕ) : Type 0 where
   pub wished : (w : Wish) → asked words ≡ Some w → IsStatusOf w status
   pub unasked : asked words ≡ None → IsStatusOfNone words status
 
--- what the error output was given by words that were done: the report that they ask for, if it took
--- all, and nothing if they ask for none
-pub record HasReport (words : List Text) (took_all : Type 0)
-    (old new : Option (List ℕ)) : Type 0 where
-  pub reported : (m : Making) → asked words ≡ Some (make m) → m.report ≡ true → took_all
-      → Reports m old new
-  pub quiet : wants_report (asked words) ≡ false → new ≡ old
-
 -- a wish fails so: memory ran out, as it may while the words are read, or the failure is due
 abbrev pub MayFail : Wish → Failure → Type 0
 MayFail w failure = (failure ≡ Interrupted Memory) ⊎ IsDueFor w failure
@@ -70,6 +72,46 @@ abbrev pub MayLeave : Wish → Failure → (before behind old new : Option (List
 MayLeave w failure before behind old new =
     LeavesFrom w failure before behind old new
     ⊎ ((failure ≡ Interrupted Output) × AppendsFrom w before behind old new)
+
+-- what was read of the words: what they ask for, or clap's error. Of words that ask for something
+-- only want of memory is one
+abbrev pub AreRead : List Text → Result Request Error → Type 0
+AreRead words (Ok request) = asked words ≡ Some (wish_of request)
+AreRead words (Err error) =
+    (IsSome (asked words) → kind_of error ≡ kind.OutOfMemory) × HasKind (kinds_for words) error
+
+-- the task is what the words ask for: a text of clap, or a job
+abbrev pub IsTaskFor : List Text → Task → Type 0
+IsTaskFor words (Show text) = (asked words ≡ None) × MayShow words
+IsTaskFor words (Do job) = (w : Wish) × (asked words ≡ Some w) × IsReady w job
+
+-- the words are refused so, or memory ran out, before anything was done
+pub record AreRefused (words : List Text) (failure : Failure) : Type 0 where
+  pub nothing_done : is_refusal failure ≡ true
+  pub status : IsStatusFor words (status_of failure)
+  pub due : (w : Wish) → asked words ≡ Some w → MayFail w failure
+
+-- what was done for words: `before` and `behind` are what the input had to give before and behind
+-- it, `old` and `new` what the output had taken
+pub record Answers (words : List Text) (r : Result (Option Report) Failure)
+    (before behind old new : Option (List ℕ)) : Type 0 where
+  pub text : (w : Wish) → asked words ≡ Some w → OnOk r (AppendsFrom w before behind old new)
+  pub report : (w : Wish) → asked words ≡ Some w → IfOk r (ReportsFor w)
+  pub no_report : asked words ≡ None → IfOk r (λ report. report ≡ None)
+  pub status : IsStatusFor words (status_in r)
+  pub due : (w : Wish) → asked words ≡ Some w → IfErr r (MayFail w)
+  pub stands : (w : Wish) → asked words ≡ Some w
+      → IfErr r (λ e. MayLeave w e before behind old new)
+  pub untouched : IfErr r (λ e. is_untouched e ≡ true → new ≡ old)
+
+-- what the error output was given by words that were done: the report that they ask for, if it took
+-- all, and nothing if they ask for none
+pub record HasReport (words : List Text) (took_all : Type 0)
+    (old new : Option (List ℕ)) : Type 0 where
+  pub reported : (s : Search) (l : Look) (notices : Notices)
+      → asked words ≡ Some (make s l notices) → notices.report ≡ true → took_all
+      → Reports s l old new
+  pub quiet : wants_report (asked words) ≡ false → new ≡ old
 
 -- why a wish failed with this status: the failure is due, the output has what it leaves by what the
 -- input had to give before and behind it, the input failed if the failure says so, and the error

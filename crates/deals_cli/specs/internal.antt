@@ -1,4 +1,5 @@
 -- What only bodies and lemmas use: no public clause names any of it.
+pub mod Rows
 pub mod Choices
 pub mod Readings
 pub mod Kinds

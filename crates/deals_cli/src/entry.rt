@@ -1,103 +1,41 @@
 //! The program over its words and two sinks.
 
 ghost use Rattle.std.specs.Prelude.{◌≡◌, ◌≢◌, ◌⊎◌, ◌+◌, ◌-◌, ◌^◌, ◌<◌, ◌≤◌, ◌==◌};
-ghost use Rattle.std.specs.Prelude.{if◌then◌else◌};
-ghost use Rattle.std.specs.Prelude.{None, Some, true, false, IfErr, IfOk, IsErrOf, OnOk, map};
-ghost use Rattle.std.specs.Prelude.{IsSome, string_bytes};
-ghost use Rattle.clap.specs.Words.{HasKind, kind_of};
-ghost use Rattle.requests.specs.Failures.{CountsInput, faults_in, is_untouched};
-ghost use Rattle.requests.specs.Failures.{status_in};
-ghost use Rattle.requests.specs.Reported.{ReportsFor};
-ghost use Rattle.requests.specs.Options.{IsInRange, wish_of};
+ghost use Rattle.std.specs.Prelude.{Some, if◌then◌else◌, map, string_bytes};
+ghost use Rattle.deals_cli.specs.CommandLine.{asked};
+ghost use Rattle.deals_cli.specs.Program.{Answers, HasReport, IsStatusFor, TellsWhy, TellsWhyFrom};
+ghost use Rattle.requests.specs.Failures.{CountsInput, faults_in};
 ghost use Rattle.requests.specs.Requests.{Wish};
 ghost use Rattle.requests.specs.Wishes.{Appends, AppendsFrom, IsStatus, IsStatusWithInput};
-ghost use Rattle.deals_cli.specs.CommandLine.{asked, kinds_for};
-ghost use Rattle.deals_cli.specs.Program.{HasReport, IsStatusFor, MayFail, MayLeave, TellsWhy};
-ghost use Rattle.deals_cli.specs.Program.{TellsWhyFrom};
-ghost use Rattle.deals_cli.specs.internal.Kinds.{IsStatusOfKind};
 
-use crate::shown::shown_text;
+use crate::task::{perform, prepare};
 use crate::words::read_words;
-use clap::Error;
-use clap::error::ErrorKind;
-use dealrun::Cause;
-use number_input::{NoBytes, Source};
-use requests::{Failure, Report, Request, serve};
-use sinks::{Sink, put_all};
+use picking::{NoBytes, Source};
+use requests::{Failure, Report};
+use sinks::Sink;
 use std::alloc::Global;
 use std::sync::Wait;
 use std::thread::Threads;
 
-/// Writes a text that was asked for, as help, and flushes the output; refuses any mistake. The words
-/// in the text are shown as a terminal can show them.
-#[tactic(auto, using(crate::proofs::Statuses::kinds))]
-fn show<O: Sink>(alloc: Global, words: &[String], error: &Error, out: &mut O) -> Result<(), Failure>
-    requires { O.faults out.old < 2 ^ 64 - 1 }
-    ensures memory { kind_of error.now ≡ ErrorKind.OutOfMemory → IsErrOf result
-        (Failure.Interrupted Cause.Memory) }
-    ensures status { IsStatusOfKind (kind_of error.now) (status_in result) }
-    ensures untouched { IfErr result (λ e. is_untouched e ≡ true
-        → O.bytes out.new ≡ O.bytes out.old) }
-    ensures faults { O.faults out.new ≡ O.faults out.old + faults_in result }
-{
-    if error.kind() == ErrorKind::OutOfMemory {
-        return Err(Failure::Interrupted(Cause::Memory));
-    }
-    let text = shown_text(alloc, words, error.to_string(alloc)?.as_str())?;
-    if error.use_stderr() {
-        return Err(Failure::CommandLine(text));
-    }
-    put_all(out, text.as_bytes())?;
-    out.flush()?;
-    Ok(())
-}
-
-/// Does what the words ask for, which `read_words` read, and flushes the output. Of the subcommands
-/// `pick` alone reads the input. It may wait for its workers and its input.
-#[tactic(auto, using(crate::proofs::Statuses::flushes))]
-pub fn answer<R: Threads + Wait + Clone + Send + 'static, I: Source, O: Sink>(
+/// Does what the words ask for. Of the subcommands `pick` alone reads the input.
+fn answer<R: Threads + Wait + Clone + Send + 'static, I: Source, O: Sink>(
     rt: &R,
     alloc: Global,
     words: &[String],
-    read: &Result<Request<'_>, Error>,
     input: &mut I,
     out: &mut O,
 ) -> Result<Option<Report>, Failure>
-    requires ok { IfOk read.now (λ r. asked (map string_bytes words.now) ≡ Some (wish_of r)) }
-    requires range { IfOk read.now IsInRange }
-    requires err { IfErr read.now (λ e.
-        IsSome (asked (map string_bytes words.now)) → kind_of e ≡ ErrorKind.OutOfMemory) }
-    requires kinds { IfErr read.now (λ e. HasKind (kinds_for (map string_bytes words.now)) e) }
     requires output { O.faults out.old < 2 ^ 64 - 1 }
     requires input { I.faults input.old < 2 ^ 64 - 1 }
-    ensures text { (w : Wish) → asked (map string_bytes words.now) ≡ Some w
-        → OnOk result (AppendsFrom w (I.rest input.old) (I.rest input.new)
-        (O.bytes out.old) (O.bytes out.new)) }
-    ensures report { (w : Wish) → asked (map string_bytes words.now) ≡ Some w
-        → IfOk result (ReportsFor w) }
-    ensures no_report { asked (map string_bytes words.now) ≡ None
-        → IfOk result (λ r. r ≡ None) }
-    ensures asked { IsStatusFor (map string_bytes words.now) (status_in result) }
-    ensures due { (w : Wish) → asked (map string_bytes words.now) ≡ Some w
-        → IfErr result (MayFail w) }
-    ensures stands { (w : Wish) → asked (map string_bytes words.now) ≡ Some w
-        → IfErr result (λ e. MayLeave w e (I.rest input.old) (I.rest input.new)
-        (O.bytes out.old) (O.bytes out.new)) }
-    ensures untouched { IfErr result (λ e. is_untouched e ≡ true
-        → O.bytes out.new ≡ O.bytes out.old) }
+    ensures answers { Answers (map string_bytes words.now) result
+        (I.rest input.old) (I.rest input.new) (O.bytes out.old) (O.bytes out.new) }
     ensures faults { O.faults out.new ≡ O.faults out.old + faults_in result }
     ensures input { CountsInput result (I.faults input.old) (I.faults input.new) }
 {
-    match read {
-        Ok(request) => {
-            let report = serve(rt, alloc, request, input, out)?;
-            out.flush()?;
-            Ok(report)
-        }
-        Err(error) => {
-            show(alloc, words, error, out)?;
-            Ok(None)
-        }
+    let read = read_words(alloc, words);
+    match prepare(alloc, words, &read) {
+        Ok(task) => perform(rt, alloc, task, input, out),
+        Err(failure) => Err(failure),
     }
 }
 
@@ -150,8 +88,7 @@ pub fn program_with_input<R: Threads + Wait + Clone + Send + 'static, I: Source,
     ensures said { (E.faults err.old ≤ E.faults err.new)
         × (E.faults err.new ≤ E.faults err.old + 1) }
 {
-    let read = read_words(alloc, words);
-    match answer(rt, alloc, words, &read, input, out) {
+    match answer(rt, alloc, words, input, out) {
         Ok(None) => 0,
         Ok(Some(report)) => {
             let _ = report.say(err);

@@ -6,9 +6,9 @@ ghost use Rattle.cards.specs.declared.seat.Seat.TheVariants.{South};
 ghost use Rattle.clap.specs.declared.error.kind.ErrorKind.TheVariants.{InvalidValue};
 ghost use Rattle.clap.specs.declared.error.kind.ErrorKind.TheVariants.{UnknownArgument};
 ghost use Rattle.deals_cli.specs.CommandLine.{asked, kinds_for};
-ghost use Rattle.hand_texts.specs.HandTexts.{none_given};
-ghost use Rattle.requests.specs.Requests.{conditions, make, pick, stream};
-ghost use Rattle.notations.specs.declared.format.Format.TheVariants.{Hands, Numbers, Pbn};
+ghost use Rattle.predeal.specs.PredealtHands.{none_given};
+ghost use Rattle.requests.specs.Requests.{conditions, make, numbers_look, pick, stream};
+ghost use Rattle.notations.specs.declared.format.Format.TheVariants.{Hands, Pbn};
 ghost use Rattle.requests.specs.declared.when.When.TheVariants.{Always, Auto, Never};
 
 /// `deals stream --seed 0 --count 3` asks for the first three values of seed 0.
@@ -27,7 +27,7 @@ pub fn example_of_make()
         (codes "deals" ∷ codes "make" ∷ codes "--seed" ∷ codes "0"
         ∷ codes "--candidates" ∷ codes "200" ∷ codes "--where" ∷ codes "hcp(north)>=15"
         ∷ codes "--boards" ∷ codes "5" ∷ [])
-        ≡ Some (make record {
+        ≡ Some (make (record {
           seed = 0;
           candidates = Some 200;
           first = 0;
@@ -35,19 +35,21 @@ pub fn example_of_make()
           lane = 64;
           where_text = Some (codes "hcp(north)>=15");
           boards = Some 5;
+          hands = none_given;
+        }) (record {
+          format = Pbn;
           first_board = None;
           event = None;
           site = None;
           date = None;
-          hands = none_given;
-          format = Pbn;
           dealer = None;
           vulnerable = None;
           rotate = false;
+        }) (record {
           report = false;
           progress = Auto;
           hints = Auto;
-        }) }
+        })) }
 {}
 
 /// `deals make --seed 0 --boards 12 --format hands --dealer S --vulnerable NS --rotate` asks for
@@ -59,7 +61,7 @@ pub fn example_of_formats()
         ∷ codes "--boards" ∷ codes "12" ∷ codes "--format" ∷ codes "hands"
         ∷ codes "--dealer" ∷ codes "S" ∷ codes "--vulnerable" ∷ codes "NS"
         ∷ codes "--rotate" ∷ [])
-        ≡ Some (make record {
+        ≡ Some (make (record {
           seed = 0;
           candidates = None;
           first = 0;
@@ -67,19 +69,21 @@ pub fn example_of_formats()
           lane = 64;
           where_text = None;
           boards = Some 12;
+          hands = none_given;
+        }) (record {
+          format = Hands;
           first_board = None;
           event = None;
           site = None;
           date = None;
-          hands = none_given;
-          format = Hands;
           dealer = Some South;
           vulnerable = Some NorthSouth;
           rotate = true;
+        }) (record {
           report = false;
           progress = Auto;
           hints = Auto;
-        }) }
+        })) }
     ensures refused { kinds_for
         (codes "deals" ∷ codes "make" ∷ codes "--seed" ∷ codes "0"
         ∷ codes "--boards" ∷ codes "12" ∷ codes "--format" ∷ codes "PBN" ∷ [])
@@ -95,30 +99,19 @@ pub fn example_of_hands()
         ∷ codes "--north" ∷ codes "KQ432.A93.AJ.JT8"
         ∷ codes "--south" ∷ codes "A985.KJ742.KQ32."
         ∷ codes "--format" ∷ codes "hands" ∷ [])
-        ≡ Some (pick record {
-          seed = 2024;
-          candidates = None;
-          first = 0;
-          workers = 1;
-          lane = 64;
-          where_text = None;
-          boards = None;
+        ≡ Some (pick 2024 (record none_given {
+          north = Some (codes "KQ432.A93.AJ.JT8");
+          south = Some (codes "A985.KJ742.KQ32.");
+        }) (record {
+          format = Hands;
           first_board = None;
           event = None;
           site = None;
           date = None;
-          hands = record none_given {
-            north = Some (codes "KQ432.A93.AJ.JT8");
-            south = Some (codes "A985.KJ742.KQ32.");
-          };
-          format = Hands;
           dealer = None;
           vulnerable = None;
           rotate = false;
-          report = false;
-          progress = Auto;
-          hints = Auto;
-        }) }
+        }) Auto) }
 {}
 
 /// `deals find --seed 7 --candidates 1000 --first 5 --where 'hcp(north)>=15' --progress never
@@ -130,7 +123,7 @@ pub fn example_of_find()
         ∷ codes "--candidates" ∷ codes "1000" ∷ codes "--first" ∷ codes "5"
         ∷ codes "--where" ∷ codes "hcp(north)>=15" ∷ codes "--progress" ∷ codes "never"
         ∷ codes "--hints" ∷ codes "always" ∷ [])
-        ≡ Some (make record {
+        ≡ Some (make (record {
           seed = 7;
           candidates = Some 1000;
           first = 5;
@@ -138,19 +131,12 @@ pub fn example_of_find()
           lane = 64;
           where_text = Some (codes "hcp(north)>=15");
           boards = None;
-          first_board = None;
-          event = None;
-          site = None;
-          date = None;
           hands = none_given;
-          format = Numbers;
-          dealer = None;
-          vulnerable = None;
-          rotate = false;
+        }) numbers_look (record {
           report = false;
           progress = Never;
           hints = Always;
-        }) }
+        })) }
     ensures refused { kinds_for
         (codes "deals" ∷ codes "find" ∷ codes "--seed" ∷ codes "7"
         ∷ codes "--candidates" ∷ codes "1000" ∷ codes "--first-board" ∷ codes "5" ∷ [])

@@ -4,9 +4,9 @@ ghost use Rattle.std.specs.Prelude.{◌≡◌, IfOk};
 ghost use Rattle.clap.specs.Words.{kind_of};
 
 use crate::choices::Unknown;
+use crate::commands::named_command;
 use clap::Error;
 use clap::error::ErrorKind;
-use commands::named_command;
 use std::alloc::{AllocError, Global};
 
 const NO_END: &str = "the following required arguments were not provided:

@@ -1,21 +1,21 @@
 //! From the words of a command line to a request.
 
-ghost use Rattle.std.specs.Prelude.{◌≡◌, ◌≤◌, ◌^◌, Some, codes, IfErr, IfOk, IsSome, map};
-ghost use Rattle.std.specs.Prelude.{option_map, string_bytes};
-ghost use Rattle.clap.specs.Words.{HasKind, first_of, found_of, kind_of, rows_of};
-ghost use Rattle.deals_cli.specs.CommandLine.{asked, format_in, hands_in, has_no_end, is_set};
-ghost use Rattle.deals_cli.specs.CommandLine.{kinds_for, made_by, making_in, number_in, number_or};
-ghost use Rattle.hand_texts.specs.HandTexts.{given_by};
-ghost use Rattle.requests.specs.Options.{IsInRange, making_of, wish_of};
-ghost use Rattle.deals_cli.specs.internal.Readings.{MakeValues, MayGive32, MayGive64, StreamValues};
+ghost use Rattle.std.specs.Prelude.{◌≡◌, codes, map, option_map, string_bytes};
+ghost use Rattle.clap.specs.Words.{first_of, found_of, rows_of};
+ghost use Rattle.deals_cli.specs.CommandLine.{hands_in, has_no_end, is_set, look_in, made_by};
+ghost use Rattle.deals_cli.specs.CommandLine.{notices_in, number_in, number_or, search_in};
+ghost use Rattle.deals_cli.specs.Program.{AreRead};
+ghost use Rattle.deals_cli.specs.internal.Readings.{MayGive32, MayGive64, SearchValues};
+ghost use Rattle.deals_cli.specs.internal.Readings.{StreamValues};
+ghost use Rattle.predeal.specs.PredealtHands.{given_by};
+ghost use Rattle.requests.specs.Options.{look_of, search_of, wish_of};
 
 use crate::choices::{DEALER, FORMAT, HINTS, PROGRESS, VULNERABLE, unknown_in};
+use crate::commands::command;
 use crate::refusals::{invalid_value, missing_end};
-use clap::error::ErrorKind;
 use clap::{ArgMatches, Error};
-use commands::command;
-use hand_texts::HandTexts;
-use requests::{Format, MakeRequest, Request, StreamRequest, When};
+use predeal::PredealtHands;
+use requests::{Format, Look, Notices, Request, Search, StreamRequest, When};
 use std::alloc::Global;
 
 /// What an option of 32 bits was given.
@@ -39,7 +39,6 @@ fn stream_request(matches: &ArgMatches) -> StreamRequest
     requires { StreamValues (rows_of (found_of matches.now)) }
     ensures seed { result.seed ≡ number_or 0 (codes "seed") (rows_of (found_of matches.now)) }
     ensures count { result.count ≡ number_or 0 (codes "count") (rows_of (found_of matches.now)) }
-    ensures range { result.count ≤ 2 ^ 40 }
 {
     StreamRequest {
         seed: u32_in(matches, "seed").unwrap(),
@@ -64,21 +63,11 @@ fn is_set(matches: &ArgMatches, id: &str) -> bool
     }
 }
 
-/// The format of the subcommand of this name: that of `find` is its own.
-fn format_by(name: &str, matches: &ArgMatches) -> Format
-    ensures { result ≡ format_in name.now (rows_of (found_of matches.now)) }
-{
-    if name == "find" {
-        return Format::Numbers;
-    }
-    FORMAT.given(matches).unwrap_or(Format::Pbn)
-}
-
 /// The texts of hands that the options were given.
-fn hands_in<'a>(matches: &ArgMatches<'a>) -> HandTexts<'a>
+fn hands_in<'a>(matches: &ArgMatches<'a>) -> PredealtHands<'a>
     ensures { given_by result ≡ hands_in (rows_of (found_of matches.now)) }
 {
-    HandTexts {
+    PredealtHands {
         north: text_in(matches, "north"),
         east: text_in(matches, "east"),
         south: text_in(matches, "south"),
@@ -86,13 +75,12 @@ fn hands_in<'a>(matches: &ArgMatches<'a>) -> HandTexts<'a>
     }
 }
 
-/// What the options of `make`, `find` or `pick` were given, or their defaults. The others have some
-/// of those of `make`.
-fn make_request<'a>(name: &str, matches: &ArgMatches<'a>) -> MakeRequest<'a>
-    requires { MakeValues (rows_of (found_of matches.now)) }
-    ensures { making_of result ≡ making_in name.now (rows_of (found_of matches.now)) }
+/// What the options of a search were given, or their defaults.
+fn search_in<'a>(matches: &ArgMatches<'a>) -> Search<'a>
+    requires { SearchValues (rows_of (found_of matches.now)) }
+    ensures { search_of result ≡ search_in (rows_of (found_of matches.now)) }
 {
-    MakeRequest {
+    Search {
         seed: u32_in(matches, "seed").unwrap(),
         candidates: u64_in(matches, "candidates"),
         first: u64_in(matches, "first").unwrap_or(0),
@@ -100,15 +88,32 @@ fn make_request<'a>(name: &str, matches: &ArgMatches<'a>) -> MakeRequest<'a>
         lane: u32_in(matches, "lane").unwrap_or(64),
         where_text: text_in(matches, "where"),
         boards: u32_in(matches, "boards"),
+        hands: hands_in(matches),
+    }
+}
+
+/// What the options of the boards' look were given, or their defaults.
+fn look_in<'a>(matches: &ArgMatches<'a>) -> Look<'a>
+    requires { MayGive64 (codes "first-board") (rows_of (found_of matches.now)) }
+    ensures { look_of result ≡ look_in (rows_of (found_of matches.now)) }
+{
+    Look {
+        format: FORMAT.given(matches).unwrap_or(Format::Pbn),
         first_board: u64_in(matches, "first-board"),
         event: text_in(matches, "event"),
         site: text_in(matches, "site"),
         date: text_in(matches, "date"),
-        hands: hands_in(matches),
-        format: format_by(name, matches),
         dealer: DEALER.given(matches),
         vulnerable: VULNERABLE.given(matches),
         rotate: is_set(matches, "rotate"),
+    }
+}
+
+/// What the options of notices were given, or their defaults.
+fn notices_in(matches: &ArgMatches) -> Notices
+    ensures { result ≡ notices_in (rows_of (found_of matches.now)) }
+{
+    Notices {
         report: is_set(matches, "report"),
         progress: PROGRESS.given(matches).unwrap_or(When::Auto),
         hints: HINTS.given(matches).unwrap_or(When::Auto),
@@ -116,33 +121,46 @@ fn make_request<'a>(name: &str, matches: &ArgMatches<'a>) -> MakeRequest<'a>
 }
 
 /// Whether neither a number of candidates nor a limit of boards was given, where one is needed.
-fn has_no_end(name: &str, request: &MakeRequest<'_>) -> bool
-    ensures { result ≡ has_no_end name.now (making_of request.now) }
+fn has_no_end(name: &str, search: &Search<'_>) -> bool
+    ensures { result ≡ has_no_end name.now (search_of search.now) }
 {
-    name != "pick" && request.candidates.is_none() && request.boards.is_none()
+    name != "pick" && search.candidates.is_none() && search.boards.is_none()
 }
 
 /// What the subcommand of this name asks for, one of those that deal candidates.
-fn request_by<'a>(name: &str, request: MakeRequest<'a>) -> Request<'a>
-    ensures wish { wish_of result ≡ made_by name.now (making_of request.entry) }
-    ensures range { IsInRange result }
+fn request_by<'a>(name: &str, search: Search<'a>, matches: &ArgMatches<'a>) -> Request<'a>
+    requires { MayGive64 (codes "first-board") (rows_of (found_of matches.now)) }
+    ensures { wish_of result
+        ≡ made_by name.now (search_of search.entry) (rows_of (found_of matches.now)) }
 {
-    if name == "pick" {
-        return Request::Pick(request);
+    let notices = notices_in(matches);
+    if name == "find" {
+        return Request::Find { search, notices };
     }
-    Request::Make(request)
+    let look = look_in(matches);
+    if name == "pick" {
+        return Request::Pick {
+            seed: search.seed,
+            hands: search.hands,
+            look,
+            hints: notices.hints,
+        };
+    }
+    Request::Make {
+        search,
+        look,
+        notices,
+    }
 }
 
 /// What the words ask for, the program's name first.
 ///
-/// Words that ask for something fail for want of memory alone; for others the error is clap's, with
-/// its text.
+/// # Errors
+///
+/// `Error` if the words ask for nothing, with clap's text, as for help; for words that ask for
+/// something only if memory ran out.
 pub fn read_words<'a>(alloc: Global, words: &'a [String]) -> Result<Request<'a>, Error>
-    ensures ok { IfOk result (λ r. asked (map string_bytes words.entry.now) ≡ Some (wish_of r)) }
-    ensures range { IfOk result IsInRange }
-    ensures err { IfErr result (λ e.
-        IsSome (asked (map string_bytes words.entry.now)) → kind_of e ≡ ErrorKind.OutOfMemory) }
-    ensures kinds { IfErr result (λ e. HasKind (kinds_for (map string_bytes words.entry.now)) e) }
+    ensures { AreRead (map string_bytes words.entry.now) result }
 {
     let matches = command(alloc)?.try_get_matches_from(words)?;
     let (name, inner) = matches.subcommand().unwrap();
@@ -155,9 +173,9 @@ pub fn read_words<'a>(alloc: Global, words: &'a [String]) -> Result<Request<'a>,
     if let Some(unknown) = unknown_in(inner) {
         return Err(invalid_value(alloc, name, &unknown)?);
     }
-    let request = make_request(name, inner);
-    if has_no_end(name, &request) {
+    let search = search_in(inner);
+    if has_no_end(name, &search) {
         return Err(missing_end(alloc, name)?);
     }
-    Ok(request_by(name, request))
+    Ok(request_by(name, search, inner))
 }

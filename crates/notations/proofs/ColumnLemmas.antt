@@ -8,8 +8,8 @@ use Rattle.std.proofs.lemmas.List.Elements.{All-head, All-tail}
 use Rattle.std.proofs.lemmas.List.Sums.{sum_by-cons, sum_by-append}
 use Rattle.cards.specs.declared.suit.Suit.{Suit}
 use Rattle.cards.specs.declared.suit.Suit.TheVariants.{Spades, Hearts, Diamonds, Clubs}
-use Rattle.printing.specs.Letters.{or_dash, suit_letters}
-use Rattle.printing.proofs.Letters.{suit_letters-ascii}
+use Rattle.boards.specs.Letters.{or_dash, suit_letters}
+use Rattle.boards.proofs.Letters.{suit_letters-ascii}
 use Rattle.notations.specs.Columns.{begins_character, columns}
 use Rattle.notations.specs.Records.{sign_and_space, suit_text}
 

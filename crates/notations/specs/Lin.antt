@@ -7,8 +7,8 @@ use Rattle.cards.specs.Hands.{hand_of}
 use Rattle.boards.specs.declared.board.Board.{Board}
 use Rattle.boards.specs.declared.law2.Vul.{Vul}
 use Rattle.boards.specs.declared.law2.Vul.TheVariants.{Neither, NorthSouth, EastWest, Both}
-use Rattle.boards.specs.Layouts.{Layout}
-use Rattle.printing.specs.Letters.{suit_letters}
+use Rattle.boards.specs.Layouts.{Layout, ends_with}
+use Rattle.boards.specs.Letters.{suit_letters}
 
 -- the seats are numbered clockwise from South, 1 to 4
 abbrev pub dealer_digit : Seat → List ℕ
@@ -50,4 +50,4 @@ lin_line board =
 
 -- the notation: a line for each board, and nothing before or after them
 abbrev pub lin : Layout
-lin = record { header = []; board = lin_line; footer = [] }
+lin = record { header = []; board = lin_line; footer = ends_with [] }

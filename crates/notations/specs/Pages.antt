@@ -10,8 +10,8 @@ use Rattle.cards.specs.declared.suit.Suit.TheVariants.{Spades, Hearts, Diamonds,
 use Rattle.cards.specs.Hands.{hand_of, points_of}
 use Rattle.boards.specs.declared.board.Board.{Board}
 use Rattle.boards.specs.declared.law2.Vul.{Vul}
-use Rattle.boards.specs.Layouts.{Layout}
-use Rattle.printing.specs.Letters.{or_dash, suit_letters}
+use Rattle.boards.specs.Layouts.{Layout, ends_with}
+use Rattle.boards.specs.Letters.{or_dash, suit_letters}
 use Rattle.pbn_text.specs.Games.{HeadingView}
 use Rattle.notations.specs.Names.{seat_name, vulnerable_name}
 use Rattle.notations.specs.Style.{style}
@@ -135,4 +135,4 @@ board_text board =
 
 abbrev pub html : HeadingView → Layout
 html heading =
-    record { header = header_text heading; board = board_text; footer = footer_text }
+    record { header = header_text heading; board = board_text; footer = ends_with footer_text }

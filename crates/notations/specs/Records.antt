@@ -6,8 +6,8 @@ use Rattle.cards.specs.declared.suit.Suit.{Suit}
 use Rattle.cards.specs.declared.suit.Suit.TheVariants.{Spades, Hearts, Diamonds, Clubs}
 use Rattle.cards.specs.Hands.{hand_of, points_of}
 use Rattle.boards.specs.declared.board.Board.{Board}
-use Rattle.boards.specs.Layouts.{Layout}
-use Rattle.printing.specs.Letters.{or_dash, suit_letters}
+use Rattle.boards.specs.Layouts.{Layout, ends_with}
+use Rattle.boards.specs.Letters.{or_dash, suit_letters}
 use Rattle.pbn_text.specs.Games.{HeadingView}
 use Rattle.notations.specs.Columns.{beside, line, spaces, two_columns}
 use Rattle.notations.specs.Names.{seat_name, vulnerable_name}
@@ -93,4 +93,4 @@ header_text heading =
 
 -- the notation: the header, a record for each board, and nothing after them
 abbrev pub hands : HeadingView → Layout
-hands heading = record { header = header_text heading; board = record_text; footer = [] }
+hands heading = record { header = header_text heading; board = record_text; footer = ends_with [] }

@@ -1,4 +1,3 @@
 -- What only bodies and lemmas use: no public clause names any of it.
 pub mod Parts
 pub mod Pens
-pub mod SomeByte

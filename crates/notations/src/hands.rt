@@ -8,7 +8,7 @@
 ghost use Rattle.std.specs.Prelude.{◌≡◌, ◌<◌, ◌≤◌, ◌+◌, ◌++◌, [], codes, length};
 ghost use Rattle.cards.specs.declared.seat.Seat.TheVariants.{North, East, South, West};
 ghost use Rattle.cards.specs.Hands.{hand_of};
-ghost use Rattle.printing.specs.declared.buffer.TheConstants.{CAPACITY};
+ghost use Rattle.boards.specs.declared.buffer.TheConstants.{CAPACITY};
 ghost use Rattle.notations.specs.Columns.{columns};
 ghost use Rattle.notations.specs.Names.{seat_name, vulnerable_name};
 ghost use Rattle.notations.specs.Records.{north_lines, number_line, record_text, side_line};
@@ -18,11 +18,10 @@ ghost use Rattle.notations.specs.internal.Parts.{rest_of_line};
 mod header;
 mod parts;
 
-use crate::hands::parts::{one_count, put_gap, put_suit, two_counts};
-use boards::{Board, Vul};
+use boards::{Board, SuitLetters, TextBuffer, Vul};
 use cards::{Deal, Hand, Seat, Suit};
+use crate::hands::parts::{one_count, put_gap, put_suit, two_counts};
 pub(crate) use header::put_header;
-use printing::{SuitLetters, TextBuffer};
 
 /// Writes the board's twelve lines and the empty line into the empty buffer.
 #[tactic(auto, unfolding(crate::specs::Records::record_text))]

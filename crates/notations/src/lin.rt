@@ -3,13 +3,12 @@
 //! A text has no header and no footer. Labels are not written.
 
 ghost use Rattle.std.specs.Prelude.{◌≡◌, ◌≤◌, ◌+◌, ◌++◌, [], length};
-ghost use Rattle.printing.specs.declared.buffer.TheConstants.{CAPACITY};
+ghost use Rattle.boards.specs.declared.buffer.TheConstants.{CAPACITY};
 ghost use Rattle.notations.specs.Lin.{deal_text, dealer_digit, hand_text, lin_line};
 ghost use Rattle.notations.specs.Lin.{vulnerable_letter};
 
-use boards::{Board, Vul};
+use boards::{Board, SuitLetters, TextBuffer, Vul};
 use cards::{Deal, Hand, Seat, Suit};
-use printing::{SuitLetters, TextBuffer};
 
 /// Writes the board's line into the empty buffer.
 #[tactic(auto, unfolding(crate::specs::Lin::lin_line))]

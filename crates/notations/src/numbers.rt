@@ -5,8 +5,7 @@
 ghost use Rattle.std.specs.Prelude.{◌≡◌, []};
 ghost use Rattle.notations.specs.Numbers.{number_line};
 
-use boards::Board;
-use printing::TextBuffer;
+use boards::{Board, TextBuffer};
 
 /// Writes the number of the board's candidate and the end of the line into the empty buffer.
 pub(crate) fn put_line(text: &mut TextBuffer, board: &Board)

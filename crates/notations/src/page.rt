@@ -6,18 +6,17 @@
 
 ghost use Rattle.std.specs.Prelude.{◌≡◌, ◌≤◌, ◌+◌, ◌++◌, [], length};
 ghost use Rattle.cards.specs.Hands.{hand_of};
-ghost use Rattle.printing.specs.declared.buffer.TheConstants.{CAPACITY};
+ghost use Rattle.boards.specs.declared.buffer.TheConstants.{CAPACITY};
 ghost use Rattle.notations.specs.Pages.{board_text, facts_text, hand_text, number_text, seat_text};
 
 mod header;
 mod parts;
 mod style;
 
-use crate::page::parts::{put_suits, seat_name, vulnerable_name};
-use boards::{Board, Vul};
+use boards::{Board, SuitLetters, TextBuffer, Vul};
 use cards::{Deal, Seat};
+use crate::page::parts::{put_suits, seat_name, vulnerable_name};
 pub(crate) use header::put_header;
-use printing::{SuitLetters, TextBuffer};
 
 /// What closes the page.
 pub(crate) const FOOTER: &[u8] = b"</main>\n</body>\n</html>\n";

@@ -1,14 +1,13 @@
 //! The printer of any format.
 
-ghost use Rattle.std.specs.Prelude.{◌≡◌, [], IfOk};
+ghost use Rattle.std.specs.Prelude.{◌≡◌, [], ⊤, IfOk};
 ghost use Rattle.notations.specs.Formats.{layout_of};
 ghost use Rattle.notations.specs.internal.Pens.{IsUnder, format_of, text_of};
-ghost use Rattle.notations.specs.internal.SomeByte.{layout_has_byte};
 
+use boards::{Board, Heading, Notation, SuitLetters, TextBuffer};
 use crate::{Format, hands, lin, numbers, page};
-use boards::{Board, Notation};
-use pbn_text::{HEADER, Heading, Printer};
-use printing::{SuitLetters, TextBuffer};
+use pbn_text::{HEADER, Printer};
+use sinks::{Sink, SinkFault, put_all};
 use std::alloc::{AllocError, Global};
 use std::marker::Model;
 
@@ -80,6 +79,8 @@ impl Notation for AnyPrinter {
 
     ghost printed = { λ printer. printer.text };
 
+    ghost has_printed = { λ _ _. ⊤ };
+
     fn header(&self) -> &[u8] {
         self.header.as_bytes()
     }
@@ -104,14 +105,13 @@ impl Notation for AnyPrinter {
     }
 
     #[tactic(auto, unfolding(crate::specs::Pages::footer_text))]
-    fn footer(&self) -> &[u8] {
-        match &self.pen {
+    fn put_footer<S: Sink>(&self, _tried: u64, sink: &mut S) -> Result<(), SinkFault> {
+        let footer = match &self.pen {
             Pen::Html(_) => page::FOOTER,
             Pen::Pbn(_) | Pen::Hands(_) | Pen::Lin(_) | Pen::Numbers => b"",
-        }
+        };
+        put_all(sink, footer)
     }
-
-    ghost some_byte = { λ printer board. layout_has_byte printer.format printer.heading board };
 }
 
 impl Pen {

@@ -1,6 +1,4 @@
 pub mod Suits
-pub mod Copies
-pub mod Dates
 pub mod Reading
 pub mod Buffers
 pub mod BoardLines

@@ -13,7 +13,7 @@ use Rattle.cards.specs.Pack.{suit_number, seat_number}
 use Rattle.cards.specs.Shuffle.{pack}
 use Rattle.cards.specs.Deals.{IsPartition}
 use Rattle.cards.specs.Hands.{holds_card, length_of, hand_of}
-use Rattle.printing.specs.Letters.{suit_letters}
+use Rattle.boards.specs.Letters.{suit_letters}
 use Rattle.pbn_text.specs.Games.{letters, suit_text}
 
 -- the card of the suit and the rank

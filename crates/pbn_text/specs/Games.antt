@@ -12,18 +12,11 @@ use Rattle.boards.specs.declared.board.Board.{Board}
 use Rattle.boards.specs.declared.law2.Vul.{Vul}
 use Rattle.boards.specs.declared.law2.Vul.TheVariants.{Neither, NorthSouth, EastWest, Both}
 use Rattle.boards.specs.Law2.{board_by_law}
-use Rattle.boards.specs.Layouts.{Layout}
-use Rattle.pbn_text.specs.declared.heading.Heading.{Heading}
+use Rattle.boards.specs.Layouts.{Layout, ends_with}
+pub use Rattle.boards.specs.Headings.{HeadingView, no_heading}
 
 abbrev pub header : List ℕ
 header = codes "% PBN 2.1\n"
-
--- the labels of a game: event, site and date, each the bytes of its text if it is given
-abbrev pub HeadingView : Type 0
-HeadingView = Heading
-
-abbrev pub no_heading : HeadingView
-no_heading = record { event = None; site = None; date = None }
 
 -- the line [NAME "VALUE"]
 abbrev pub tag : List ℕ → List ℕ → List ℕ
@@ -98,4 +91,4 @@ game board heading deal = game_text heading (board_by_law board 0 deal)
 
 -- the notation: the header line, a game for each board, and nothing after them
 abbrev pub pbn : HeadingView → Layout
-pbn heading = record { header = header; board = game_text heading; footer = [] }
+pbn heading = record { header = header; board = game_text heading; footer = ends_with [] }

@@ -1,4 +1,3 @@
-pub mod Labels
 pub mod Games
 pub mod Printing
 pub mod internal

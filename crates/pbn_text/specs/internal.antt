@@ -1,5 +1,4 @@
 -- What only bodies and lemmas use: no public clause names any of it.
-pub mod LabelBytes
 pub mod Lines
 pub mod Games
 pub mod Buffers

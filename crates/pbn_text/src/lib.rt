@@ -12,14 +12,12 @@
 
 mod board_lines;
 mod buffer;
-mod heading;
 pub mod laws;
 mod lines;
 mod printer;
 mod reference;
 
-pub use boards::{Vul, dealer, vulnerable};
-pub use heading::{Date, Heading, Label, MAX_LABEL_LEN};
+pub use boards::{Date, Heading, Label, MAX_LABEL_LEN, Vul, dealer, vulnerable};
 pub use lines::HEADER;
 pub use printer::Printer;
 pub use reference::{Reference, deal_text, game};

@@ -1,15 +1,14 @@
 //! The printer that a run uses: games under one heading, each in a fraction of the reference's
 //! time.
 
-ghost use Rattle.std.specs.Prelude.{◌≡◌, [], IfOk};
+ghost use Rattle.std.specs.Prelude.{◌≡◌, [], ⊤, IfOk};
 ghost use Rattle.pbn_text.specs.Games.{game_text, pbn};
-ghost use Rattle.pbn_text.specs.internal.Games.{game_has_byte};
 
+use boards::{Board, Notation, SuitLetters};
 use crate::board_lines::put_board_lines;
 use crate::buffer::{LineBuffer, Prefix, first_prefix, put_hands, put_number};
 use crate::{HEADER, Heading};
-use boards::{Board, Notation};
-use printing::SuitLetters;
+use sinks::{Sink, SinkFault, put_all};
 use std::alloc::{AllocError, Global};
 use std::marker::Model;
 
@@ -87,6 +86,8 @@ impl Notation for Printer {
 
     ghost printed = { λ printer. printer.text };
 
+    ghost has_printed = { λ _ _. ⊤ };
+
     fn header(&self) -> &[u8] {
         &HEADER
     }
@@ -99,9 +100,7 @@ impl Notation for Printer {
         Printer::text(self)
     }
 
-    fn footer(&self) -> &[u8] {
-        b""
+    fn put_footer<S: Sink>(&self, _tried: u64, sink: &mut S) -> Result<(), SinkFault> {
+        put_all(sink, b"")
     }
-
-    ghost some_byte = { λ printer board. game_has_byte printer.heading board };
 }

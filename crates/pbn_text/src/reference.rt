@@ -3,7 +3,7 @@
 //! `Printer` writes the same games in a fraction of the time. Both are proved to write the text
 //! that the definition gives, so this file is the one to read, and the other the one to use.
 
-ghost use Rattle.std.specs.Prelude.{◌≡◌, ◌≤◌, ◌+◌, List, [], ◌++◌, length, take};
+ghost use Rattle.std.specs.Prelude.{◌≡◌, ◌≤◌, ◌+◌, List, [], ◌++◌, ⊤, length, take};
 ghost use Rattle.arrayvec.specs.ArrayVec.{array_vec_len};
 ghost use Rattle.cards.specs.declared.seat.Seat.{Seat};
 ghost use Rattle.cards.specs.Deals.{IsPartition};
@@ -12,7 +12,6 @@ ghost use Rattle.cards.specs.declared.suit.Suit.TheVariants.{Spades, Hearts, Dia
 ghost use Rattle.pbn_text.specs.Games.{game as game_of, game_text, no_heading, board_text, pbn};
 ghost use Rattle.pbn_text.specs.Games.{dealer_text, vulnerable_text, hand_text, suit_text};
 ghost use Rattle.pbn_text.specs.Games.{deal_text as text_of_deal};
-ghost use Rattle.pbn_text.specs.internal.Games.{game_has_byte};
 ghost use Rattle.pbn_text.specs.internal.Lines.{deal_line};
 
 use crate::Heading;
@@ -21,6 +20,7 @@ use arrayvec::ArrayVec;
 use boards::{Board, Notation, Vul};
 use cards::{Deal, Hand, Seat, Suit};
 use itoa::Buffer;
+use sinks::{Sink, SinkFault, put_all};
 use std::marker::Model;
 
 /// The ranks of a suit, the ace first.
@@ -99,6 +99,8 @@ impl Notation for Reference {
 
     ghost printed = { λ reference. reference.text };
 
+    ghost has_printed = { λ _ _. ⊤ };
+
     fn header(&self) -> &[u8] {
         &HEADER
     }
@@ -111,11 +113,9 @@ impl Notation for Reference {
         self.text.as_slice()
     }
 
-    fn footer(&self) -> &[u8] {
-        b""
+    fn put_footer<S: Sink>(&self, _tried: u64, sink: &mut S) -> Result<(), SinkFault> {
+        put_all(sink, b"")
     }
-
-    ghost some_byte = { λ reference board. game_has_byte reference.heading board };
 }
 
 /// Returns the text of the board's game.

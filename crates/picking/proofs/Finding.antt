@@ -5,19 +5,19 @@ use Rattle.std.specs.List.{enumerate_from, flat_map, range_with_len}
 use Rattle.std.proofs.lemmas.Grind.{flat_map-append}
 use Rattle.std.proofs.lemmas.List.{append-nil, length-take}
 use Rattle.std.proofs.lemmas.List.Elements.{All-cons, All-filter, All-take, filter-append}
-use Rattle.boards.specs.Layouts.{Layout}
+use Rattle.boards.specs.Layouts.{EndsAlike, Layout}
 use Rattle.boards.specs.Settings.{board_in}
 use Rattle.boards.specs.declared.setting.Setting.{Setting}
 use Rattle.cards.specs.declared.seat.Seat.{Seat}
 use Rattle.conditions.specs.Form.{Form}
 use Rattle.conditions.specs.Meaning.{holds}
-use Rattle.dealrun.specs.Text.{accepted, accepted_among, board_of, boards_of, limited, text_in}
-use Rattle.number_input.specs.NumberTexts.{said}
-use Rattle.number_input.proofs.ReadBack.{read_back}
+use Rattle.plans.specs.Text.{accepted, accepted_among, board_of, boards_of, end_of, limited, text_in, text_of}
+use Rattle.picking.specs.NumberTexts.{said}
+use Rattle.picking.proofs.ReadBack.{read_back}
 use Rattle.notations.specs.Numbers.{number_line, numbers}
 use Rattle.picking.specs.Picked.{picked_text}
 use Rattle.plans.specs.Plans.{Planned, candidate_of}
-use Rattle.dealrun.proofs.Ranges.{range_with_len-add}
+use Rattle.plans.proofs.Ranges.{range_with_len-add}
 
 abbrev line_of : ℕ → List ℕ
 line_of n = decimal n ++ 10 ∷ []
@@ -77,9 +77,11 @@ accepted_short plan form h =
 pub found_is_read : (plan : Planned) (form : Form) → plan.first + plan.count ≤ 2 ^ 40 → said (text_in numbers plan form) ≡ record { numbers = accepted plan form; refused = None }
 found_is_read plan form h = ap said (found_text plan form) ∙ read_back (accepted plan form) (accepted_below plan form h) (accepted_short plan form h)
 
-pub found_is_picked : (layout : Layout) (plan : Planned) (form : Form) (S : Setting) (B : ℕ) → plan.first + plan.count ≤ 2 ^ 40
+pub found_is_picked : (layout : Layout) (plan : Planned) (form : Form) (S : Setting) (B : ℕ) → EndsAlike layout → plan.first + plan.count ≤ 2 ^ 40
     → picked_text layout plan (said (text_in numbers (record plan { setting = S; first_board = B }) form)) ≡ text_in layout plan form
-found_is_picked layout plan form S B h = ap (picked_text layout plan) (found_is_read (record plan { setting = S; first_board = B }) form h)
+found_is_picked layout plan form S B alike h =
+    ap (picked_text layout plan) (found_is_read (record plan { setting = S; first_board = B }) form h)
+    ∙ ap (λ l. text_of layout plan (accepted plan form) ++ l) (alike (boards_of plan (accepted plan form)) (length (accepted plan form)) (end_of plan form))
 
 -- ---- shards
 

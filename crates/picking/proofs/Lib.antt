@@ -1,3 +1,7 @@
+pub mod Tens
+pub mod Stops
+pub mod Scanned
+pub mod ReadBack
 pub mod Boards
 pub mod Finding
 pub mod Pieces

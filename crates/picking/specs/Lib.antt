@@ -1,3 +1,5 @@
+pub mod NumberTexts
+pub mod Scans
 pub mod Picked
 pub mod Outcomes
 pub mod internal

@@ -3,8 +3,8 @@ use Rattle.std.specs.Prelude.{◌≡◌, ℕ, ◌+◌, List, length, Option, Non
 use Rattle.std.specs.Prelude.{OnOk}
 use Rattle.std.specs.Io.KnownBytes.{Consumes, IsAtEnd}
 use Rattle.boards.specs.Layouts.{Layout}
-use Rattle.dealrun.specs.Text.{text_of}
-use Rattle.number_input.specs.NumberTexts.{ended, said}
+use Rattle.plans.specs.Text.{text_of}
+use Rattle.picking.specs.NumberTexts.{ended, said}
 use Rattle.picking.specs.Picked.{picked_text}
 use Rattle.picking.specs.declared.fault.PickFault.{PickFault}
 use Rattle.picking.specs.declared.fault.PickFault.TheVariants.{Refused, Input, Output}

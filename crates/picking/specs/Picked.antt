@@ -1,17 +1,18 @@
 -- The text that is written for a text of numbers.
-use Rattle.std.specs.Prelude.{ℕ, List, [], ◌++◌, Option, None, Some}
+use Rattle.std.specs.Prelude.{ℕ, List, [], ◌++◌, length, Option, None, Some}
 use Rattle.boards.specs.Layouts.{Layout}
-use Rattle.dealrun.specs.Text.{text_of}
-use Rattle.number_input.specs.NumberTexts.{Said}
-use Rattle.number_input.specs.declared.refusal.RefusedLine.{RefusedLine}
+use Rattle.plans.specs.Text.{boards_of, text_of}
+use Rattle.picking.specs.NumberTexts.{Said}
+use Rattle.picking.specs.declared.refusal.RefusedLine.{RefusedLine}
 use Rattle.plans.specs.Plans.{Planned}
 
--- there is no footer where a line is refused
-abbrev pub footer_of : Layout → Option RefusedLine → List ℕ
-footer_of layout None = layout.footer
-footer_of layout (Some line) = []
+-- the footer, of as many candidates as there are numbers; there is none where a line is refused
+abbrev pub footer_of : Layout → Planned → List ℕ → Option RefusedLine → List ℕ
+footer_of layout plan numbers None = layout.footer (boards_of plan numbers) (length numbers)
+footer_of layout plan numbers (Some line) = []
 
--- the header, the boards of the numbers in order, and the footer. Of the plan its seed, its first
--- board and its setting count
+-- the header, the boards of the numbers in order, and the footer. Of the plan its seed, its fixed
+-- cards, its first board and its setting count
 abbrev pub picked_text : Layout → Planned → Said → List ℕ
-picked_text layout plan s = text_of layout plan s.numbers ++ footer_of layout s.refused
+picked_text layout plan s =
+    text_of layout plan s.numbers ++ footer_of layout plan s.numbers s.refused

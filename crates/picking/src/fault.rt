@@ -3,7 +3,8 @@
 ghost use Rattle.std.specs.Prelude.{◌≡◌};
 ghost use Rattle.picking.specs.declared.fault.PickFault.TheVariants.{Input};
 
-use number_input::{RefusedLine, SourceFault};
+use crate::refusal::RefusedLine;
+use crate::source::SourceFault;
 
 /// Why picking ended before the end of the input, or of what it says.
 #[derive(Clone, Copy, Debug, PartialEq, Eq)]

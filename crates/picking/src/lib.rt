@@ -1,10 +1,21 @@
-//! Boards of candidates that are picked by their numbers: the numbers are read as text, and the
-//! board of each is written as it is read.
+//! Boards of candidates that are picked by their numbers: a text of numbers is read, and the board
+//! of each is written as its line ends.
+//!
+//! A line ends with LF or CR LF; the end of the last may be missing. Spaces and tabs around a
+//! number count for nothing, and a line without any other byte is skipped. A number is 1 to 13
+//! digits, below 2^40, and there are at most 2^40 of them.
 #![tactic(auto)]
 
 mod fault;
 pub mod laws;
+mod line;
 mod picked;
+mod refusal;
+mod scanner;
+mod source;
 
 pub use fault::PickFault;
 pub use picked::pick;
+pub use refusal::{LineFault, RefusedLine};
+pub use scanner::Scanner;
+pub use source::{MOST_BYTES, NoBytes, Reader, Source, SourceFault};

@@ -1,2 +1,4 @@
 pub mod Plans
 pub mod Refusals
+pub mod Text
+pub mod Reference

@@ -3,7 +3,7 @@ use Rattle.std.specs.Prelude.{ℕ, List, Option}
 use Rattle.boards.specs.declared.setting.Setting.{Setting}
 use Rattle.cards.specs.declared.seat.Seat.{Seat}
 use Rattle.cards.specs.Fixed.{candidate_around}
-use Rattle.pbn_text.specs.Games.{HeadingView}
+use Rattle.boards.specs.Headings.{HeadingView}
 
 -- the candidates `first` to `first + count - 1` of a seed are tried by `workers` workers, each at
 -- most `capacity` verdicts ahead; at most `limit` boards are written, from `first_board` on, under

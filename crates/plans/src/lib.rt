@@ -1,6 +1,14 @@
-//! Plans: which candidates of a seed are tried, and which boards are made of the accepted ones.
+//! Plans: which candidates of a seed are tried, which boards are made of the accepted ones, and
+//! the text that they give.
+//!
+//! `run_plain_in` writes that text as its definition reads, on one thread. It runs in tests, and
+//! the run over lanes is compared with it.
 #![tactic(auto)]
 
+mod next_board;
 mod plan;
+mod reference;
 
+pub use next_board::{is_full, put_board};
 pub use plan::{Plan, PlanError};
+pub use reference::{PlainFault, run_plain_in};

@@ -4,13 +4,12 @@ ghost use Rattle.std.specs.Prelude.{◌≡◌, ◌+◌, ◌≤◌, ◌<◌, ◌^
 ghost use Rattle.std.specs.Prelude.{IsErr, IsOk};
 ghost use Rattle.boards.specs.Settings.{by_law};
 ghost use Rattle.cards.specs.Fixed.{IsFixed, none_fixed};
-ghost use Rattle.pbn_text.specs.Games.{no_heading};
+ghost use Rattle.boards.specs.Headings.{no_heading};
 ghost use Rattle.plans.specs.Refusals.{refusal_of};
 
-use boards::Setting;
+use boards::{Heading, Setting};
 use cards::{Fixed, MAX_CANDIDATES};
 use lanes::{MAX_CAPACITY, MAX_WORKERS};
-use pbn_text::Heading;
 use std::marker::Model;
 use thiserror::Error;
 

@@ -1,8 +1,9 @@
 -- Which failure is due first.
-use Rattle.std.proofs.Common.{◌≡◌, ◌≢◌, ◌<◌, ◌+◌, ◌^◌, ◌||◌, ◌==◌, ◌∙◌, ◌++◌, ℕ, zero, suc, Bool, true, false, List, [], ◌∷◌, Option, Some, refl, sym, ap, inl, inr, nat_lt, option_map, arith, eqb-true, if◌then◌else◌}
+use Rattle.std.proofs.Common.{◌≡◌, ◌≢◌, ◌⊎◌, ◌<◌, ◌+◌, ◌^◌, ◌||◌, ◌==◌, ◌∙◌, ◌++◌, ℕ, zero, suc, Bool, true, false, List, [], ◌∷◌, Option, Some, refl, sym, ap, inl, inr, nat_lt, option_map, arith, eqb-true, if◌then◌else◌}
 use Rattle.std.specs.Borrow.{Bor}
 use Rattle.std.proofs.lemmas.Bool.{eqb-false, ltb-true, ltb-false}
 use Rattle.cond_lang.specs.Faults.{IsDue}
+use Rattle.cond_lang.specs.Form.{Form}
 use Rattle.conditions.specs.declared.error.CondError.{CondError}
 use Rattle.conditions.specs.declared.error.CondError.TheVariants.{TooLong, Byte, Word, Number, Syntax, Memory as no_memory}
 use Rattle.dealrun.specs.declared.cause.Cause.{Cause}
@@ -10,11 +11,16 @@ use Rattle.dealrun.specs.declared.cause.Cause.TheVariants as cause
 use Rattle.plans.specs.Refusals.{refusal_of}
 use Rattle.plans.specs.declared.plan.PlanError.{PlanError}
 use Rattle.plans.specs.declared.plan.PlanError.TheVariants.{Range, Workers, Capacity, Boards, FirstBoard}
-use Rattle.requests.specs.Failures.{failure_of, status_of}
-use Rattle.requests.specs.FirstRefusal.{IsConditionDue, IsDueFor, IsDueOf, IsFirstHand, IsFirstOf, IsPickDue, Meets, of_labels, of_numbers}
-use Rattle.requests.specs.Makings.{HasLabels, HasNumbers, IsPlanned, candidates_of}
-use Rattle.requests.specs.Requests.{Making, Wish, conditions, make, pick, stream}
-use Rattle.requests.specs.Wishes.{HasMeaning, IsStatusOf}
+use Rattle.requests.specs.Failures.{failure_of, is_refusal, status_of}
+use Rattle.requests.specs.FirstRefusal.{IsConditionDue, IsDueFor, IsFirstHand, IsFirstOf, IsMakeDue, IsPickDue, IsPlanDue, Meets, of_labels, of_numbers}
+use Rattle.requests.specs.Makings.{HasLabels, HasNumbers, IsPlanned, Means, candidates_of}
+use Rattle.requests.specs.Requests.{Look, Search, Wish, conditions, make, no_search, pick, stream}
+use Rattle.requests.specs.Jobs.{IsRefused}
+use Rattle.requests.specs.Wishes.{IsStatusOf}
+use Rattle.requests.proofs.Statuses.{no_memory as out_of_memory, refused_meaning, refused_plan}
+use Rattle.requests.specs.declared.request.Notices.{Notices}
+use Rattle.requests.specs.declared.when.When.{When}
+use Rattle.predeal.specs.PredealtHands.{GivenHands}
 use Rattle.requests.specs.declared.failure.Failure.{Failure}
 use Rattle.requests.specs.declared.failure.Failure.TheVariants.{CommandLine, Plan, Label, Hand, Condition, Interrupted, Line, Input}
 use Rattle.requests.specs.declared.failure.LabelName.TheVariants.{Event, Site, Date}
@@ -27,40 +33,40 @@ positive zero h = absurd (h refl)
 positive (suc n) h = omega arith
 
 -- what a plan without a limit asks of its numbers
-abbrev pub HasRun : Making → Type 0
-HasRun m = Meets m (Plan Range) × Meets m (Plan Workers) × Meets m (Plan Capacity)
+abbrev pub HasRun : Search → Look → Type 0
+HasRun s l = Meets s l (Plan Range) × Meets s l (Plan Workers) × Meets s l (Plan Capacity)
 
-pub plan_due : (m : Making) (e : PlanError) → e ≡ refusal_of m.first (candidates_of m) m.workers → (HasRun m → ⊥) → IsFirstOf of_numbers m (Plan e)
-plan_due m e is not_so = rw is (at_range (nat_lt (2 ^ 40) (m.first + candidates_of m)) refl)
+pub plan_due : (s : Search) (l : Look) (e : PlanError) → e ≡ refusal_of s.first (candidates_of s) s.workers → (HasRun s l → ⊥) → IsFirstOf of_numbers s l (Plan e)
+plan_due s l e is not_so = rw is (at_range (nat_lt (2 ^ 40) (s.first + candidates_of s)) refl)
   where
-    at_capacity : Meets m (Plan Range) → Meets m (Plan Workers) → IsFirstOf of_numbers m (Plan Capacity)
+    at_capacity : Meets s l (Plan Range) → Meets s l (Plan Workers) → IsFirstOf of_numbers s l (Plan Capacity)
     at_capacity range workers = inr (range, inr (workers, inl (refl, λ lane. not_so (range, workers, lane))))
 
-    at_workers : Meets m (Plan Range) → (b c : Bool) → (m.workers == 0) ≡ b → nat_lt 16 m.workers ≡ c
-        → IsFirstOf of_numbers m (Plan (if b || c then Workers else Capacity))
+    at_workers : Meets s l (Plan Range) → (b c : Bool) → (s.workers == 0) ≡ b → nat_lt 16 s.workers ≡ c
+        → IsFirstOf of_numbers s l (Plan (if b || c then Workers else Capacity))
     at_workers range true c none many =
-        let is_zero = eqb-true m.workers 0 none in
+        let is_zero = eqb-true s.workers 0 none in
         inr (range, inl (refl, λ workers. omega (arith, workers.0, is_zero)))
     at_workers range false true none many =
-        let more = ltb-true 16 m.workers many in
+        let more = ltb-true 16 s.workers many in
         inr (range, inl (refl, λ workers. omega (arith, workers.1, more)))
     at_workers range false false none many =
-        at_capacity range (positive m.workers (eqb-false m.workers 0 none), ltb-false 16 m.workers many)
+        at_capacity range (positive s.workers (eqb-false s.workers 0 none), ltb-false 16 s.workers many)
 
-    at_range : (b : Bool) → nat_lt (2 ^ 40) (m.first + candidates_of m) ≡ b
-        → IsFirstOf of_numbers m (Plan (if b then Range else (if m.workers == 0 || nat_lt 16 m.workers then Workers else Capacity)))
+    at_range : (b : Bool) → nat_lt (2 ^ 40) (s.first + candidates_of s) ≡ b
+        → IsFirstOf of_numbers s l (Plan (if b then Range else (if s.workers == 0 || nat_lt 16 s.workers then Workers else Capacity)))
     at_range true e =
-        let more = ltb-true (2 ^ 40) (m.first + candidates_of m) e in
+        let more = ltb-true (2 ^ 40) (s.first + candidates_of s) e in
         inl (refl, λ range. omega (arith, range, more))
     at_range false e =
-        at_workers (ltb-false (2 ^ 40) (m.first + candidates_of m) e) (m.workers == 0) (nat_lt 16 m.workers) refl refl
+        at_workers (ltb-false (2 ^ 40) (s.first + candidates_of s) e) (s.workers == 0) (nat_lt 16 s.workers) refl refl
 
-pub boards_due : (m : Making) (most : ℕ) → HasRun m → m.boards ≡ Some most → most ≡ 0 → IsFirstOf of_numbers m (Plan Boards)
-boards_due m most run given none =
+pub boards_due : (s : Search) (l : Look) (most : ℕ) → HasRun s l → s.boards ≡ Some most → most ≡ 0 → IsFirstOf of_numbers s l (Plan Boards)
+boards_due s l most run given none =
     inr (run.0, inr (run.1, inr (run.2, inl (refl, λ sound. sound (given ∙ ap (λ (n : ℕ). Some n) none)))))
 
-pub first_board_due : (m : Making) → HasRun m → (m.boards ≡ Some 0 → ⊥) → (Meets m (Plan FirstBoard) → ⊥) → IsFirstOf of_numbers m (Plan FirstBoard)
-first_board_due m run boards not_so =
+pub first_board_due : (s : Search) (l : Look) → HasRun s l → (s.boards ≡ Some 0 → ⊥) → (Meets s l (Plan FirstBoard) → ⊥) → IsFirstOf of_numbers s l (Plan FirstBoard)
+first_board_due s l run boards not_so =
     inr (run.0, inr (run.1, inr (run.2, inr (boards, inl (refl, not_so)))))
 
 -- each way to refuse a number
@@ -68,34 +74,37 @@ pub ruleset numbers = (plan_due, boards_due, first_board_due)
 
 -- ---- the plan
 
-before_labels : (xs ys : List Failure) (m : Making) (f : Failure) → IsFirstOf xs m f → IsFirstOf (xs ++ ys) m f
-before_labels [] ys m f h = absurd h
-before_labels (x ∷ xs) ys m f (inl h) = inl h
-before_labels (x ∷ xs) ys m f (inr h) = inr (h.0, before_labels xs ys m f h.1)
+before_labels : (xs ys : List Failure) (s : Search) (l : Look) (f : Failure) → IsFirstOf xs s l f → IsFirstOf (xs ++ ys) s l f
+before_labels [] ys s l f h = absurd h
+before_labels (x ∷ xs) ys s l f (inl h) = inl h
+before_labels (x ∷ xs) ys s l f (inr h) = inr (h.0, before_labels xs ys s l f h.1)
 
-pub numbers_due : (m : Making) (e : PlanError) → IsFirstOf of_numbers m (Plan e) → IsDueOf m (Plan e)
-numbers_due m e h = before_labels of_numbers of_labels m (Plan e) h
+pub numbers_due : (s : Search) (l : Look) (e : PlanError) → IsFirstOf of_numbers s l (Plan e) → IsPlanDue s l (Plan e)
+numbers_due s l e h = before_labels of_numbers of_labels s l (Plan e) h
 
-after_numbers : (m : Making) (f : Failure) → HasNumbers m → IsFirstOf of_labels m f → IsFirstOf (of_numbers ++ of_labels) m f
-after_numbers m f n h = inr (n.candidates, inr (n.workers, inr (n.lane, inr (n.boards, inr (n.first_board, h)))))
+after_numbers : (s : Search) (l : Look) (f : Failure) → HasNumbers s l → IsFirstOf of_labels s l f → IsFirstOf (of_numbers ++ of_labels) s l f
+after_numbers s l f n h = inr (n.candidates, inr (n.workers, inr (n.lane, inr (n.boards, inr (n.first_board, h)))))
 
-pub labels_due : (m : Making) (f : Failure) → HasNumbers m → IsFirstOf of_labels m f → IsDueOf m f
-labels_due m f n (inl h) = rw h.0 (after_numbers m (Label Event) n (inl (refl, h.1)))
-labels_due m f n (inr (event, inl h)) = rw h.0 (after_numbers m (Label Site) n (inr (event, inl (refl, h.1))))
-labels_due m f n (inr (event, inr (site, inl h))) = rw h.0 (after_numbers m (Label Date) n (inr (event, inr (site, inl (refl, h.1)))))
-labels_due m f n (inr (event, inr (site, inr h))) = absurd h.1
+pub labels_due : (s : Search) (l : Look) (f : Failure) → HasNumbers s l → IsFirstOf of_labels s l f → IsPlanDue s l f
+labels_due s l f n (inl h) = rw h.0 (after_numbers s l (Label Event) n (inl (refl, h.1)))
+labels_due s l f n (inr (event, inl h)) = rw h.0 (after_numbers s l (Label Site) n (inr (event, inl (refl, h.1))))
+labels_due s l f n (inr (event, inr (site, inl h))) = rw h.0 (after_numbers s l (Label Date) n (inr (event, inr (site, inl (refl, h.1)))))
+labels_due s l f n (inr (event, inr (site, inr h))) = absurd h.1
 
 -- ---- the hands
 
-pub hands_due : (m : Making) (f : Failure) → HasNumbers m → HasLabels m → IsFirstHand m f → IsDueOf m f
-hands_due m (CommandLine text) n l h = absurd h
-hands_due m (Plan error) n l h = absurd h
-hands_due m (Label name) n l h = absurd h
-hands_due m (Hand seat) n l h = (n, l, h)
-hands_due m (Condition error) n l h = absurd h
-hands_due m (Interrupted cause) n l h = absurd h
-hands_due m (Line line) n l h = absurd h
-hands_due m Input n l h = absurd h
+pub hands_due : (s : Search) (l : Look) (f : Failure) → HasNumbers s l → HasLabels l → IsFirstHand s f → IsPlanDue s l f
+hands_due s l (CommandLine text) n t h = absurd h
+hands_due s l (Plan error) n t h = absurd h
+hands_due s l (Label name) n t h = absurd h
+hands_due s l (Hand seat) n t h = (n, t, h)
+hands_due s l (Condition error) n t h = absurd h
+hands_due s l (Interrupted cause) n t h = absurd h
+hands_due s l (Line line) n t h = absurd h
+hands_due s l Input n t h = absurd h
+
+-- each way to refuse a plan
+pub ruleset plans = (numbers_due, labels_due, hands_due)
 
 -- ---- the condition
 
@@ -117,47 +126,90 @@ unread o text bytes e given same due = by_error e due
     by_error (Syntax at) due = inr (Syntax at, refl, because (Syntax at) due (λ bad. cc))
     by_error no_memory due = inl refl
 
-pub condition_due : (m : Making) (f : Failure) → IsPlanned m → IsConditionFailure m.where_text f → IsDueOf m f
-condition_due m f plan (inl memory) = rw memory plan
-condition_due m f plan (inr (error, is, due)) = rw is (plan, due)
+pub condition_due : (s : Search) (l : Look) (f : Failure) → IsPlanned s l → IsConditionFailure s.where_text f → IsMakeDue s l f
+condition_due s l f plan (inl memory) = rw memory plan
+condition_due s l f plan (inr (error, is, due)) = rw is (plan, due)
 
 -- ---- the run
 
-pub run_due : (m : Making) (c : Cause) → IsPlanned m → HasMeaning (make m) → IsDueOf m (Interrupted c)
-run_due m cause.Memory plan meaning = plan
-run_due m cause.Output plan meaning = (plan, meaning)
-run_due m cause.Spawn plan meaning = (plan, meaning)
-run_due m (cause.Stopped worker) plan meaning = (plan, meaning)
-run_due m (cause.Unclosed worker) plan meaning = (plan, meaning)
+pub run_due : (s : Search) (l : Look) (c : Cause) → IsPlanned s l → (form : Form) → Means s.where_text form → IsMakeDue s l (Interrupted c)
+run_due s l cause.Memory plan form means = plan
+run_due s l cause.Output plan form means = (plan, (form, means))
+run_due s l cause.Spawn plan form means = (plan, (form, means))
+run_due s l (cause.Stopped worker) plan form means = (plan, (form, means))
+run_due s l (cause.Unclosed worker) plan form means = (plan, (form, means))
 
 -- the output fails after all was done
 pub output_due : (w : Wish) → IsStatusOf w 0 → IsDueFor w (Interrupted cause.Output)
 output_due (stream seed count) status = refl
 output_due conditions status = refl
-output_due (make m) status = status.accepted (inl refl)
-output_due (pick m) status = (status.accepted (inl refl)).0
+output_due (make s l notices) status = status.accepted (inl refl)
+output_due (pick seed hands l hints) status = (status.accepted (inl refl)).0
 
--- a run that is interrupted hasn't the status of a refused plan
-pub not_interrupted : (c : Cause) → status_of (Interrupted c) ≡ 2 → ⊥
-not_interrupted cause.Memory is = cc
-not_interrupted cause.Output is = cc
-not_interrupted cause.Spawn is = cc
-not_interrupted (cause.Stopped worker) is = cc
-not_interrupted (cause.Unclosed worker) is = cc
+-- a refused plan is due for a `make` and for a `pick`
+pub make_plan_due : (s : Search) (l : Look) (f : Failure) → IsPlanDue s l f → IsMakeDue s l f
+make_plan_due s l (CommandLine text) h = h
+make_plan_due s l (Plan error) h = h
+make_plan_due s l (Label name) h = h
+make_plan_due s l (Hand seat) h = h
+make_plan_due s l (Condition error) h = absurd h
+make_plan_due s l (Interrupted c) h = absurd h
+make_plan_due s l (Line line) h = absurd h
+make_plan_due s l Input h = absurd h
 
--- a `pick` whose plan, label or hand is refused
-pub pick_refused : (m : Making) (f : Failure) → status_of f ≡ 2 → IsDueOf m f → IsPickDue m f
-pick_refused m (CommandLine text) is h = h
-pick_refused m (Plan error) is h = h
-pick_refused m (Label name) is h = h
-pick_refused m (Hand seat) is h = h
-pick_refused m (Condition error) is h = absurd cc
-pick_refused m (Interrupted c) is h = absurd (not_interrupted c is)
-pick_refused m (Line line) is h = absurd h
-pick_refused m Input is h = absurd h
+pub pick_plan_due : (s : Search) (l : Look) (f : Failure) → IsPlanDue s l f → IsPickDue s l f
+pick_plan_due s l (CommandLine text) h = h
+pick_plan_due s l (Plan error) h = h
+pick_plan_due s l (Label name) h = h
+pick_plan_due s l (Hand seat) h = h
+pick_plan_due s l (Condition error) h = absurd h
+pick_plan_due s l (Interrupted c) h = absurd h
+pick_plan_due s l (Line line) h = absurd h
+pick_plan_due s l Input h = absurd h
 
--- each way that a `pick` fails
-pub ruleset picked = (pick_refused)
+-- nothing was done before it
+pub plan_refusal : (s : Search) (l : Look) (f : Failure) → IsPlanDue s l f → is_refusal f ≡ true
+plan_refusal s l (CommandLine text) h = refl
+plan_refusal s l (Plan error) h = refl
+plan_refusal s l (Label name) h = refl
+plan_refusal s l (Hand seat) h = refl
+plan_refusal s l (Condition error) h = refl
+plan_refusal s l (Interrupted c) h = absurd h
+plan_refusal s l (Line line) h = absurd h
+plan_refusal s l Input h = absurd h
 
--- each way to fail
-pub ruleset failures = (numbers_due, labels_due, hands_due, condition_due, run_due)
+-- ---- before anything was done
+
+pub make_refused : (s : Search) (l : Look) (notices : Notices) (f : Failure) → (status_of f ≡ 2) × (IsPlanned s l → ⊥) → IsPlanDue s l f → IsRefused (make s l notices) f
+make_refused s l notices f refused due = record {
+  due = make_plan_due s l f due;
+  status = refused_plan (make s l notices) (status_of f) refused.0 refused.1;
+  nothing_done = plan_refusal s l f due;
+}
+
+pub pick_refused : (seed : ℕ) (hands : GivenHands) (l : Look) (hints : When) (f : Failure) → (status_of f ≡ 2) × (IsPlanned (no_search seed hands) l → ⊥) → IsPlanDue (no_search seed hands) l f
+    → IsRefused (pick seed hands l hints) f
+pick_refused seed hands l hints f refused due = record {
+  due = pick_plan_due (no_search seed hands) l f due;
+  status = refused_plan (pick seed hands l hints) (status_of f) refused.0 refused.1;
+  nothing_done = plan_refusal (no_search seed hands) l f due;
+}
+
+pub meaning_refused : (s : Search) (l : Look) (notices : Notices) (f : Failure) → IsPlanned s l → (status_of f ≡ 5) ⊎ (status_of f ≡ 3) → ((form : Form) → Means s.where_text form → status_of f ≡ 5)
+    → IsConditionFailure s.where_text f → IsRefused (make s l notices) f
+meaning_refused s l notices f plan status memory due = record {
+  due = condition_due s l f plan due;
+  status = by_status status;
+  nothing_done = by_failure due;
+}
+  where
+    no_meaning : status_of f ≡ 3 → ((form : Form) × Means s.where_text form) → ⊥
+    no_meaning is means = let five : status_of f ≡ 5 = memory means.0 means.1 in omega (arith, is, five)
+
+    by_status : (status_of f ≡ 5) ⊎ (status_of f ≡ 3) → IsStatusOf (make s l notices) (status_of f)
+    by_status (inl is) = out_of_memory (make s l notices) (status_of f) is
+    by_status (inr is) = refused_meaning (make s l notices) (status_of f) is plan (no_meaning is)
+
+    by_failure : IsConditionFailure s.where_text f → is_refusal f ≡ true
+    by_failure (inl memory) = rw memory refl
+    by_failure (inr (error, is, due)) = rw is refl

@@ -1,5 +1,6 @@
+pub mod Statuses
 pub mod FirstDue
 pub mod Refusals
-pub mod Statuses
 pub mod Saying
+pub mod Serving
 pub mod Reporting

@@ -6,7 +6,8 @@ use Rattle.sinks.specs.Appended.{AppendsAll, append_known}
 use Rattle.requests.specs.Makings.{plan_of}
 use Rattle.requests.specs.Reported.{Counts, Reports, ReportsFor, wants_report}
 use Rattle.requests.specs.Reports.{next_line, report_line, report_of}
-use Rattle.requests.specs.Requests.{Making, Wish, conditions, make, pick, stream}
+use Rattle.requests.specs.Requests.{Look, Search, Wish, conditions, make, pick, stream}
+use Rattle.requests.specs.declared.request.Notices.{Notices}
 use Rattle.notations.specs.declared.format.Format.{Format}
 use Rattle.requests.specs.declared.report.Report.{Report}
 
@@ -17,20 +18,20 @@ same_text format plan form r h =
     ∙ ap₂ (λ (n b : ℕ). report_line plan n b ++ next_line format plan n b) h.candidates_are h.boards_are
 
 -- the report of a `make` was said
-pub said : (m : Making) (r : Report) (old new : Option (List ℕ)) → ReportsFor (make m) (Some r)
-    → AppendsAll old new (report_line r.plan r.candidates r.boards ++ next_line r.format r.plan r.candidates r.boards) → Reports m old new
-said m r old new h text =
+pub said : (s : Search) (l : Look) (notices : Notices) (r : Report) (old new : Option (List ℕ)) → ReportsFor (make s l notices) (Some r)
+    → AppendsAll old new (report_line r.plan r.candidates r.boards ++ next_line r.format r.plan r.candidates r.boards) → Reports s l old new
+said s l notices r old new h text =
     let counts = h.1 in
-    (counts.0, counts.1, text ∙ ap (append_known old) (same_text m.format (plan_of m) counts.0 r counts.2))
+    (counts.0, counts.1, text ∙ ap (append_known old) (same_text l.format (plan_of s l) counts.0 r counts.2))
 
 -- no report is made unless it is asked for
 pub none_made : (o : Option Wish) (r : Report) → ((w : Wish) → o ≡ Some w → ReportsFor w (Some r)) → (o ≡ None → Some r ≡ None) → wants_report o ≡ false → ⊥
 none_made None r some none quiet = let bad : Some r ≡ None = none refl in cc
 none_made (Some (stream seed count)) r some none quiet = let bad : Some r ≡ None = some (stream seed count) refl in cc
 none_made (Some conditions) r some none quiet = let bad : Some r ≡ None = some conditions refl in cc
-none_made (Some (pick m)) r some none quiet = let bad : Some r ≡ None = some (pick m) refl in cc
-none_made (Some (make m)) r some none quiet = let is = (some (make m) refl).0 in let bad : true ≡ false = sym is ∙ quiet in cc
+none_made (Some (pick seed hands l hints)) r some none quiet = let bad : Some r ≡ None = some (pick seed hands l hints) refl in cc
+none_made (Some (make s l notices)) r some none quiet = let is = (some (make s l notices) refl).0 in let bad : true ≡ false = sym is ∙ quiet in cc
 
 -- a `make` that asks for a report has one
-pub some_made : (m : Making) → ReportsFor (make m) None → m.report ≡ true → ⊥
-some_made m h is = let bad : true ≡ false = sym is ∙ h in cc
+pub some_made : (s : Search) (l : Look) (notices : Notices) → ReportsFor (make s l notices) None → notices.report ≡ true → ⊥
+some_made s l notices h is = let bad : true ≡ false = sym is ∙ h in cc

@@ -51,3 +51,13 @@ is_untouched (Interrupted (cause.Unclosed worker)) = false
 is_untouched (Line line) = false
 is_untouched Input = false
 is_untouched _ = true
+
+-- what refuses a wish before anything is done, or ends it there since memory ran out
+abbrev pub is_refusal : Failure → Bool
+is_refusal (CommandLine text) = true
+is_refusal (Plan error) = true
+is_refusal (Label label) = true
+is_refusal (Hand seat) = true
+is_refusal (Condition error) = true
+is_refusal (Interrupted cause.Memory) = true
+is_refusal _ = false

@@ -1,11 +1,18 @@
 -- What a run writes in each format.
 use Rattle.std.specs.Prelude.{ℕ, List}
+use Rattle.boards.specs.Layouts.{Layout}
 use Rattle.cond_lang.specs.Form.{Form}
-use Rattle.dealrun.specs.Text.{text_in}
+use Rattle.plans.specs.Text.{text_in}
 use Rattle.notations.specs.Formats.{layout_of}
 use Rattle.notations.specs.declared.format.Format.{Format}
 use Rattle.plans.specs.Plans.{Planned}
+use Rattle.requests.specs.Makings.{plan_of}
+use Rattle.requests.specs.Requests.{Look, Search}
 
 -- the whole text of a plan under a condition
 abbrev pub text_as : Format → Planned → Form → List ℕ
 text_as format plan form = text_in (layout_of format plan.heading) plan form
+
+-- how boards are laid out
+abbrev pub layout_in : Search → Look → Layout
+layout_in s l = layout_of l.format (plan_of s l).heading

@@ -12,9 +12,9 @@ use Rattle.picking.specs.declared.fault.PickFault.TheVariants as picks
 use Rattle.plans.specs.Plans.{Planned}
 use Rattle.sinks.specs.Appended.{AppendsPart}
 use Rattle.dealrun.specs.Values.{lines}
-use Rattle.notations.specs.Formats.{layout_of}
+use Rattle.requests.specs.Formats.{layout_in}
 use Rattle.requests.specs.Makings.{Means, plan_of}
-use Rattle.requests.specs.Requests.{Making, Wish, conditions, stream, make, pick}
+use Rattle.requests.specs.Requests.{Look, Search, Wish, conditions, make, no_search, pick, stream}
 use Rattle.requests.specs.Wishes.{language_page}
 use Rattle.requests.specs.declared.failure.Failure.{Failure}
 use Rattle.requests.specs.declared.failure.Failure.TheVariants.{Interrupted, Line, Input}
@@ -27,29 +27,31 @@ pub record InterruptsRun (layout : Layout) (plan : Planned) (form : Form) (cause
   pub boards : ℕ
   pub stands : InterruptedIn layout plan form cause lanes boards old new
 
--- the run of a `make` was interrupted
-pub record InterruptsMake (m : Making) (cause : Cause) (old new : Option (List ℕ)) : Type 0 where
+-- the run of a `make` or a `find` was interrupted
+pub record InterruptsMake (s : Search) (l : Look) (cause : Cause) (old new : Option (List ℕ))
+    : Type 0 where
   pub form : Form
-  pub means : Means m.where_text form
-  pub run : InterruptsRun (layout_of m.format (plan_of m).heading) (plan_of m) form cause old new
+  pub means : Means s.where_text form
+  pub run : InterruptsRun (layout_in s l) (plan_of s l) form cause old new
 
 -- picking ended with this fault
-abbrev pub EndsPick : Making → PickFault → (before behind old new : Option (List ℕ)) → Type 0
-EndsPick m fault before behind old new =
-    Picks (layout_of m.format (plan_of m).heading) (plan_of m) (Err fault) before behind old new
+abbrev pub EndsPick : Search → Look → PickFault → (before behind old new : Option (List ℕ)) → Type 0
+EndsPick s l fault before behind old new =
+    Picks (layout_in s l) (plan_of s l) (Err fault) before behind old new
 
 -- a wish was broken off for this cause: of a text that needs no run a proper prefix is written. The
 -- output of a `pick` may also fail where it passes on what stands before a fault of its input
 abbrev pub BreaksOff : Wish → Cause → (before behind old new : Option (List ℕ)) → Type 0
 BreaksOff (stream seed count) cause before behind old new = AppendsPart old new (lines seed count)
 BreaksOff conditions cause before behind old new = AppendsPart old new language_page
-BreaksOff (make m) cause before behind old new = InterruptsMake m cause old new
-BreaksOff (pick m) cause before behind old new =
-    (fault : PickFault) × EndsPick m fault before behind old new
+BreaksOff (make s l notices) cause before behind old new = InterruptsMake s l cause old new
+BreaksOff (pick seed hands l hints) cause before behind old new =
+    (fault : PickFault) × EndsPick (no_search seed hands) l fault before behind old new
 
 -- a wish was ended by this fault of its input, which only a `pick` reads
 abbrev pub EndsFor : Wish → PickFault → (before behind old new : Option (List ℕ)) → Type 0
-EndsFor (pick m) fault before behind old new = EndsPick m fault before behind old new
+EndsFor (pick seed hands l hints) fault before behind old new =
+    EndsPick (no_search seed hands) l fault before behind old new
 EndsFor w fault before behind old new = ⊥
 
 -- what a wish leaves that fails so: nothing, unless it was broken off. `before` and `behind` are

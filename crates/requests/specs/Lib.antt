@@ -1,6 +1,7 @@
 pub mod Requests
 pub mod Options
 pub mod Makings
+pub mod Jobs
 pub mod Formats
 pub mod Wishes
 pub mod FirstRefusal

@@ -6,9 +6,9 @@ use Rattle.conditions.specs.declared.error.CondError.{CondError}
 use Rattle.conditions.specs.declared.error.CondError.TheVariants as cond
 use Rattle.dealrun.specs.declared.cause.Cause.{Cause}
 use Rattle.dealrun.specs.declared.cause.Cause.TheVariants as cause
-use Rattle.number_input.specs.declared.refusal.LineFault.{LineFault}
-use Rattle.number_input.specs.declared.refusal.LineFault.TheVariants as fault
-use Rattle.number_input.specs.declared.refusal.RefusedLine.{RefusedLine}
+use Rattle.picking.specs.declared.refusal.LineFault.{LineFault}
+use Rattle.picking.specs.declared.refusal.LineFault.TheVariants as fault
+use Rattle.picking.specs.declared.refusal.RefusedLine.{RefusedLine}
 use Rattle.plans.specs.declared.plan.PlanError.{PlanError}
 use Rattle.plans.specs.declared.plan.PlanError.TheVariants as plan
 use Rattle.requests.specs.declared.failure.Failure.{Failure}

@@ -1,41 +1,52 @@
--- What `make` is asked for: its plan, and its condition.
+-- What a search and a look come to: the plan of a run, and the meaning of its condition.
 use Rattle.std.specs.Prelude.{◌≡◌, ◌≤◌, ◌<◌, ◌^◌, ◌+◌, ◌-◌, ℕ, List, Option, None, Some, length}
 use Rattle.std.specs.Prelude.{unwrap_or}
+use Rattle.boards.specs.Headings.{HeadingView}
+use Rattle.boards.specs.declared.setting.Setting.{Setting}
 use Rattle.cond_lang.specs.Form.{Form, compare, number}
 use Rattle.cond_lang.specs.Text.{SpellsTree}
 use Rattle.conditions.specs.declared.tree.Op.TheVariants.{Equal}
-use Rattle.hand_texts.specs.HandTexts.{first_refused, fixed_of}
-use Rattle.pbn_text.specs.Labels.{IsDate, IsLabel}
+use Rattle.predeal.specs.PredealtHands.{first_refused, fixed_of}
+use Rattle.boards.specs.Labels.{IsDate, IsLabel}
 use Rattle.plans.specs.Plans.{Planned}
-use Rattle.requests.specs.Requests.{Making}
+use Rattle.requests.specs.Requests.{Look, Search}
 
 -- how many candidates are tried: as many as are asked for, or all that there are from the first on
-abbrev pub candidates_of : Making → ℕ
-candidates_of m = unwrap_or m.candidates (2 ^ 40 - m.first)
+abbrev pub candidates_of : Search → ℕ
+candidates_of s = unwrap_or s.candidates (2 ^ 40 - s.first)
 
--- the plan of `make`: from here on the candidates are its count, the lane its capacity, the
--- boards its limit
-abbrev pub plan_of : Making → Planned
-plan_of m = record {
-  seed = m.seed;
-  first = m.first;
-  count = candidates_of m;
-  workers = m.workers;
-  capacity = m.lane;
-  limit = m.boards;
-  first_board = unwrap_or m.first_board 1;
-  heading = record { event = m.event; site = m.site; date = m.date };
-  setting = record { dealer = m.dealer; vulnerable = m.vulnerable; rotate = m.rotate };
-  fixed = fixed_of m.hands;
+abbrev pub first_board_of : Look → ℕ
+first_board_of l = unwrap_or l.first_board 1
+
+-- the labels of all boards, and what stands in place of Law 2
+abbrev pub heading_of : Look → HeadingView
+heading_of l = record { event = l.event; site = l.site; date = l.date }
+
+abbrev pub setting_of : Look → Setting
+setting_of l = record { dealer = l.dealer; vulnerable = l.vulnerable; rotate = l.rotate }
+
+-- the plan: from here on the candidates are its count, the lane its capacity, the boards its limit
+abbrev pub plan_of : Search → Look → Planned
+plan_of s l = record {
+  seed = s.seed;
+  first = s.first;
+  count = candidates_of s;
+  workers = s.workers;
+  capacity = s.lane;
+  limit = s.boards;
+  first_board = first_board_of l;
+  heading = heading_of l;
+  setting = setting_of l;
+  fixed = fixed_of s.hands;
 }
 
 -- the plan's numbers are in range
-pub record HasNumbers (m : Making) : Type 0 where
-  pub candidates : m.first + candidates_of m ≤ 2 ^ 40
-  pub workers : (0 < m.workers) × (m.workers ≤ 16)
-  pub lane : (0 < m.lane) × (m.lane ≤ 4096)
-  pub boards : m.boards ≡ Some 0 → ⊥
-  pub first_board : (0 < unwrap_or m.first_board 1) × (unwrap_or m.first_board 1 ≤ 2 ^ 40)
+pub record HasNumbers (s : Search) (l : Look) : Type 0 where
+  pub candidates : s.first + candidates_of s ≤ 2 ^ 40
+  pub workers : (0 < s.workers) × (s.workers ≤ 16)
+  pub lane : (0 < s.lane) × (s.lane ≤ 4096)
+  pub boards : s.boards ≡ Some 0 → ⊥
+  pub first_board : (0 < first_board_of l) × (first_board_of l ≤ 2 ^ 40)
 
 -- a text that is given can be written as a label, or as a date
 abbrev pub CanLabel : Option (List ℕ) → Type 0
@@ -45,20 +56,20 @@ abbrev pub CanDate : Option (List ℕ) → Type 0
 CanDate given = (t : List ℕ) → given ≡ Some t → IsDate t
 
 -- its labels can be written
-pub record HasLabels (m : Making) : Type 0 where
-  pub event : CanLabel m.event
-  pub site : CanLabel m.site
-  pub date : CanDate m.date
+pub record HasLabels (l : Look) : Type 0 where
+  pub event : CanLabel l.event
+  pub site : CanLabel l.site
+  pub date : CanDate l.date
 
 -- each text of a hand that is given is a hand, without a card of an earlier one
-abbrev pub HasHands : Making → Type 0
-HasHands m = first_refused m.hands ≡ None
+abbrev pub HasHands : Search → Type 0
+HasHands s = first_refused s.hands ≡ None
 
 -- there is such a plan
-pub record IsPlanned (m : Making) : Type 0 where
-  pub numbers : HasNumbers m
-  pub labels : HasLabels m
-  pub hands : HasHands m
+pub record IsPlanned (s : Search) (l : Look) : Type 0 where
+  pub numbers : HasNumbers s l
+  pub labels : HasLabels l
+  pub hands : HasHands s
 
 -- the text of a condition means this tree; without a text every deal is accepted
 abbrev pub Means : Option (List ℕ) → Form → Type 0

@@ -2,7 +2,7 @@
 use Rattle.std.specs.Prelude.{ℕ, ◌+◌, ◌-◌, ◌^◌, ◌==◌, ◌||◌, List, [], ◌++◌, Option, None, Some}
 use Rattle.std.specs.Prelude.{codes, decimal, length, nat_lt, if◌then◌else◌}
 use Rattle.cond_lang.specs.Form.{Form}
-use Rattle.dealrun.specs.Text.{accepted, end_of}
+use Rattle.plans.specs.Text.{accepted, end_of}
 use Rattle.plans.specs.Plans.{Planned}
 use Rattle.notations.specs.Formats.{numbers_boards}
 use Rattle.notations.specs.declared.format.Format.{Format}

@@ -6,10 +6,9 @@ use Rattle.cond_lang.specs.declared.language.TheConstants.{LANGUAGE}
 use Rattle.picking.specs.Outcomes.{Picks}
 use Rattle.sinks.specs.Appended.{AppendsAll}
 use Rattle.dealrun.specs.Values.{lines}
-use Rattle.notations.specs.Formats.{layout_of}
-use Rattle.requests.specs.Formats.{text_as}
+use Rattle.requests.specs.Formats.{layout_in, text_as}
 use Rattle.requests.specs.Makings.{IsPlanned, Means, plan_of}
-use Rattle.requests.specs.Requests.{Wish, conditions, stream, make, pick}
+use Rattle.requests.specs.Requests.{Wish, conditions, make, no_search, pick, stream}
 
 -- the page of the language, of its parts
 abbrev pub language_page : List ℕ
@@ -20,12 +19,13 @@ language_page = flat_map (λ part. part.now) LANGUAGE
 abbrev pub AppendsFrom : Wish → (before behind old new : Option (List ℕ)) → Type 0
 AppendsFrom (stream seed count) before behind old new = AppendsAll old new (lines seed count)
 AppendsFrom conditions before behind old new = AppendsAll old new language_page
-AppendsFrom (make m) before behind old new =
-    (form : Form) × Means m.where_text form
-    × AppendsAll old new (text_as m.format (plan_of m) form)
-AppendsFrom (pick m) before behind old new =
+AppendsFrom (make s l notices) before behind old new =
+    (form : Form) × Means s.where_text form
+    × AppendsAll old new (text_as l.format (plan_of s l) form)
+AppendsFrom (pick seed hands l hints) before behind old new =
     (boards : ℕ)
-    × Picks (layout_of m.format (plan_of m).heading) (plan_of m) (Ok boards) before behind old new
+    × Picks (layout_in (no_search seed hands) l) (plan_of (no_search seed hands) l) (Ok boards)
+    before behind old new
 
 -- the same without an input
 abbrev pub Appends : Wish → (old new : Option (List ℕ)) → Type 0
@@ -35,29 +35,29 @@ Appends w old new = AppendsFrom w (Some []) (Some []) old new
 abbrev pub HasPlan : Wish → Type 0
 HasPlan (stream seed count) = Unit {0}
 HasPlan conditions = Unit {0}
-HasPlan (make m) = IsPlanned m
-HasPlan (pick m) = IsPlanned m
+HasPlan (make s l notices) = IsPlanned s l
+HasPlan (pick seed hands l hints) = IsPlanned (no_search seed hands) l
 
 -- the condition of a wish has to be accepted
 abbrev pub HasMeaning : Wish → Type 0
 HasMeaning (stream seed count) = Unit {0}
 HasMeaning conditions = Unit {0}
-HasMeaning (make m) = (form : Form) × Means m.where_text form
-HasMeaning (pick m) = Unit {0}
+HasMeaning (make s l notices) = (form : Form) × Means s.where_text form
+HasMeaning (pick seed hands l hints) = Unit {0}
 
 -- a wish that is served by threads
 abbrev pub HasRun : Wish → Type 0
 HasRun (stream seed count) = ⊥
 HasRun conditions = ⊥
-HasRun (make m) = Unit {0}
-HasRun (pick m) = ⊥
+HasRun (make s l notices) = Unit {0}
+HasRun (pick seed hands l hints) = ⊥
 
 -- a wish that reads the input
 abbrev pub HasInput : Wish → Type 0
 HasInput (stream seed count) = ⊥
 HasInput conditions = ⊥
-HasInput (make m) = ⊥
-HasInput (pick m) = Unit {0}
+HasInput (make s l notices) = ⊥
+HasInput (pick seed hands l hints) = Unit {0}
 
 -- a status of the program, and of that with an input
 abbrev pub IsStatus : ℕ → Type 0

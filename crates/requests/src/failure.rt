@@ -14,7 +14,7 @@ use crate::message::Message;
 use cards::Seat;
 use cond_lang::CondError;
 use dealrun::Cause;
-use number_input::{LineFault, RefusedLine};
+use picking::{LineFault, RefusedLine};
 use plans::PlanError;
 use sinks::{Sink, SinkFault};
 use std::alloc::AllocError;

@@ -1,87 +1,79 @@
 //! The requests: one variant for each subcommand.
 
-ghost use Rattle.std.specs.Prelude.{◌≡◌, ◌-◌, ◌+◌, ◌^◌, ◌<◌, true, IfErr, IfOk, OnOk};
-ghost use Rattle.requests.specs.Failures.{CountsInput, faults_in, is_untouched};
-ghost use Rattle.requests.specs.Failures.{status_in};
-ghost use Rattle.requests.specs.FirstRefusal.{IsDueFor};
-ghost use Rattle.requests.specs.Interruptions.{LeavesFrom};
-ghost use Rattle.requests.specs.Options.{IsInRange, wish_of};
-ghost use Rattle.requests.specs.Reported.{ReportsFor};
-ghost use Rattle.requests.specs.Wishes.{AppendsFrom, HasInput, IsStatusOf};
+ghost use Rattle.std.specs.Prelude.{◌≤◌, ◌^◌};
 
-use crate::failure::Failure;
-use crate::language::conditions;
-use crate::make::{MakeRequest, make};
-use crate::pick::pick;
-use crate::report::Report;
-use crate::stream::{StreamRequest, stream};
-use number_input::Source;
-use sinks::Sink;
-use std::alloc::Global;
-use std::sync::Wait;
-use std::thread::Threads;
+use crate::look::Look;
+use crate::search::Search;
+use crate::when::When;
+use predeal::PredealtHands;
+
+/// What a person is told while a run lasts and when it has ended. Nothing else depends on it.
+#[derive(Clone, Copy, Debug)]
+pub struct Notices {
+    /// Whether the boards and the candidates are counted for a report.
+    pub report: bool,
+    /// When the counts are shown while the run lasts.
+    pub progress: When,
+    /// When lines that help a person stand below a refusal.
+    pub hints: When,
+}
+
+/// The first `count` values of a seed, at most 2^40.
+#[derive(Clone, Copy, Debug)]
+pub struct StreamRequest {
+    pub seed: u32,
+    pub count: u64,
+    ghost few: { count ≤ 2 ^ 40 },
+}
 
 /// What is asked for.
-#[derive(Debug, Drop)]
+#[derive(Clone, Copy, Debug)]
 pub enum Request<'a> {
-    Make(MakeRequest<'a>),
-    /// The boards of the candidates whose numbers the input gives. Of the request its seed, its
-    /// first board, its labels, its hands, its format and what stands in place of Law 2 count.
-    Pick(MakeRequest<'a>),
+    /// The boards of the accepted candidates.
+    Make {
+        search: Search<'a>,
+        look: Look<'a>,
+        notices: Notices,
+    },
+    /// The numbers of the accepted candidates.
+    Find {
+        search: Search<'a>,
+        notices: Notices,
+    },
+    /// The boards of the candidates whose numbers the input gives.
+    Pick {
+        seed: u32,
+        hands: PredealtHands<'a>,
+        look: Look<'a>,
+        hints: When,
+    },
     /// The page of the language.
     Conditions,
     Stream(StreamRequest),
 }
 
-/// Does what is asked for, and returns its report if one is asked for. It may wait for its workers,
-/// and a `pick` for its input, which nothing else reads.
-pub fn serve<R: Threads + Wait + Clone + Send + 'static, I: Source, O: Sink>(
-    rt: &R,
-    alloc: Global,
-    request: &Request<'_>,
-    input: &mut I,
-    out: &mut O,
-) -> Result<Option<Report>, Failure>
-    requires range { IsInRange request.now }
-    requires faults { O.faults out.old < 2 ^ 64 - 1 }
-    requires input { I.faults input.old < 2 ^ 64 - 1 }
-    // All that is asked for was written, on Ok.
-    ensures text { OnOk result (AppendsFrom (wish_of request.now)
-        (I.rest input.old) (I.rest input.new) (O.bytes out.old) (O.bytes out.new)) }
-    // Its report, if one was asked for.
-    ensures report { IfOk result (ReportsFor (wish_of request.now)) }
-    // The status says what of it was accepted, and what refused.
-    ensures status { IsStatusOf (wish_of request.now) (status_in result) }
-    // Nothing was written if something is refused, memory ran out or a thread wasn't started.
-    ensures untouched { IfErr result (λ e. is_untouched e ≡ true
-        → O.bytes out.new ≡ O.bytes out.old) }
-    // What a failure leaves: of a text without a run a proper prefix, of a run what it took, of a
-    // `pick` the boards up to the fault.
-    ensures stands { IfErr result (λ e. LeavesFrom (wish_of request.now) e
-        (I.rest input.old) (I.rest input.new) (O.bytes out.old) (O.bytes out.new)) }
-    // The output failed once if the failure says so, and else not.
-    ensures faults { O.faults out.new ≡ O.faults out.old + faults_in result }
-    // The input failed once if the failure says so, and else not unless the output failed after it;
-    // only a `pick` reads it.
-    ensures input { CountsInput result (I.faults input.old) (I.faults input.new) }
-    ensures unread { (HasInput (wish_of request.now) → ⊥)
-        → (I.rest input.new ≡ I.rest input.old) × (I.faults input.new ≡ I.faults input.old) }
-    // The failure that is told is the first that is due.
-    ensures due { IfErr result (IsDueFor (wish_of request.now)) }
-{
-    match request {
-        Request::Make(request) => make(rt, alloc, request, out),
-        Request::Pick(request) => {
-            pick(alloc, request, input, out)?;
-            Ok(None)
+impl<'a> Request<'a> {
+    /// Returns the search and the look that a plan is made of, if the request has one.
+    pub fn plans(&self) -> Option<(Search<'a>, Look<'a>)> {
+        match self {
+            Request::Make { search, look, .. } => Some((*search, *look)),
+            Request::Find { search, .. } => Some((*search, Look::numbers())),
+            Request::Pick {
+                seed,
+                hands,
+                look,
+                ..
+            } => Some((Search::none(*seed, *hands), *look)),
+            Request::Conditions | Request::Stream(_) => None,
         }
-        Request::Conditions => {
-            conditions(out)?;
-            Ok(None)
-        }
-        Request::Stream(request) => {
-            stream(request, out)?;
-            Ok(None)
+    }
+
+    /// Returns when lines that help a person stand below a refusal.
+    pub fn hints(&self) -> When {
+        match self {
+            Request::Make { notices, .. } | Request::Find { notices, .. } => notices.hints,
+            Request::Pick { hints, .. } => *hints,
+            Request::Conditions | Request::Stream(_) => When::Auto,
         }
     }
 }

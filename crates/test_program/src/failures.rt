@@ -2,7 +2,7 @@
 
 use crate::support::same;
 use dealrun::{Cause, MemSink};
-use number_input::{LineFault, RefusedLine};
+use picking::{LineFault, RefusedLine};
 use requests::Failure;
 
 /// A refused line of the input is named, with what is wrong with it.

@@ -1,38 +1,53 @@
 //! Runs in a notation of this file's own: a header, a line a board, and a footer.
 
-ghost use Rattle.std.specs.Prelude.{◌≡◌, ◌+◌, ◌%◌, ◌∷◌, ◌<◌, [], codes};
-ghost use Rattle.std.proofs.Common.{rules};
+ghost use Rattle.std.specs.Prelude.{◌≡◌, ◌<◌};
 
 use crate::support::same;
 use boards::{Board, Notation};
 use cond_lang::Cond;
-use dealrun::{Cause, Fuse, MemSink, PlainFault, Plan, run_in, run_plain_in};
+use dealrun::{Cause, Fuse, MemSink, PlainFault, Plan, Sink, SinkFault, put_all, run_in};
+use dealrun::run_plain_in;
 use lanes::OpenGate;
 use std::alloc::Global;
 use std::process::Abort;
 use std::sync::{Arc, Wait};
 use std::thread::Threads;
 
-/// A line a board: the last digit of its number, a space, and the last digit of its candidate.
+/// A line a board: the last digit of its number, a space, and the last digit of its candidate. The
+/// footer has the last digits of how many boards there are, and of how many candidates were tried.
 #[derive(Drop)]
 struct Digits {
     line: [u8; 4],
+    /// The last digit of how many boards were printed.
+    boards: u8,
+    ghost digit: { boards < 10 },
 }
 
 impl Digits {
-    fn new() -> Digits {
-        Digits { line: [0; 4] }
+    ghost use Rattle.std.specs.Prelude.{◌<◌};
+
+    fn new() -> Digits
+        ensures { result.boards ≡ 0 }
+    {
+        Digits {
+            line: [0; 4],
+            boards: 0,
+        }
     }
 }
 
 impl Notation for Digits {
+    ghost use Rattle.std.specs.Prelude.{◌≡◌, ◌+◌, ◌%◌, ◌∷◌, [], codes, length};
+
     ghost layout = { λ _. record {
       header = codes "begin\n";
       board = λ b. (48 + b.number % 10) ∷ 32 ∷ (48 + b.candidate % 10) ∷ 10 ∷ [];
-      footer = codes "end\n";
+      footer = λ boards tried. (48 + length boards % 10) ∷ 32 ∷ (48 + tried % 10) ∷ 10 ∷ [];
     } };
 
     ghost printed = { λ digits. digits.line };
+
+    ghost has_printed = { λ digits boards. digits.boards ≡ length boards % 10 };
 
     fn header(&self) -> &[u8] {
         b"begin\n"
@@ -42,21 +57,21 @@ impl Notation for Digits {
         let number = (board.number % 10) as u8;
         let candidate = (board.candidate % 10) as u8;
         self.line = [48 + number, b' ', 48 + candidate, b'\n'];
+        self.boards = (self.boards + 1) % 10;
     }
 
     fn text(&self) -> &[u8] {
         self.line.as_slice()
     }
 
-    fn footer(&self) -> &[u8] {
-        b"end\n"
+    fn put_footer<S: Sink>(&self, tried: u64, sink: &mut S) -> Result<(), SinkFault> {
+        let tried = (tried % 10) as u8;
+        put_all(sink, &[48 + self.boards, b' ', 48 + tried, b'\n'])
     }
-
-    ghost some_byte = { Prim.search rules };
 }
 
 /// Candidates 7 to 11 as boards from 98 on.
-const TEXT: &[u8] = b"begin\n8 7\n9 8\n0 9\n1 0\n2 1\nend\n";
+const TEXT: &[u8] = b"begin\n8 7\n9 8\n0 9\n1 0\n2 1\n5 5\n";
 
 /// The plan of so many candidates of seed 0 from 7 on, as boards from 98 on.
 fn plan_from_7(rt: &impl Abort, count: u64, workers: u32, capacity: u32) -> Plan {

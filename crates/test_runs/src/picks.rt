@@ -2,7 +2,7 @@
 
 use crate::support::{equals, holds};
 use notations::{AnyPrinter, Format};
-use number_input::{LineFault, NoBytes, Reader, RefusedLine};
+use picking::{LineFault, NoBytes, Reader, RefusedLine};
 use picking::{PickFault, pick};
 use plans::Plan;
 use sinks::{Fuse, MemSink};

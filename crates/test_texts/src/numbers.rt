@@ -1,7 +1,7 @@
 //! Texts of numbers, and what they say.
 
 use crate::support::same;
-use number_input::{LineFault, NoBytes, Reader, RefusedLine, Scanner, Source, SourceFault};
+use picking::{LineFault, NoBytes, Reader, RefusedLine, Scanner, Source, SourceFault};
 use std::alloc::{AllocError, Global};
 use std::io::{self, Error, ErrorKind, Read};
 use std::process::Abort;

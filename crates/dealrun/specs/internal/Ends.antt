@@ -4,8 +4,8 @@ use Rattle.boards.specs.Layouts.{Layout}
 use Rattle.conditions.specs.Form.{Form}
 use Rattle.lanes.specs.Views.{OutView}
 use Rattle.plans.specs.Plans.{Planned}
-use Rattle.dealrun.specs.Text.{end_of}
-use Rattle.dealrun.specs.Outcomes.{InterruptedIn, StandsCompleteIn}
+use Rattle.plans.specs.Text.{end_of}
+use Rattle.dealrun.specs.Outcomes.{InterruptedIn, StandsCompleteIn, footer_taken}
 use Rattle.dealrun.specs.Outcomes.{TakesWhatIsOwed, WritesTextIn}
 use Rattle.dealrun.specs.declared.runs.Counted.{Counted}
 use Rattle.dealrun.specs.declared.runs.RunFault.{RunFault}
@@ -15,7 +15,8 @@ pub record Closes (layout : Layout) (plan : Planned) (form : Form) (lanes : List
     (boards candidates : ℕ) (old new : Option (List ℕ)) : Type 0 where
   pub lanes_are : TakesWhatIsOwed plan form lanes boards
   pub text_is : WritesTextIn layout plan form boards old new
-  pub stands : StandsCompleteIn layout layout.footer plan form lanes boards old new
+  pub stands : StandsCompleteIn layout (footer_taken layout plan lanes) plan form lanes boards
+      old new
   pub candidates_are : candidates ≡ end_of plan form
   pub few : (boards ≤ candidates) × (candidates ≤ plan.count)
 

@@ -2,6 +2,7 @@
 use Rattle.std.specs.Prelude.{ℕ, ◌≡◌, ◌≢◌, ◌+◌, ◌<◌, ◌≤◌, ◌⊎◌, List, [], length, map, All, Option}
 use Rattle.std.specs.Prelude.{Some, None, if◌then◌else◌, slice_index_or}
 use Rattle.std.specs.Option.{ForSome}
+use Rattle.boards.specs.declared.board.Board.{Board}
 use Rattle.boards.specs.Layouts.{Layout}
 use Rattle.conditions.specs.Form.{Form}
 use Rattle.lanes.specs.declared.verdict.Verdict.{Verdict}
@@ -9,7 +10,7 @@ use Rattle.lanes.specs.Verdicts.{turns}
 use Rattle.lanes.specs.Views.{OutView}
 use Rattle.plans.specs.Plans.{Planned}
 use Rattle.sinks.specs.Appended.{append_known}
-use Rattle.dealrun.specs.Text.{board_of, text_of_boards}
+use Rattle.plans.specs.Text.{board_of, text_of_boards}
 use Rattle.dealrun.specs.MergedVerdicts.{boards_after}
 use Rattle.dealrun.specs.Outcomes.{BreaksOffLastPiece, contents_of}
 use Rattle.dealrun.specs.internal.Joins.{AllParts, AllWhole}
@@ -61,11 +62,12 @@ pub record WroteTaken (layout : Layout) (plan : Planned) (lanes : List OutView)
   pub bytes_are : new ≡ append_known old (printed layout plan (taken_lists lanes) m)
   pub boards_are : boards ≡ board_count plan (taken_lists lanes) m
 
--- the writer goes on
-pub record WriterSoFar (layout : Layout) (plan : Planned) (lanes : List OutView)
-    (m boards : ℕ) (old new : Option (List ℕ)) : Type 0 where
+-- the writer goes on, with a notation that has printed these boards
+pub record WriterSoFar (layout : Layout) (has_printed : List Board → Type 0) (plan : Planned)
+    (lanes : List OutView) (m boards : ℕ) (old new : Option (List ℕ)) : Type 0 where
   pub in_turn : TakenInTurn plan lanes m
   pub written : WroteTaken layout plan lanes m boards old new
+  pub printed : has_printed (boards_after plan (taken_lists lanes) m)
   pub within : ForSome plan.limit (λ most. boards ≤ most)
   pub short : StaysShort plan lanes m
 
@@ -82,9 +84,10 @@ pub record IsFresh (w : Writer) : Type 0 where
   pub boards : w.progress.boards ≡ 0
   pub lanes : All (λ l. l.taken ≡ []) w.lanes.items
 
-abbrev pub GoesOn : Layout → Writer → Option (List ℕ) → Option (List ℕ) → Type 0
-GoesOn layout w =
-    WriterSoFar layout w.plan w.lanes.items w.progress.taken w.progress.boards
+abbrev pub GoesOn : Layout → (List Board → Type 0) → Writer
+    → Option (List ℕ) → Option (List ℕ) → Type 0
+GoesOn layout has_printed w =
+    WriterSoFar layout has_printed w.plan w.lanes.items w.progress.taken w.progress.boards
 
 abbrev pub BrokeOff : Layout → Writer → Option (List ℕ) → Option (List ℕ) → Type 0
 BrokeOff layout w =
@@ -96,14 +99,14 @@ HasEnough w =
     (w.progress.taken ≡ w.plan.count) ⊎ (w.plan.limit ≡ Some w.progress.boards)
 
 -- where it stands once it has written so much beside the workers
-abbrev pub WroteBeside : Layout → Planned → Written → List OutView → ℕ → ℕ
-    → Option (List ℕ) → Option (List ℕ) → Type 0
-WroteBeside layout plan Failed lanes m boards old new =
+abbrev pub WroteBeside : Layout → (List Board → Type 0) → Planned → Written
+    → List OutView → ℕ → ℕ → Option (List ℕ) → Option (List ℕ) → Type 0
+WroteBeside layout has_printed plan Failed lanes m boards old new =
     WriterBrokeOff layout plan lanes m boards old new
-WroteBeside layout plan Full lanes m boards old new =
-    WriterSoFar layout plan lanes m boards old new × (plan.limit ≡ Some boards)
-WroteBeside layout plan Open lanes m boards old new =
-    WriterSoFar layout plan lanes m boards old new × (plan.limit ≢ Some boards)
+WroteBeside layout has_printed plan Full lanes m boards old new =
+    WriterSoFar layout has_printed plan lanes m boards old new × (plan.limit ≡ Some boards)
+WroteBeside layout has_printed plan Open lanes m boards old new =
+    WriterSoFar layout has_printed plan lanes m boards old new × (plan.limit ≢ Some boards)
 
 -- the sink failed once, or not at all
 abbrev pub FaultsBeside : Written → ℕ → ℕ → Type 0
@@ -111,12 +114,13 @@ FaultsBeside Failed old new = new ≡ old + 1
 FaultsBeside _ old new = new ≡ old
 
 -- the rest may be written
-pub record HasRest (layout : Layout) (plan : Planned) (form : Form) (lanes : List OutView)
-    (m boards : ℕ) (old new : Option (List ℕ)) : Type 0 where
-  pub so_far : WriterSoFar layout plan lanes m boards old new
+pub record HasRest (layout : Layout) (has_printed : List Board → Type 0) (plan : Planned)
+    (form : Form) (lanes : List OutView) (m boards : ℕ) (old new : Option (List ℕ)) : Type 0 where
+  pub so_far : WriterSoFar layout has_printed plan lanes m boards old new
   pub parts : AllParts plan form lanes
   pub whole : plan.limit ≢ Some boards → AllWhole plan form lanes
 
-abbrev pub Resumes : Layout → Form → Writer → Option (List ℕ) → Option (List ℕ) → Type 0
-Resumes layout form w =
-    HasRest layout w.plan form w.lanes.items w.progress.taken w.progress.boards
+abbrev pub Resumes : Layout → (List Board → Type 0) → Form → Writer
+    → Option (List ℕ) → Option (List ℕ) → Type 0
+Resumes layout has_printed form w =
+    HasRest layout has_printed w.plan form w.lanes.items w.progress.taken w.progress.boards

@@ -1,10 +1,14 @@
--- What a status says of an error of clap.
-use Rattle.std.specs.Prelude.{◌≡◌, ◌⊎◌, ℕ, true, false}
+-- What an error of clap comes to.
+use Rattle.std.specs.Prelude.{◌≡◌, ◌≢◌, ◌⊎◌, false}
 use Rattle.clap.specs.declared.error.kind.ErrorKind.{ErrorKind}
+use Rattle.clap.specs.declared.error.kind.ErrorKind.TheVariants.{OutOfMemory}
+use Rattle.dealrun.specs.declared.cause.Cause.TheVariants.{Memory}
 use Rattle.deals_cli.specs.Program.{is_shown}
+use Rattle.requests.specs.declared.failure.Failure.{Failure}
+use Rattle.requests.specs.declared.failure.Failure.TheVariants.{CommandLine, Interrupted}
 
--- what the program's status says of an error of this kind
-pub record IsStatusOfKind (k : ErrorKind) (status : ℕ) : Type 0 where
-  pub shown : (status ≡ 0) ⊎ (status ≡ 4) → is_shown k ≡ true
-  pub refused : status ≡ 2 → is_shown k ≡ false
-  pub neither : (status ≡ 3) ⊎ (status ≡ 6) ⊎ (status ≡ 7) → ⊥
+-- memory ran out, or the words are a mistake
+abbrev pub RefusesError : ErrorKind → Failure → Type 0
+RefusesError k (CommandLine text) = (is_shown k ≡ false) × (k ≢ OutOfMemory)
+RefusesError k (Interrupted Memory) = Unit {0}
+RefusesError k failure = ⊥

@@ -39,12 +39,16 @@ pub record StreamValues (rows : List Row) : Type 0 where
   pub seed : Gives32 (codes "seed") rows
   pub count : GivesUpTo 1099511627776 (codes "count") rows
 
--- the options of `make`
-pub record MakeValues (rows : List Row) : Type 0 where
+-- the options of a search
+pub record SearchValues (rows : List Row) : Type 0 where
   pub seed : Gives32 (codes "seed") rows
   pub candidates : MayGive64 (codes "candidates") rows
   pub first : MayGive64 (codes "first") rows
   pub workers : MayGive32 (codes "workers") rows
   pub lane : MayGive32 (codes "lane") rows
   pub boards : MayGive32 (codes "boards") rows
+
+-- the options of a `make`, a `find` or a `pick`
+pub record MakeValues (rows : List Row) : Type 0 where
+  pub search : SearchValues rows
   pub first_board : MayGive64 (codes "first-board") rows

@@ -1,11 +1,10 @@
 //! The lines of the labels that are given, and an empty line after them.
 
 ghost use Rattle.std.specs.Prelude.{◌≡◌, ◌≤◌, ◌+◌, ◌++◌, [], length};
-ghost use Rattle.printing.specs.declared.buffer.TheConstants.{CAPACITY};
+ghost use Rattle.boards.specs.declared.buffer.TheConstants.{CAPACITY};
 ghost use Rattle.notations.specs.Records.{header_text, label_line};
 
-use pbn_text::{Date, Heading, Label};
-use printing::TextBuffer;
+use boards::{Date, Heading, Label, TextBuffer};
 
 /// Writes the header into the empty buffer.
 pub(crate) fn put_header(text: &mut TextBuffer, heading: &Heading)

@@ -2,12 +2,12 @@
 
 ghost use Rattle.std.specs.Prelude.{◌≡◌, ◌<◌, ◌≤◌, ◌+◌, ◌-◌, ◌++◌, length, max};
 ghost use Rattle.cards.specs.Hands.{points_of};
-ghost use Rattle.printing.specs.declared.buffer.TheConstants.{CAPACITY};
+ghost use Rattle.boards.specs.declared.buffer.TheConstants.{CAPACITY};
 ghost use Rattle.notations.specs.Columns.{columns, spaces, two_columns};
 ghost use Rattle.notations.specs.Records.{one_count, sign_and_space, suit_text, two_counts};
 
+use boards::{SuitLetters, TextBuffer};
 use cards::{Hand, Suit};
-use printing::{SuitLetters, TextBuffer};
 
 /// The longest gap, and more.
 const SPACES: [u8; 40] = [b' '; 40];

@@ -1,13 +1,12 @@
 //! The header: the title, of the labels that are given, and the style.
 
 ghost use Rattle.std.specs.Prelude.{◌≡◌, ◌≤◌, ◌+◌, ◌*◌, ◌++◌, [], length};
-ghost use Rattle.printing.specs.declared.buffer.TheConstants.{CAPACITY};
+ghost use Rattle.boards.specs.declared.buffer.TheConstants.{CAPACITY};
 ghost use Rattle.notations.specs.Pages.{escaped, escaped_byte, header_text, is_blank, joined};
 ghost use Rattle.notations.specs.Pages.{opening, shown, title_of};
 
 use crate::page::style::put_style;
-use pbn_text::{Date, Heading, Label};
-use printing::TextBuffer;
+use boards::{Date, Heading, Label, TextBuffer};
 
 /// Writes the header into the empty buffer.
 pub(crate) fn put_header(text: &mut TextBuffer, heading: &Heading)

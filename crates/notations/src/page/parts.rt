@@ -1,13 +1,12 @@
 //! The parts of a board: names, and the suits of a hand.
 
 ghost use Rattle.std.specs.Prelude.{◌≡◌, ◌≤◌, ◌+◌, ◌++◌, length};
-ghost use Rattle.printing.specs.declared.buffer.TheConstants.{CAPACITY};
+ghost use Rattle.boards.specs.declared.buffer.TheConstants.{CAPACITY};
 ghost use Rattle.notations.specs.Names.{seat_name, vulnerable_name};
 ghost use Rattle.notations.specs.Pages.{sign, suit_text, suits_text};
 
-use boards::Vul;
+use boards::{SuitLetters, TextBuffer, Vul};
 use cards::{Hand, Seat, Suit};
-use printing::{SuitLetters, TextBuffer};
 
 /// Appends the four suits of the hand, each on a line of its own.
 #[inline(always)]

@@ -1,11 +1,11 @@
 //! How the page looks, in CSS.
 
 ghost use Rattle.std.specs.Prelude.{◌≡◌, ◌≤◌, ◌+◌, ◌++◌, length};
-ghost use Rattle.printing.specs.declared.buffer.TheConstants.{CAPACITY};
+ghost use Rattle.boards.specs.declared.buffer.TheConstants.{CAPACITY};
 ghost use Rattle.notations.specs.Style.{board_style, hand_style, page_style, paper_style, style};
 ghost use Rattle.notations.specs.Style.{vulnerable_style};
 
-use printing::TextBuffer;
+use boards::TextBuffer;
 
 /// Appends the style.
 #[tactic(auto, unfolding(crate::specs::Style::style))]

@@ -1,5 +1,5 @@
 use Rattle.std.proofs.Common.{refl}
-use Rattle.dealrun.specs.Text.{end_of}
+use Rattle.plans.specs.Text.{end_of}
 use Rattle.dealrun.proofs.laws.other_settings_accept_the_same.Goals as goal
 
 pub returns-clause-needed : goal.returns-clause-needed

@@ -8,7 +8,7 @@ use Rattle.dealrun.specs.internal.Ends.{Closes}
 use Rattle.dealrun.specs.internal.Handles.{owed_by}
 use Rattle.dealrun.proofs.Causes.{at_join, said_at}
 use Rattle.dealrun.proofs.Finals.{same_at}
-use Rattle.dealrun.proofs.Results.{at_err, at_ok}
+use Rattle.plans.proofs.Results.{at_err, at_ok}
 use Rattle.dealrun.proofs.runs.write_all.Goals as goal
 
 pub join_all-joined-requires-clause-unsettled : goal.join_all-joined-requires-clause-unsettled
@@ -27,7 +27,7 @@ returns-in-Some-clause-ends g c form owes =
     let w = c.write_beside_workers-written in
     let base = g.S.Sink.bytes c.args.sink.now in
     let new = g.S.Sink.bytes w.new.sink in
-    let how = at_join layout layout c.args.plan.now form w.new.self (vec_len c.args.handles) (owed_by c.args.handles.items) c.join_all-joined.new.lanes.items w.result _ _ c.cause_of.result base new
+    let how = at_join layout layout (g.N.Notation.has_printed w.new.notation) c.args.plan.now form w.new.self (vec_len c.args.handles) (owed_by c.args.handles.items) c.join_all-joined.new.lanes.items w.result _ _ c.cause_of.result base new
     refl (w.ensures.plan ∙ c.new-writer.ensures.given.0) c.requires.counts.0 owes c.join_all-joined.ensures.taken w.ensures.wrote c.join_all-joined.ensures.joined c.cause_of.ensures in
     subst (λ e. InterruptedIn layout c.args.plan.now form e.cause e.lanes.items e.boards base new) (sym c.fault.ensures) (MatchOption-at_some _ _ c.in-Some.cause c.in-Some.is how)
 
@@ -39,7 +39,7 @@ returns-then-is_err-clause-ends g c form owes =
     let base = g.S.Sink.bytes c.args.sink.now in
     let new = g.S.Sink.bytes w.new.sink in
     let plan_is = w.ensures.plan ∙ c.new-writer.ensures.given.0 in
-    let how = at_join layout now c.args.plan.now form w.new.self (vec_len c.args.handles) (owed_by c.args.handles.items) c.join_all-joined.new.lanes.items w.result _ _ c.cause_of.result base new
+    let how = at_join layout now (g.N.Notation.has_printed w.new.notation) c.args.plan.now form w.new.self (vec_len c.args.handles) (owed_by c.args.handles.items) c.join_all-joined.new.lanes.items w.result _ _ c.cause_of.result base new
     w.ensures.layout plan_is c.requires.counts.0 owes c.join_all-joined.ensures.taken w.ensures.wrote c.join_all-joined.ensures.joined c.cause_of.ensures in
     let rest = MatchOption-at_none _ _ c.in-None.is how in
     let after = c.write_rest.new in
@@ -55,7 +55,7 @@ returns-clause-ends g c form owes =
     let base = g.S.Sink.bytes c.args.sink.now in
     let new = g.S.Sink.bytes w.new.sink in
     let plan_is = w.ensures.plan ∙ c.new-writer.ensures.given.0 in
-    let how = at_join layout now c.args.plan.now form w.new.self (vec_len c.args.handles) (owed_by c.args.handles.items) c.join_all-joined.new.lanes.items w.result _ _ c.cause_of.result base new
+    let how = at_join layout now (g.N.Notation.has_printed w.new.notation) c.args.plan.now form w.new.self (vec_len c.args.handles) (owed_by c.args.handles.items) c.join_all-joined.new.lanes.items w.result _ _ c.cause_of.result base new
     w.ensures.layout plan_is c.requires.counts.0 owes c.join_all-joined.ensures.taken w.ensures.wrote c.join_all-joined.ensures.joined c.cause_of.ensures in
     let rest = MatchOption-at_none _ _ c.in-None.is how in
     let after = c.write_rest.new in

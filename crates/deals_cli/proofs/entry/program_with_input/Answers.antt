@@ -13,15 +13,15 @@ returns-clause-status g c = subst IsStatusWithInput (sym c.status.ensures) (stat
 
 pub returns-in-Ok-None-clause-report : goal.returns-in-Ok-None-clause-report
 returns-in-Ok-None-clause-report g c zero = record {
-  reported = λ m is wants same. absurd (some_made m (subst (λ o. ReportsFor (make m) o) c.in-Ok-None.field-0-is (c.in-Ok-None.ensures.report (make m) is)) wants);
+  reported = λ s l notices is wants same. absurd (some_made s l notices (subst (λ o. ReportsFor (make s l notices) o) c.in-Ok-None.field-0-is (c.in-Ok-None.ensures.answers.report (make s l notices) is)) wants);
   quiet = λ quiet. refl;
 }
 
 pub returns-in-Ok-Some-clause-report : goal.returns-in-Ok-Some-clause-report
 returns-in-Ok-Some-clause-report g c zero = record {
-  reported = λ m is wants same. said m c.in-Ok-Some.report _ _ (subst (λ o. ReportsFor (make m) o) c.in-Ok-Some.field-0-is (c.in-Ok-Some.ensures.report (make m) is))
+  reported = λ s l notices is wants same. said s l notices c.in-Ok-Some.report _ _ (subst (λ o. ReportsFor (make s l notices) o) c.in-Ok-Some.field-0-is (c.in-Ok-Some.ensures.answers.report (make s l notices) is))
       (heard c.say.result _ _ _ c.say.ensures.faults same c.say.ensures.text);
   quiet = λ quiet. absurd (none_made (asked (map string_bytes c.args.words.now)) c.in-Ok-Some.report
-      (λ w is. subst (λ o. ReportsFor w o) c.in-Ok-Some.field-0-is (c.in-Ok-Some.ensures.report w is))
-      (λ is. sym c.in-Ok-Some.field-0-is ∙ c.in-Ok-Some.ensures.no_report is) quiet);
+      (λ w is. subst (λ o. ReportsFor w o) c.in-Ok-Some.field-0-is (c.in-Ok-Some.ensures.answers.report w is))
+      (λ is. sym c.in-Ok-Some.field-0-is ∙ c.in-Ok-Some.ensures.answers.no_report is) quiet);
 }

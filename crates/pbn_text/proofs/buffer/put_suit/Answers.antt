@@ -1,6 +1,6 @@
 use Rattle.std.proofs.Common.{◌≡◌, ◌+◌, ◌++◌, ◌∷◌, [], ◌∙◌, take, length, get_or, ap, arith}
 use Rattle.cards.specs.Hands.{length_of}
-use Rattle.printing.specs.Letters.{suit_letters}
+use Rattle.boards.specs.Letters.{suit_letters}
 use Rattle.pbn_text.proofs.Suits.{length-suit_text, letters_are}
 use Rattle.pbn_text.proofs.Buffers.{take_copied}
 use Rattle.pbn_text.proofs.buffer.put_suit.Goals as goal

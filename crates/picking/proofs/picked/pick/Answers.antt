@@ -1,6 +1,6 @@
-use Rattle.std.proofs.Common.{◌≡◌, length, arith, refl, rules, subst, sym}
+use Rattle.std.proofs.Common.{◌≡◌, length, arith, refl, rules, subst, sym, take}
 use Rattle.sinks.specs.Appended.{AppendsAll}
-use Rattle.picking.specs.internal.Picking.{PickedFrom}
+use Rattle.picking.specs.internal.Picking.{EndsWithin, PickedFrom, TakesMore}
 use Rattle.picking.proofs.Boards.{picked_nothing}
 use Rattle.picking.proofs.Pieces.{from_broken, from_more, from_nothing, lines_in}
 use Rattle.picking.proofs.picked.pick.Goals as goal
@@ -14,9 +14,10 @@ loop-turn-init g c =
     record {
       layout = refl;
       len = refl;
-      lines = omega (arith, c.new-scanner.ensures.lines);
-      picked = from_nothing layout c.args.plan.now c.new-scanner.result (g.I.Source.rest c.args.input.now) base now
-          (picked_nothing layout layout c.args.plan.now c.new-scanner.result base now refl c.new-scanner.ensures.scanned written);
+      plan = c.new-picker.ensures.plan;
+      lines = omega (arith, c.new-picker.ensures.lines);
+      picked = from_nothing layout (g.N.Notation.has_printed c.args.notation.now) c.args.plan.now c.new-picker.result.scanner (g.I.Source.rest c.args.input.now) base now
+          (picked_nothing layout layout (g.N.Notation.has_printed c.args.notation.now) c.args.plan.now c.new-picker.result.scanner base now refl c.new-picker.ensures.scanned written c.requires.printed);
       faults = c.in-Ok.ensures.faults;
       input = refl;
       reads = omega arith;
@@ -25,24 +26,25 @@ loop-turn-init g c =
 
 pub returns-in-Err-take_piece-clause-picked : goal.returns-in-Err-take_piece-clause-picked
 returns-in-Err-take_piece-clause-picked g c =
-    let picked = subst (PickedFrom (g.N.Notation.layout c.args.notation.now) c.args.plan.now c.loop-turn.scanner (g.I.Source.rest c.args.input.now) (g.I.Source.rest c.loop-turn.input) (g.S.Sink.bytes c.args.sink.now)) (sym c.watch.ensures.bytes) c.loop-turn.invariant.picked in
-    from_broken (g.N.Notation.layout c.args.notation.now) (g.N.Notation.layout c.loop-turn.notation) c.args.plan.now c.loop-turn.scanner c.in-Err-take_piece.fault _
+    let picked = subst (PickedFrom (g.N.Notation.layout c.args.notation.now) (g.N.Notation.has_printed c.loop-turn.notation) c.args.plan.now c.loop-turn.picker.scanner (g.I.Source.rest c.args.input.now) (g.I.Source.rest c.loop-turn.input) (g.S.Sink.bytes c.args.sink.now)) (sym c.watch.ensures.bytes) c.loop-turn.invariant.picked in
+    from_broken (g.N.Notation.layout c.args.notation.now) (g.N.Notation.layout c.loop-turn.notation) (g.N.Notation.has_printed c.loop-turn.notation) c.args.plan.now c.loop-turn.picker.scanner c.in-Err-take_piece.fault _
     (g.I.Source.rest c.args.input.now) (g.I.Source.rest c.loop-turn.input) (g.I.Source.rest c.read.new.self)
     (g.S.Sink.bytes c.args.sink.now) (g.S.Sink.bytes c.watch.new.self) (g.S.Sink.bytes c.take_piece.new.sink)
-    c.loop-turn.invariant.layout c.in_ok-count.ensures.bytes c.in-Err-take_piece.ensures.broken picked
+    c.loop-turn.invariant.layout c.in_ok-count.ensures.bytes (subst (λ q. EndsWithin (g.N.Notation.layout c.loop-turn.notation) (g.N.Notation.has_printed c.loop-turn.notation) q c.loop-turn.picker.scanner (take c.in_ok-count.count c.read.new.piece) c.in-Err-take_piece.fault (g.S.Sink.bytes c.watch.new.self) (g.S.Sink.bytes c.take_piece.new.sink)) c.loop-turn.invariant.plan c.in-Err-take_piece.ensures.takes) picked
 
 pub loop-turn-preserved : goal.loop-turn-preserved
 loop-turn-preserved g c =
-    let picked = subst (PickedFrom (g.N.Notation.layout c.args.notation.now) c.args.plan.now c.loop-turn.scanner (g.I.Source.rest c.args.input.now) (g.I.Source.rest c.loop-turn.input) (g.S.Sink.bytes c.args.sink.now)) (sym c.watch.ensures.bytes) c.loop-turn.invariant.picked in
+    let picked = subst (PickedFrom (g.N.Notation.layout c.args.notation.now) (g.N.Notation.has_printed c.loop-turn.notation) c.args.plan.now c.loop-turn.picker.scanner (g.I.Source.rest c.args.input.now) (g.I.Source.rest c.loop-turn.input) (g.S.Sink.bytes c.args.sink.now)) (sym c.watch.ensures.bytes) c.loop-turn.invariant.picked in
     let whole : length c.read.new.piece ≡ 8192 = search rules in
     record {
       layout = search rules;
       len = search rules;
-      lines = lines_in c.loop-turn.turn c.in_ok-count.count c.read.new.piece c.loop-turn.scanner.lines c.take_piece.new.scanner.lines whole c.loop-turn.invariant.lines c.in-Ok-take_piece.ensures.lines;
-      picked = from_more (g.N.Notation.layout c.args.notation.now) (g.N.Notation.layout c.loop-turn.notation) c.args.plan.now c.loop-turn.scanner c.take_piece.new.scanner _
+      lines = lines_in c.loop-turn.turn c.in_ok-count.count c.read.new.piece c.loop-turn.picker.scanner.lines c.take_piece.new.self.scanner.lines whole c.loop-turn.invariant.lines c.in-Ok-take_piece.ensures.lines;
+      picked = from_more (g.N.Notation.layout c.args.notation.now) (g.N.Notation.layout c.loop-turn.notation) (g.N.Notation.has_printed c.loop-turn.notation) (g.N.Notation.has_printed c.take_piece.new.notation) c.args.plan.now c.loop-turn.picker.scanner c.take_piece.new.self.scanner _
           (g.I.Source.rest c.args.input.now) (g.I.Source.rest c.loop-turn.input) (g.I.Source.rest c.read.new.self)
           (g.S.Sink.bytes c.args.sink.now) (g.S.Sink.bytes c.watch.new.self) (g.S.Sink.bytes c.take_piece.new.sink)
-          c.loop-turn.invariant.layout c.in_ok-count.ensures.bytes c.in-Ok-take_piece.ensures.picked picked;
+          c.loop-turn.invariant.layout c.in_ok-count.ensures.bytes (subst (λ q. TakesMore (g.N.Notation.layout c.loop-turn.notation) (g.N.Notation.has_printed c.loop-turn.notation) (g.N.Notation.has_printed c.take_piece.new.notation) q c.loop-turn.picker.scanner c.take_piece.new.self.scanner (take c.in_ok-count.count c.read.new.piece) (g.S.Sink.bytes c.watch.new.self) (g.S.Sink.bytes c.take_piece.new.sink)) c.loop-turn.invariant.plan c.in-Ok-take_piece.ensures.takes) picked;
+      plan = search rules;
       faults = search rules;
       input = search rules;
       reads = search rules;

@@ -20,7 +20,7 @@ returns-then-not-wait_for_verdict-clause-wrote g c base h =
     let w = c.loop-taken.self in
     goes_on_still (g.N.Notation.layout c.args.notation.now) w.plan w.lanes.items _ w.progress.taken w.progress.boards base (g.S.Sink.bytes c.loop-taken.sink)
     (map-set_same (λ v. v.taken) w.lanes.items c.lane.result c.wait_for_verdict.new.self c.index_mut-lane.result.now (c.if-not-wait_for_verdict.ensures.taken ∙ ap (λ v. v.taken) c.index_mut-lane.ensures.value))
-    (c.loop-taken.invariant.wrote base h)
+    (g.N.Notation.has_printed c.loop-taken.notation) (c.loop-taken.invariant.wrote base h)
 
 pub returns-then-not-wait_for_verdict-clause-end : goal.returns-then-not-wait_for_verdict-clause-end
 returns-then-not-wait_for_verdict-clause-end g c base form h =
@@ -51,7 +51,7 @@ returns-in_err-write-clause-wrote g c base h =
     let place : c.lane.result ≡ w.progress.taken % w.plan.workers = c.lane.ensures.lane ∙ ap (λ n. n % w.progress.turns.workers) w.progress.turn ∙ ap (λ k. w.progress.taken % k) w.workers in
     let less : w.plan.limit ≢ Some w.progress.boards = iff_false c.is_full.ensures c.if-is_full.false in
     let broke =
-    broken_to (g.N.Notation.layout c.args.notation.now) (g.N.Notation.layout c.loop-taken.notation) w.plan w.lanes.items w.progress.taken w.progress.boards base (g.S.Sink.bytes c.loop-taken.sink) c.take_known-verdict.result c.index_mut-lane.result.now c.take_known-verdict.new.self c.lane.result c.write.new.self.taken c.write.new.self.boards (g.S.Sink.bytes c.write.new.sink)
+    broken_to (g.N.Notation.layout c.args.notation.now) (g.N.Notation.layout c.loop-taken.notation) (g.N.Notation.has_printed c.loop-taken.notation) w.plan w.lanes.items w.progress.taken w.progress.boards base (g.S.Sink.bytes c.loop-taken.sink) c.take_known-verdict.result c.index_mut-lane.result.now c.take_known-verdict.new.self c.lane.result c.write.new.self.taken c.write.new.self.boards (g.S.Sink.bytes c.write.new.sink)
     (omega (arith, c.lane.ensures.below, w.workers)) (i.wrote base h) less place c.index_mut-lane.ensures.value (c.take_known-verdict.ensures.taken ∙ ap (λ vs. vs ++ c.take_known-verdict.result ∷ []) c.if-not-wait_for_verdict.ensures.taken) c.in_err-write.ensures.taken.0 b.0 b.1 i.layout b.2 in
     MatchResult-from_err c.from_residual.result _ _ c.from_residual.ensures.0 (λ _. broke)
 
@@ -71,6 +71,6 @@ loop-taken-preserved g c =
       lanes = keeps_taken c.args.self.now.lanes.items w.lanes.items c.lane.result c.index_mut-lane.result.now c.wait_for_verdict.new.self c.take_known-verdict.new.self c.take_known-verdict.result i.lanes c.index_mut-lane.ensures.value e.same e.taken e.left t.same t.taken t.left;
       open_then = λ _. i.open_then less;
       wrote = λ base h.
-          on_to (g.N.Notation.layout c.args.notation.now) (g.N.Notation.layout c.loop-taken.notation) w.plan w.lanes.items w.progress.taken w.progress.boards base (g.S.Sink.bytes c.loop-taken.sink) c.take_known-verdict.result c.index_mut-lane.result.now c.take_known-verdict.new.self c.lane.result c.write.new.self.taken c.write.new.self.boards (g.S.Sink.bytes c.write.new.sink)
-          (omega (arith, c.lane.ensures.below, w.workers)) (i.wrote base h) less place c.index_mut-lane.ensures.value (t.taken ∙ ap (λ vs. vs ++ c.take_known-verdict.result ∷ []) e.taken) c.in_ok-write.ensures.taken.0 c.in_ok-write.ensures.boards i.layout c.in_ok-write.ensures.bytes;
+          on_to (g.N.Notation.layout c.args.notation.now) (g.N.Notation.layout c.loop-taken.notation) (g.N.Notation.has_printed c.loop-taken.notation) (g.N.Notation.has_printed c.write.new.notation) w.plan w.lanes.items w.progress.taken w.progress.boards base (g.S.Sink.bytes c.loop-taken.sink) c.take_known-verdict.result c.index_mut-lane.result.now c.take_known-verdict.new.self c.lane.result c.write.new.self.taken c.write.new.self.boards (g.S.Sink.bytes c.write.new.sink)
+          (omega (arith, c.lane.ensures.below, w.workers)) (i.wrote base h) less place c.index_mut-lane.ensures.value (t.taken ∙ ap (λ vs. vs ++ c.take_known-verdict.result ∷ []) e.taken) c.in_ok-write.ensures.taken.0 c.in_ok-write.ensures.boards i.layout c.in_ok-write.ensures.bytes c.in_ok-write.ensures.printed;
     }

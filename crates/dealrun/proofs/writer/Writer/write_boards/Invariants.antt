@@ -10,5 +10,5 @@ invariant-loop-taken g l = record {
   taken : l.self.progress.taken ≡ l._taken;
   lanes : KeepsLanes l.initial.self.lanes.items l.self.lanes.items;
   open_then : l.self.plan.limit ≢ Some l.self.progress.boards → l.self.plan.limit ≢ Some l.initial.self.progress.boards;
-  wrote : (base : Option (List ℕ)) → GoesOn (g.N.Notation.layout l.initial.notation) l.initial.self base (g.S.Sink.bytes l.initial.sink) → GoesOn (g.N.Notation.layout l.initial.notation) l.self base (g.S.Sink.bytes l.sink);
+  wrote : (base : Option (List ℕ)) → GoesOn (g.N.Notation.layout l.initial.notation) (g.N.Notation.has_printed l.initial.notation) l.initial.self base (g.S.Sink.bytes l.initial.sink) → GoesOn (g.N.Notation.layout l.initial.notation) (g.N.Notation.has_printed l.notation) l.self base (g.S.Sink.bytes l.sink);
 }

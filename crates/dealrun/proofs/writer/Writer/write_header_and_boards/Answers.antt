@@ -17,4 +17,4 @@ returns-clause-wrote g c =
     let fresh = c.requires.fresh in
     let long : length w.lanes.items ≡ w.plan.workers = omega (arith, w.lanes.ok.0, w.long) in
     c.write_boards.ensures.wrote (g.S.Sink.bytes c.args.sink.now)
-    (begins (g.N.Notation.layout c.args.notation.now) c.header.result.now w.plan w.lanes.items w.progress.taken w.progress.boards (g.S.Sink.bytes c.args.sink.now) (g.S.Sink.bytes c.put_all.new.sink) long fresh.lanes fresh.taken fresh.boards c.header.ensures c.in_ok-put_all.ensures.bytes)
+    (begins (g.N.Notation.layout c.args.notation.now) (g.N.Notation.has_printed c.args.notation.now) c.header.result.now w.plan w.lanes.items w.progress.taken w.progress.boards (g.S.Sink.bytes c.args.sink.now) (g.S.Sink.bytes c.put_all.new.sink) long fresh.lanes fresh.taken fresh.boards c.header.ensures c.in_ok-put_all.ensures.bytes c.requires.printed)

@@ -1,7 +1,7 @@
 use Rattle.std.proofs.Common.{ap, length, arith}
 use Rattle.std.specs.Prelude.{codes}
 use Rattle.std.proofs.lemmas.List.{length-append}
-use Rattle.printing.specs.Letters.{or_dash, suit_letters}
+use Rattle.boards.specs.Letters.{or_dash, suit_letters}
 use Rattle.notations.proofs.ColumnLemmas.{columns-suit_text}
 use Rattle.notations.proofs.hands.parts.put_suit.Goals as goal
 

@@ -1,3 +1,0 @@
-pub mod HandTexts
-pub mod HandFaults
-pub mod HandRules

@@ -1,4 +1,0 @@
-pub mod ReadBack
-pub mod Scanned
-pub mod Stops
-pub mod Tens

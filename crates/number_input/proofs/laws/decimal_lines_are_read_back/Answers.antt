@@ -1,5 +1,0 @@
-use Rattle.number_input.proofs.ReadBack.{read_back}
-use Rattle.number_input.proofs.laws.decimal_lines_are_read_back.Goals as goal
-
-pub returns : goal.returns
-returns c numbers all room = read_back numbers all room

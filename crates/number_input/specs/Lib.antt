@@ -1,3 +1,0 @@
-pub mod NumberTexts
-pub mod Scans
-pub mod internal

@@ -1,6 +1,0 @@
--- What stands before the first byte of a line.
-use Rattle.number_input.specs.Scans.{LineView}
-use Rattle.number_input.specs.declared.line.Part.TheVariants.{Blank}
-
-abbrev pub start_of_line : LineView
-start_of_line = record { part = Blank; value = 0; digits = 0 }

@@ -1,0 +1,5 @@
+pub mod Ranges
+pub mod Results
+pub mod BoardLists
+pub mod Accepting
+pub mod Running

@@ -1,0 +1,3 @@
+pub mod PredealtHands
+pub mod HandFaults
+pub mod HandRules

@@ -1,0 +1,53 @@
+-- What is ready to be done for a wish, what refuses it, and what is done.
+use Rattle.std.specs.Prelude.{◌≡◌, List, ℕ, true, Option, Result, IfErr, IfOk, OnOk}
+use Rattle.requests.specs.Failures.{is_refusal, is_untouched, status_in, status_of}
+use Rattle.requests.specs.FirstRefusal.{IsDueFor}
+use Rattle.requests.specs.Interruptions.{LeavesFrom}
+use Rattle.requests.specs.Makings.{IsPlanned, Means, plan_of}
+use Rattle.requests.specs.Reported.{ReportsFor}
+use Rattle.requests.specs.Requests.{Wish, conditions, make, no_search, pick, stream}
+use Rattle.requests.specs.Wishes.{AppendsFrom, IsStatusOf}
+use Rattle.requests.specs.declared.failure.Failure.{Failure}
+use Rattle.requests.specs.declared.job.Job.{Job}
+use Rattle.requests.specs.declared.job.Job.TheVariants.{Boards, Conditions, Pick, Stream}
+use Rattle.requests.specs.declared.report.Report.{Report}
+
+-- the job does what is wished for: its plan, its labels, its hands and its condition are accepted
+abbrev pub IsReady : Wish → Job → Type 0
+IsReady (make s l notices) (Boards job) =
+    IsPlanned s l × (job.plan ≡ plan_of s l) × Means s.where_text job.condition
+    × (job.format ≡ l.format) × (job.report ≡ notices.report)
+IsReady (pick seed hands l hints) (Pick job) =
+    IsPlanned (no_search seed hands) l × (job.plan ≡ plan_of (no_search seed hands) l)
+    × (job.format ≡ l.format)
+IsReady conditions Conditions = Unit {0}
+IsReady (stream seed count) (Stream r) = (r.seed ≡ seed) × (r.count ≡ count)
+IsReady _ _ = ⊥
+
+-- the job reads the input
+abbrev pub ReadsInput : Job → Type 0
+ReadsInput (Pick job) = Unit {0}
+ReadsInput _ = ⊥
+
+-- the wish is refused so, or memory ran out, before anything was done
+pub record IsRefused (w : Wish) (failure : Failure) : Type 0 where
+  pub due : IsDueFor w failure
+  pub status : IsStatusOf w (status_of failure)
+  pub nothing_done : is_refusal failure ≡ true
+
+-- a wish was done, or failed: `before` and `behind` are what the input had to give before and
+-- behind it, `old` and `new` what the output had taken
+pub record Serves (w : Wish) (r : Result (Option Report) Failure)
+    (before behind old new : Option (List ℕ)) : Type 0 where
+  -- all that is asked for was written, on Ok, and its report made, if one was asked for
+  pub text : OnOk r (AppendsFrom w before behind old new)
+  pub report : IfOk r (ReportsFor w)
+  -- the status says what of it was accepted, and what refused
+  pub status : IsStatusOf w (status_in r)
+  -- nothing was written if something is refused, memory ran out or a thread wasn't started
+  pub untouched : IfErr r (λ e. is_untouched e ≡ true → new ≡ old)
+  -- what a failure leaves: of a text without a run a proper prefix, of a run what it took, of a
+  -- `pick` the boards up to the fault
+  pub stands : IfErr r (λ e. LeavesFrom w e before behind old new)
+  -- the failure that is told is the first that is due
+  pub due : IfErr r (IsDueFor w)
