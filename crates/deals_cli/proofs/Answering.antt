@@ -55,7 +55,7 @@ unasked words e read other = go (asked words) refl
   where
     go : (o : Option Wish) → asked words ≡ o → asked words ≡ None
     go None is = is
-    go (Some w) is = absurd (other (read.0 (subst (λ (x : Option Wish). IsSome x) (sym is) tt)))
+    go (Some w) is = absurd (other (read.0 (subst (λ (x : Option Wish). IsSome x) (sym is) refl)))
 
 among : {X : Type 0} (words : List Text) (e : Error) → AreRead words (Err e) → (kind_of e ≡ OutOfMemory → ⊥) → (IsAmong (kind_of e) (kinds_for words) → X) → X
 among words e read other then = elim read.1 [ inl memory ↦ absurd (other memory) | inr is ↦ then is ]

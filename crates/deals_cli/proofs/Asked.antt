@@ -21,7 +21,7 @@ use Rattle.deals_cli.specs.Commands.{deals}
 use Rattle.deals_cli.specs.CommandLine.{asked, end_kinds, further_kinds, has_no_end, has_unknown, kinds_by, kinds_for, made_by, search_in, stream_wish, unless_fault, wish_by, wish_in}
 use Rattle.deals_cli.specs.internal.Readings.{MakeValues, StreamValues}
 use Rattle.requests.specs.Requests.{Wish, conditions}
-use Rattle.deals_cli.proofs.Commands.{conditions_built, find_built, find_values, make_built, make_values, pick_built, pick_values, stream_built, stream_values}
+use Rattle.deals_cli.proofs.OptionValues.{conditions_built, find_built, find_values, make_built, make_values, pick_built, pick_values, stream_built, stream_values}
 use Rattle.deals_cli.proofs.Entered.{enters}
 
 -- the words name `stream`, and its options have their values

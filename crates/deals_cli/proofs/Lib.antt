@@ -3,7 +3,7 @@ pub mod Walks
 pub mod Plain
 pub mod Help
 pub mod Entered
-pub mod Commands
+pub mod OptionValues
 pub mod Numbers
 pub mod Asked
 pub mod Statuses

@@ -8,8 +8,8 @@ use Rattle.deals_cli.specs.CommandLine.{asked}
 use Rattle.deals_cli.proofs.Reporting.{heard}
 use Rattle.deals_cli.proofs.entry.program_with_input.Goals as goal
 
-pub returns-clause-status : goal.returns-clause-status
-returns-clause-status g c = subst IsStatusWithInput (sym c.status.ensures) (status_of-status c.in-Err.failure)
+pub returns-in-Err-clause-status : goal.returns-in-Err-clause-status
+returns-in-Err-clause-status g c = subst IsStatusWithInput (sym c.status.ensures) (status_of-status c.in-Err.failure)
 
 pub returns-in-Ok-None-clause-report : goal.returns-in-Ok-None-clause-report
 returns-in-Ok-None-clause-report g c zero = record {
