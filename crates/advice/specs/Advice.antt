@@ -25,12 +25,16 @@ range_line option value least most unit =
     codes "  --" ++ option ++ codes " " ++ decimal value ++ codes ": " ++ decimal least
     ++ codes " to " ++ decimal most ++ unit ++ codes "\n"
 
--- the range that a plan's number is out of
-abbrev pub plan_advice : Search → Look → PlanError → List ℕ
-plan_advice s l plan.Range =
+-- the range that the candidates are out of: the first of them, or how many
+abbrev pub candidates_advice : Search → List ℕ
+candidates_advice s =
     if nat_lt (2 ^ 40) s.first then range_line (codes "first") s.first 0 (2 ^ 40) []
     else range_line (codes "candidates") (candidates_of s) 0 (2 ^ 40 - s.first)
     (codes " from this --first on")
+
+-- the range that a plan's number is out of
+abbrev pub plan_advice : Search → Look → PlanError → List ℕ
+plan_advice s l plan.Range = candidates_advice s
 plan_advice s l plan.Workers = range_line (codes "workers") s.workers 1 16 (codes " workers")
 plan_advice s l plan.Capacity = range_line (codes "lane") s.lane 1 4096 (codes " verdicts")
 plan_advice s l plan.Boards =
@@ -82,11 +86,14 @@ pub record IsHandAdvice (s : Search) (holder : Seat) (line : List ℕ) : Type 0 
   pub is_fault : IsFaultOf (before holder s.hands) text fault
   pub says : line ≡ given_text (seat_option holder) text ++ rule_of fault ++ codes "\n"
 
--- the line below the refusal of a plan, a label or a hand; there is none below another failure, nor
--- where the text of a hand is none that is refused
+-- the line for the text of a seat's hand; none unless it is refused
+abbrev pub IsAdviceOnHand : Search → Seat → Option (List ℕ) → Type 0
+IsAdviceOnHand s holder None = is_refused_at s.hands holder ≡ false
+IsAdviceOnHand s holder (Some line) = IsHandAdvice s holder line
+
+-- the line below the refusal of a plan, a label or a hand; none below another failure
 abbrev pub IsAdviceOn : Search → Look → Failure → Option (List ℕ) → Type 0
 IsAdviceOn s l (Plan error) line = line ≡ Some (plan_advice s l error)
 IsAdviceOn s l (Label name) line = line ≡ Some (label_advice l name)
-IsAdviceOn s l (Hand holder) None = is_refused_at s.hands holder ≡ false
-IsAdviceOn s l (Hand holder) (Some line) = IsHandAdvice s holder line
+IsAdviceOn s l (Hand holder) line = IsAdviceOnHand s holder line
 IsAdviceOn s l failure line = line ≡ None

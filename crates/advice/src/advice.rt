@@ -3,10 +3,10 @@
 
 ghost use Rattle.std.specs.Prelude.{◌≡◌, ◌++◌, [], map, option_map, string_bytes, unwrap_or};
 ghost use Rattle.std.specs.Prelude.{IfOk, OnOk};
-ghost use Rattle.advice.specs.Advice.{IsAdviceOn, given_text, label_advice, plan_advice};
-ghost use Rattle.advice.specs.Advice.{range_line, seat_option, shown_text, text_line};
+ghost use Rattle.advice.specs.Advice.{IsAdviceOn, IsAdviceOnHand, candidates_advice, given_text};
+ghost use Rattle.advice.specs.Advice.{label_advice, plan_advice, range_line, seat_option};
+ghost use Rattle.advice.specs.Advice.{shown_text, text_line};
 ghost use Rattle.requests.specs.Options.{look_of, search_of};
-ghost use Rattle.requests.specs.Requests.{Look as ALook};
 
 use boards::MAX_LABEL_LEN;
 use cards::{MAX_CANDIDATES, Seat};
@@ -79,8 +79,7 @@ fn of_plan(
 
 /// The line for candidates that there aren't: for the first, if there isn't even that.
 fn of_candidates(alloc: Global, search: &Search<'_>) -> Result<String, AllocError>
-    ensures { IfOk result (λ line. (l : ALook) → string_bytes line
-        ≡ plan_advice (search_of search.now) l PlanError.Range) }
+    ensures { IfOk result (λ line. string_bytes line ≡ candidates_advice (search_of search.now)) }
 {
     let first = search.first;
     if first > MAX_CANDIDATES {
@@ -130,8 +129,8 @@ fn of_label(alloc: Global, look: &Look<'_>, name: LabelName) -> Result<String, A
 
 /// The line for a text that isn't a hand, or has a card of an earlier one; none if it is one.
 fn of_hand(alloc: Global, search: &Search<'_>, seat: Seat) -> Result<Option<String>, AllocError>
-    ensures { IfOk result (λ line. (l : ALook) → IsAdviceOn (search_of search.now) l
-        (Failure.Hand seat) (option_map string_bytes line)) }
+    ensures { IfOk result (λ line.
+        IsAdviceOnHand (search_of search.now) seat (option_map string_bytes line)) }
 {
     let Some(text) = search.hands.given_at(seat) else {
         return Ok(None);
