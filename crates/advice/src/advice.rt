@@ -61,7 +61,14 @@ fn of_plan(
         PlanError::Range => of_candidates(alloc, search),
         PlanError::Workers => {
             let workers = u64::from(search.workers);
-            of_number(alloc, "workers", workers, 1, u64::from(MAX_WORKERS), " workers")
+            of_number(
+                alloc,
+                "workers",
+                workers,
+                1,
+                u64::from(MAX_WORKERS),
+                " workers",
+            )
         }
         PlanError::Capacity => {
             let lane = u64::from(search.lane);
@@ -72,7 +79,14 @@ fn of_plan(
             of_number(alloc, "boards", boards, 1, u64::from(u32::MAX), " boards")
         }
         PlanError::FirstBoard => {
-            of_number(alloc, "first-board", look.first_board(), 1, MAX_CANDIDATES, "")
+            of_number(
+                alloc,
+                "first-board",
+                look.first_board(),
+                1,
+                MAX_CANDIDATES,
+                "",
+            )
         }
     }
 }
@@ -87,7 +101,14 @@ fn of_candidates(alloc: Global, search: &Search<'_>) -> Result<String, AllocErro
     }
     let most = MAX_CANDIDATES - first;
     let candidates = search.candidates();
-    of_number(alloc, "candidates", candidates, 0, most, " from this --first on")
+    of_number(
+        alloc,
+        "candidates",
+        candidates,
+        0,
+        most,
+        " from this --first on",
+    )
 }
 
 /// The line for a number that is out of range.

@@ -67,9 +67,14 @@ fn counts_of(
     drawn: Drawn,
 ) -> Counts<io::Stderr> {
     let (style, all) = match read {
-        Ok(Request::Make { search, notices, .. } | Request::Find { search, notices }) => {
-            (style_of(rt, notices.progress), search.candidates)
-        }
+        Ok(
+            Request::Make {
+                search,
+                notices,
+                ..
+            }
+            | Request::Find { search, notices },
+        ) => { (style_of(rt, notices.progress), search.candidates) }
         _ => (Style::Never, None),
     };
     let now = millis(rt).unwrap_or(0);

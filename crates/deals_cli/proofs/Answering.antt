@@ -1,5 +1,5 @@
 -- From what was read of words to what is done for them.
-use Rattle.std.proofs.Common.{◌≡◌, ◌∙◌, ◌⊎◌, ℕ, List, Option, None, Some, Result, Ok, Err, true, false, refl, sym, ap, subst, inl, inr}
+use Rattle.std.proofs.Common.{◌≡◌, ◌∙◌, ℕ, List, Option, None, Some, Result, Ok, Err, true, refl, sym, subst, inl, inr}
 use Rattle.std.specs.Prelude.{IsSome}
 use Rattle.clap.specs.Kinds.{IsAmong}
 use Rattle.clap.specs.Values.{kind_of}
@@ -8,11 +8,11 @@ use Rattle.clap.specs.declared.error.Error.{Error}
 use Rattle.clap.specs.declared.error.kind.ErrorKind.{ErrorKind}
 use Rattle.clap.specs.declared.error.kind.ErrorKind.TheVariants.{OutOfMemory}
 use Rattle.dealrun.specs.declared.cause.Cause.TheVariants as cause
-use Rattle.requests.specs.Failures.{is_refusal, is_untouched, status_of}
+use Rattle.requests.specs.Failures.{is_refusal, status_of}
 use Rattle.requests.specs.FirstRefusal.{IsDueFor}
 use Rattle.requests.specs.Interruptions.{LeavesFrom}
 use Rattle.requests.specs.Jobs.{IsReady, IsRefused, Serves}
-use Rattle.requests.specs.Requests.{Wish, conditions, make, pick, stream}
+use Rattle.requests.specs.Requests.{Wish}
 use Rattle.requests.specs.Wishes.{AppendsFrom, IsStatusOf}
 use Rattle.requests.specs.declared.failure.Failure.{Failure}
 use Rattle.requests.specs.declared.failure.Failure.TheVariants.{CommandLine, Plan, Label, Hand, Condition, Interrupted, Line, Input}
@@ -21,7 +21,7 @@ use Rattle.requests.specs.declared.report.Report.{Report}
 use Rattle.requests.proofs.FirstDue.{output_due}
 use Rattle.requests.proofs.Statuses.{no_memory, served}
 use Rattle.deals_cli.specs.CommandLine.{asked, kinds_for}
-use Rattle.deals_cli.specs.Program.{Answers, AreRead, AreRefused, IsStatusFor, IsTaskFor, MayFail, MayLeave, MayShow, is_shown}
+use Rattle.deals_cli.specs.Program.{Answers, AreRead, AreRefused, IsStatusFor, IsTaskFor, MayShow, is_shown}
 use Rattle.deals_cli.specs.declared.task.Task.TheVariants.{Do}
 use Rattle.deals_cli.specs.internal.Kinds.{RefusesError}
 use Rattle.deals_cli.proofs.Statuses.{none_no_memory, none_refused, none_shown}

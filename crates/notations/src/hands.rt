@@ -18,9 +18,9 @@ ghost use Rattle.notations.specs.internal.Parts.{rest_of_line};
 mod header;
 mod parts;
 
+use crate::hands::parts::{one_count, put_gap, put_suit, two_counts};
 use boards::{Board, SuitLetters, TextBuffer, Vul};
 use cards::{Deal, Hand, Seat, Suit};
-use crate::hands::parts::{one_count, put_gap, put_suit, two_counts};
 pub(crate) use header::put_header;
 
 /// Writes the board's twelve lines and the empty line into the empty buffer.

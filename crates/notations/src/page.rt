@@ -13,9 +13,9 @@ mod header;
 mod parts;
 mod style;
 
+use crate::page::parts::{put_suits, seat_name, vulnerable_name};
 use boards::{Board, SuitLetters, TextBuffer, Vul};
 use cards::{Deal, Seat};
-use crate::page::parts::{put_suits, seat_name, vulnerable_name};
 pub(crate) use header::put_header;
 
 /// What closes the page.

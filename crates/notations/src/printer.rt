@@ -4,8 +4,8 @@ ghost use Rattle.std.specs.Prelude.{◌≡◌, [], ⊤, IfOk};
 ghost use Rattle.notations.specs.Formats.{layout_of};
 ghost use Rattle.notations.specs.internal.Pens.{IsUnder, format_of, text_of};
 
-use boards::{Board, Heading, Notation, SuitLetters, TextBuffer};
 use crate::{Format, hands, lin, numbers, page};
+use boards::{Board, Heading, Notation, SuitLetters, TextBuffer};
 use pbn_text::{HEADER, Printer};
 use sinks::{Sink, SinkFault, put_all};
 use std::alloc::{AllocError, Global};

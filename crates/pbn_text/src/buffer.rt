@@ -17,11 +17,11 @@ ghost use Rattle.pbn_text.specs.Games.{hand_text, suit_text};
 ghost use Rattle.pbn_text.specs.internal.Lines.{hands_text};
 ghost use Rattle.pbn_text.specs.internal.Buffers.{IsPrefix, number_end};
 
+use crate::Heading;
+use crate::lines::{put, put_heading};
 use arrayvec::ArrayVec;
 use boards::SuitLetters;
 use cards::{Deal, Hand, Seat, Suit};
-use crate::Heading;
-use crate::lines::{put, put_heading};
 use itoa::write_digits;
 
 /// Holds a game, and after it the bytes that copies of a fixed length write over.

@@ -4,10 +4,10 @@
 ghost use Rattle.std.specs.Prelude.{◌≡◌, [], ⊤, IfOk};
 ghost use Rattle.pbn_text.specs.Games.{game_text, pbn};
 
-use boards::{Board, Notation, SuitLetters};
 use crate::board_lines::put_board_lines;
 use crate::buffer::{LineBuffer, Prefix, first_prefix, put_hands, put_number};
 use crate::{HEADER, Heading};
+use boards::{Board, Notation, SuitLetters};
 use sinks::{Sink, SinkFault, put_all};
 use std::alloc::{AllocError, Global};
 use std::marker::Model;

@@ -1,5 +1,5 @@
 -- Pieces of what the input gives.
-use Rattle.std.proofs.Common.{◌≡◌, ◌∙◌, ◌<◌, ◌+◌, ℕ, List, [], ◌∷◌, ◌++◌, length, take, drop, arith, length-take, ◌≤◌, ◌*◌, get_or, Option, refl, sym, ap, append_assoc, add-one, drop-cons, subst}
+use Rattle.std.proofs.Common.{◌≡◌, ◌∙◌, ◌<◌, ◌+◌, ℕ, List, [], ◌∷◌, ◌++◌, length, take, drop, arith, length-take, ◌≤◌, ◌*◌, get_or, Option, sym, ap, append_assoc, add-one, drop-cons, subst}
 use Rattle.std.specs.Prelude.{Err, Ok, OnOk, Result}
 use Rattle.std.proofs.lemmas.List.{append-nil, take-append-drop}
 use Rattle.std.proofs.KnownBytes.{Consumes-kept, Consumes-nil, Consumes-trans}

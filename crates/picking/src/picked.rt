@@ -157,11 +157,7 @@ impl Picker {
 
     /// Takes the end of the input: writes the board of a last line without an end, and the footer.
     /// Returns how many boards were written.
-    fn finish<N: Notation, S: Sink>(
-        &self,
-        notation: &mut N,
-        sink: &mut S,
-    ) -> Result<u64, PickFault>
+    fn finish<N: Notation, S: Sink>(&self, notation: &mut N, sink: &mut S) -> Result<u64, PickFault>
         requires faults { S.faults sink.old < 2 ^ 64 - 1 }
         requires lines { self.now.scanner.lines < 2 ^ 64 - 1 }
         ensures layout { N.layout notation.new ≡ N.layout notation.old }

@@ -1,15 +1,12 @@
 -- From how the parts of a job end to what is promised of a wish.
 use Rattle.std.proofs.Common.{◌≡◌, ◌⊎◌, ℕ, List, Option, None, Some, Ok, Err, true, false, refl, sym, ◌∙◌, inl, inr}
-use Rattle.std.specs.Prelude.{Result}
-use Rattle.cond_lang.specs.Form.{Form}
 use Rattle.dealrun.specs.Values.{lines}
 use Rattle.dealrun.specs.declared.cause.Cause.{Cause}
 use Rattle.dealrun.specs.declared.cause.Cause.TheVariants.{Memory, Spawn, Output, Stopped, Unclosed}
 use Rattle.requests.specs.Failures.{is_untouched}
 use Rattle.requests.specs.Interruptions.{InterruptsMake, LeavesFrom}
 use Rattle.requests.specs.Jobs.{IsReady, Serves}
-use Rattle.requests.specs.Makings.{Means}
-use Rattle.requests.specs.Requests.{Look, Search, Wish, conditions, make, no_search, pick, stream}
+use Rattle.requests.specs.Requests.{Look, Search, Wish, conditions, make, pick, stream}
 use Rattle.requests.specs.Wishes.{language_page}
 use Rattle.requests.specs.declared.failure.Failure.{Failure}
 use Rattle.requests.specs.declared.failure.Failure.TheVariants.{CommandLine, Plan, Label, Hand, Condition, Interrupted, Line, Input}

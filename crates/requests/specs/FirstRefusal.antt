@@ -13,7 +13,7 @@ use Rattle.requests.specs.Makings.{CanDate, CanLabel, HasLabels, HasNumbers}
 use Rattle.requests.specs.Makings.{IsPlanned, Means, candidates_of, first_board_of}
 use Rattle.requests.specs.Requests.{Look, Search, Wish, conditions, make, no_search, pick, stream}
 use Rattle.requests.specs.declared.failure.Failure.{Failure}
-use Rattle.requests.specs.declared.failure.Failure.TheVariants.{CommandLine, Plan, Label, Hand}
+use Rattle.requests.specs.declared.failure.Failure.TheVariants.{Plan, Label, Hand}
 use Rattle.requests.specs.declared.failure.Failure.TheVariants.{Condition, Interrupted, Line, Input}
 use Rattle.requests.specs.declared.failure.LabelName.TheVariants.{Event, Site, Date}
 

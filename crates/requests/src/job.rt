@@ -52,11 +52,20 @@ pub fn prepare(alloc: Global, request: &Request<'_>) -> Result<Job, Failure>
     ensures refused { IfErr result (IsRefused (wish_of request.now)) }
 {
     match request {
-        Request::Make { search, look, notices } => boards_job(alloc, search, look, notices),
+        Request::Make {
+            search,
+            look,
+            notices,
+        } => boards_job(alloc, search, look, notices),
         Request::Find { search, notices } => {
             boards_job(alloc, search, &Look::numbers(), notices)
         }
-        Request::Pick { seed, hands, look, .. } => {
+        Request::Pick {
+            seed,
+            hands,
+            look,
+            ..
+        } => {
             let plan = planned(&Search::none(*seed, *hands), look)?;
             let format = look.format;
             Ok(Job::Pick(PickJob { plan, format }))

@@ -5,8 +5,9 @@ ghost use Rattle.std.specs.Prelude.{◌≡◌, ◌<◌};
 use crate::support::same;
 use boards::{Board, Notation};
 use cond_lang::Cond;
-use dealrun::{Cause, Fuse, MemSink, PlainFault, Plan, Sink, SinkFault, put_all, run_in};
-use dealrun::run_plain_in;
+use dealrun::{
+    Cause, Fuse, MemSink, PlainFault, Plan, Sink, SinkFault, put_all, run_in, run_plain_in,
+};
 use lanes::OpenGate;
 use std::alloc::Global;
 use std::process::Abort;

@@ -2,8 +2,7 @@
 
 use crate::support::{equals, holds};
 use notations::{AnyPrinter, Format};
-use picking::{LineFault, NoBytes, Reader, RefusedLine};
-use picking::{PickFault, pick};
+use picking::{LineFault, NoBytes, PickFault, Reader, RefusedLine, pick};
 use plans::Plan;
 use sinks::{Fuse, MemSink};
 use std::alloc::AllocGlobal;

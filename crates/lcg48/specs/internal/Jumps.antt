@@ -1,5 +1,5 @@
 -- A table of strides for each digit in base 16.
-use Rattle.std.specs.Prelude.{◌≡◌, ℕ, ◌+◌, ◌*◌, ◌/◌, ◌%◌, ◌^◌, ◌<◌, List, slice_index_or}
+use Rattle.std.specs.Prelude.{◌≡◌, ℕ, ◌*◌, ◌/◌, ◌%◌, ◌^◌, ◌<◌, List, slice_index_or}
 
 -- what the digit at place p counts: 16 to the power of p
 abbrev pub unit_of : ℕ → ℕ

@@ -12,8 +12,8 @@ returns-in_err-matches c =
     let p = err_from_is_err_and c.from_residual-in_err-matches.result c.from_residual-in_err-matches.ensures.1 in
     let words = map string_bytes c.args.words.now in
     rw (p.1, p.2) (
-    err_kind _ words c.in_err-matches.field-0.0 c.in_ok-command.ensures c.in_err-matches.ensures.kinds,
-    error_kind _ words c.in_err-matches.field-0.0 c.in_ok-command.ensures c.in_err-matches.ensures.kinds,
+      err_kind _ words c.in_err-matches.field-0.0 c.in_ok-command.ensures c.in_err-matches.ensures.kinds,
+      error_kind _ words c.in_err-matches.field-0.0 c.in_ok-command.ensures c.in_err-matches.ensures.kinds,
     )
 
 pub stream_request-requires : goal.stream_request-requires
@@ -62,8 +62,7 @@ returns-then-has_no_end c =
     let asks = (at.make (sym c.if-eq.ensures) (sym c.if-eq-2.ensures)).1 in
     let known = sym c.unknown_in.ensures ∙ ap is_some c.in_default.is in
     let end = ap (has_no_end c.unwrap.result.0.now) (sym c.search_in-search.ensures) ∙ sym c.if-has_no_end.ensures in
-    let words = map string_bytes c.args.words.now in
-    (
+    let words = map string_bytes c.args.words.now in (
       λ some. refused_asked words MissingRequiredArgument (asks.no_end known end) some,
       refused_kind words MissingRequiredArgument c.in_ok-missing_end.field-0 (asks.no_end known end) c.in_ok-missing_end.ensures,
     )

@@ -1,4 +1,4 @@
-use Rattle.std.proofs.Common.{◌≡◌, ◌∙◌, ◌*◌, ◌/◌, ◌%◌, ◌<◌, ◌^◌, arith, mod-eq_of_lt}
+use Rattle.std.proofs.Common.{◌∙◌, ◌*◌, ◌/◌, ◌%◌, ◌<◌, ◌^◌, arith, mod-eq_of_lt}
 use Rattle.lcg48.specs.internal.Jumps.{unit_of}
 use Rattle.lcg48.proofs.Digits.{small_length}
 use Rattle.lcg48.proofs.jumps.stride_at.Goals as goal

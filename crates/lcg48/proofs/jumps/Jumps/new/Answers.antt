@@ -1,4 +1,4 @@
-use Rattle.std.proofs.Common.{◌∙◌, arith}
+use Rattle.std.proofs.Common.{arith}
 use Rattle.std.proofs.lemmas.List.{length-set}
 use Rattle.lcg48.proofs.Digits.{table_more}
 use Rattle.lcg48.proofs.jumps.Jumps.new.Goals as goal

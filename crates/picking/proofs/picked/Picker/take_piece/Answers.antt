@@ -1,4 +1,4 @@
-use Rattle.std.proofs.Common.{◌≡◌, ◌+◌, ◌++◌, ◌∷◌, [], take, drop, get_or, subst}
+use Rattle.std.proofs.Common.{◌+◌, ◌++◌, ◌∷◌, [], take, drop, get_or, subst}
 use Rattle.picking.specs.internal.Picking.{EndsWithin}
 use Rattle.picking.proofs.Pieces.{broken_at, cut_at}
 use Rattle.picking.proofs.picked.Picker.take_piece.Goals as goal
