@@ -16,8 +16,7 @@ use Rattle.requests.specs.Interruptions.{LeavesFrom}
 use Rattle.requests.specs.Lines.{line_of}
 use Rattle.requests.specs.Reported.{Reports, ReportsFor, wants_report}
 use Rattle.requests.specs.Jobs.{IsReady}
-use Rattle.requests.specs.Options.{wish_of}
-use Rattle.requests.specs.Requests.{Look, Search, Wish, make}
+use Rattle.requests.specs.Requests.{Look, Search, Wish, make, wish_of}
 use Rattle.requests.specs.declared.report.Report.{Report}
 use Rattle.requests.specs.declared.request.Notices.{Notices}
 use Rattle.requests.specs.declared.request.Request.{Request}

@@ -8,7 +8,7 @@ ghost use Rattle.deals_cli.specs.Program.{AreRead};
 ghost use Rattle.deals_cli.specs.internal.Readings.{MayGive32, MayGive64, SearchValues};
 ghost use Rattle.deals_cli.specs.internal.Readings.{StreamValues};
 ghost use Rattle.predeal.specs.PredealtHands.{given_by};
-ghost use Rattle.requests.specs.Options.{look_of, search_of, wish_of};
+ghost use Rattle.requests.specs.Requests.{look_of, search_of, wish_of};
 
 use crate::choices::{DEALER, FORMAT, HINTS, PROGRESS, VULNERABLE, unknown_in};
 use crate::commands::command;

@@ -1,5 +1,4 @@
 pub mod Requests
-pub mod Options
 pub mod Makings
 pub mod Jobs
 pub mod Formats

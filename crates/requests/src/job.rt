@@ -2,8 +2,7 @@
 
 ghost use Rattle.std.specs.Prelude.{IfErr, IfOk};
 ghost use Rattle.requests.specs.Jobs.{IsReady, IsRefused};
-ghost use Rattle.requests.specs.Options.{look_of, search_of, wish_of};
-ghost use Rattle.requests.specs.Requests.{make};
+ghost use Rattle.requests.specs.Requests.{look_of, make, search_of, wish_of};
 
 use crate::failure::Failure;
 use crate::look::Look;

@@ -5,8 +5,7 @@ ghost use Rattle.requests.specs.FirstRefusal.{IsFirstOf, of_labels};
 ghost use Rattle.requests.specs.Failures.{status_of};
 ghost use Rattle.requests.specs.Makings.{CanDate, CanLabel, HasLabels};
 ghost use Rattle.requests.specs.Makings.{first_board_of, heading_of, setting_of};
-ghost use Rattle.requests.specs.Options.{look_of};
-ghost use Rattle.requests.specs.Requests.{Search, numbers_look};
+ghost use Rattle.requests.specs.Requests.{Search, look_of, numbers_look};
 
 use crate::failure::{Failure, LabelName};
 use boards::{Date, Heading, Label, Setting, Vul};

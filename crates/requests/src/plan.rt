@@ -8,7 +8,7 @@ ghost use Rattle.predeal.specs.PredealtHands.{fixed_of};
 ghost use Rattle.requests.specs.Failures.{status_of};
 ghost use Rattle.requests.specs.FirstRefusal.{IsFirstHand, IsFirstOf, IsPlanDue, of_numbers};
 ghost use Rattle.requests.specs.Makings.{HasHands, HasNumbers, IsPlanned, plan_of};
-ghost use Rattle.requests.specs.Options.{look_of, search_of};
+ghost use Rattle.requests.specs.Requests.{look_of, search_of};
 
 use crate::failure::Failure;
 use crate::look::Look;

@@ -5,8 +5,7 @@ ghost use Rattle.cond_lang.specs.Form.{Form};
 ghost use Rattle.requests.specs.Failures.{status_of};
 ghost use Rattle.requests.specs.Makings.{Means, candidates_of};
 ghost use Rattle.predeal.specs.PredealtHands.{given_by};
-ghost use Rattle.requests.specs.Options.{search_of};
-ghost use Rattle.requests.specs.Requests.{no_search};
+ghost use Rattle.requests.specs.Requests.{no_search, search_of};
 ghost use Rattle.requests.specs.internal.Conditions.{IsConditionFailure};
 
 use crate::failure::Failure;

@@ -1,5 +1,5 @@
 use Rattle.std.proofs.lemmas.Result.{err_from_is_err_and}
-use Rattle.requests.specs.Options.{look_of, search_of}
+use Rattle.requests.specs.Requests.{look_of, search_of}
 use Rattle.requests.proofs.FirstDue.{labels_due}
 use Rattle.requests.proofs.plan.planned.Goals as goal
 
