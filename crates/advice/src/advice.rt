@@ -22,9 +22,9 @@ const WHOLE: usize = 72;
 
 const PART: usize = 70;
 
-/// Returns what helps a person with a request that is refused so, to stand below the line that names
-/// the refusal: a line with the option, what it was given, and what it takes. There is none unless a
-/// plan, a label or a hand is refused.
+/// Returns what helps a person with a request that is refused so, to stand below the line that
+/// names the refusal: a line with the option, what it was given, and what it takes. There is none
+/// unless a plan, a label or a hand is refused.
 ///
 /// What a label or a hand was given is shown as on a terminal, cut to 72 columns.
 ///

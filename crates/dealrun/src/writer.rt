@@ -58,8 +58,8 @@ impl Progress {
             (board_text (N.layout notation.old) plan.now self.old.boards verdict.now) [])) }
         ensures printed { OnOk result ((before : List Board)
             → N.has_printed notation.old before
-            → N.has_printed notation.new (cond verdict.now.accepted (before
-            ++ board_of plan.now self.old.boards verdict.now.number verdict.now.deal ∷ []) before)) }
+            → N.has_printed notation.new (cond verdict.now.accepted (before ++ board_of plan.now
+            self.old.boards verdict.now.number verdict.now.deal ∷ []) before)) }
         ensures broken { OnErr result ((verdict.now.accepted ≡ true)
             × (self.new.boards ≡ self.old.boards)
             × AppendsPart (S.bytes sink.old) (S.bytes sink.new)

@@ -49,7 +49,7 @@ refused words w f is r = record {
   due = λ v other. inr (subst (λ (x : Wish). IsDueFor x f) (same_wish words w v is other) r.due);
 }
 
--- clap's error is no want of memory: the words ask for nothing
+-- clap's error isn't that memory ran out: the words ask for nothing
 unasked : (words : List Text) (e : Error) → AreRead words (Err e) → (kind_of e ≡ OutOfMemory → ⊥) → asked words ≡ None
 unasked words e read other = go (asked words) refl
   where

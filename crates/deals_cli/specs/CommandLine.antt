@@ -118,7 +118,7 @@ notices_in rows = record {
   hints = when_in (codes "hints") rows;
 }
 
--- `find` writes the numbers of what it finds, and `pick` deals the candidates whose numbers it reads
+-- `find` writes the numbers of what it finds, `pick` deals the candidates whose numbers it reads
 abbrev pub made_by : Text → Search → List Row → Wish
 made_by name s rows =
     if bytes_eq name (codes "find") then make s numbers_look (notices_in rows)
@@ -170,6 +170,6 @@ unless_fault (k ∷ kinds) wish = None
 unfoldable pub kinds_for : List Text → Kinds
 kinds_for words = or_else (fault_of deals words) (further_kinds words)
 
--- what the words ask for, if nothing but want of memory can fail their parse
+-- what the words ask for, if their parse can't fail unless memory runs out
 unfoldable pub asked : List Text → Option Wish
 asked words = unless_fault (kinds_for words) (wish_in words)

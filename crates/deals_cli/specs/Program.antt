@@ -48,7 +48,7 @@ pub record MayRefuse (words : List Text) : Type 0 where
   pub among : IsAmong kind (kinds_for words)
   pub refused : is_shown kind ≡ false
 
--- what the program's status says of words that ask for nothing; want of memory, 5, can end each
+-- what the status says of words that ask for nothing; that memory ran out, 5, can end each
 pub record IsStatusOfNone (words : List Text) (status : ℕ) : Type 0 where
   -- help or the version was asked for, and the output took it or failed
   pub shown : (status ≡ 0) ⊎ (status ≡ 4) → MayShow words
@@ -73,7 +73,7 @@ MayLeave w failure before behind old new =
     ⊎ ((failure ≡ Interrupted Output) × AppendsFrom w before behind old new)
 
 -- what was read of the words: what they ask for, or clap's error. Of words that ask for something
--- only want of memory is one
+-- only that memory ran out is one
 abbrev pub AreRead : List Text → Result Request Error → Type 0
 AreRead words (Ok request) = asked words ≡ Some (wish_of request)
 AreRead words (Err error) =

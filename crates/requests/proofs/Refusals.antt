@@ -20,7 +20,7 @@ refused_status (Number at) = inr refl
 refused_status (Syntax at) = inr refl
 refused_status Memory = inl refl
 
--- a text that means something is refused for want of memory alone
+-- a text that means something is refused only where memory ran out
 pub meant_status : (o : Option (Bor (List ℕ))) (text : Bor (List ℕ)) (bytes : List ℕ) (e : CondError) → o ≡ Some text → bytes ≡ text.now
     → ((t : Form) → length bytes ≤ 1024 → SpellsTree bytes t → e ≡ Memory) → (f : Form) → Means (option_map (λ s. s.now) o) f → status_of (failure_of e) ≡ 5
 meant_status o text bytes e given same memory f means =

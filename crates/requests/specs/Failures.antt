@@ -22,7 +22,7 @@ status_of (Interrupted (cause.Unclosed worker)) = 6
 status_of (Line line) = 7
 status_of Input = 7
 
--- want of memory in a parse is want of memory
+-- that memory ran out in a parse is told as it is elsewhere
 abbrev pub failure_of : CondError → Failure
 failure_of no_memory = Interrupted cause.Memory
 failure_of error = Condition error

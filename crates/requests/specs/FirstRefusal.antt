@@ -44,7 +44,7 @@ IsFirstOf (refusal ∷ rest) s l failure =
     ((failure ≡ refusal) × (Meets s l refusal → ⊥))
     ⊎ (Meets s l refusal × IsFirstOf rest s l failure)
 
--- the condition is refused so, and not for want of memory
+-- the condition is refused so, and not since memory ran out
 pub record IsConditionDue (given : Option (List ℕ)) (error : CondError) : Type 0 where
   pub text : List ℕ
   pub is_given : given ≡ Some text
@@ -63,15 +63,15 @@ IsPlanDue s l (Label label) = IsFirstOf (of_numbers ++ of_labels) s l (Label lab
 IsPlanDue s l (Hand seat) = HasNumbers s l × HasLabels l × IsFirstHand s (Hand seat)
 IsPlanDue s l _ = ⊥
 
--- why a `make` or a `find` fails: it has no plan; else a refusal of its condition, or want of memory;
--- else how its run was interrupted
+-- why a `make` or a `find` fails: it has no plan; else its condition is refused, or memory ran
+-- out; else how its run was interrupted
 abbrev pub IsMakeDue : Search → Look → Failure → Type 0
 IsMakeDue s l (Condition error) = IsPlanned s l × IsConditionDue s.where_text error
 IsMakeDue s l (Interrupted Memory) = IsPlanned s l
 IsMakeDue s l (Interrupted cause) = IsPlanned s l × ((form : Form) × Means s.where_text form)
 IsMakeDue s l failure = IsPlanDue s l failure
 
--- why a `pick` fails: it has no plan; else want of memory, the output, a line of the input, or the
+-- why a `pick` fails: it has no plan; else memory ran out, the output, a line of the input, or the
 -- input
 abbrev pub IsPickDue : Search → Look → Failure → Type 0
 IsPickDue s l (Interrupted Memory) = IsPlanned s l

@@ -66,7 +66,7 @@ IsStatus n = Contains (0 ∷ 2 ∷ 3 ∷ 4 ∷ 5 ∷ 6 ∷ []) n
 abbrev pub IsStatusWithInput : ℕ → Type 0
 IsStatusWithInput n = Contains (0 ∷ 2 ∷ 3 ∷ 4 ∷ 5 ∷ 6 ∷ 7 ∷ []) n
 
--- what the program's status says of a wish; want of memory, 5, can end each
+-- what the program's status says of a wish; that memory ran out, 5, can end each
 pub record IsStatusOf (w : Wish) (status : ℕ) : Type 0 where
   -- done, or the output, a thread, a worker or the input failed: all of the wish was accepted
   pub accepted : (status ≡ 0) ⊎ (status ≡ 4) ⊎ (status ≡ 6) ⊎ (status ≡ 7)

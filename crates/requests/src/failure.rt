@@ -37,7 +37,7 @@ pub enum Failure {
     Label(LabelName),
     /// The text of this seat's hand is no hand, or has a card of an earlier one.
     Hand(Seat),
-    /// The condition is refused, and not for want of memory.
+    /// The condition is refused, and not since memory ran out.
     Condition(CondError),
     /// The output failed, memory ran out, a thread wasn't started, or a worker ended too soon.
     Interrupted(Cause),
@@ -74,7 +74,7 @@ impl From<CondError> for Failure {
     }
 }
 
-/// The line for want of memory.
+/// The line that tells that memory ran out.
 const OUT_OF_MEMORY: &str = "out of memory\n";
 
 fn of_plan(error: PlanError) -> &'static str

@@ -1,9 +1,9 @@
 //! The requests of the program: what each means, what is done for it, and how it ends.
 //!
 //! A `Request` is what the words ask for, one variant for each subcommand: a `Search` says which
-//! candidates are tried and accepted, a `Look` how their boards are written. `prepare` makes a `Job`
-//! of it, or refuses it (`plan.rt`, `job.rt`), and `serve` does it (`run.rt`). How the words of
-//! a command line become a request isn't known here.
+//! candidates are tried and accepted, a `Look` how their boards are written. `prepare` makes a
+//! `Job` of it, or refuses it (`plan.rt`, `job.rt`), and `serve` does it (`run.rt`). How the words
+//! of a command line become a request isn't known here.
 #![tactic(auto)]
 
 mod failure;

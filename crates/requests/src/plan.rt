@@ -20,11 +20,12 @@ use plans::{Plan, PlanError};
 /// boards.
 #[tactic(auto, using(crate::proofs::FirstDue::numbers))]
 fn numbers_of(search: &Search<'_>, look: &Look<'_>) -> Result<Plan, PlanError>
-    ensures made { IfOk result (λ p. p ≡ record (plan_of (search_of search.now) (look_of look.now)) {
-      heading = no_heading;
-      setting = by_law;
-      fixed = none_fixed;
-    }) }
+    ensures made { IfOk result (λ p.
+        p ≡ record (plan_of (search_of search.now) (look_of look.now)) {
+          heading = no_heading;
+          setting = by_law;
+          fixed = none_fixed;
+        }) }
     ensures sound { IfOk result (λ _. HasNumbers (search_of search.now) (look_of look.now)) }
     ensures refused { IfErr result (λ _.
         HasNumbers (search_of search.now) (look_of look.now) → ⊥) }
