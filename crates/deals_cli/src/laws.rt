@@ -1,6 +1,6 @@
 //! What the words of some command lines ask for: the definition of that, at examples.
 
-ghost use Rattle.std.specs.Prelude.{◌≡◌, ◌∷◌, [], None, Some, codes, false, true};
+ghost use Rattle.std.specs.Prelude.{◌≡◌, ◌∷◌, [], Some, codes, true};
 ghost use Rattle.boards.specs.declared.law2.Vul.TheVariants.{NorthSouth};
 ghost use Rattle.cards.specs.declared.seat.Seat.TheVariants.{South};
 ghost use Rattle.clap.specs.declared.error.kind.ErrorKind.TheVariants.{InvalidValue};
@@ -8,7 +8,8 @@ ghost use Rattle.clap.specs.declared.error.kind.ErrorKind.TheVariants.{UnknownAr
 ghost use Rattle.deals_cli.specs.CommandLine.{asked, kinds_for};
 ghost use Rattle.predeal.specs.PredealtHands.{none_given};
 ghost use Rattle.requests.specs.Requests.{conditions, make, numbers_look, pick, stream};
-ghost use Rattle.notations.specs.declared.format.Format.TheVariants.{Hands, Pbn};
+ghost use Rattle.requests.specs.Requests.{plain_look, plain_notices, plain_search};
+ghost use Rattle.notations.specs.declared.format.Format.TheVariants.{Hands};
 ghost use Rattle.requests.specs.declared.when.When.TheVariants.{Always, Auto, Never};
 
 /// `deals stream --seed 0 --count 3` asks for the first three values of seed 0.
@@ -27,29 +28,11 @@ pub fn example_of_make()
         (codes "deals" ∷ codes "make" ∷ codes "--seed" ∷ codes "0"
         ∷ codes "--candidates" ∷ codes "200" ∷ codes "--where" ∷ codes "hcp(north)>=15"
         ∷ codes "--boards" ∷ codes "5" ∷ [])
-        ≡ Some (make (record {
-          seed = 0;
+        ≡ Some (make (record (plain_search 0) {
           candidates = Some 200;
-          first = 0;
-          workers = 1;
-          lane = 64;
           where_text = Some (codes "hcp(north)>=15");
           boards = Some 5;
-          hands = none_given;
-        }) (record {
-          format = Pbn;
-          first_board = None;
-          event = None;
-          site = None;
-          date = None;
-          dealer = None;
-          vulnerable = None;
-          rotate = false;
-        }) (record {
-          report = false;
-          progress = Auto;
-          hints = Auto;
-        })) }
+        }) plain_look plain_notices) }
 {}
 
 /// `deals make --seed 0 --boards 12 --format hands --dealer S --vulnerable NS --rotate` asks for
@@ -61,29 +44,12 @@ pub fn example_of_formats()
         ∷ codes "--boards" ∷ codes "12" ∷ codes "--format" ∷ codes "hands"
         ∷ codes "--dealer" ∷ codes "S" ∷ codes "--vulnerable" ∷ codes "NS"
         ∷ codes "--rotate" ∷ [])
-        ≡ Some (make (record {
-          seed = 0;
-          candidates = None;
-          first = 0;
-          workers = 1;
-          lane = 64;
-          where_text = None;
-          boards = Some 12;
-          hands = none_given;
-        }) (record {
+        ≡ Some (make (record (plain_search 0) { boards = Some 12 }) (record plain_look {
           format = Hands;
-          first_board = None;
-          event = None;
-          site = None;
-          date = None;
           dealer = Some South;
           vulnerable = Some NorthSouth;
           rotate = true;
-        }) (record {
-          report = false;
-          progress = Auto;
-          hints = Auto;
-        })) }
+        }) plain_notices) }
     ensures refused { kinds_for
         (codes "deals" ∷ codes "make" ∷ codes "--seed" ∷ codes "0"
         ∷ codes "--boards" ∷ codes "12" ∷ codes "--format" ∷ codes "PBN" ∷ [])
@@ -102,16 +68,7 @@ pub fn example_of_hands()
         ≡ Some (pick 2024 (record none_given {
           north = Some (codes "KQ432.A93.AJ.JT8");
           south = Some (codes "A985.KJ742.KQ32.");
-        }) (record {
-          format = Hands;
-          first_board = None;
-          event = None;
-          site = None;
-          date = None;
-          dealer = None;
-          vulnerable = None;
-          rotate = false;
-        }) Auto) }
+        }) (record plain_look { format = Hands }) Auto) }
 {}
 
 /// `deals find --seed 7 --candidates 1000 --first 5 --where 'hcp(north)>=15' --progress never
@@ -123,20 +80,11 @@ pub fn example_of_find()
         ∷ codes "--candidates" ∷ codes "1000" ∷ codes "--first" ∷ codes "5"
         ∷ codes "--where" ∷ codes "hcp(north)>=15" ∷ codes "--progress" ∷ codes "never"
         ∷ codes "--hints" ∷ codes "always" ∷ [])
-        ≡ Some (make (record {
-          seed = 7;
+        ≡ Some (make (record (plain_search 7) {
           candidates = Some 1000;
           first = 5;
-          workers = 1;
-          lane = 64;
           where_text = Some (codes "hcp(north)>=15");
-          boards = None;
-          hands = none_given;
-        }) numbers_look (record {
-          report = false;
-          progress = Never;
-          hints = Always;
-        })) }
+        }) numbers_look (record plain_notices { progress = Never; hints = Always })) }
     ensures refused { kinds_for
         (codes "deals" ∷ codes "find" ∷ codes "--seed" ∷ codes "7"
         ∷ codes "--candidates" ∷ codes "1000" ∷ codes "--first-board" ∷ codes "5" ∷ [])

@@ -2,15 +2,16 @@
 use Rattle.std.specs.Prelude.{ℕ, Bool, List, Option, None, Some, false, option_map}
 use Rattle.boards.specs.declared.law2.Vul.{Vul}
 use Rattle.cards.specs.declared.seat.Seat.{Seat}
-use Rattle.predeal.specs.PredealtHands.{GivenHands, given_by}
+use Rattle.predeal.specs.PredealtHands.{GivenHands, given_by, none_given}
 use Rattle.notations.specs.declared.format.Format.{Format}
-use Rattle.notations.specs.declared.format.Format.TheVariants.{Numbers}
+use Rattle.notations.specs.declared.format.Format.TheVariants.{Numbers, Pbn}
 use Rattle.requests.specs.declared.look.Look as given
 use Rattle.requests.specs.declared.request.Notices.{Notices}
 use Rattle.requests.specs.declared.request.Request.{Request}
 use Rattle.requests.specs.declared.request.Request.TheVariants.{Conditions, Find, Make, Pick, Stream}
 use Rattle.requests.specs.declared.search.Search as asked
 use Rattle.requests.specs.declared.when.When.{When}
+use Rattle.requests.specs.declared.when.When.TheVariants.{Auto}
 
 -- which candidates are tried, and which of them are accepted: what options were given, or their
 -- defaults. A field is named as its option is, and `where` as where_text, since the bare word is
@@ -37,10 +38,22 @@ pub record Look : Type 0 where
   pub vulnerable : Option Vul
   pub rotate : Bool
 
--- the look of what `find` writes: the numbers of candidates
-abbrev pub numbers_look : Look
-numbers_look = record {
-  format = Numbers;
+-- what is asked for where no option is given but the seed
+abbrev pub plain_search : ℕ → Search
+plain_search seed = record {
+  seed = seed;
+  candidates = None;
+  first = 0;
+  workers = 1;
+  lane = 64;
+  where_text = None;
+  boards = None;
+  hands = none_given;
+}
+
+abbrev pub plain_look : Look
+plain_look = record {
+  format = Pbn;
   first_board = None;
   event = None;
   site = None;
@@ -50,18 +63,16 @@ numbers_look = record {
   rotate = false;
 }
 
+abbrev pub plain_notices : Notices
+plain_notices = record { report = false; progress = Auto; hints = Auto }
+
+-- the look of what `find` writes: the numbers of candidates
+abbrev pub numbers_look : Look
+numbers_look = record plain_look { format = Numbers }
+
 -- the search of a `pick`, which tries no candidates of its own
 abbrev pub no_search : ℕ → GivenHands → Search
-no_search seed hands = record {
-  seed = seed;
-  candidates = Some 0;
-  first = 0;
-  workers = 1;
-  lane = 1;
-  where_text = None;
-  boards = None;
-  hands = hands;
-}
+no_search seed hands = record (plain_search seed) { candidates = Some 0; lane = 1; hands = hands }
 
 pub data Wish : Type 0 where
   -- `make`, and `find` with the look of its numbers
