@@ -4,6 +4,7 @@ import dataclasses
 import errno
 import os
 import subprocess
+import threading
 
 import harness
 import model
@@ -93,6 +94,11 @@ def every():
     return [*of_output(), *of_readers(), *of_errors()]
 
 
+# Until it is another program, a process that starts has all that is open here, and so a pipe's reader too: none starts
+# between a pipe and the end of its reader.
+STARTING = threading.Lock()
+
+
 def output_of(check):
     """Where standard output goes, and the end of it that is to stay open."""
     if check.output == "read":
@@ -110,15 +116,16 @@ def output_of(check):
 
 
 def complaint_of(check):
-    output, reader = output_of(check)
-    process = subprocess.Popen(
-        ["bash", "-c", check.command],
-        env={**os.environ, "DEALS": str(harness.PROGRAM)},
-        stdin=subprocess.DEVNULL,
-        stdout=output,
-        stderr=subprocess.PIPE,
-        start_new_session=True,
-    )
+    with STARTING:
+        output, reader = output_of(check)
+        process = subprocess.Popen(
+            ["bash", "-c", check.command],
+            env={**os.environ, "DEALS": str(harness.PROGRAM)},
+            stdin=subprocess.DEVNULL,
+            stdout=output,
+            stderr=subprocess.PIPE,
+            start_new_session=True,
+        )
     try:
         out, err = process.communicate(timeout=60)
     except subprocess.TimeoutExpired:
