@@ -2,7 +2,7 @@
 use Rattle.std.proofs.Common.{◌≡◌, ◌∙◌, ℕ, Bool, true, false, List, refl, sym, ap, if◌then◌else◌}
 use Rattle.boards.specs.Settings.{board_in, deal_in, dealer_in, vulnerable_in}
 use Rattle.boards.specs.declared.board.Board.{Board}
-use Rattle.boards.specs.declared.law2.Vul.{Vul}
+use Rattle.boards.specs.declared.setting.Vul.{Vul}
 use Rattle.boards.specs.declared.setting.Setting.{Setting}
 use Rattle.cards.proofs.Turning.{hand_kept, partition_kept}
 use Rattle.cards.specs.Deals.{IsPartition}

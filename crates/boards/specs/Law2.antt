@@ -4,28 +4,16 @@ use Rattle.std.specs.Prelude.{ℕ, ◌-◌, ◌%◌, List, [], ◌∷◌, slice_
 use Rattle.cards.specs.declared.seat.Seat.{Seat}
 use Rattle.cards.specs.declared.seat.Seat.TheVariants.{North, East, South, West}
 use Rattle.boards.specs.declared.board.Board.{Board}
-use Rattle.boards.specs.declared.law2.Vul.{Vul}
-use Rattle.boards.specs.declared.law2.Vul.TheVariants.{Neither, NorthSouth, EastWest, Both}
+use Rattle.boards.specs.declared.setting.Vul.{Vul}
+use Rattle.boards.specs.declared.setting.Vul.TheVariants.{Neither, NorthSouth, EastWest, Both}
 
 -- boards 1 to 16
 abbrev pub boards : List (Seat × Vul)
 boards =
-    (North, Neither)
-    ∷ (East, NorthSouth)
-    ∷ (South, EastWest)
-    ∷ (West, Both)
-    ∷ (North, NorthSouth)
-    ∷ (East, EastWest)
-    ∷ (South, Both)
-    ∷ (West, Neither)
-    ∷ (North, EastWest)
-    ∷ (East, Both)
-    ∷ (South, Neither)
-    ∷ (West, NorthSouth)
-    ∷ (North, Both)
-    ∷ (East, Neither)
-    ∷ (South, NorthSouth)
-    ∷ (West, EastWest)
+    (North, Neither) ∷ (East, NorthSouth) ∷ (South, EastWest) ∷ (West, Both)
+    ∷ (North, NorthSouth) ∷ (East, EastWest) ∷ (South, Both) ∷ (West, Neither)
+    ∷ (North, EastWest) ∷ (East, Both) ∷ (South, Neither) ∷ (West, NorthSouth)
+    ∷ (North, Both) ∷ (East, Neither) ∷ (South, NorthSouth) ∷ (West, EastWest)
     ∷ []
 
 -- the entry of a board, whose number is at least 1

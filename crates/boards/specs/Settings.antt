@@ -1,7 +1,7 @@
 -- What stands in place of Law 2, and whether deals are turned.
 use Rattle.std.specs.Prelude.{ℕ, List, None, false, unwrap_or, if◌then◌else◌}
 use Rattle.boards.specs.declared.board.Board.{Board}
-use Rattle.boards.specs.declared.law2.Vul.{Vul}
+use Rattle.boards.specs.declared.setting.Vul.{Vul}
 use Rattle.boards.specs.declared.setting.Setting.{Setting}
 use Rattle.boards.specs.Law2.{dealer_of, vulnerable_of}
 use Rattle.cards.specs.declared.seat.Seat.{Seat}

@@ -8,16 +8,12 @@
 mod board;
 mod buffer;
 mod heading;
-mod law2;
 pub mod laws;
 mod notation;
 mod setting;
-mod suit_letters;
 
 pub use board::Board;
-pub use buffer::{CAPACITY, TextBuffer};
+pub use buffer::{CAPACITY, SuitLetters, TextBuffer};
 pub use heading::{Date, Heading, Label, MAX_LABEL_LEN};
-pub use law2::{Vul, dealer, vulnerable};
 pub use notation::Notation;
-pub use setting::Setting;
-pub use suit_letters::SuitLetters;
+pub use setting::{Setting, Vul, dealer, vulnerable};

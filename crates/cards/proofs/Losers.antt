@@ -11,7 +11,8 @@ use Rattle.std.proofs.lemmas.Simd.{ones-mask_l, mask_l-lt, bit_mask_l}
 use lib.Lanes.{mask_l}
 use Rattle.cards.specs.declared.suit.Suit.{Suit}
 use Rattle.cards.specs.Pack.{suit_number}
-use Rattle.cards.specs.Hands.{holds_card, length_of, losers_in}
+use Rattle.cards.specs.Hands.{holds_card, length_of}
+use Rattle.cards.specs.Counts.{losers_in}
 use Rattle.cards.specs.internal.Masks.{cards_of_mask}
 use Rattle.cards.specs.internal.MaskBits.{test_bit}
 use Rattle.cards.proofs.MaskCounts.{card_at_mask}

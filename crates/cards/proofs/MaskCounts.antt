@@ -16,7 +16,8 @@ use Rattle.cards.specs.declared.suit.Suit.TheVariants.{Spades, Hearts, Diamonds,
 use Rattle.cards.specs.Pack.{is_in_suit}
 use Rattle.cards.specs.Shuffle.{pack}
 use Rattle.cards.specs.declared.honours.Honours.{Honours}
-use Rattle.cards.specs.Hands.{holds_card, weight_of, weight_in, has_honour, honours_of, honours_in, length_of}
+use Rattle.cards.specs.Hands.{holds_card, weight_of, weight_in, length_of}
+use Rattle.cards.specs.Counts.{has_honour, honours_of, honours_in}
 use Rattle.cards.specs.internal.Masks.{cards_of_mask, mask_of_suit, mask_of_honours}
 use Rattle.cards.specs.internal.MaskBits.{bit_at_pack, mask-pack-lt, same_masks, mask_of_cards}
 

@@ -1,8 +1,8 @@
 -- The measures of a hand: the table of what each counts.
 use Rattle.std.specs.Prelude.{◌≡◌, ℕ, List, [], ◌∷◌, Option, Some, None, IfSome, length, refl, slice_get}
 use Rattle.std.specs.Prelude.{unwrap_or}
-use Rattle.cards.specs.declared.measure.Measure.{Measure}
-use Rattle.cards.specs.declared.measure.Measure.TheVariants.{Hcp, Controls, Losers}
+use Rattle.cards.specs.declared.hand.Measure.{Measure}
+use Rattle.cards.specs.declared.hand.Measure.TheVariants.{Hcp, Controls, Losers}
 
 -- what an ace, a king, a queen and a jack count; losers are not counted by ranks alone
 abbrev pub weights_of : Measure → Option (List ℕ)

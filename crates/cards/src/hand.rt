@@ -1,18 +1,22 @@
-//! Hands: the cards of one seat, their points, lengths and shape.
+//! Hands: the cards of one seat, their points, lengths and shape, and what else is counted in them.
 
-ghost use Rattle.std.specs.Prelude.{◌≡◌, ℕ, ◌<◌, ◌≤◌, ◌^◌, ◌*◌, ◌↔◌, IsTrue, sum};
+ghost use Rattle.std.specs.Prelude.{◌≡◌, ℕ, ◌<◌, ◌≤◌, ◌^◌, ◌*◌, ◌↔◌, IsTrue, sum, IfSome, length};
 ghost use Rattle.std.specs.Int.{bit_at};
 ghost use Rattle.cards.specs.Pack.{suit_number};
-ghost use Rattle.cards.specs.Hands.{points_of, points_in, total_of, total_in, length_of, shape_of};
-ghost use Rattle.cards.specs.Hands.{weight_in, losers_of, losers_in, honours_of, honours_in, longest_of, shortest_of};
+ghost use Rattle.cards.specs.Hands.{points_of, points_in, length_of, shape_of};
+ghost use Rattle.cards.specs.Counts.{total_of, total_in};
+ghost use Rattle.cards.specs.Hands.{weight_in};
+ghost use Rattle.cards.specs.Counts.{losers_of, losers_in, honours_of, honours_in};
 ghost use Rattle.cards.specs.Hands.{is_balanced};
+ghost use Rattle.cards.specs.Counts.{longest_of, shortest_of};
 ghost use Rattle.cards.specs.Balanced.{IsBalanced};
 ghost use Rattle.cards.specs.Ranks.{has_rank, ranks_of};
 ghost use Rattle.cards.specs.internal.Masks.{cards_of_mask};
 ghost use Rattle.cards.specs.internal.BalancedInOrder.{IsBalancedInOrder};
+ghost use Rattle.cards.specs.Measures.{measure_number, measures, weights_of};
 
 use crate::masks::{honours_of_mask, suit_mask, weight_of_mask};
-use crate::{Honours, Measure, Suit};
+use crate::{Honours, Suit};
 use std::marker::Model;
 
 /// A seat's cards, which contracts see as a list of 52 truth values, one a card.
@@ -216,4 +220,42 @@ fn is_balanced_in_order(lengths: &[u8; 4]) -> bool
     ensures { IsTrue result ↔ IsBalancedInOrder lengths.now }
 {
     *lengths == [3, 3, 3, 4] || *lengths == [2, 3, 4, 4] || *lengths == [2, 3, 3, 5]
+}
+
+/// A way to count a hand.
+#[derive(Clone, Copy, PartialEq, Eq, Debug)]
+pub enum Measure {
+    /// High card points: ace 4, king 3, queen 2, jack 1.
+    Hcp,
+    /// Controls: ace 2, king 1.
+    Controls,
+    /// Losers: of a suit's ace, king and queen, as many as it has cards, those that aren't there.
+    Losers,
+}
+
+impl Measure {
+    /// How many measures there are.
+    pub const COUNT: usize = 3;
+
+    /// The place of the measure among all, from 0 on.
+    pub fn place(self) -> usize
+        ensures value { result ≡ measure_number self }
+        ensures within { result < length measures }
+    {
+        self as usize
+    }
+
+    /// Returns what an ace, a king, a queen and a jack count, at most 10 together. Losers have
+    /// none: ranks alone don't count them.
+    #[inline(always)]
+    pub fn weights(self) -> Option<[u8; 4]>
+        ensures value { result ≡ weights_of self }
+        ensures light { IfSome result (λ w. sum w ≤ 10) }
+    {
+        match self {
+            Measure::Hcp => Some([4, 3, 2, 1]),
+            Measure::Controls => Some([2, 1, 0, 0]),
+            Measure::Losers => None,
+        }
+    }
 }

@@ -2,7 +2,8 @@
 
 ghost use Rattle.std.specs.Prelude.{◌≡◌, ◌<◌, ◌≤◌, ◌^◌, ◌==◌, cond, sum};
 ghost use Rattle.cards.specs.Pack.{seat_number};
-ghost use Rattle.cards.specs.Hands.{weight_of, honours_of};
+ghost use Rattle.cards.specs.Hands.{weight_of};
+ghost use Rattle.cards.specs.Counts.{honours_of};
 ghost use Rattle.cards.specs.internal.Masks.{cards_of_mask, mask_of_suit, mask_of_honours, seat_mask};
 
 use crate::{Honours, Seat, Suit};

@@ -1,7 +1,7 @@
 -- A condition stays one if a token gives way to another of its kind.
 use Rattle.std.proofs.Common.{◌≡◌, ℕ, List, [], ◌∷◌, ◌++◌, Option, Some, None, refl, sym, ap, ◌∙◌, subst}
 use Rattle.cards.specs.declared.honours.Honours.{Honours}
-use Rattle.cards.specs.declared.measure.Measure.{Measure as AMeasure}
+use Rattle.cards.specs.declared.hand.Measure.{Measure as AMeasure}
 use Rattle.cards.specs.declared.seat.Seat.{Seat as ASeat}
 use Rattle.cards.specs.declared.suit.Suit.{Suit as ASuit}
 use Rattle.cond_lang.specs.declared.words.Kind.{Kind}
@@ -9,8 +9,8 @@ use Rattle.cond_lang.specs.declared.words.Kind.TheVariants as kind
 use Rattle.conditions.specs.declared.tree.Item.{Item}
 use Rattle.conditions.specs.declared.tree.Item.TheVariants.{Length, Any}
 use Rattle.conditions.specs.declared.tree.Op.{Op}
-use Rattle.cond_lang.specs.declared.token.Token.{Token}
-use Rattle.cond_lang.specs.declared.token.Token.TheVariants.{Or, And, Not, Balanced, Shape, Pattern, Measure, Cards, Len, Longest, Shortest, In, X, Seat, Suit, Ranks, Number, Open, Close, Comma, Dash, Plus, Relation}
+use Rattle.cond_lang.specs.declared.scanner.Token.{Token}
+use Rattle.cond_lang.specs.declared.scanner.Token.TheVariants.{Or, And, Not, Balanced, Shape, Pattern, Measure, Cards, Len, Longest, Shortest, In, X, Seat, Suit, Ranks, Number, Open, Close, Comma, Dash, Plus, Relation}
 use Rattle.cond_lang.specs.Continuations.{kind_of}
 use Rattle.cond_lang.specs.Faults.{IsViable}
 use Rattle.conditions.specs.Form.{Amount, sum, number, measured, suit_measured, cards_held, suit_cards_held, suit_length, longest, shortest, Form, any_of, all_of, negation, compare, within, balanced, shaped, patterned}

@@ -1,11 +1,11 @@
 -- A value has no more atoms than tokens.
 use Rattle.std.proofs.Common.{ℕ, Bool, true, false, if◌then◌else◌, map, ◌≤◌, List, [], ◌∷◌, length, length-append, arith}
-use Rattle.cards.specs.declared.measure.Measure.{Measure}
-use Rattle.cards.specs.declared.measure.Measure.TheVariants.{Hcp}
+use Rattle.cards.specs.declared.hand.Measure.{Measure}
+use Rattle.cards.specs.declared.hand.Measure.TheVariants.{Hcp}
 use Rattle.cards.specs.declared.seat.Seat.{Seat}
 use Rattle.cards.specs.declared.suit.Suit.{Suit}
-use Rattle.cond_lang.specs.declared.token.Token.{Token}
-use Rattle.cond_lang.specs.declared.token.Token.TheVariants.{Or, And, Shape, Pattern, In, Number, Dash, Close, Plus, Relation}
+use Rattle.cond_lang.specs.declared.scanner.Token.{Token}
+use Rattle.cond_lang.specs.declared.scanner.Token.TheVariants.{Or, And, Shape, Pattern, In, Number, Dash, Close, Plus, Relation}
 use Rattle.conditions.specs.Form.{Amount, measured, suit_measured, Form, any_of, all_of, negation, compare, within, balanced, shape, pattern, loose_shape, loose_pattern, is_any, number_of, shaped, patterned}
 use Rattle.std.specs.List.{list_any}
 use Rattle.conditions.specs.declared.tree.Item.{Item}

@@ -1,7 +1,7 @@
 -- Each text has a cut, and only one.
 use Rattle.std.proofs.Common.{◌≡◌, ℕ, zero, suc, ◌≤◌, List, [], ◌∷◌, ◌++◌, length, take, drop, refl, sym, ap, ◌∙◌, subst, arith, length-append}
 use Rattle.std.proofs.Math.Seq.{take-append_seam, drop-append_seam}
-use Rattle.cond_lang.specs.declared.token.Piece.{Piece}
+use Rattle.cond_lang.specs.declared.scanner.Piece.{Piece}
 use Rattle.cond_lang.specs.Cut.{Pieces, IsCut, end, piece}
 use Rattle.cond_lang.specs.internal.Scanning.{piece_at}
 use Rattle.cond_lang.proofs.Pieces.{only_piece, first_piece}

@@ -3,7 +3,7 @@ use Rattle.std.proofs.Common.{◌≡◌, ◌∙◌, ℕ, zero, suc, ◌+◌, ◌
 use Rattle.std.proofs.lemmas.Grind.{common_steps}
 use Rattle.std.proofs.lemmas.Option.{slice_get-map}
 use Rattle.cards.specs.Measures.{measures, measure_number, measure_listed}
-use Rattle.cards.specs.declared.measure.Measure.{Measure}
+use Rattle.cards.specs.declared.hand.Measure.{Measure}
 use Rattle.cond_lang.specs.declared.words.Kind.{Kind}
 use Rattle.cond_lang.specs.declared.words.Kind.TheVariants as kind
 use Rattle.cond_lang.specs.Kinds.{IsListedOnce, all_kinds, place_of}

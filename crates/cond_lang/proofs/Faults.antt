@@ -5,11 +5,11 @@ use Rattle.std.proofs.lemmas.Bool.{cases_lt}
 use Rattle.std.proofs.lemmas.List.{take-take}
 use Rattle.std.specs.Char.{is_ascii_digit}
 use Rattle.conditions.specs.declared.tree.Op.TheVariants.{Equal}
-use Rattle.cond_lang.specs.declared.token.Token.{Token}
-use Rattle.cond_lang.specs.declared.token.Token.TheVariants.{Number, Relation}
-use Rattle.cond_lang.specs.declared.token.Placed.{Placed}
+use Rattle.cond_lang.specs.declared.scanner.Token.{Token}
+use Rattle.cond_lang.specs.declared.scanner.Token.TheVariants.{Number, Relation}
+use Rattle.cond_lang.specs.declared.scanner.Placed.{Placed}
 use Rattle.conditions.specs.declared.error.CondError.{CondError}
-use Rattle.cond_lang.specs.declared.token.Piece.TheVariants.{Token as TokenPiece}
+use Rattle.cond_lang.specs.declared.scanner.Piece.TheVariants.{Token as TokenPiece}
 use Rattle.cond_lang.specs.Cut.{symbols, IsRun, IsPiece, number as number_piece, symbol, Pieces, IsCut, end, piece, HasTokens}
 use Rattle.cond_lang.specs.Faults.{HasFault}
 use Rattle.conditions.specs.Form.{Form, number, compare}

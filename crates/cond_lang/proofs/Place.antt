@@ -1,13 +1,13 @@
 -- Where reading stops is the first fault.
 use Rattle.std.proofs.Common.{◌≡◌, ℕ, ◌+◌, ◌*◌, ◌-◌, ◌<◌, List, [], ◌∷◌, ◌++◌, length, take, refl, sym, ap, ◌∙◌, subst, append_assoc, append-nil, length-append, arith, Result, Err}
 use Rattle.std.proofs.lemmas.List.{length-map}
-use Rattle.cond_lang.specs.declared.token.Placed.{Placed}
+use Rattle.cond_lang.specs.declared.scanner.Placed.{Placed}
 use Rattle.conditions.specs.declared.error.CondError.{CondError}
 use Rattle.conditions.specs.declared.error.CondError.TheVariants.{Syntax}
 use Rattle.cond_lang.specs.Text.{kinds}
 use Rattle.cond_lang.specs.Faults.{offset_of}
 use Rattle.std.proofs.Math.Seq.{take-append_seam, take-append-add}
-use Rattle.cond_lang.specs.declared.token.Token.{Token}
+use Rattle.cond_lang.specs.declared.scanner.Token.{Token}
 use Rattle.conditions.specs.Form.{Form}
 use Rattle.cond_lang.specs.Grammar.{SpellsCond, Spells}
 use Rattle.cond_lang.specs.Faults.{IsViable, IsFirstFault}

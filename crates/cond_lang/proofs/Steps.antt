@@ -3,8 +3,8 @@ use Rattle.std.proofs.Common.{◌≡◌, ℕ, zero, suc, List, [], ◌∷◌, �
 use Rattle.cards.specs.declared.seat.Seat.{Seat as ASeat}
 use Rattle.conditions.specs.declared.tree.Item.{Item}
 use Rattle.conditions.specs.declared.tree.Op.TheVariants.{Equal}
-use Rattle.cond_lang.specs.declared.token.Token.{Token}
-use Rattle.cond_lang.specs.declared.token.Token.TheVariants.{Or, And, Not, Balanced, Shape, Pattern, In, Seat, Number, Dash, Open, Close, Plus, Relation}
+use Rattle.cond_lang.specs.declared.scanner.Token.{Token}
+use Rattle.cond_lang.specs.declared.scanner.Token.TheVariants.{Or, And, Not, Balanced, Shape, Pattern, In, Seat, Number, Dash, Open, Close, Plus, Relation}
 use Rattle.conditions.specs.Form.{Amount, sum, number, Form, any_of, all_of, negation, compare, within, balanced, shaped, patterned}
 use Rattle.cond_lang.specs.Grammar.{SpellsAtom, SpellsValue, atom, plus, a_number, SpellsCond, both, or, SpellsBoth, unit, and, SpellsUnit, not, brackets, test, comparison, in_range, is_balanced, has_shape, has_pattern}
 use Rattle.cond_lang.specs.internal.Reading.{got, after, closing, open_seat, seat_and_items, relation, range, atom_of, compared_by, related_by, comparing_by, sums_by, a_value, sums, Of, Readers, Goal, a_cond, a_both, a_unit, ors, ands, unit_by, ors_by, ands_by, step, steps}

@@ -3,8 +3,8 @@ use Rattle.std.proofs.Common.{◌≡◌, ℕ, ◌<◌, ◌≤◌, true, List, []
 use Rattle.std.specs.Prelude.{Contains}
 use Rattle.std.proofs.lemmas.Bool.{eqb-true, false≢true}
 use Rattle.conditions.specs.declared.tree.Op.TheVariants.{Equal, NotEqual, Less, AtMost, More, AtLeast}
-use Rattle.cond_lang.specs.declared.token.Token.{Token}
-use Rattle.cond_lang.specs.declared.token.Token.TheVariants.{Open, Close, Comma, Dash, Plus, Relation}
+use Rattle.cond_lang.specs.declared.scanner.Token.{Token}
+use Rattle.cond_lang.specs.declared.scanner.Token.TheVariants.{Open, Close, Comma, Dash, Plus, Relation}
 use Rattle.cond_lang.specs.Cut.{symbols, BeginsWithSymbol}
 use Rattle.cond_lang.specs.internal.Scanning.{token_of, begins_with, symbol_after, symbol_at}
 use Rattle.cond_lang.proofs.Tables.{pick, at_entry}

@@ -1,15 +1,15 @@
 -- The readers that don't lead back to a condition.
 use Rattle.std.proofs.Common.{◌≡◌, false, List, [], ◌∷◌, ◌++◌, refl, sym, ap, ◌∙◌, subst}
 use Rattle.cards.specs.declared.honours.Honours.{Honours}
-use Rattle.cards.specs.declared.measure.Measure.{Measure as AMeasure}
+use Rattle.cards.specs.declared.hand.Measure.{Measure as AMeasure}
 use Rattle.cards.specs.declared.seat.Seat.{Seat as ASeat}
 use Rattle.cards.specs.declared.seat.Seat.TheVariants.{North}
 use Rattle.cards.specs.declared.suit.Suit.TheVariants.{Spades}
 use Rattle.conditions.specs.declared.tree.Item.{Item}
 use Rattle.conditions.specs.declared.tree.Item.TheVariants.{Length, Any}
 use Rattle.conditions.specs.declared.tree.Op.TheVariants.{Equal}
-use Rattle.cond_lang.specs.declared.token.Token.{Token}
-use Rattle.cond_lang.specs.declared.token.Token.TheVariants.{Measure, Cards, Len, Longest, Shortest, X, Seat, Suit, Ranks, Number, Open, Close, Comma, Dash, Relation}
+use Rattle.cond_lang.specs.declared.scanner.Token.{Token}
+use Rattle.cond_lang.specs.declared.scanner.Token.TheVariants.{Measure, Cards, Len, Longest, Shortest, X, Seat, Suit, Ranks, Number, Open, Close, Comma, Dash, Relation}
 use Rattle.conditions.specs.Form.{Amount, number, measured, suit_measured, cards_held, suit_cards_held, suit_length, longest, shortest}
 use Rattle.cond_lang.specs.Grammar.{SpellsAtom, a_number, measure, measure_in, len, cards, cards_in, longest_suit, shortest_suit, item_token, four}
 use Rattle.cond_lang.specs.internal.Reading.{Outcome, got, Reader, after, opened, closed, comma, dash, seat, suit, digits, ranks, item, relation, closing, comma_suit_close, rest_of_measure, ranks_close, comma_ranks_close, rest_of_cards, open_seat, seat_in_brackets, open_seat_comma, range, atom_of, items, seat_and_items}

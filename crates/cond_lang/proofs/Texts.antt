@@ -1,9 +1,9 @@
 -- What a text tells, it tells once.
 use Rattle.std.proofs.Common.{◌≡◌, ℕ, ◌≤◌, ◌<◌, List, length, Result, Err, Some, IfErr, MatchResult, sym, ap, ◌∙◌, subst, arith}
 use Rattle.std.proofs.lemmas.List.{length-map}
-use Rattle.cond_lang.specs.declared.token.Placed.{Placed}
-use Rattle.cond_lang.specs.declared.token.Piece.{Piece}
-use Rattle.cond_lang.specs.declared.token.Piece.TheVariants.{Separator, Token as TokenPiece, StrayByte, UnknownWord, LongNumber}
+use Rattle.cond_lang.specs.declared.scanner.Placed.{Placed}
+use Rattle.cond_lang.specs.declared.scanner.Piece.{Piece}
+use Rattle.cond_lang.specs.declared.scanner.Piece.TheVariants.{Separator, Token as TokenPiece, StrayByte, UnknownWord, LongNumber}
 use Rattle.conditions.specs.declared.error.CondError.{CondError}
 use Rattle.conditions.specs.declared.error.CondError.TheVariants.{TooLong, Byte, Word, Number, Syntax, Memory}
 use Rattle.conditions.specs.Form.{Form}

@@ -3,9 +3,9 @@ use Rattle.std.proofs.Common.{◌≡◌, ℕ, ◌+◌, List, [], ◌∷◌, ◌+
 use Rattle.std.specs.List.{AllByRecursion, cons_option, filter_map}
 use Rattle.std.proofs.lemmas.List.Elements.{All-from_recursion, recursion_from_All}
 use Rattle.std.proofs.lemmas.List.Sums.{sum_by-cons}
-use Rattle.cond_lang.specs.declared.token.Placed.{Placed}
-use Rattle.cond_lang.specs.declared.token.Piece.{Piece}
-use Rattle.cond_lang.specs.declared.token.Piece.TheVariants.{Separator, Token as TokenPiece, StrayByte, UnknownWord, LongNumber}
+use Rattle.cond_lang.specs.declared.scanner.Placed.{Placed}
+use Rattle.cond_lang.specs.declared.scanner.Piece.{Piece}
+use Rattle.cond_lang.specs.declared.scanner.Piece.TheVariants.{Separator, Token as TokenPiece, StrayByte, UnknownWord, LongNumber}
 use Rattle.conditions.specs.declared.error.CondError.{CondError}
 use Rattle.conditions.specs.declared.error.CondError.TheVariants.{Byte, Word, Number}
 use Rattle.cond_lang.specs.Cut.{Pieces, IsCut, placed_from, token_at, fault_at, IsSound, tokens_of, HasTokens}

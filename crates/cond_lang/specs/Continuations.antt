@@ -2,9 +2,9 @@
 use Rattle.std.specs.Prelude.{◌≡◌, ◌⊎◌, ◌+◌, ◌<◌, ◌≤◌, ℕ, List, [], ◌∷◌, ◌++◌, length, take}
 use Rattle.cond_lang.specs.declared.words.Kind.{Kind}
 use Rattle.cond_lang.specs.declared.words.Kind.TheVariants as kind
-use Rattle.cond_lang.specs.declared.token.Placed.{Placed}
-use Rattle.cond_lang.specs.declared.token.Token.{Token}
-use Rattle.cond_lang.specs.declared.token.Token.TheVariants.{Or, And, Not, Balanced, Shape, Pattern, Measure, Cards, Len, Longest, Shortest, In, X, Seat, Suit, Ranks, Number, Open, Close, Comma, Dash, Plus, Relation}
+use Rattle.cond_lang.specs.declared.scanner.Placed.{Placed}
+use Rattle.cond_lang.specs.declared.scanner.Token.{Token}
+use Rattle.cond_lang.specs.declared.scanner.Token.TheVariants.{Or, And, Not, Balanced, Shape, Pattern, Measure, Cards, Len, Longest, Shortest, In, X, Seat, Suit, Ranks, Number, Open, Close, Comma, Dash, Plus, Relation}
 use Rattle.cond_lang.specs.Cut.{HasTokens}
 use Rattle.cond_lang.specs.Faults.{IsViable}
 use Rattle.conditions.specs.Form.{Form}

@@ -4,17 +4,17 @@ use Rattle.std.specs.Prelude.{◌≡◌, ℕ, ◌+◌, ◌*◌, ◌-◌, ◌<◌
 use Rattle.std.specs.List.{AllByRecursion, filter_map, list_all, list_any}
 use Rattle.std.specs.Char.{is_ascii_lowercase, is_ascii_digit}
 use Rattle.cards.specs.Measures.{measures}
-use Rattle.cards.specs.declared.measure.Measure.{Measure as AMeasure}
-use Rattle.cards.specs.declared.measure.Measure.TheVariants.{Hcp, Controls, Losers}
+use Rattle.cards.specs.declared.hand.Measure.{Measure as AMeasure}
+use Rattle.cards.specs.declared.hand.Measure.TheVariants.{Hcp, Controls, Losers}
 use Rattle.cards.specs.declared.honours.Honours.{Honours}
 use Rattle.cards.specs.declared.seat.Seat.TheVariants.{North, East, South, West}
 use Rattle.cards.specs.declared.suit.Suit.TheVariants.{Spades, Hearts, Diamonds, Clubs}
 use Rattle.conditions.specs.declared.tree.Op.TheVariants.{Equal, NotEqual, Less, AtMost, More, AtLeast}
-use Rattle.cond_lang.specs.declared.token.Token.{Token}
-use Rattle.cond_lang.specs.declared.token.Token.TheVariants.{Or, And, Not, Balanced, Shape, Pattern, Measure, Cards, Len, Longest, Shortest, In, X, Seat, Suit, Ranks, Number, Open, Close, Comma, Dash, Plus, Relation}
-use Rattle.cond_lang.specs.declared.token.Placed.{Placed}
-use Rattle.cond_lang.specs.declared.token.Piece.{Piece}
-use Rattle.cond_lang.specs.declared.token.Piece.TheVariants.{Separator, Token as TokenPiece, StrayByte, UnknownWord, LongNumber}
+use Rattle.cond_lang.specs.declared.scanner.Token.{Token}
+use Rattle.cond_lang.specs.declared.scanner.Token.TheVariants.{Or, And, Not, Balanced, Shape, Pattern, Measure, Cards, Len, Longest, Shortest, In, X, Seat, Suit, Ranks, Number, Open, Close, Comma, Dash, Plus, Relation}
+use Rattle.cond_lang.specs.declared.scanner.Placed.{Placed}
+use Rattle.cond_lang.specs.declared.scanner.Piece.{Piece}
+use Rattle.cond_lang.specs.declared.scanner.Piece.TheVariants.{Separator, Token as TokenPiece, StrayByte, UnknownWord, LongNumber}
 use Rattle.conditions.specs.declared.error.CondError.{CondError}
 use Rattle.conditions.specs.declared.error.CondError.TheVariants.{Byte, Word, Number as NumberFault}
 
@@ -161,12 +161,16 @@ pub data IsPiece : List ℕ → List ℕ → Piece → Type 0 where
 abbrev pub Pieces : Type 0
 Pieces = List (List ℕ × Piece)
 
--- the text is these pieces, one after another
-pub data IsCut : List ℕ → Pieces → Type 0 where
-  end : IsCut [] []
+-- the text is these pieces, one after another, each a piece by the rules P
+pub data CutOf (P : List ℕ → List ℕ → Piece → Type 0) : List ℕ → Pieces → Type 0 where
+  end : CutOf P [] []
   piece :
-      {p rest : List ℕ} {k : Piece} {ps : Pieces} → 0 < length p → IsPiece p rest k → IsCut rest ps
-      → IsCut (p ++ rest) ((p, k) ∷ ps)
+      {p rest : List ℕ} {k : Piece} {ps : Pieces} → 0 < length p → P p rest k → CutOf P rest ps
+      → CutOf P (p ++ rest) ((p, k) ∷ ps)
+
+-- the same by the rules of this language
+abbrev pub IsCut : List ℕ → Pieces → Type 0
+IsCut text pieces = CutOf IsPiece text pieces
 
 -- each piece's kind with the offset of its first byte, for pieces that begin at the offset `at`
 abbrev pub placed_from : ℕ → Pieces → List (ℕ × Piece)

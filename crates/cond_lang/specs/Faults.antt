@@ -1,14 +1,14 @@
 -- Why a text is refused, and where.
 use Rattle.std.specs.Prelude.{◌≡◌, ℕ, ◌+◌, ◌<◌, ◌≤◌, List, ◌∷◌, ◌++◌, All, length, take, Option, Some, None, slice_get}
 use Rattle.std.specs.List.{sum_by}
-use Rattle.cond_lang.specs.declared.token.Token.{Token}
-use Rattle.cond_lang.specs.declared.token.Placed.{Placed}
-use Rattle.cond_lang.specs.declared.token.Piece.{Piece}
+use Rattle.cond_lang.specs.declared.scanner.Token.{Token}
+use Rattle.cond_lang.specs.declared.scanner.Placed.{Placed}
+use Rattle.cond_lang.specs.declared.scanner.Piece.{Piece}
 use Rattle.conditions.specs.declared.error.CondError.{CondError}
 use Rattle.conditions.specs.declared.error.CondError.TheVariants.{TooLong, Byte, Word, Number, Syntax, Memory}
 use Rattle.cond_lang.specs.Cut.{Pieces, IsCut, IsSound, fault_at, HasTokens}
 use Rattle.conditions.specs.Form.{Form}
-use Rattle.cond_lang.specs.Grammar.{Spells}
+use Rattle.cond_lang.specs.Grammar.{Forms, Spells}
 use Rattle.cond_lang.specs.Text.{kinds}
 
 -- ---- faulty pieces
@@ -28,17 +28,24 @@ pub record HasFault (text : List ℕ) (fault : CondError) : Type 0 where
 
 -- ---- tokens that spell no tree
 
--- some list that begins with it spells a tree
-abbrev pub IsViable : List Token → Type 0
-IsViable T = (more : List Token) × (t : Form) × Spells (T ++ more) t
+-- some list that begins with it spells a tree by the rules S
+abbrev pub IsViableIn : Forms → List Token → Type 0
+IsViableIn S T = (more : List Token) × (t : Form) × S (T ++ more) t
 
--- n is the first fault: the n tokens before it are viable, and with the next one they aren't; or
--- there is no next one, and the whole list spells nothing
-pub record IsFirstFault (T : List Token) (n : ℕ) : Type 0 where
+-- n is the first fault by the rules S: the n tokens before it are viable, and with the next one
+-- they aren't; or there is no next one, and the whole list spells nothing
+pub record IsFirstFaultIn (S : Forms) (T : List Token) (n : ℕ) : Type 0 where
   pub within : n ≤ length T
-  pub before : IsViable (take n T)
-  pub with_it : n < length T → IsViable (take (n + 1) T) → ⊥
-  pub at_end : n ≡ length T → (t : Form) → Spells T t → ⊥
+  pub before : IsViableIn S (take n T)
+  pub with_it : n < length T → IsViableIn S (take (n + 1) T) → ⊥
+  pub at_end : n ≡ length T → (t : Form) → S T t → ⊥
+
+-- the same by the rules of this language
+abbrev pub IsViable : List Token → Type 0
+IsViable T = IsViableIn Spells T
+
+abbrev pub IsFirstFault : List Token → ℕ → Type 0
+IsFirstFault T n = IsFirstFaultIn Spells T n
 
 -- the token's offset, or the end
 abbrev pub offset_or : Option Placed → ℕ → ℕ

@@ -1,15 +1,17 @@
--- Smaller grammars: one whose values are atoms alone, one whose only measure is hcp, and one in the
--- words that the language had first. What they spell, the whole grammar spells too.
+-- Smaller grammars: one whose values are atoms alone, one whose only measure is hcp, one in the
+-- words that the language had first, and the first grammar: those words without sums. What they
+-- spell, the whole grammar spells too.
 use Rattle.std.specs.Prelude.{ℕ, List, [], ◌∷◌, ◌++◌}
 use Rattle.cards.specs.declared.honours.Honours.{Honours}
-use Rattle.cards.specs.declared.measure.Measure.TheVariants.{Hcp}
+use Rattle.cards.specs.declared.hand.Measure.TheVariants.{Hcp}
 use Rattle.cards.specs.declared.seat.Seat.{Seat as ASeat}
 use Rattle.cards.specs.declared.suit.Suit.{Suit as ASuit}
 use Rattle.conditions.specs.declared.tree.Op.{Op}
-use Rattle.cond_lang.specs.declared.token.Token.{Token}
-use Rattle.cond_lang.specs.declared.token.Token.TheVariants.{Balanced, Shape, Pattern, Measure, Cards, Len, Longest, Shortest, In, X, Seat, Suit, Ranks, Number, Open, Close, Comma, Dash, Relation}
+use Rattle.cond_lang.specs.declared.scanner.Token.{Token}
+use Rattle.cond_lang.specs.declared.scanner.Token.TheVariants.{Balanced, Shape, Pattern, Measure, Cards, Len, Longest, Shortest, In, X, Seat, Suit, Ranks, Number, Open, Close, Comma, Dash, Plus, Relation}
 use Rattle.conditions.specs.Form.{Amount, Form, number, points, suit_points, cards_held, suit_cards_held, suit_length, longest, shortest, compare, balanced, shape, pattern}
-use Rattle.cond_lang.specs.Grammar.{SpellsAtom, ValueOf, TestOf, CondOf}
+use Rattle.cond_lang.specs.Faults.{IsViableIn}
+use Rattle.cond_lang.specs.Grammar.{Amounts, SpellsAtom, ValueOf, TestOf, CondOf}
 
 abbrev pub SpellsWithoutSums : List Token → Form → Type 0
 SpellsWithoutSums T t = CondOf (TestOf SpellsAtom) T t
@@ -61,22 +63,21 @@ four_numbers q a b c d =
     ∷ Number a ∷ Dash ∷ Number b ∷ Dash ∷ Number c ∷ Dash ∷ Number d
     ∷ Close ∷ []
 
-pub data SpellsFirstTest : List Token → Form → Type 0 where
+-- a test of the first words, of values that V spells
+pub data FirstTestOf (V : Amounts) : List Token → Form → Type 0 where
   comparison :
-      {L R : List Token} {a b : Amount} {o : Op}
-      → ValueOf SpellsFirstAtom L a → ValueOf SpellsFirstAtom R b
-      → SpellsFirstTest (L ++ Relation o ∷ R) (compare a o b)
-  is_balanced :
-      {q : ASeat} → SpellsFirstTest (Balanced ∷ Open ∷ Seat q ∷ Close ∷ []) (balanced q)
+      {L R : List Token} {a b : Amount} {o : Op} → V L a → V R b
+      → FirstTestOf V (L ++ Relation o ∷ R) (compare a o b)
+  is_balanced : {q : ASeat} → FirstTestOf V (Balanced ∷ Open ∷ Seat q ∷ Close ∷ []) (balanced q)
   has_shape :
       {q : ASeat} {a b c d : ℕ}
-      → SpellsFirstTest (Shape ∷ four_numbers q a b c d) (shape q (a ∷ b ∷ c ∷ d ∷ []))
+      → FirstTestOf V (Shape ∷ four_numbers q a b c d) (shape q (a ∷ b ∷ c ∷ d ∷ []))
   has_pattern :
       {q : ASeat} {a b c d : ℕ}
-      → SpellsFirstTest (Pattern ∷ four_numbers q a b c d) (pattern q (a ∷ b ∷ c ∷ d ∷ []))
+      → FirstTestOf V (Pattern ∷ four_numbers q a b c d) (pattern q (a ∷ b ∷ c ∷ d ∷ []))
 
 abbrev pub SpellsInFirstWords : List Token → Form → Type 0
-SpellsInFirstWords T t = CondOf SpellsFirstTest T t
+SpellsInFirstWords T t = CondOf (FirstTestOf (ValueOf SpellsFirstAtom)) T t
 
 -- the token was there first: it is no measure but hcp, and none of the later words
 abbrev pub IsFirst : Token → Type 0
@@ -89,3 +90,18 @@ IsFirst In = ⊥
 IsFirst X = ⊥
 IsFirst (Ranks h) = ⊥
 IsFirst t = Unit {0}
+
+-- ---- the first grammar
+
+-- the first words, where each value is one atom
+abbrev pub SpellsInFirstGrammar : List Token → Form → Type 0
+SpellsInFirstGrammar T t = CondOf (FirstTestOf SpellsFirstAtom) T t
+
+-- the token was in the first grammar: it is a first one, and no plus
+abbrev pub IsOldest : Token → Type 0
+IsOldest Plus = ⊥
+IsOldest t = IsFirst t
+
+-- some list that begins with it spells a tree in the first grammar
+abbrev pub IsViableFirst : List Token → Type 0
+IsViableFirst T = IsViableIn SpellsInFirstGrammar T

@@ -1,7 +1,7 @@
 -- What a text spells.
 use Rattle.std.specs.Prelude.{ℕ, List, map}
-use Rattle.cond_lang.specs.declared.token.Token.{Token}
-use Rattle.cond_lang.specs.declared.token.Placed.{Placed}
+use Rattle.cond_lang.specs.declared.scanner.Token.{Token}
+use Rattle.cond_lang.specs.declared.scanner.Placed.{Placed}
 use Rattle.cond_lang.specs.Cut.{HasTokens}
 use Rattle.conditions.specs.Form.{Form}
 use Rattle.cond_lang.specs.Grammar.{Spells}

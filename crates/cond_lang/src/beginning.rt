@@ -7,8 +7,7 @@ ghost use Rattle.cond_lang.specs.Faults.{IsDue};
 ghost use Rattle.cond_lang.specs.Text.{kinds};
 
 use crate::parser::read_as_far;
-use crate::scanner::{MAX_BYTES, scan};
-use crate::token::{Placed, Token};
+use crate::scanner::{MAX_BYTES, Placed, Token, scan};
 use crate::words::Kind;
 use arrayvec::ArrayVec;
 use conditions::CondError;
@@ -26,7 +25,7 @@ pub struct Beginning {
 
 impl Model for Beginning {
     ghost use Rattle.std.specs.Prelude.{◌≤◌, List, length, take};
-    ghost use Rattle.cond_lang.specs.declared.token.Token.{Token as AToken};
+    ghost use Rattle.cond_lang.specs.declared.scanner.Token.{Token as AToken};
     ghost use Rattle.cond_lang.specs.Text.{kinds};
 
     ghost Value = { List AToken };

@@ -11,15 +11,12 @@ mod condition;
 mod language;
 pub mod laws;
 mod parser;
-mod run_lengths;
 mod scanner;
-mod token;
 mod words;
 
 pub use beginning::Beginning;
 pub use condition::parse;
 pub use conditions::{Cond, CondError, Item, Op, Tree, Value};
 pub use language::LANGUAGE;
-pub use run_lengths::{digit_run_len, letter_run_len};
-pub use token::Token;
+pub use scanner::{Token, digit_run_len, letter_run_len};
 pub use words::{Kind, WORDS, measure_word};

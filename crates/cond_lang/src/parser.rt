@@ -3,7 +3,7 @@
 
 ghost use Rattle.std.specs.Prelude.{◌≡◌, ◌≢◌, ◌≤◌, ◌⊎◌, ◌↔◌, ℕ, List, ◌∷◌, length};
 ghost use Rattle.std.specs.Prelude.{IfOk, IfErr, Err, IsTrue};
-ghost use Rattle.cond_lang.specs.declared.token.Token.{Token as AToken};
+ghost use Rattle.cond_lang.specs.declared.scanner.Token.{Token as AToken};
 ghost use Rattle.conditions.specs.Form.{Form, amount_of, form_of, any_of, all_of, negation};
 ghost use Rattle.cond_lang.specs.Grammar.{Spells};
 ghost use Rattle.cond_lang.specs.Text.{kinds};
@@ -16,7 +16,7 @@ ghost use Rattle.cond_lang.specs.internal.Reading.{whole};
 
 mod terminals;
 
-use crate::token::{Placed, Token};
+use crate::scanner::{Placed, Token};
 use cards::{Measure, Seat};
 use conditions::{CondError, Tree, Value};
 use std::alloc::{AllocFailed, Global};
@@ -53,7 +53,7 @@ pub(crate) struct Parser<'a> {
 
 impl<'a> Model for Parser<'a> {
     ghost use Rattle.std.specs.Prelude.{List, map};
-    ghost use Rattle.cond_lang.specs.declared.token.Token.{Token as AToken};
+    ghost use Rattle.cond_lang.specs.declared.scanner.Token.{Token as AToken};
 
     ghost Value = { List AToken };
 

@@ -1,21 +1,70 @@
-//! The scanner: it cuts the whole text into pieces, and finds the leftmost faulty one before the
-//! parser starts.
+//! Tokens, and the scanner: it cuts the whole text into pieces, and finds the leftmost faulty one
+//! before the parser starts.
 
 ghost use Rattle.std.specs.Prelude.{◌≡◌, ◌<◌, ◌≤◌, ◌==◌, length, map, count_by, true, IfOk, IfErr};
 ghost use Rattle.std.specs.List.{AllByRecursion};
 ghost use Rattle.std.specs.Char.{is_ascii_lowercase, is_ascii_digit};
-ghost use Rattle.cond_lang.specs.Cut.{HasTokens, decimal, is_separator, is_in_comment};
-ghost use Rattle.cond_lang.specs.Cut.{is_rank, are_ranks, has_letter, named_by};
+ghost use Rattle.cond_lang.specs.Cut.{HasTokens, decimal, is_separator, is_in_comment, is_rank};
+ghost use Rattle.cond_lang.specs.Cut.{are_ranks, has_letter, named_by};
 ghost use Rattle.cond_lang.specs.Faults.{HasFault};
 ghost use Rattle.cond_lang.specs.Runs.{run};
-ghost use Rattle.cond_lang.specs.internal.Scanning.{token_of, begins_with, symbol_at, word_piece, ranks_piece, number_piece, piece_at};
+ghost use Rattle.cond_lang.specs.internal.Scanning.{token_of, begins_with, symbol_at, word_piece};
+ghost use Rattle.cond_lang.specs.internal.Scanning.{ranks_piece, number_piece, piece_at};
 
-use crate::run_lengths::{digit_run_len, letter_run_len};
-use crate::token::{Piece, Placed, Token};
 use crate::words::WORDS;
 use arrayvec::ArrayVec;
-use cards::Honours;
+use cards::{Honours, Measure, Seat, Suit};
 use conditions::{CondError, Op};
+
+/// A token of the language: a known word, ranks, a number of at most four digits, or a symbol.
+#[derive(Clone, Copy, Default)]
+pub enum Token {
+    #[default]
+    Or,
+    And,
+    Not,
+    Balanced,
+    Shape,
+    Pattern,
+    Measure(Measure),
+    Cards,
+    Len,
+    Longest,
+    Shortest,
+    In,
+    X,
+    Seat(Seat),
+    Suit(Suit),
+    Ranks(Honours),
+    Number(u16),
+    Open,
+    Close,
+    Comma,
+    Dash,
+    Plus,
+    Relation(Op),
+}
+
+/// A token and the offset of its first byte.
+#[derive(Clone, Copy, Default)]
+pub struct Placed {
+    pub token: Token,
+    pub at: usize,
+}
+
+/// What a piece of the text is: a separator or a comment, a token, or a fault.
+#[derive(Clone, Copy)]
+pub enum Piece {
+    /// A space, a tab, an end of a line, or a comment.
+    Separator,
+    Token(Token),
+    /// A byte that begins nothing.
+    StrayByte,
+    /// Letters that are no known word and no ranks.
+    UnknownWord,
+    /// A run of five or more digits.
+    LongNumber,
+}
 
 /// The longest text that is read, in bytes.
 pub(crate) const MAX_BYTES: usize = 1024;
@@ -220,4 +269,30 @@ fn begins_with(byte: u8, text: &[u8]) -> bool
         [] => false,
         [first, ..] => *first == byte,
     }
+}
+
+/// Returns how many small letters, `a` to `z`, the text begins with.
+pub fn letter_run_len(text: &[u8]) -> usize
+    ensures value { result ≡ run is_ascii_lowercase text.now }
+    ensures within { result ≤ length text.now }
+{
+    for (i, byte) in text.iter().enumerate() {
+        if !byte.is_ascii_lowercase() {
+            return i;
+        }
+    }
+    text.len()
+}
+
+/// Returns how many digits the text begins with.
+pub fn digit_run_len(text: &[u8]) -> usize
+    ensures value { result ≡ run is_ascii_digit text.now }
+    ensures within { result ≤ length text.now }
+{
+    for (i, byte) in text.iter().enumerate() {
+        if !byte.is_ascii_digit() {
+            return i;
+        }
+    }
+    text.len()
 }

@@ -5,7 +5,7 @@ ghost use Rattle.cond_lang.specs.Continuations.{kind_of};
 ghost use Rattle.cond_lang.specs.Cut.{measure_word};
 ghost use Rattle.cond_lang.specs.Kinds.{all_kinds, place_of};
 
-use crate::token::Token;
+use crate::scanner::Token;
 use cards::{Honours, Measure, Seat, Suit};
 use conditions::Op;
 

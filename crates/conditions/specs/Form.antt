@@ -3,8 +3,8 @@
 use Rattle.std.specs.Prelude.{ℕ, List, map, if◌then◌else◌, Bool, true, false}
 use Rattle.std.specs.List.{list_any}
 use Rattle.cards.specs.declared.honours.Honours.{Honours}
-use Rattle.cards.specs.declared.measure.Measure.{Measure}
-use Rattle.cards.specs.declared.measure.Measure.TheVariants.{Hcp}
+use Rattle.cards.specs.declared.hand.Measure.{Measure}
+use Rattle.cards.specs.declared.hand.Measure.TheVariants.{Hcp}
 use Rattle.cards.specs.declared.seat.Seat.{Seat}
 use Rattle.cards.specs.declared.suit.Suit.{Suit}
 use Rattle.conditions.specs.declared.tree.Op.{Op}

@@ -2,7 +2,8 @@
 use Rattle.std.specs.Prelude.{ℕ, ◌+◌, Bool, true, false, not, ◌&&◌, ◌||◌, ◌==◌, nat_lt, nat_le, List, [], ◌∷◌}
 use Rattle.std.specs.List.{list_any}
 use Rattle.cards.specs.declared.seat.Seat.{Seat}
-use Rattle.cards.specs.Hands.{hand_of, points_of, points_in, total_of, total_in, honours_of, honours_in, length_of, longest_of, shortest_of, shape_of, is_balanced, is_same, is_rearrangement, orders_of}
+use Rattle.cards.specs.Hands.{hand_of, points_of, points_in, length_of, shape_of, is_balanced, is_same, is_rearrangement, orders_of}
+use Rattle.cards.specs.Counts.{total_of, total_in, honours_of, honours_in, longest_of, shortest_of}
 use Rattle.conditions.specs.declared.tree.Item.{Item}
 use Rattle.conditions.specs.declared.tree.Item.TheVariants.{Length, Any}
 use Rattle.conditions.specs.declared.tree.Op.{Op}

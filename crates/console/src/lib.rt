@@ -5,13 +5,11 @@
 #![tactic(auto)]
 
 mod counts;
-mod over_line;
 mod prompt;
 mod style;
 mod tally;
 
-pub use counts::Counts;
-pub use over_line::{Drawn, OverLine};
+pub use counts::{Counts, Drawn, OverLine};
 pub use prompt::{GATHERED_MILLIS, Prompt, millis};
 pub use style::Style;
 pub use tally::{Tally, tally_line};

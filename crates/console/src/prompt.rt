@@ -1,6 +1,6 @@
 //! The output, with its boards passed on as they are found.
 
-ghost use Rattle.std.specs.Prelude.{◌≡◌, ◌+◌, ◌-◌, ◌^◌, ◌<◌, IsSome};
+ghost use Rattle.std.specs.Prelude.{◌≡◌, ◌+◌, ◌-◌, ◌^◌, ◌<◌, false, IfOk, IsSome};
 ghost use Rattle.sinks.specs.Sinks.{CountsFault};
 ghost use Rattle.sinks.specs.Writers.{told};
 
@@ -120,6 +120,7 @@ impl<W: Write, C: Clock, E: Write> Prompt<W, C, E> {
     fn tell(&mut self) -> Result<(), SinkFault>
         requires { self.old.faults < 2 ^ 64 - 1 }
         ensures same { (self.new.first ≡ self.old.first) × (self.new.writer ≡ self.old.writer) }
+        ensures told { IfOk result (λ _. self.new.fails ≡ false) }
         ensures faults { CountsFault self.old.faults self.new.faults result }
     {
         if !self.fails {
@@ -136,6 +137,8 @@ impl<W: Write, C: Clock, E: Write> Sink for Prompt<W, C, E> {
     ghost bytes = { λ s. told W.contents s.first.value s.writer };
 
     ghost faults = { λ s. s.faults };
+
+    ghost is_flushed = { λ s. (s.gathers ≡ false) × (s.fails ≡ false) };
 
     fn write(&mut self, piece: &[u8]) -> Result<usize, SinkFault> {
         self.tell()?;

@@ -8,10 +8,11 @@ use Rattle.lanes.specs.Views.{OutView}
 use Rattle.lanes.specs.Prefixes.{IsPrefix}
 use Rattle.plans.specs.Plans.{Planned}
 use Rattle.dealrun.specs.MergedVerdicts.{verdicts_for}
-use Rattle.dealrun.specs.Outcomes.{contents_of, InterruptedIn, StandsCompleteIn}
+use Rattle.dealrun.specs.Headline.{contents_of}
+use Rattle.dealrun.specs.Interrupted.{InterruptedIn, StandsCompleteIn}
 use Rattle.dealrun.specs.declared.cause.Cause.{Cause}
-use Rattle.dealrun.specs.declared.ending.Written.{Written}
-use Rattle.dealrun.specs.declared.ending.Written.TheVariants.{Failed, Full, Open}
+use Rattle.dealrun.specs.declared.join.Written.{Written}
+use Rattle.dealrun.specs.declared.join.Written.TheVariants.{Failed, Full, Open}
 use Rattle.dealrun.specs.declared.writer.Writer.{Writer}
 use Rattle.dealrun.specs.internal.Causes.{cause_by}
 use Rattle.dealrun.specs.internal.Joins.{AllParts, ByNumber, JoinedAs, Owes}

@@ -31,7 +31,8 @@ use Rattle.dealrun.specs.declared.cause.Cause.TheVariants.{Output}
 use Rattle.dealrun.specs.internal.Joins.{AllParts, ByNumber}
 use Rattle.dealrun.specs.internal.Ends.{Closes}
 use Rattle.dealrun.specs.internal.Writing.{board_count, printed, taken_lists, TakenInTurn, StaysShort, WroteTaken, WriterSoFar}
-use Rattle.dealrun.specs.Outcomes.{EachLane, AllSettled, for_each_worker, contents_of, AreLanesConsistent, TakesWhatIsOwed, InterruptedIn, StandsCompleteIn, footer_taken}
+use Rattle.dealrun.specs.Headline.{EachLane, AllSettled, for_each_worker, contents_of, TakesWhatIsOwed}
+use Rattle.dealrun.specs.Interrupted.{AreLanesConsistent, InterruptedIn, StandsCompleteIn, footer_taken}
 use Rattle.plans.proofs.BoardLists.{length-boards_of}
 use Rattle.sinks.proofs.SinkLemmas.{append_known-append, append_known-nil}
 use Rattle.dealrun.proofs.Printing.{in_turn-none, in_turn-more}

@@ -15,7 +15,8 @@ use Rattle.sinks.specs.Appended.{append_known}
 use Rattle.dealrun.specs.MergedVerdicts.{boards_after, verdicts_for, taken_in_all}
 use Rattle.dealrun.specs.internal.Joins.{ByNumber, Owes, JoinedAs, Below, WholeIfSettled, IsSettled, BeginningAt, UnsettledAt, AllWhole}
 use Rattle.dealrun.specs.internal.Writing.{board_count, printed, TakenInTurn, StaysShort, WriterSoFar, WriterBrokeOff}
-use Rattle.dealrun.specs.Outcomes.{contents_of, AreLanesConsistent, BreaksOffLastPiece, IsLeastStopped, IsLeastUnclosed, InterruptedIn, BreaksOffFooter}
+use Rattle.dealrun.specs.Headline.{contents_of}
+use Rattle.dealrun.specs.Interrupted.{AreLanesConsistent, BreaksOffLastPiece, IsLeastStopped, IsLeastUnclosed, InterruptedIn, BreaksOffFooter}
 use Rattle.dealrun.specs.declared.cause.Cause.TheVariants.{Spawn}
 use Rattle.dealrun.proofs.Advance.{fresh_turns}
 use Rattle.dealrun.proofs.Endings.{taken_total, stand, each_number, each_lane, no_lane}

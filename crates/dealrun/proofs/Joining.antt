@@ -7,7 +7,7 @@ use Rattle.lanes.specs.Views.{OutView}
 use Rattle.lanes.specs.Prefixes.{IsProperPrefix, IsPrefix}
 use Rattle.lanes.specs.declared.worker.WorkEnd.{WorkEnd}
 use Rattle.lanes.specs.declared.worker.WorkEnd.TheVariants.{Done, Stopped, Unclosed}
-use Rattle.dealrun.specs.Outcomes.{contents_of}
+use Rattle.dealrun.specs.Headline.{contents_of}
 use Rattle.dealrun.specs.internal.Joins.{JoinsAs, Below, PartIfSettled, WholeIfSettled, IsSettled, BeginningAt, UnsettledAt, JoinedAs, stopped_after, unclosed_after}
 
 -- the elements of drop n, one by one

@@ -3,6 +3,7 @@ pub mod Maps
 pub mod Joining
 pub mod VerdictBoards
 pub mod Printing
+pub mod Plains
 pub mod Advance
 pub mod Wholes
 pub mod Endings

@@ -6,7 +6,9 @@ pub use Rattle.plans.specs.Plans
 pub use Rattle.plans.specs.Text
 pub use Rattle.plans.specs.Reference
 pub mod MergedVerdicts
-pub mod Outcomes
+pub mod Headline
+pub mod Interrupted
 pub mod Pbn
+pub mod Plain
 pub mod Values
 pub mod internal

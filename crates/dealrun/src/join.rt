@@ -1,9 +1,13 @@
-//! The workers of a run when they are joined, and the lanes that are settled then.
+//! How a run ends: the workers joined, their lanes settled, and why it is interrupted, if it is.
 
 ghost use Rattle.std.specs.Prelude.{◌≡◌, ◌+◌, ◌<◌, ◌≤◌, ℕ, All, map, take, vec_len, slice_index_or};
 ghost use Rattle.std.specs.Prelude.{false};
 ghost use Rattle.lanes.specs.Jobs.{verdicts_around};
+ghost use Rattle.dealrun.specs.internal.Handles.{owed_by};
+ghost use Rattle.dealrun.specs.internal.Joins.{JoinsAs, JoinedAs};
+ghost use Rattle.dealrun.specs.internal.Causes.{cause_by};
 
+use crate::cause::Cause;
 use crate::start::Started;
 use lanes::{LaneOut, WorkEnd};
 use std::thread::Threads;
@@ -39,9 +43,6 @@ impl Joined {
         }
     }
 }
-
-ghost use Rattle.dealrun.specs.internal.Handles.{owed_by};
-ghost use Rattle.dealrun.specs.internal.Joins.{JoinsAs, JoinedAs};
 
 /// Joins a worker, and settles its lane if it was closed.
 fn join_one<R: Threads>(rt: &R, handle: Started, lane: &mut LaneOut) -> WorkEnd
@@ -90,4 +91,30 @@ pub(crate) fn join_all<R: Threads>(
         worker += 1;
     }
     joined
+}
+
+/// What the writer wrote beside the workers.
+#[derive(Clone, Copy, Drop)]
+pub(crate) enum Written {
+    /// The sink failed.
+    Failed,
+    /// The limit of boards was met.
+    Full,
+    /// Neither: what is left in the lanes is still to be written.
+    Open,
+}
+
+/// Why the run is interrupted, if it is. That a worker was stopped is no cause once the limit of
+/// boards is met.
+pub(crate) fn cause_of(written: Written, joined: Joined) -> Option<Cause>
+    ensures { result ≡ cause_by written joined.stopped joined.unclosed }
+{
+    match (written, joined.stopped, joined.unclosed) {
+        (Written::Failed, _, _) => Some(Cause::Output),
+        (Written::Full, _, None) => None,
+        (Written::Full, _, Some(worker)) => Some(Cause::Unclosed { worker }),
+        (Written::Open, None, None) => None,
+        (Written::Open, None, Some(worker)) => Some(Cause::Unclosed { worker }),
+        (Written::Open, Some(worker), _) => Some(Cause::Stopped { worker }),
+    }
 }

@@ -3,7 +3,7 @@
 //! A plan says which candidates are tried, and which boards are made of the accepted ones. Two runs
 //! write them, both proved to write the text that the definition gives:
 //! - `run_in`, the fast one: workers in threads of their own judge the candidates, and the caller's
-//!   thread writes (`runs.rt`, `start.rt`, `writer.rt`, `join.rt`, `ending.rt`).
+//!   thread writes (`runs.rt`, `start.rt`, `writer.rt`, `join.rt`).
 //! - `run_plain_in`, the reference of the crate `plans`, which reads as the definition. It runs in
 //!   tests.
 //!
@@ -13,7 +13,6 @@
 #![tactic(auto)]
 
 mod cause;
-mod ending;
 mod join;
 pub mod laws;
 mod pbn;

@@ -2,7 +2,8 @@
 
 ghost use Rattle.std.specs.Prelude.{◌≡◌, ◌-◌, ◌^◌, ◌<◌, length, IfOk};
 ghost use Rattle.pbn_text.specs.Games.{pbn};
-ghost use Rattle.dealrun.specs.Outcomes.{FailsAtOutput, StandsIn, TakesWhatIsOwed, WritesTextIn};
+ghost use Rattle.dealrun.specs.Headline.{TakesWhatIsOwed, WritesTextIn};
+ghost use Rattle.dealrun.specs.Interrupted.{FailsAtOutput, StandsIn};
 ghost use Rattle.plans.specs.Reference.{WritesPlainIn};
 ghost use Rattle.sinks.specs.Sinks.{CountsFault};
 ghost use Rattle.plans.specs.Text.{accepted};

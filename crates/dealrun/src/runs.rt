@@ -7,16 +7,16 @@ ghost use Rattle.std.specs.Prelude.{◌≡◌, ◌-◌, ◌^◌, ◌<◌, ◌≤
 ghost use Rattle.std.specs.Prelude.{map, vec_len};
 ghost use Rattle.conditions.specs.Form.{Form};
 ghost use Rattle.dealrun.specs.declared.cause.Cause.TheVariants.{Memory};
-ghost use Rattle.dealrun.specs.Outcomes.{FailsAtOutput, StandsIn, TakesWhatIsOwed, WritesTextIn};
-ghost use Rattle.dealrun.specs.Outcomes.{report_of};
+ghost use Rattle.dealrun.specs.Headline.{TakesWhatIsOwed, WritesTextIn};
+ghost use Rattle.dealrun.specs.Interrupted.{FailsAtOutput, StandsIn};
+ghost use Rattle.dealrun.specs.Interrupted.{report_of};
 ghost use Rattle.plans.specs.Text.{end_of};
 ghost use Rattle.dealrun.specs.internal.Ends.{EndsRun};
 ghost use Rattle.dealrun.specs.internal.Handles.{owed_by};
 ghost use Rattle.dealrun.specs.internal.Joins.{Owes};
 
 use crate::cause::Cause;
-use crate::ending::{Written, cause_of};
-use crate::join::join_all;
+use crate::join::{Written, cause_of, join_all};
 use crate::start::{Shared, Started, assign_all, start_all};
 use crate::writer::Writer;
 use boards::Notation;

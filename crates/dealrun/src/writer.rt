@@ -2,7 +2,7 @@
 
 ghost use Rattle.std.specs.Prelude.{◌≡◌, ◌<◌, ◌≤◌, vec_len};
 
-use crate::ending::Written;
+use crate::join::Written;
 use boards::Notation;
 use lanes::{LaneOut, Turns, Verdict};
 use plans::{Plan, is_full, put_board};
@@ -95,7 +95,7 @@ impl Writer {
     ghost use Rattle.std.specs.Prelude.{◌≡◌, ◌-◌, ◌^◌, ◌<◌, ◌↔◌, [], ℕ, IsTrue, List};
     ghost use Rattle.std.specs.Prelude.{MatchResult, OnOk, Option, Some, vec_len};
     ghost use Rattle.conditions.specs.Form.{Form};
-    ghost use Rattle.dealrun.specs.Outcomes.{InterruptedIn};
+    ghost use Rattle.dealrun.specs.Interrupted.{InterruptedIn};
     ghost use Rattle.dealrun.specs.declared.cause.Cause.TheVariants.{Output};
     ghost use Rattle.sinks.specs.Sinks.{CountsFault};
     ghost use Rattle.dealrun.specs.internal.Ends.{Closes};

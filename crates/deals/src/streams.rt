@@ -73,7 +73,11 @@ fn counts_of(
                 notices,
                 ..
             }
-            | Request::Find { search, notices },
+            | Request::Find {
+                search,
+                notices,
+                ..
+            },
         ) => { (style_of(rt, notices.progress), search.candidates) }
         _ => (Style::Never, None),
     };

@@ -11,18 +11,20 @@ use Rattle.dealrun.specs.declared.cause.Cause.TheVariants as cause
 use Rattle.requests.specs.Failures.{is_refusal, status_of}
 use Rattle.requests.specs.FirstRefusal.{IsDueFor}
 use Rattle.requests.specs.Interruptions.{LeavesFrom}
-use Rattle.requests.specs.Jobs.{IsReady, IsRefused, Serves}
-use Rattle.requests.specs.Requests.{Wish}
+use Rattle.requests.specs.Jobs.{IsReady, IsRefused, ReadsInput, Serves}
+use Rattle.requests.specs.Requests.{Wish, conditions, make, pick, stream}
 use Rattle.requests.specs.Wishes.{AppendsFrom, IsStatusOf}
 use Rattle.requests.specs.declared.failure.Failure.{Failure}
 use Rattle.requests.specs.declared.failure.Failure.TheVariants.{CommandLine, Plan, Label, Hand, Condition, Interrupted, Line, Input}
 use Rattle.requests.specs.declared.job.Job.{Job}
+use Rattle.requests.specs.declared.job.Job.TheVariants.{Boards, Conditions, Pick, Stream}
 use Rattle.requests.specs.declared.report.Report.{Report}
 use Rattle.requests.proofs.FirstDue.{output_due}
 use Rattle.requests.proofs.Statuses.{no_memory, served}
 use Rattle.deals_cli.specs.CommandLine.{asked, kinds_for}
-use Rattle.deals_cli.specs.Program.{Answers, AreRead, AreRefused, IsStatusFor, IsTaskFor, MayShow, is_shown}
-use Rattle.deals_cli.specs.declared.task.Task.TheVariants.{Do}
+use Rattle.deals_cli.specs.Program.{Answers, AreRead, AreRefused, IsPick, IsStatusFor, IsTaskFor, MayShow, ReadsTask, WantsInput, is_shown}
+use Rattle.deals_cli.specs.declared.task.Task.{Task}
+use Rattle.deals_cli.specs.declared.task.Task.TheVariants.{Do, Show}
 use Rattle.deals_cli.specs.internal.Kinds.{RefusesError}
 use Rattle.deals_cli.proofs.Statuses.{none_no_memory, none_refused, none_shown}
 
@@ -175,6 +177,22 @@ breaks_text words before behind old new (none, may) = record {
   stands = λ w is. not_none words w is none;
   untouched = λ bad. absurd cc;
 }
+
+-- ---- the input
+
+-- a job that reads the input is one of a `pick`
+pick_reads : (w : Wish) (job : Job) → IsReady w job → ReadsInput job → IsPick w
+pick_reads (pick seed hands l hints) (Pick job) ready reads = tt
+pick_reads (make s l notices) (Pick job) ready reads = ready
+pick_reads conditions (Pick job) ready reads = ready
+pick_reads (stream seed count) (Pick job) ready reads = ready
+pick_reads w (Boards job) ready reads = absurd reads
+pick_reads w Conditions ready reads = absurd reads
+pick_reads w (Stream job) ready reads = absurd reads
+
+pub reads_as_asked : (words : List Text) (task : Task) → IsTaskFor words task → ReadsTask task → WantsInput words
+reads_as_asked words (Show text) is reads = absurd reads
+reads_as_asked words (Do job) (w, asks, ready) reads = (w, asks, pick_reads w job ready reads)
 
 -- ---- the flush
 

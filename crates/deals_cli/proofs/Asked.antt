@@ -19,75 +19,27 @@ use Rattle.clap.specs.declared.parser.matches.ArgMatches.TheViews.{out-ArgMatche
 use Rattle.clap.specs.declared.parser.matches.SubCommand.{SubCommand}
 use Rattle.deals_cli.specs.Commands.{deals}
 use Rattle.deals_cli.specs.CommandLine.{asked, end_kinds, further_kinds, has_no_end, has_unknown, kinds_by, kinds_for, made_by, search_in, stream_wish, unless_fault, wish_by, wish_in}
-use Rattle.deals_cli.specs.internal.Readings.{MakeValues, StreamValues}
 use Rattle.requests.specs.Requests.{Wish, conditions}
-use Rattle.deals_cli.proofs.OptionValues.{conditions_built, find_built, find_values, make_built, make_values, pick_built, pick_values, stream_built, stream_values}
+use Rattle.deals_cli.specs.internal.Asking.{AsksMake, Chosen, IsRefused}
+use Rattle.deals_cli.proofs.OptionValues.{Makes, Reads, each_reads, read_by}
 use Rattle.deals_cli.proofs.Entered.{enters}
 
--- the words name `stream`, and its options have their values
-pub record NamesStream (words : List Text) : Type 0 where
-  pub rows : List Row
-  pub named : subcommand_of deals words ≡ Some (codes "stream", rows)
-  pub values : StreamValues rows
-
-pub record NamesConditions (words : List Text) : Type 0 where
-  pub rows : List Row
-  pub named : subcommand_of deals words ≡ Some (codes "conditions", rows)
-
--- the words name this subcommand, which has the options of `make` or some of them
-pub record NamesMake (words : List Text) (name : Text) : Type 0 where
+-- the words name this subcommand, and its options have their values
+pub record Named (words : List Text) : Type 0 where
+  pub name : Text
   pub rows : List Row
   pub named : subcommand_of deals words ≡ Some (name, rows)
-  pub values : MakeValues rows
+  pub reads : Reads (name, rows)
 
--- clap's `help` is no subcommand of words without a fault
-no_help : (word : Text) → answers_to word (codes "help", []) ≡ true → bytes_eq word (codes "help") ≡ false → ⊥
-no_help word answers other = go (bytes_eq (codes "help") word) refl
-  where
-    go : (b : Bool) → bytes_eq (codes "help") word ≡ b → ⊥
-    go true e =
-        let is : codes "help" ≡ word = (bytes_eq-Decides (codes "help") word).0 e in
-        let bad : true ≡ false = subst (λ (w : Text). bytes_eq w (codes "help") ≡ false) (sym is) other in
-        cc
-    go false e = let bad : false ≡ true = rw e at answers in cc
-
--- the words name one of the subcommands
-abbrev pub Names : List Text → Type 0
-Names words =
-    NamesMake words (codes "make") ⊎ NamesMake words (codes "find") ⊎ NamesMake words (codes "pick")
-    ⊎ NamesConditions words ⊎ NamesStream words
-
-pub named : (words : List Text) → fault_of deals words ≡ [] → Names words
+pub named : (words : List Text) → fault_of deals words ≡ [] → Named words
 named words f =
     let e = enters (built deals) (argument_words deals words) refl refl f in
-    elim e.is_sub [
-      | inl same ↦ inl (record {
-        rows = rows_after make_built.rules [] e.rest;
-        named = rw same at e.entered_it;
-        values = make_values e.rest (rw same at e.fault);
-      })
-      | inr (inl same) ↦ inr (inl (record {
-        rows = rows_after find_built.rules [] e.rest;
-        named = rw same at e.entered_it;
-        values = find_values e.rest (rw same at e.fault);
-      }))
-      | inr (inr (inl same)) ↦ inr (inr (inl (record {
-        rows = rows_after pick_built.rules [] e.rest;
-        named = rw same at e.entered_it;
-        values = pick_values e.rest (rw same at e.fault);
-      })))
-      | inr (inr (inr (inl same))) ↦ inr (inr (inr (inl (record {
-        rows = rows_after conditions_built.rules [] e.rest;
-        named = rw same at e.entered_it;
-      }))))
-      | inr (inr (inr (inr (inl same)))) ↦ inr (inr (inr (inr (record {
-        rows = rows_after stream_built.rules [] e.rest;
-        named = rw same at e.entered_it;
-        values = stream_values e.rest (rw same at e.fault);
-      }))))
-      | inr (inr (inr (inr (inr (inl same))))) ↦ absurd (no_help e.word (rw same at e.answers) e.no_help)
-      | inr (inr (inr (inr (inr (inr bad))))) ↦ absurd bad
-    ]
+    record {
+      name = e.sub.name;
+      rows = rows_after e.sub.rules [] e.rest;
+      named = e.entered_it;
+      reads = read_by (built deals).subs each_reads e.sub e.is_sub e.word e.rest e.answers e.no_help e.fault;
+    }
 
 -- ---- a parse
 
@@ -149,77 +101,51 @@ unfolding kinds_for
 by_kinds words p f is =
     ap (λ (k : Kinds). or_else k (further_kinds words)) f ∙ ap (λ (o : Option (Text × List Row)). option_map_or kinds_by o []) is
 
-pub asked_stream : (words : List Text) → fault_of deals words ≡ [] → (n : NamesStream words) → asked words ≡ Some (stream_wish n.rows)
-asked_stream words f n = by_wish words (codes "stream", n.rows) f n.named
-
-asked_conditions : (words : List Text) → fault_of deals words ≡ [] → (n : NamesConditions words) → asked words ≡ Some conditions
-asked_conditions words f n = by_wish words (codes "conditions", n.rows) f n.named
-
--- the words are refused with an error of this kind
-pub record IsRefused (words : List Text) (kind : ErrorKind) : Type 0 where
-  pub asked_is : asked words ≡ None
-  pub kinds_are : kinds_for words ≡ kind ∷ []
-
--- words that name `make`, `find` or `pick` ask for it if each word is one of its option's values and an end is given,
--- and else they are refused
-pub record AsksMake (words : List Text) (name : Text) (rows : List Row) : Type 0 where
-  pub ends : has_unknown rows ≡ false → has_no_end name (search_in rows) ≡ false → asked words ≡ Some (made_by name (search_in rows) rows)
-  pub no_end : has_unknown rows ≡ false → has_no_end name (search_in rows) ≡ true → IsRefused words MissingRequiredArgument
-  pub unknown : has_unknown rows ≡ true → IsRefused words InvalidValue
-
--- the subcommand isn't one of the others
-abbrev pub Makes : Text → Type 0
-Makes name = (bytes_eq name (codes "stream") ≡ false) × (bytes_eq name (codes "conditions") ≡ false)
-
-pub asks_make : (words : List Text) (name : Text) → Makes name → fault_of deals words ≡ [] → (n : NamesMake words name) → AsksMake words name n.rows
-asks_make words name makes f n = record {
-  ends = λ u e. by_wish words found f n.named ∙ wishes ∙ ap (λ (k : Kinds). unless_fault k wish) (known u ∙ ending e);
+asks_make : (words : List Text) (name : Text) (rows : List Row) → Makes name → fault_of deals words ≡ [] → subcommand_of deals words ≡ Some (name, rows) → AsksMake words name rows
+asks_make words name rows makes f is = record {
+  ends = λ u e. by_wish words found f is ∙ wishes ∙ ap (λ (k : Kinds). unless_fault k wish) (known u ∙ ending e);
   no_end = λ u e. record {
-    asked_is = by_wish words found f n.named ∙ wishes ∙ ap (λ (k : Kinds). unless_fault k wish) (known u ∙ ending e);
-    kinds_are = by_kinds words found f n.named ∙ known u ∙ ending e;
+    asked_is = by_wish words found f is ∙ wishes ∙ ap (λ (k : Kinds). unless_fault k wish) (known u ∙ ending e);
+    kinds_are = by_kinds words found f is ∙ known u ∙ ending e;
   };
   unknown = λ u. record {
-    asked_is = by_wish words found f n.named ∙ wishes ∙ ap (λ (k : Kinds). unless_fault k wish) (known u);
-    kinds_are = by_kinds words found f n.named ∙ known u;
+    asked_is = by_wish words found f is ∙ wishes ∙ ap (λ (k : Kinds). unless_fault k wish) (known u);
+    kinds_are = by_kinds words found f is ∙ known u;
   };
 }
   where
     found : Text × List Row
-    found = (name, n.rows)
+    found = (name, rows)
 
     wish : Option Wish
-    wish = Some (made_by name (search_in n.rows) n.rows)
+    wish = Some (made_by name (search_in rows) rows)
 
     wishes : unless_fault (kinds_by found) (Some (wish_by found)) ≡ unless_fault (kinds_by found) wish
     wishes = rw (makes.0, makes.1) refl
 
-    known : {b : Bool} → has_unknown n.rows ≡ b → kinds_by found ≡ (if b then InvalidValue ∷ [] else end_kinds name (search_in n.rows))
-    known {b} u = rw (makes.0, makes.1) (ap (λ (x : Bool). if x then InvalidValue ∷ [] else end_kinds name (search_in n.rows)) u)
+    known : {b : Bool} → has_unknown rows ≡ b → kinds_by found ≡ (if b then InvalidValue ∷ [] else end_kinds name (search_in rows))
+    known {b} u = rw (makes.0, makes.1) (ap (λ (x : Bool). if x then InvalidValue ∷ [] else end_kinds name (search_in rows)) u)
 
-    ending : {b : Bool} → has_no_end name (search_in n.rows) ≡ b → end_kinds name (search_in n.rows) ≡ (if b then MissingRequiredArgument ∷ [] else [])
+    ending : {b : Bool} → has_no_end name (search_in rows) ≡ b → end_kinds name (search_in rows) ≡ (if b then MissingRequiredArgument ∷ [] else [])
     ending {b} e = ap (λ (x : Bool). if x then MissingRequiredArgument ∷ [] else []) e
-
--- what the words ask for, by the name of the subcommand that was met
-pub record Chosen (words : List Text) (name : Text) (rows : List Row) : Type 0 where
-  pub stream : bytes_eq name (codes "stream") ≡ true → StreamValues rows × (asked words ≡ Some (stream_wish rows))
-  pub conditions_too : bytes_eq name (codes "conditions") ≡ true → asked words ≡ Some conditions
-  pub make : bytes_eq name (codes "stream") ≡ false → bytes_eq name (codes "conditions") ≡ false → MakeValues rows × AsksMake words name rows
 
 abbrev of_pair : List Text → Bor Text × Bor ArgMatches → Type 0
 of_pair words p = Chosen words p.0.now (rows_of (found_of p.1.now))
 
-chosen_stream : (words : List Text) → fault_of deals words ≡ [] → (n : NamesStream words) → Chosen words (codes "stream") n.rows
-chosen_stream words f n = record { stream = λ e. (n.values, asked_stream words f n); conditions_too = λ e. absurd cc; make = λ e c. absurd cc }
-
-chosen_conditions : (words : List Text) → fault_of deals words ≡ [] → (n : NamesConditions words) → Chosen words (codes "conditions") n.rows
-chosen_conditions words f n = record { stream = λ e. absurd cc; conditions_too = λ e. asked_conditions words f n; make = λ e c. absurd cc }
-
-chosen_make : (words : List Text) (name : Text) → Makes name → fault_of deals words ≡ [] → (n : NamesMake words name) → Chosen words name n.rows
-chosen_make words name makes f n = record {
-  stream = λ e. let bad : true ≡ false = sym e ∙ makes.0 in absurd cc;
+chosen_by : (words : List Text) (name : Text) (rows : List Row) → fault_of deals words ≡ [] → subcommand_of deals words ≡ Some (name, rows) → Reads (name, rows) → Chosen words name rows
+chosen_by words name rows f is (inl (makes, values)) = record {
+  values = record { stream = λ e. no_stream e; make = λ e c. values };
+  stream = λ e. no_stream e;
   conditions_too = λ e. let bad : true ≡ false = sym e ∙ makes.1 in absurd cc;
-  make = λ e c. (n.values, asks_make words name makes f n);
+  make = λ e c. asks_make words name rows makes f is;
 }
+  where
+    no_stream : {X : Type 0} → bytes_eq name (codes "stream") ≡ true → X
+    no_stream e = let bad : true ≡ false = sym e ∙ makes.0 in absurd cc
+chosen_by words name rows f is (inr (inl same)) = subst (λ (n : Text). subcommand_of deals words ≡ Some (n, rows) → Chosen words n rows) (sym same)
+    (λ at. record { values = record { stream = λ e. absurd cc; make = λ e c. absurd cc }; stream = λ e. absurd cc; conditions_too = λ e. by_wish words (codes "conditions", rows) f at; make = λ e c. absurd cc }) is
+chosen_by words name rows f is (inr (inr (same, values))) = subst (λ (n : Text). subcommand_of deals words ≡ Some (n, rows) → Chosen words n rows) (sym same)
+    (λ at. record { values = record { stream = λ e. values; make = λ e c. absurd cc }; stream = λ e. by_wish words (codes "stream", rows) f at; conditions_too = λ e. absurd cc; make = λ e c. absurd cc }) is
 
 from_met : (words : List Text) (sub : Option (Bor Text × Bor ArgMatches)) (p : Bor Text × Bor ArgMatches) (name : Text) (rows : List Row) → sub ≡ Some p → Met sub name rows
     → Chosen words name rows → of_pair words p
@@ -236,13 +162,8 @@ pub chosen : (app : App) (words : List Text) (m : ArgMatches) (sub : Option (Bor
     → sub ≡ Some p → Chosen words p.0.now (rows_of (found_of p.1.now))
 chosen app words m sub p is has none names rows sub_is =
     let f = no_fault app words is none in
-    elim (named words f) [
-      | inl n ↦ from_met words sub p (codes "make") n.rows sub_is (met app words m sub (codes "make") n.rows is has names rows n.named) (chosen_make words (codes "make") (refl, refl) f n)
-      | inr (inl n) ↦ from_met words sub p (codes "find") n.rows sub_is (met app words m sub (codes "find") n.rows is has names rows n.named) (chosen_make words (codes "find") (refl, refl) f n)
-      | inr (inr (inl n)) ↦ from_met words sub p (codes "pick") n.rows sub_is (met app words m sub (codes "pick") n.rows is has names rows n.named) (chosen_make words (codes "pick") (refl, refl) f n)
-      | inr (inr (inr (inl n))) ↦ from_met words sub p (codes "conditions") n.rows sub_is (met app words m sub (codes "conditions") n.rows is has names rows n.named) (chosen_conditions words f n)
-      | inr (inr (inr (inr n))) ↦ from_met words sub p (codes "stream") n.rows sub_is (met app words m sub (codes "stream") n.rows is has names rows n.named) (chosen_stream words f n)
-    ]
+    let n = named words f in
+    from_met words sub p n.name n.rows sub_is (met app words m sub n.name n.rows is has names rows n.named) (chosen_by words n.name n.rows f n.named n.reads)
 
 -- the kind of an error is one of those that clap may give for the words
 has_first : (a b : Kinds) (e : Error) → HasKind a e → HasKind (or_else a b) e

@@ -1,13 +1,16 @@
 -- The options of each subcommand as built, and what a parse without a fault says of their values.
-use Rattle.std.proofs.Common.{◌≡◌, ◌⊎◌, ◌≤◌, ℕ, false, List, [], ◌∷◌, Some, None, refl, inl, inr, codes, lit≤}
-use Rattle.clap.specs.Simple.{Shape, built, filled, new_shape}
+use Rattle.std.proofs.Common.{◌≡◌, ◌⊎◌, ◌≤◌, ℕ, Bool, true, false, List, [], ◌∷◌, Some, None, refl, sym, subst, inl, inr, codes, lit≤}
+use Rattle.std.specs.Str.{bytes_eq}
+use Rattle.std.proofs.lemmas.Slice.Eq.{bytes_eq-Decides}
+use Rattle.clap.specs.Simple.{Shape, built, filled, label_of, new_shape}
 use Rattle.clap.specs.Faults.{level_fault}
-use Rattle.clap.specs.Walk.{Row, Rule, Text, arg_by_id, nothing_held, one_of, rows_after}
+use Rattle.clap.specs.Walk.{Row, Rule, Text, answers_to, arg_by_id, nothing_held, one_of, rows_after}
 use Rattle.clap.specs.declared.builder.value_parser.ValueParser.{ValueParser}
 use Rattle.clap.specs.declared.builder.value_parser.ValueParser.TheVariants.{Unsigned}
 use Rattle.clap.proofs.ValueTestLemmas.{accepts-Accepts}
 use Rattle.deals_cli.specs.Commands.{count_parser, deals, option_rule, required, u32_parser}
 use Rattle.deals_cli.specs.internal.Readings.{Gives32, GivesUpTo, HasValue, MakeValues, MayGive32, MayGive64, StreamValues}
+use Rattle.deals_cli.proofs.Entered.{IsSub}
 use Rattle.deals_cli.proofs.Plain.{plain_of}
 use Rattle.deals_cli.proofs.Walks.{IsIn, Passing, PlainRules, absent_value, given_value, level_checked, level_passing, passed_value, required_given}
 
@@ -20,20 +23,23 @@ rest_of [] = []
 rest_of (s ∷ shapes) = shapes
 
 -- the subcommands and clap's `help` as built
-abbrev pub make_built : Shape
+abbrev make_built : Shape
 make_built = first_shape (built deals).subs
 
-abbrev pub find_built : Shape
+abbrev find_built : Shape
 find_built = first_shape (rest_of (built deals).subs)
 
-abbrev pub pick_built : Shape
+abbrev pick_built : Shape
 pick_built = first_shape (rest_of (rest_of (built deals).subs))
 
-abbrev pub conditions_built : Shape
+abbrev conditions_built : Shape
 conditions_built = first_shape (rest_of (rest_of (rest_of (built deals).subs)))
 
-abbrev pub stream_built : Shape
+abbrev stream_built : Shape
 stream_built = first_shape (rest_of (rest_of (rest_of (rest_of (built deals).subs))))
+
+abbrev help_built : Shape
+help_built = first_shape (rest_of (rest_of (rest_of (rest_of (rest_of (built deals).subs)))))
 
 -- ---- numbers
 
@@ -88,7 +94,7 @@ required_value s plain negates parser id is words f =
 
 -- ---- the subcommands with options
 
-pub stream_values : (words : List Text) → level_fault stream_built [] nothing_held words false [] ≡ [] → StreamValues (rows_after stream_built.rules [] words)
+stream_values : (words : List Text) → level_fault stream_built [] nothing_held words false [] ≡ [] → StreamValues (rows_after stream_built.rules [] words)
 stream_values words f =
     let value = required_value stream_built (plain_of stream_built.rules refl) refl in
     record {
@@ -120,13 +126,65 @@ deal_values s plain negates seed (candidates, first, workers, lane, boards, firs
       first_board = may64 s.rules rows (codes "first-board") first_board pass;
     }
 
-pub make_values : (words : List Text) → level_fault make_built [] nothing_held words false [] ≡ [] → MakeValues (rows_after make_built.rules [] words)
-make_values = deal_values make_built (plain_of make_built.rules refl) refl (inl refl) (inl refl, inl refl, inl refl, inl refl, inl refl, inl refl)
+-- ---- what each subcommand reads
 
--- `find` has no option of the first board
-pub find_values : (words : List Text) → level_fault find_built [] nothing_held words false [] ≡ [] → MakeValues (rows_after find_built.rules [] words)
-find_values = deal_values find_built (plain_of find_built.rules refl) refl (inl refl) (inl refl, inl refl, inl refl, inl refl, inl refl, inr refl)
+-- the subcommand isn't one of those without a search
+abbrev pub Makes : Text → Type 0
+Makes name = (bytes_eq name (codes "stream") ≡ false) × (bytes_eq name (codes "conditions") ≡ false)
 
--- `pick` has no option of which candidates are tried, nor of how
-pub pick_values : (words : List Text) → level_fault pick_built [] nothing_held words false [] ≡ [] → MakeValues (rows_after pick_built.rules [] words)
-pick_values = deal_values pick_built (plain_of pick_built.rules refl) refl (inl refl) (inr refl, inr refl, inr refl, inr refl, inr refl, inl refl)
+-- a subcommand that deals, with the options of `make` or some of them; the page of the language; or the values of a seed
+abbrev pub Reads : Text × List Row → Type 0
+Reads p = (Makes p.0 × MakeValues p.1) ⊎ ((p.0 ≡ codes "conditions") ⊎ ((p.0 ≡ codes "stream") × StreamValues p.1))
+
+-- so does this one where its words have no fault
+abbrev ReadsBy : Shape → Type 0
+ReadsBy s = (word : Text) (rest : List Text) → answers_to word (label_of s) ≡ true → bytes_eq word (codes "help") ≡ false
+    → level_fault s [] nothing_held rest false [] ≡ [] → Reads (s.name, rows_after s.rules [] rest)
+
+deals_by : (s : Shape) → Makes s.name → PlainRules s.rules → s.subcommand_negates_reqs ≡ false → IsIn (filled (required (option_rule (codes "seed") u32_parser))) s.rules → Numbers s.rules
+    → ReadsBy s
+deals_by s makes plain negates seed numbers word rest answers other f = inl (makes, deal_values s plain negates seed numbers rest f)
+
+-- clap's `help` is no subcommand of words without a fault
+no_help : (word : Text) → answers_to word (codes "help", []) ≡ true → bytes_eq word (codes "help") ≡ false → ⊥
+no_help word answers other = go (bytes_eq (codes "help") word) refl
+  where
+    go : (b : Bool) → bytes_eq (codes "help") word ≡ b → ⊥
+    go true e =
+        let is : codes "help" ≡ word = (bytes_eq-Decides (codes "help") word).0 e in
+        let bad : true ≡ false = subst (λ (w : Text). bytes_eq w (codes "help") ≡ false) (sym is) other in
+        cc
+    go false e = let bad : false ≡ true = rw e at answers in cc
+
+abbrev EachReads : List Shape → Type 0
+EachReads [] = Unit {0}
+EachReads (s ∷ shapes) = ReadsBy s × EachReads shapes
+
+pub read_by : (shapes : List Shape) → EachReads shapes → (s : Shape) → IsSub s shapes → ReadsBy s
+read_by [] each s bad = absurd bad
+read_by (x ∷ shapes) (first, rest) s (inl same) = subst ReadsBy (sym same) first
+read_by (x ∷ shapes) (first, rest) s (inr later) = read_by shapes rest s later
+
+-- the subcommands, and clap's `help`. `find` has no option of the first board, and `pick` none of which candidates are
+-- tried, nor of how
+make_reads : ReadsBy make_built
+make_reads = deals_by make_built (refl, refl) (plain_of make_built.rules refl) refl (inl refl) (inl refl, inl refl, inl refl, inl refl, inl refl, inl refl)
+
+find_reads : ReadsBy find_built
+find_reads = deals_by find_built (refl, refl) (plain_of find_built.rules refl) refl (inl refl) (inl refl, inl refl, inl refl, inl refl, inl refl, inr refl)
+
+pick_reads : ReadsBy pick_built
+pick_reads = deals_by pick_built (refl, refl) (plain_of pick_built.rules refl) refl (inl refl) (inr refl, inr refl, inr refl, inr refl, inr refl, inl refl)
+
+conditions_reads : ReadsBy conditions_built
+conditions_reads word rest answers other f = inr (inl refl)
+
+stream_reads : ReadsBy stream_built
+stream_reads word rest answers other f = inr (inr (refl, stream_values rest f))
+
+help_reads : ReadsBy help_built
+help_reads word rest answers other f = absurd (no_help word answers other)
+
+-- in the order in which they stand
+pub each_reads : EachReads (built deals).subs
+each_reads = (make_reads, (find_reads, (pick_reads, (conditions_reads, (stream_reads, (help_reads, tt))))))

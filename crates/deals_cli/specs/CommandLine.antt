@@ -7,16 +7,16 @@ use Rattle.clap.specs.Words.{Kinds, Row, Text, fault_of, first_of, one_of, subco
 use Rattle.clap.specs.Kinds.{or_else}
 use Rattle.clap.specs.declared.error.kind.ErrorKind.TheVariants.{InvalidValue}
 use Rattle.clap.specs.declared.error.kind.ErrorKind.TheVariants.{MissingRequiredArgument}
-use Rattle.deals_cli.specs.Commands.{deals}
-use Rattle.boards.specs.declared.law2.Vul.{Vul}
-use Rattle.boards.specs.declared.law2.Vul.TheVariants.{Neither, NorthSouth, EastWest, Both}
+use Rattle.deals_cli.specs.Commands.{deals, finders}
+use Rattle.boards.specs.declared.setting.Vul.{Vul}
+use Rattle.boards.specs.declared.setting.Vul.TheVariants.{Neither, NorthSouth, EastWest, Both}
 use Rattle.cards.specs.declared.seat.Seat.{Seat}
 use Rattle.cards.specs.declared.seat.Seat.TheVariants.{North, East, South, West}
 use Rattle.predeal.specs.PredealtHands.{GivenHands}
-use Rattle.requests.specs.Requests.{Look, Search, Wish, conditions, make, numbers_look, pick, stream}
+use Rattle.requests.specs.Requests.{Look, Search, Wish, conditions, look_as, make, pick, stream}
 use Rattle.requests.specs.declared.request.Notices.{Notices}
-use Rattle.notations.specs.declared.format.Format.{Format}
-use Rattle.notations.specs.declared.format.Format.TheVariants.{Pbn, Hands, Lin, Html}
+use Rattle.notations.specs.Formats.{formats}
+use Rattle.notations.specs.declared.printer.Format.TheVariants.{Pbn}
 use Rattle.requests.specs.declared.when.When.{When}
 use Rattle.requests.specs.declared.when.When.TheVariants.{Auto, Always, Never}
 
@@ -31,11 +31,8 @@ number_or default id rows = unwrap_or (number_in id rows) default
 abbrev pub is_set : Text → List Row → Bool
 is_set id rows = option_map_or (λ t. bytes_eq t (codes "true")) (first_of id rows) false
 
--- the options that have one of a few words, and what each word stands for, in just this case
-abbrev pub formats : List (Text × Format)
-formats =
-    (codes "pbn", Pbn) ∷ (codes "hands", Hands) ∷ (codes "lin", Lin) ∷ (codes "html", Html) ∷ []
-
+-- the options that have one of a few words, as `formats` of the notations, and what each word stands
+-- for, in just this case
 abbrev pub dealers : List (Text × Seat)
 dealers =
     (codes "N", North) ∷ (codes "E", East) ∷ (codes "S", South) ∷ (codes "W", West) ∷ []
@@ -118,13 +115,12 @@ notices_in rows = record {
   hints = when_in (codes "hints") rows;
 }
 
--- `find` writes the numbers of what it finds, `pick` deals the candidates whose numbers it reads
+-- `pick` deals the candidates whose numbers it reads; the others search, and `find` has one look
 abbrev pub made_by : Text → Search → List Row → Wish
 made_by name s rows =
-    if bytes_eq name (codes "find") then make s numbers_look (notices_in rows)
-    else (if bytes_eq name (codes "pick")
+    if bytes_eq name (codes "pick")
     then pick s.seed s.hands (look_in rows) (when_in (codes "hints") rows)
-    else make s (look_in rows) (notices_in rows))
+    else make s (option_map_or look_as (meant_by finders name) (look_in rows)) (notices_in rows)
 
 -- by the subcommand's name and what its options were given
 abbrev pub wish_by : Text × List Row → Wish

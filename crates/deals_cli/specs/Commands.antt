@@ -1,10 +1,12 @@
 -- The commands of the program and their options, in clap's terms.
-use Rattle.std.specs.Prelude.{true, List, ◌∷◌, [], Some, codes, fold, pos}
+use Rattle.std.specs.Prelude.{true, List, ◌∷◌, [], Some, codes, fold, map, pos}
 use Rattle.clap.specs.Words.{App, Rule, Text, new_app, new_rule, with_rule, with_subcommand}
 use Rattle.clap.specs.declared.builder.action.ArgAction.TheVariants.{SetTrue}
 use Rattle.clap.specs.Simple.{on_top}
 use Rattle.clap.specs.declared.builder.value_parser.ValueParser.{ValueParser}
 use Rattle.clap.specs.declared.builder.value_parser.ValueParser.TheVariants as parsed
+use Rattle.notations.specs.declared.printer.Format.{Format}
+use Rattle.notations.specs.declared.printer.Format.TheVariants.{Numbers}
 
 -- an option `--id VALUE`
 abbrev pub option_rule : Text → ValueParser → Rule
@@ -113,6 +115,13 @@ abbrev pub deals_top : App
 deals_top = on_top (λ s. record s { has_version = true; subcommand_required = true })
     (new_app (codes "deals"))
 
+-- the subcommands, in the order of the help
+abbrev pub subcommands : List App
+subcommands = make_app ∷ find_app ∷ pick_app ∷ conditions_app ∷ stream_app ∷ []
+
 abbrev pub deals : App
-deals = with_subcommand (with_subcommand (with_subcommand (with_subcommand (with_subcommand
-    deals_top make_app.top) find_app.top) pick_app.top) conditions_app.top) stream_app.top
+deals = fold with_subcommand deals_top (map (λ a. a.top) subcommands)
+
+-- those that search and write one format alone
+abbrev pub finders : List (Text × Format)
+finders = (codes "find", Numbers) ∷ []

@@ -15,8 +15,8 @@ use Rattle.requests.specs.FirstRefusal.{IsDueFor}
 use Rattle.requests.specs.Interruptions.{LeavesFrom}
 use Rattle.requests.specs.Lines.{line_of}
 use Rattle.requests.specs.Reported.{Reports, ReportsFor, wants_report}
-use Rattle.requests.specs.Jobs.{IsReady}
-use Rattle.requests.specs.Requests.{Look, Search, Wish, make, wish_of}
+use Rattle.requests.specs.Jobs.{IsReady, ReadsInput}
+use Rattle.requests.specs.Requests.{Look, Search, Wish, make, pick, wish_of}
 use Rattle.requests.specs.declared.report.Report.{Report}
 use Rattle.requests.specs.declared.request.Notices.{Notices}
 use Rattle.requests.specs.declared.request.Request.{Request}
@@ -83,6 +83,22 @@ AreRead words (Err error) =
 abbrev pub IsTaskFor : List Text → Task → Type 0
 IsTaskFor words (Show text) = (asked words ≡ None) × MayShow words
 IsTaskFor words (Do job) = (w : Wish) × (asked words ≡ Some w) × IsReady w job
+
+-- the task reads the input, and the words ask for what does: a `pick`
+abbrev pub ReadsTask : Task → Type 0
+ReadsTask (Show text) = ⊥
+ReadsTask (Do job) = ReadsInput job
+
+abbrev pub IsPick : Wish → Type 0
+IsPick (pick seed hands l hints) = Unit {0}
+IsPick _ = ⊥
+
+abbrev pub WantsInput : List Text → Type 0
+WantsInput words = (w : Wish) × (asked words ≡ Some w) × IsPick w
+
+-- where all was done, or the input failed, what was written is passed on
+abbrev pub IsFlushedAfter : ℕ → Type 0 → Type 0
+IsFlushedAfter status is_flushed = (status ≡ 0) ⊎ (status ≡ 7) → is_flushed
 
 -- the words are refused so, or memory ran out, before anything was done
 pub record AreRefused (words : List Text) (failure : Failure) : Type 0 where

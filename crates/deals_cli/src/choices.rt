@@ -13,7 +13,8 @@ use crate::words::text_in;
 use boards::Vul;
 use cards::Seat;
 use clap::ArgMatches;
-use requests::{Format, When};
+use notations::{FORMAT_WORDS, FORMATS, Format};
+use requests::When;
 
 /// The words that say when something is shown.
 const TIMES: &[(&str, When)] = &[
@@ -45,13 +46,8 @@ pub struct Unknown<'a> {
 pub static FORMAT: Choice<Format> = Choice {
     id: "format",
     shown: "--format <FORMAT>",
-    values: "pbn, hands, lin, html",
-    table: &[
-        ("pbn", Format::Pbn),
-        ("hands", Format::Hands),
-        ("lin", Format::Lin),
-        ("html", Format::Html),
-    ],
+    values: FORMAT_WORDS,
+    table: FORMATS,
 };
 
 pub static DEALER: Choice<Seat> = Choice {
@@ -93,7 +89,7 @@ pub static HINTS: Choice<When> = Choice {
 };
 
 /// What a word stands for in such a table.
-fn look_up<T: Copy>(mut table: &[(&str, T)], word: &str) -> Option<T>
+pub(crate) fn look_up<T: Copy>(mut table: &[(&str, T)], word: &str) -> Option<T>
     ensures { result ≡ meant_by (map (λ p. (p.0.now, p.1)) table.entry.now) word.now }
 {
     while let [(name, value), rest @ ..] = table {

@@ -3,8 +3,9 @@
 ghost use Rattle.std.specs.Prelude.{◌≡◌, ◌≢◌, ◌⊎◌, ◌+◌, ◌-◌, ◌^◌, ◌<◌, ◌≤◌, ◌==◌};
 ghost use Rattle.std.specs.Prelude.{Some, if◌then◌else◌, map, string_bytes};
 ghost use Rattle.deals_cli.specs.CommandLine.{asked};
-ghost use Rattle.deals_cli.specs.Program.{Answers, HasReport, IsStatusFor, TellsWhy, TellsWhyFrom};
-ghost use Rattle.requests.specs.Failures.{CountsInput, faults_in};
+ghost use Rattle.deals_cli.specs.Program.{Answers, HasReport, IsFlushedAfter, IsStatusFor, TellsWhy};
+ghost use Rattle.deals_cli.specs.Program.{TellsWhyFrom, WantsInput};
+ghost use Rattle.requests.specs.Failures.{CountsInput, faults_in, status_in};
 ghost use Rattle.requests.specs.Requests.{Wish};
 ghost use Rattle.requests.specs.Wishes.{Appends, AppendsFrom, IsStatus, IsStatusWithInput};
 
@@ -31,6 +32,9 @@ fn answer<R: Threads + Wait + Clone + Send + 'static, I: Source, O: Sink>(
         (I.rest input.old) (I.rest input.new) (O.bytes out.old) (O.bytes out.new) }
     ensures faults { O.faults out.new ≡ O.faults out.old + faults_in result }
     ensures input { CountsInput result (I.faults input.old) (I.faults input.new) }
+    ensures unread { (WantsInput (map string_bytes words.now) → ⊥) → (I.rest input.new ≡ I.rest input.old)
+        × (I.faults input.new ≡ I.faults input.old) }
+    ensures flushed { IsFlushedAfter (status_in result) (O.is_flushed out.new) }
 {
     let read = read_words(alloc, words);
     match prepare(alloc, words, &read) {
@@ -78,8 +82,12 @@ pub fn program_with_input<R: Threads + Wait + Clone + Send + 'static, I: Source,
         → O.bytes out.new ≡ O.bytes out.old }
     // The status is 4 if and only if the output failed, once.
     ensures output { O.faults out.new ≡ O.faults out.old + (if result == 4 then 1 else 0) }
-    // The input failed with status 7 alone, or before the output did.
+    // The input failed with status 7 alone, or before the output did; only a `pick` reads it.
     ensures input { result ≢ 4 → result ≢ 7 → I.faults input.new ≡ I.faults input.old }
+    ensures unread { (WantsInput (map string_bytes words.now) → ⊥) → (I.rest input.new ≡ I.rest input.old)
+        × (I.faults input.new ≡ I.faults input.old) }
+    // With status 0 or 7 all that was written is passed on.
+    ensures flushed { IsFlushedAfter result (O.is_flushed out.new) }
     // With status 0 a report that was asked for is on the error output, unless that failed itself,
     // and else nothing.
     ensures report { result ≡ 0 → HasReport (map string_bytes words.now)
@@ -104,7 +112,7 @@ pub fn program_with_input<R: Threads + Wait + Clone + Send + 'static, I: Source,
 /// Runs the program, and returns its exit status. The first word is the program's name.
 ///
 /// 0: done, or help or the version was asked for, whose text is on `out`; 2: the command line, the
-/// plan, a label or a hand is refused; 3: the condition is refused; 4: the output failed; 5: want
+/// plan, a label or a hand is refused; 3: the condition is refused; 4: the output failed; 5: out
 /// of memory; 6: a thread couldn't be started, or a worker stopped or wasn't closed. What went
 /// wrong is said on `err`, in one line but for clap's texts, and a report if that is asked for;
 /// faults of `err` are ignored. It may wait for its workers.
@@ -135,6 +143,8 @@ pub fn program<R: Threads + Wait + Clone + Send + 'static, O: Sink, E: Sink>(
         → O.bytes out.new ≡ O.bytes out.old }
     // The status is 4 if and only if the output failed, once.
     ensures output { O.faults out.new ≡ O.faults out.old + (if result == 4 then 1 else 0) }
+    // With status 0 all that was written is passed on.
+    ensures flushed { result ≡ 0 → O.is_flushed out.new }
     // With status 0 a report that was asked for is on the error output, unless that failed itself,
     // and else nothing.
     ensures report { result ≡ 0 → HasReport (map string_bytes words.now)

@@ -1,7 +1,7 @@
 //! What the words of some command lines ask for: the definition of that, at examples.
 
 ghost use Rattle.std.specs.Prelude.{◌≡◌, ◌∷◌, [], Some, codes, true};
-ghost use Rattle.boards.specs.declared.law2.Vul.TheVariants.{NorthSouth};
+ghost use Rattle.boards.specs.declared.setting.Vul.TheVariants.{NorthSouth};
 ghost use Rattle.cards.specs.declared.seat.Seat.TheVariants.{South};
 ghost use Rattle.clap.specs.declared.error.kind.ErrorKind.TheVariants.{InvalidValue};
 ghost use Rattle.clap.specs.declared.error.kind.ErrorKind.TheVariants.{UnknownArgument};
@@ -9,7 +9,7 @@ ghost use Rattle.deals_cli.specs.CommandLine.{asked, kinds_for};
 ghost use Rattle.predeal.specs.PredealtHands.{none_given};
 ghost use Rattle.requests.specs.Requests.{conditions, make, numbers_look, pick, stream};
 ghost use Rattle.requests.specs.Requests.{plain_look, plain_notices, plain_search};
-ghost use Rattle.notations.specs.declared.format.Format.TheVariants.{Hands};
+ghost use Rattle.notations.specs.declared.printer.Format.TheVariants.{Hands};
 ghost use Rattle.requests.specs.declared.when.When.TheVariants.{Always, Auto, Never};
 
 /// `deals stream --seed 0 --count 3` asks for the first three values of seed 0.

@@ -1,17 +1,15 @@
 //! The command line of `deals`: what its words ask for, and the program.
 //!
-//! `commands.rt` and `options.rt` have the subcommands and their options as tables, `words.rt`
-//! reads words as a request, `task.rt` makes a task of it and does it, and `entry.rt` has
-//! `program`, which is all of that.
+//! `options.rt` has the subcommands and their options as tables, `words.rt` reads words as a
+//! request, `task.rt` makes a task of it and does it, and `entry.rt` has `program`, which is all of
+//! that.
 #![tactic(auto)]
 
 mod choices;
-mod commands;
 mod entry;
 pub mod laws;
 mod options;
 mod refusals;
-mod row;
 mod shown;
 mod task;
 mod texts;

@@ -4,7 +4,7 @@ ghost use Rattle.std.specs.Prelude.{◌≡◌, IfOk};
 ghost use Rattle.clap.specs.Words.{kind_of};
 
 use crate::choices::Unknown;
-use crate::commands::named_command;
+use crate::options::named_command;
 use clap::Error;
 use clap::error::ErrorKind;
 use std::alloc::{AllocError, Global};

@@ -3,9 +3,10 @@
 ghost use Rattle.std.specs.Prelude.{◌≡◌, ◌-◌, ◌+◌, ◌^◌, ◌<◌, IfErr, IfOk, List, map, string_bytes, true};
 ghost use Rattle.clap.specs.Walk.{Text};
 ghost use Rattle.clap.specs.Words.{kind_of};
-ghost use Rattle.deals_cli.specs.Program.{Answers, AreRead, AreRefused, IsTaskFor, is_shown};
+ghost use Rattle.deals_cli.specs.Program.{Answers, AreRead, AreRefused, IsFlushedAfter, IsTaskFor};
+ghost use Rattle.deals_cli.specs.Program.{ReadsTask, is_shown};
 ghost use Rattle.deals_cli.specs.internal.Kinds.{RefusesError};
-ghost use Rattle.requests.specs.Failures.{CountsInput, faults_in};
+ghost use Rattle.requests.specs.Failures.{CountsInput, faults_in, status_in, status_of};
 
 use crate::shown::shown_text;
 use clap::Error;
@@ -84,6 +85,9 @@ fn write<R: Threads + Wait + Clone + Send + 'static, I: Source, O: Sink>(
         (I.rest input.old) (I.rest input.new) (O.bytes out.old) (O.bytes out.new) }
     ensures faults { O.faults out.new ≡ O.faults out.old + faults_in result }
     ensures input { CountsInput result (I.faults input.old) (I.faults input.new) }
+    ensures unread { (ReadsTask task → ⊥) → (I.rest input.new ≡ I.rest input.old)
+        × (I.faults input.new ≡ I.faults input.old) }
+    ensures flushed { IfErr result (λ e. status_of e ≡ 7 → O.is_flushed out.new) }
 {
     match task {
         Task::Show(text) => match put_all(out, text.as_bytes()) {
@@ -94,7 +98,7 @@ fn write<R: Threads + Wait + Clone + Send + 'static, I: Source, O: Sink>(
     }
 }
 
-/// Does the task and flushes the output. Returns the report, if one was asked for. Of the
+/// Does the task and flushes the output, unless it failed. Returns the report, if one was asked for. Of the
 /// subcommands `pick` alone reads the input. It may wait for its workers and its input.
 ///
 /// # Errors
@@ -113,6 +117,9 @@ pub fn perform<R: Threads + Wait + Clone + Send + 'static, I: Source, O: Sink>(
         (I.rest input.old) (I.rest input.new) (O.bytes out.old) (O.bytes out.new) }
     ensures faults { O.faults out.new ≡ O.faults out.old + faults_in result }
     ensures input { CountsInput result (I.faults input.old) (I.faults input.new) }
+    ensures unread { (ReadsTask task → ⊥) → (I.rest input.new ≡ I.rest input.old)
+        × (I.faults input.new ≡ I.faults input.old) }
+    ensures flushed { IsFlushedAfter (status_in result) (O.is_flushed out.new) }
 {
     match write(rt, alloc, task, input, out) {
         Ok(report) => match out.flush() {

@@ -1,17 +1,19 @@
 //! From the words of a command line to a request.
 
-ghost use Rattle.std.specs.Prelude.{◌≡◌, codes, map, option_map, string_bytes};
+ghost use Rattle.std.specs.Prelude.{◌≡◌, List, codes, map, option_map, string_bytes};
+ghost use Rattle.clap.specs.Walk.{Text};
 ghost use Rattle.clap.specs.Words.{first_of, found_of, rows_of};
 ghost use Rattle.deals_cli.specs.CommandLine.{hands_in, has_no_end, is_set, look_in, made_by};
 ghost use Rattle.deals_cli.specs.CommandLine.{notices_in, number_in, number_or, search_in};
 ghost use Rattle.deals_cli.specs.Program.{AreRead};
+ghost use Rattle.deals_cli.specs.internal.Asking.{Chosen, HasValues};
 ghost use Rattle.deals_cli.specs.internal.Readings.{MayGive32, MayGive64, SearchValues};
 ghost use Rattle.deals_cli.specs.internal.Readings.{StreamValues};
 ghost use Rattle.predeal.specs.PredealtHands.{given_by};
 ghost use Rattle.requests.specs.Requests.{look_of, search_of, wish_of};
 
-use crate::choices::{DEALER, FORMAT, HINTS, PROGRESS, VULNERABLE, unknown_in};
-use crate::commands::command;
+use crate::choices::{DEALER, FORMAT, HINTS, PROGRESS, VULNERABLE, look_up, unknown_in};
+use crate::options::{FINDERS, command};
 use crate::refusals::{invalid_value, missing_end};
 use clap::{ArgMatches, Error};
 use predeal::PredealtHands;
@@ -134,9 +136,6 @@ fn request_by<'a>(name: &str, search: Search<'a>, matches: &ArgMatches<'a>) -> R
         ≡ made_by name.now (search_of search.entry) (rows_of (found_of matches.now)) }
 {
     let notices = notices_in(matches);
-    if name == "find" {
-        return Request::Find { search, notices };
-    }
     let look = look_in(matches);
     if name == "pick" {
         return Request::Pick {
@@ -144,6 +143,13 @@ fn request_by<'a>(name: &str, search: Search<'a>, matches: &ArgMatches<'a>) -> R
             hands: search.hands,
             look,
             hints: notices.hints,
+        };
+    }
+    if let Some(format) = look_up(FINDERS, name) {
+        return Request::Find {
+            search,
+            format,
+            notices,
         };
     }
     Request::Make {
@@ -164,18 +170,27 @@ pub fn read_words<'a>(alloc: Global, words: &'a [String]) -> Result<Request<'a>,
 {
     let matches = command(alloc)?.try_get_matches_from(words)?;
     let (name, inner) = matches.subcommand().unwrap();
+    request_of(alloc, name, inner)
+}
+
+/// What the words ask for that name this subcommand and give its options these values.
+fn request_of<'a>(alloc: Global, name: &str, matches: &ArgMatches<'a>) -> Result<Request<'a>, Error>
+    requires { HasValues name.now (rows_of (found_of matches.now)) }
+    ensures { (words : List Text) → Chosen words name.now (rows_of (found_of matches.now))
+        → AreRead words result }
+{
     if name == "stream" {
-        return Ok(Request::Stream(stream_request(inner)));
+        return Ok(Request::Stream(stream_request(matches)));
     }
     if name == "conditions" {
         return Ok(Request::Conditions);
     }
-    if let Some(unknown) = unknown_in(inner) {
+    if let Some(unknown) = unknown_in(matches) {
         return Err(invalid_value(alloc, name, &unknown)?);
     }
-    let search = search_in(inner);
+    let search = search_in(matches);
     if has_no_end(name, &search) {
         return Err(missing_end(alloc, name)?);
     }
-    Ok(request_by(name, search, inner))
+    Ok(request_by(name, search, matches))
 }

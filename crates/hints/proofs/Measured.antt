@@ -4,12 +4,13 @@ use Rattle.std.specs.List.{range_with_len, sum_by}
 use Rattle.std.proofs.lemmas.List.FromFn.{length-range_with_len}
 use Rattle.std.proofs.lemmas.List.Sums.{count_by-le-length, sum_by-cons}
 use Rattle.cards.specs.declared.honours.Honours.{Honours}
-use Rattle.cards.specs.declared.measure.Measure.{Measure}
+use Rattle.cards.specs.declared.hand.Measure.{Measure}
 use Rattle.cards.specs.declared.seat.Seat.{Seat}
 use Rattle.cards.specs.declared.suit.Suit.{Suit}
 use Rattle.cards.specs.declared.suit.Suit.TheVariants.{Spades, Hearts, Diamonds, Clubs}
 use Rattle.cards.specs.Deals.{IsPartition}
-use Rattle.cards.specs.Hands.{hand_of, has_honour, holds_card, holds_in, honours_in, honours_of, length_of, losers_in, losers_of, total_in, total_of, weight_in, weight_of}
+use Rattle.cards.specs.Hands.{hand_of, holds_card, holds_in, length_of, weight_in, weight_of}
+use Rattle.cards.specs.Counts.{has_honour, honours_in, honours_of, losers_in, losers_of, total_in, total_of}
 use Rattle.cards.specs.Measures.{four_weights, weights_of}
 use Rattle.cards.specs.Pack.{is_in_suit, rank_of, suit_number}
 use Rattle.cards.specs.Shuffle.{pack}

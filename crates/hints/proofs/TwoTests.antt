@@ -6,7 +6,8 @@ use Rattle.cards.specs.declared.seat.Seat.{Seat}
 use Rattle.cards.specs.declared.suit.Suit.{Suit}
 use Rattle.cards.specs.declared.suit.Suit.TheVariants.{Spades, Hearts, Diamonds, Clubs}
 use Rattle.cards.specs.Deals.{IsPartition}
-use Rattle.cards.specs.Hands.{hand_of, is_same, length_of, longest_of, points_in, points_of, shortest_of, total_in, total_of}
+use Rattle.cards.specs.Hands.{hand_of, is_same, length_of, points_in, points_of}
+use Rattle.cards.specs.Counts.{longest_of, shortest_of, total_in, total_of}
 use Rattle.cards.specs.Measures.{measure_back, measure_of_number}
 use Rattle.cards.specs.Pack.{seat_number, suit_number}
 use Rattle.cond_lang.specs.Form.{Amount, Form, all_of, any_of, balanced, cards_held, compare, longest, loose_pattern, loose_shape, negation, number, pattern, points, shape, shortest, suit_cards_held, suit_length, suit_points, suit_total, total, within}

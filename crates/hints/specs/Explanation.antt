@@ -5,7 +5,7 @@ use Rattle.conditions.specs.declared.error.CondError.{CondError}
 use Rattle.conditions.specs.declared.error.CondError.TheVariants.{TooLong, Byte, Word, Number}
 use Rattle.conditions.specs.declared.error.CondError.TheVariants.{Syntax, Memory}
 use Rattle.cond_lang.specs.declared.words.Kind.{Kind}
-use Rattle.cond_lang.specs.declared.token.Token.{Token}
+use Rattle.cond_lang.specs.declared.scanner.Token.{Token}
 use Rattle.cond_lang.specs.Continuations.{CanFollow, IsBeginning}
 use Rattle.cond_lang.specs.Faults.{HasFault}
 use Rattle.hints.specs.Excerpt.{IsExcerpt, shown}

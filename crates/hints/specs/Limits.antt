@@ -1,8 +1,9 @@
--- The least and the greatest number that a value of any deal is.
+-- The least and the greatest number that a value of any deal is: tables, as the code has them. What
+-- they are worth is the clause `sound` of `is_never`.
 use Rattle.std.specs.Prelude.{ℕ, ◌+◌, ◌-◌, ◌*◌, List, cond, min, option_map, slice_index_or}
 use Rattle.std.specs.Prelude.{sum, unwrap_or}
 use Rattle.cards.specs.declared.honours.Honours.{Honours}
-use Rattle.cards.specs.declared.measure.Measure.{Measure}
+use Rattle.cards.specs.declared.hand.Measure.{Measure}
 use Rattle.cards.specs.Measures.{weights_of}
 use Rattle.cond_lang.specs.Form.{Amount, cards_held, longest, number, points, shortest}
 use Rattle.cond_lang.specs.Form.{suit_cards_held, suit_length, suit_points, suit_total, total}

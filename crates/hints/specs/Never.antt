@@ -1,4 +1,5 @@
--- Conditions that no deal meets, by their numbers alone.
+-- Conditions that no deal meets, by their numbers alone: a table of cases, as the code has it. What
+-- it is worth is the clause `sound` of `is_never`.
 use Rattle.std.specs.Prelude.{ℕ, ◌==◌, not, ◌&&◌, ◌||◌, nat_lt, nat_le, Bool, false, sum}
 use Rattle.cond_lang.specs.Form.{Form, all_of, any_of, compare, pattern, shape, within}
 use Rattle.conditions.specs.declared.tree.Op.{Op}

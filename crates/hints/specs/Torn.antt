@@ -1,4 +1,5 @@
--- What several tests leave of one value of a hand.
+-- What several tests leave of one value of a hand: a table of cases, as the code has it. What it is
+-- worth is the clause `sound` of `is_never`.
 use Rattle.std.specs.Prelude.{ℕ, ◌+◌, ◌-◌, min, max, ◌&&◌, ◌||◌, nat_lt, Bool, false, List, [], ◌∷◌}
 use Rattle.std.specs.Prelude.{if◌then◌else◌, slice_index}
 use Rattle.cards.specs.Hands.{is_same}

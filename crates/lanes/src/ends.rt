@@ -3,10 +3,8 @@
 ghost use Rattle.std.specs.Prelude.{◌≡◌, ◌+◌, ◌*◌, ◌/◌, ◌<◌, ◌≤◌, ◌↔◌, ◌⊎◌, min, [], ◌∷◌, ◌++◌, length, IsTrue, IsOk, IsSome, IsErrOf, OnOk, IfOk, IfErr, IfSome, IfNone, true, false};
 ghost use Rattle.lanes.specs.declared.ends.LaneError.TheVariants.{Capacity, Memory};
 
-use crate::block::{Block, MAX_BLOCK};
 use crate::limits::MAX_CAPACITY;
-use crate::slot::Slot;
-use crate::verdict::Verdict;
+use crate::verdict::{Block, MAX_BLOCK, Slot, Verdict};
 use crate::wait::Pace;
 use rtrb::{Consumer, Finished, Producer, RingBuffer};
 use std::alloc::Global;

@@ -2,25 +2,21 @@
 //! the writer.
 #![tactic(auto)]
 
-mod block;
 mod ends;
-mod gate;
 pub mod laws;
 mod limits;
 mod model;
 mod share;
-mod slot;
 mod turns;
 mod verdict;
 mod wait;
 mod worker;
 
 pub use ends::{Closed, LaneError, LaneIn, LaneOut, lane, lane_in_blocks};
-pub use gate::{Gate, OpenGate};
 pub use limits::{MAX_CAPACITY, MAX_WORKERS};
 pub use model::{Core, Event};
 pub use share::{Job, JobAround, Share};
 pub use turns::Turns;
 pub use verdict::Verdict;
 pub use wait::Pace;
-pub use worker::{WorkEnd, work, work_around};
+pub use worker::{Gate, OpenGate, WorkEnd, work, work_around};

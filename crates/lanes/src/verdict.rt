@@ -1,7 +1,18 @@
-//! What a worker says of one candidate.
+//! What a worker says of one candidate; the same as a lane keeps it, in 32 bytes, so that two of
+//! them share a cache line on their way from one core to another; and the verdicts that the writer
+//! has out of a lane's ring and has not yet taken.
+//!
+//! Each look at the ring may wait for memory that the worker wrote last, from one core to another.
+//! So the writer takes what is there out of the ring at once, up to a block.
 
-use cards::{Deal, Places};
+ghost use Rattle.std.specs.Prelude.{◌≡◌, ◌<◌, ◌≤◌, ◌↔◌, [], ◌∷◌, ◌++◌, length, IsTrue};
+ghost use Rattle.rtrb.specs.Ring.{received, known_items, SameConsumer};
+ghost use Rattle.lanes.specs.Prefixes.{IsPrefix};
+
+use cards::{Deal, PackedDeal, Places};
 use lcg48::Lcg48;
+use rtrb::Consumer;
+use std::marker::Model;
 
 /// The verdict on a candidate: its number, whether the condition accepts it, and its deal.
 #[derive(Clone, Copy, Drop)]
@@ -19,5 +30,142 @@ impl Verdict {
             accepted: false,
             deal: Deal::shuffled(&Places::draw(&mut Lcg48::seeded(0))),
         }
+    }
+}
+
+/// A verdict, with whether it is accepted in one word with a part of its deal.
+#[derive(Clone, Copy, Drop)]
+pub(crate) struct Slot {
+    number: u64,
+    deal: PackedDeal,
+}
+
+impl Model for Slot {
+    ghost use Rattle.std.specs.Prelude.{refl};
+    ghost use Rattle.lanes.specs.declared.verdict.Verdict.{Verdict};
+
+    ghost Value = { Verdict };
+
+    ghost view = { λ s. record {
+      number = s.number;
+      accepted = s.deal.flag;
+      deal = s.deal.deal;
+    } };
+
+    ghost inverse = { λ v. record {
+      number = v.number;
+      deal = record { deal = v.deal; flag = v.accepted };
+    } };
+
+    ghost inverse_ok = { λ s ok. refl };
+}
+
+impl Slot {
+    /// The slot of a verdict.
+    pub(crate) fn of(verdict: &Verdict) -> Slot
+        ensures { result ≡ verdict.now }
+    {
+        Slot {
+            number: verdict.number,
+            deal: PackedDeal::new(&verdict.deal, verdict.accepted),
+        }
+    }
+
+    /// The number of the verdict's candidate.
+    pub(crate) fn number(&self) -> u64
+        ensures { result ≡ self.now.number }
+    {
+        self.number
+    }
+
+    /// The verdict.
+    pub(crate) fn verdict(&self) -> Verdict
+        ensures { result ≡ self.now }
+    {
+        Verdict {
+            number: self.number,
+            accepted: self.deal.flag(),
+            deal: self.deal.deal(),
+        }
+    }
+}
+
+/// The most verdicts that an end of a lane keeps beside its ring.
+pub(crate) const MAX_BLOCK: usize = 16;
+
+/// Up to `most` verdicts, which contracts see as the list of them, oldest first.
+#[derive(Drop)]
+pub(crate) struct Block {
+    slots: [Slot; 16],
+    start: usize,
+    end: usize,
+    most: usize,
+}
+
+impl Model for Block {
+    ghost use Rattle.std.specs.Prelude.{◌≡◌, ◌≤◌, List, length, take, drop};
+    ghost use Rattle.lanes.specs.declared.verdict.Verdict.{Verdict};
+
+    ghost Value = { List Verdict };
+
+    ghost view = { λ b. drop b.start (take b.end b.slots) };
+
+    ghost invariant = { λ b.
+        (length b.slots ≡ 16) × (b.start ≤ b.end) × (b.end ≤ 16) × (b.most ≤ 16) };
+}
+
+impl Block {
+    /// No verdicts yet, and at most so many, 16 at most, from now on.
+    pub(crate) fn new(most: usize) -> Block
+        requires { most ≤ 16 }
+        ensures { result ≡ [] }
+    {
+        Block {
+            slots: [Slot::of(&Verdict::of_no_candidate()); 16],
+            start: 0,
+            end: 0,
+            most,
+        }
+    }
+
+    /// How many verdicts there are.
+    #[tactic(auto, using(crate::proofs::Blocks::length_part))]
+    pub(crate) fn len(&self) -> usize
+        ensures len { result ≡ length self.now }
+        ensures few { result ≤ 16 }
+    {
+        self.end - self.start
+    }
+
+    /// Whether there is no verdict.
+    #[tactic(auto, using(crate::proofs::Blocks::length_part))]
+    pub(crate) fn is_empty(&self) -> bool
+        ensures { IsTrue result ↔ (length self.now ≡ 0) }
+    {
+        self.start == self.end
+    }
+
+    /// Takes the oldest verdict.
+    pub(crate) fn take_first(&mut self) -> Verdict
+        requires { 0 < length self.old }
+        ensures { self.old ≡ result ∷ self.new }
+    {
+        let verdict = self.slots[self.start].verdict();
+        self.start += 1;
+        verdict
+    }
+
+    /// Takes out of the ring what is there, up to a block. Never blocks.
+    pub(crate) fn fill(&mut self, consumer: &mut Consumer<Slot>)
+        requires { self.old ≡ [] }
+        ensures ring { SameConsumer consumer.old consumer.new }
+        ensures received { received consumer.new ≡ received consumer.old ++ self.new }
+        ensures known { IsPrefix (known_items consumer.old)
+            (self.new ++ known_items consumer.new) }
+    {
+        self.start = 0;
+        // Up to 16 verdicts leave the ring here. That is no event of the core, whose Take comes
+        // when the writer takes one out of the block.
+        self.end = consumer.pop_partial_slice(&mut self.slots[..self.most]);
     }
 }

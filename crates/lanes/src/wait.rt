@@ -57,6 +57,17 @@ impl Pace {
     }
 }
 
+/// That the stop flag is up: `raise` alone makes it, so whoever has it comes after the raising.
+#[derive(Clone, Copy, Debug)]
+pub(crate) struct Raised(());
+
+/// Raises the stop flag, which ends waiting on both sides.
+pub(crate) fn raise(stop: &AtomicBool) -> Raised {
+    // A store to the stop flag is the core's Stop.
+    stop.store(true, Ordering::SeqCst);
+    Raised(())
+}
+
 impl LaneIn {
     /// Waits until a slot is free. Returns true once one is, and false if the stop flag is up.
     pub(crate) fn wait_for_room<R: Wait>(&mut self, rt: &R, stop: &AtomicBool) -> bool

@@ -1,7 +1,8 @@
-//! A worker: it judges its share of the candidates and sends the verdicts into its lane.
+//! A worker: it judges its share of the candidates and sends the verdicts into its lane, and asks
+//! its gate before each whether it may go on.
 
-ghost use Rattle.std.specs.Prelude.{◌≡◌, ◌+◌, ◌*◌, ◌^◌, ◌<◌, ◌≤◌, [], ◌∷◌, ◌++◌, List, MatchBool, length};
-ghost use Rattle.std.specs.Prelude.{true, false, take};
+ghost use Rattle.std.specs.Prelude.{◌≡◌, ◌+◌, ◌*◌, ◌^◌, ◌<◌, ◌≤◌, [], ◌∷◌, ◌++◌, List, MatchBool};
+ghost use Rattle.std.specs.Prelude.{MatchResult, length, true, false, take};
 ghost use Rattle.cards.specs.CandidateWalks.{GoesOnAt};
 ghost use Rattle.lanes.specs.Jobs.{verdicts_around, verdicts_of};
 ghost use Rattle.lanes.specs.Prefixes.{IsProperPrefix};
@@ -9,16 +10,33 @@ ghost use Rattle.lanes.specs.Verdicts.{turns};
 ghost use Rattle.lanes.specs.Work.{Ends};
 ghost use Rattle.lanes.specs.declared.verdict.Verdict.{Verdict as AVerdict};
 
-use crate::block::MAX_BLOCK;
 use crate::ends::{Closed, LaneIn};
-use crate::gate::Gate;
 use crate::share::{Job, JobAround};
-use crate::slot::Slot;
-use crate::verdict::Verdict;
+use crate::verdict::{MAX_BLOCK, Slot, Verdict};
+use crate::wait::{Raised, raise};
 use cards::{Candidates, Fixed};
 use std::alloc::Global;
 use std::sync::atomic::{AtomicBool, Ordering};
 use std::sync::{Arc, Wait};
+
+/// Is asked once for each candidate, by the worker with this number, before the candidate's verdict
+/// is sent; `false` stops the whole run. By then a worker may have judged the candidate and up to 15
+/// after it. It is shared between the workers' threads, and may wait.
+pub trait Gate {
+    fn pass(&self, worker: u32, number: u64) -> bool;
+}
+
+/// A gate that lets every candidate pass.
+#[derive(Clone, Copy, Debug)]
+pub struct OpenGate;
+
+impl Gate for OpenGate {
+    fn pass(&self, _worker: u32, _number: u64) -> bool
+        ensures { result ≡ true }
+    {
+        true
+    }
+}
 
 /// How a worker ended.
 #[derive(Drop)]
@@ -59,43 +77,46 @@ pub fn work_around<R: Wait + Drop, G: Gate + Drop>(
     ensures { Ends (verdicts_around job) lane.ring result }
 {
     let mut lane = lane;
-    let all = send_or_stop(&rt, &job, &mut lane, &*gate, &stop);
-    ended(lane, all)
+    let sent = send_or_stop(&rt, &job, &mut lane, &*gate, &stop);
+    ended(lane, sent)
 }
 
-/// Closes the lane, in which the whole share was sent or a part of it.
-fn ended(lane: LaneIn, all: bool) -> WorkEnd
+/// Closes the lane, in which the whole share was sent, or a part of it before the stop flag was
+/// raised.
+fn ended(lane: LaneIn, sent: Result<(), Raised>) -> WorkEnd
     ensures { (verdicts : List AVerdict)
-        → MatchBool all (lane.sent ≡ verdicts) (IsProperPrefix lane.sent verdicts)
+        → MatchResult sent
+        (λ _. lane.sent ≡ verdicts)
+        (λ _. IsProperPrefix lane.sent verdicts)
         → Ends verdicts lane.ring result }
 {
-    match lane.close() {
-        Some(closed) if all => WorkEnd::Done(closed),
-        Some(closed) => WorkEnd::Stopped(closed),
-        None => WorkEnd::Unclosed,
+    let Some(closed) = lane.close() else {
+        return WorkEnd::Unclosed;
+    };
+    match sent {
+        Ok(()) => WorkEnd::Done(closed),
+        Err(_) => WorkEnd::Stopped(closed),
     }
 }
 
-/// Sends the whole share and returns true, or raises the stop flag.
+/// Sends the whole share, or a part of it and raises the stop flag.
 fn send_or_stop<R: Wait, G: Gate>(
     rt: &R,
     job: &JobAround,
     lane: &mut LaneIn,
     gate: &G,
     stop: &AtomicBool,
-) -> bool
+) -> Result<(), Raised>
     requires { lane.old.sent ≡ [] }
     ensures ring { lane.new.ring ≡ lane.old.ring }
-    ensures sent { MatchBool result
-        (lane.new.sent ≡ verdicts_around job.now)
-        (IsProperPrefix lane.new.sent (verdicts_around job.now)) }
+    ensures sent { MatchResult result
+        (λ _. lane.new.sent ≡ verdicts_around job.now)
+        (λ _. IsProperPrefix lane.new.sent (verdicts_around job.now)) }
 {
-    let all = send_all(rt, job, lane, gate, stop);
-    if !all {
-        // A store to the stop flag is the core's Stop.
-        stop.store(true, Ordering::SeqCst);
+    if send_all(rt, job, lane, gate, stop) {
+        return Ok(());
     }
-    all
+    Err(raise(stop))
 }
 
 /// Returns true when the whole share was sent.

@@ -9,7 +9,7 @@ use Rattle.cards.specs.declared.suit.Suit.{Suit}
 use Rattle.cards.specs.declared.suit.Suit.TheVariants.{Spades, Hearts, Diamonds, Clubs}
 use Rattle.cards.specs.Hands.{hand_of, points_of}
 use Rattle.boards.specs.declared.board.Board.{Board}
-use Rattle.boards.specs.declared.law2.Vul.{Vul}
+use Rattle.boards.specs.declared.setting.Vul.{Vul}
 use Rattle.boards.specs.Layouts.{Layout, ends_with}
 use Rattle.boards.specs.Letters.{or_dash, suit_letters}
 use Rattle.pbn_text.specs.Games.{HeadingView}

@@ -5,12 +5,10 @@
 //! writes: `hands.rt`, `lin.rt`, `page.rt` and `numbers.rt`.
 #![tactic(auto)]
 
-mod format;
 mod hands;
 mod lin;
 mod numbers;
 mod page;
 mod printer;
 
-pub use format::Format;
-pub use printer::AnyPrinter;
+pub use printer::{AnyPrinter, FORMAT_HELP, FORMAT_WORDS, FORMATS, Format};

@@ -1,15 +1,56 @@
-//! The printer of any format.
+//! The formats that boards are written in, and the printer of any of them.
 
 ghost use Rattle.std.specs.Prelude.{◌≡◌, [], ⊤, IfOk};
-ghost use Rattle.notations.specs.Formats.{layout_of};
-ghost use Rattle.notations.specs.internal.Pens.{IsUnder, format_of, text_of};
+ghost use Rattle.notations.specs.Formats.{IsUnder, format_of, layout_of, numbers_boards, text_of};
 
-use crate::{Format, hands, lin, numbers, page};
+use crate::{hands, lin, numbers, page};
 use boards::{Board, Heading, Notation, SuitLetters, TextBuffer};
 use pbn_text::{HEADER, Printer};
 use sinks::{Sink, SinkFault, put_all};
 use std::alloc::{AllocError, Global};
 use std::marker::Model;
+
+/// A notation, as it is asked for by its name.
+#[derive(Clone, Copy, PartialEq, Eq, Debug)]
+pub enum Format {
+    /// Portable Bridge Notation.
+    Pbn,
+    /// Hand records for print.
+    Hands,
+    /// The notation of Bridge Base Online.
+    Lin,
+    /// One page of HTML, to look at and to print.
+    Html,
+    /// The numbers of the candidates, which is what `find` prints.
+    Numbers,
+}
+
+/// The formats that boards are asked for in, each with its name.
+pub const FORMATS: &[(&str, Format)] = &[
+    ("pbn", Format::Pbn),
+    ("hands", Format::Hands),
+    ("lin", Format::Lin),
+    ("html", Format::Html),
+];
+
+/// Their names, as help lists them.
+pub const FORMAT_WORDS: &str = "pbn, hands, lin, html";
+
+/// What help says of the option that asks for one.
+pub const FORMAT_HELP: &str = "The notation: Portable Bridge Notation, hand records for print, \
+    LIN, or a page of HTML [default: pbn] [possible values: pbn, hands, lin, html]";
+
+impl Format {
+    /// Whether the boards have numbers of their own.
+    pub fn numbers_boards(self) -> bool
+        ensures { result ≡ numbers_boards self }
+    {
+        match self {
+            Format::Pbn | Format::Hands | Format::Lin | Format::Html => true,
+            Format::Numbers => false,
+        }
+    }
+}
 
 /// Prints boards in a format and under a heading, one at a time. Contracts see the two, and the
 /// text that was printed last.
@@ -37,8 +78,7 @@ enum Pen {
 
 impl Model for AnyPrinter {
     ghost use Rattle.std.specs.Prelude.{◌≡◌};
-    ghost use Rattle.notations.specs.Formats.{PrintingAs, layout_of};
-    ghost use Rattle.notations.specs.internal.Pens.{IsUnder, format_of, text_of};
+    ghost use Rattle.notations.specs.Formats.{IsUnder, PrintingAs, format_of, layout_of, text_of};
 
     ghost Value = { PrintingAs };
 
@@ -98,10 +138,10 @@ impl Notation for AnyPrinter {
     }
 
     fn text(&self) -> &[u8] {
-        match &self.pen {
-            Pen::Pbn(printer) => printer.text(),
-            Pen::Hands(_) | Pen::Lin(_) | Pen::Html(_) | Pen::Numbers => self.text.as_bytes(),
+        if let Pen::Pbn(printer) = &self.pen {
+            return printer.text();
         }
+        self.text.as_bytes()
     }
 
     #[tactic(auto, unfolding(crate::specs::Pages::footer_text))]

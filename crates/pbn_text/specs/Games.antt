@@ -9,8 +9,8 @@ use Rattle.cards.specs.declared.suit.Suit.TheVariants.{Spades, Hearts, Diamonds,
 use Rattle.cards.specs.Pack.{suit_number}
 use Rattle.cards.specs.Hands.{hand_of, holds_card}
 use Rattle.boards.specs.declared.board.Board.{Board}
-use Rattle.boards.specs.declared.law2.Vul.{Vul}
-use Rattle.boards.specs.declared.law2.Vul.TheVariants.{Neither, NorthSouth, EastWest, Both}
+use Rattle.boards.specs.declared.setting.Vul.{Vul}
+use Rattle.boards.specs.declared.setting.Vul.TheVariants.{Neither, NorthSouth, EastWest, Both}
 use Rattle.boards.specs.Law2.{board_by_law}
 use Rattle.boards.specs.Layouts.{Layout, ends_with}
 pub use Rattle.boards.specs.Headings.{HeadingView, no_heading}

@@ -10,8 +10,6 @@
 //!   these, and the lines of the heading stay in its buffer.
 #![tactic(auto)]
 
-mod board_lines;
-mod buffer;
 pub mod laws;
 mod lines;
 mod printer;

@@ -10,7 +10,7 @@ ghost use Rattle.plans.specs.Text.{accepted, text_in};
 ghost use Rattle.picking.specs.NumberTexts.{said};
 ghost use Rattle.notations.specs.Formats.{layout_of};
 ghost use Rattle.notations.specs.Numbers.{numbers};
-ghost use Rattle.notations.specs.declared.format.Format.{Format};
+ghost use Rattle.notations.specs.declared.printer.Format.{Format};
 ghost use Rattle.picking.specs.Picked.{picked_text};
 ghost use Rattle.plans.specs.Plans.{Planned};
 

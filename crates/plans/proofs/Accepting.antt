@@ -7,7 +7,7 @@ use Rattle.std.proofs.lemmas.List.Sums.{position_or_len_is, passes_at_first}
 use Rattle.std.proofs.lemmas.List.FromFn.{length-range_with_len, get_or-range_with_len}
 use Rattle.conditions.specs.Form.{Form}
 use Rattle.plans.specs.Plans.{Planned, candidate_of}
-use Rattle.plans.specs.Text.{accepted_among, limited, end_of}
+use Rattle.plans.specs.Text.{accepted_among, limited, end_of, needed_by}
 use Rattle.plans.proofs.BoardLists.{IsWithin, limited-all, limited-full, accepted_among-parts}
 
 module _ (p : Planned) (form : Form) (t : ℕ) (le : t ≤ p.count) where
@@ -22,7 +22,7 @@ module _ (p : Planned) (form : Form) (t : ℕ) (le : t ≤ p.count) where
   IsEnd limit = (t ≡ p.count) ⊎ (limit ≡ Some (counted t))
 
   ends_none : IsEnd None → end_of (record p { limit = None }) form ≡ t
-  unfolding end_of
+  unfolding needed_by
   ends_none (inl e) = sym e
   ends_none (inr e) = absurd (cc)
 
@@ -31,7 +31,7 @@ module _ (p : Planned) (form : Form) (t : ℕ) (le : t ≤ p.count) where
   met most (inr e) lt = cc
 
   ends_some : (most : ℕ) → IsShort (Some most) → IsEnd (Some most) → end_of (record p { limit = Some most }) form ≡ t
-  unfolding end_of
+  unfolding needed_by
   ends_some most short ended =
       let long : length (range_with_len 0 p.count) ≡ p.count = length-range_with_len 0 p.count in
       let test : ℕ → Bool = λ m. counted m == most in
@@ -45,7 +45,7 @@ module _ (p : Planned) (form : Form) (t : ℕ) (le : t ≤ p.count) where
   end_is (Some most) short ended = ends_some most short ended
 
   needed_some : (most : ℕ) → IsShort (Some most) → t ≤ end_of (record p { limit = Some most }) form
-  unfolding end_of
+  unfolding needed_by
   needed_some most short =
       let long : length (range_with_len 0 p.count) ≡ p.count = length-range_with_len 0 p.count in
       let test : ℕ → Bool = λ m. counted m == most in
@@ -62,7 +62,7 @@ module _ (p : Planned) (form : Form) (t : ℕ) (le : t ≤ p.count) where
       ]
 
   needed_none : t ≤ end_of (record p { limit = None }) form
-  unfolding end_of
+  unfolding needed_by
   needed_none = le
 
   needed : (limit : Option ℕ) → IsShort limit → t ≤ end_of (record p { limit = limit }) form

@@ -21,20 +21,26 @@ abbrev pub limited : Option ℕ → List ℕ → List ℕ
 limited None xs = xs
 limited (Some most) xs = take most xs
 
--- the numbers of the accepted candidates of a plan, within its limit
-abbrev pub accepted : Planned → Form → List ℕ
-accepted plan form =
-    limited plan.limit (accepted_among (candidate_of plan) plan.first form plan.count)
+-- the numbers of the accepted candidates of a plan, by their deals, within its limit
+abbrev pub accepted_by : (ℕ → List Seat) → Planned → Form → List ℕ
+accepted_by deals plan form =
+    limited plan.limit (accepted_among deals plan.first form plan.count)
 
--- how many candidates are needed: up to the one whose board meets the limit, or all
-unfoldable pub end_of : Planned → Form → ℕ
-end_of plan form = ends_at plan.limit
+abbrev pub accepted : Planned → Form → List ℕ
+accepted plan = accepted_by (candidate_of plan) plan
+
+-- how many candidates are needed, by their deals: up to the one whose board meets the limit, or all
+unfoldable pub needed_by : (ℕ → List Seat) → Planned → Form → ℕ
+needed_by deals plan form = ends_at plan.limit
   where
     ends_at : Option ℕ → ℕ
     ends_at None = plan.count
     ends_at (Some most) = position_or_len
-        (λ m. length (accepted_among (candidate_of plan) plan.first form m) == most)
+        (λ m. length (accepted_among deals plan.first form m) == most)
         (range_with_len 0 plan.count)
+
+abbrev pub end_of : Planned → Form → ℕ
+end_of plan = needed_by (candidate_of plan) plan
 
 -- the board that a plan makes of a candidate's deal, after n boards. A setting may turn it: the
 -- condition was asked before, of the candidate itself

@@ -7,7 +7,7 @@ use Rattle.sinks.specs.Sinks.{AppendsOrBreaksOff}
 use Rattle.sinks.proofs.SinkLemmas.{append_known-append, append_known-nil, whole_then_part}
 use Rattle.requests.specs.Reports.{candidates_text, goes_on_at, goes_on_from, next_line, shortfall}
 use Rattle.notations.specs.Formats.{numbers_boards}
-use Rattle.notations.specs.declared.format.Format.{Format}
+use Rattle.notations.specs.declared.printer.Format.{Format}
 use Rattle.plans.specs.Plans.{Planned}
 
 -- a part, and what comes after it

@@ -4,7 +4,7 @@ use Rattle.boards.specs.Layouts.{Layout}
 use Rattle.cond_lang.specs.Form.{Form}
 use Rattle.plans.specs.Text.{text_in}
 use Rattle.notations.specs.Formats.{layout_of}
-use Rattle.notations.specs.declared.format.Format.{Format}
+use Rattle.notations.specs.declared.printer.Format.{Format}
 use Rattle.plans.specs.Plans.{Planned}
 use Rattle.requests.specs.Makings.{plan_of}
 use Rattle.requests.specs.Requests.{Look, Search}

@@ -2,7 +2,7 @@
 use Rattle.std.specs.Prelude.{◌≡◌, ℕ, List, [], Err, Option, Some}
 use Rattle.boards.specs.Layouts.{Layout}
 use Rattle.cond_lang.specs.Form.{Form}
-use Rattle.dealrun.specs.Outcomes.{InterruptedIn}
+use Rattle.dealrun.specs.Interrupted.{InterruptedIn}
 use Rattle.dealrun.specs.declared.cause.Cause.{Cause}
 use Rattle.dealrun.specs.declared.cause.Cause.TheVariants.{Memory}
 use Rattle.lanes.specs.Views.{OutView}

@@ -6,7 +6,7 @@ use Rattle.plans.specs.Plans.{Planned}
 use Rattle.requests.specs.Makings.{Means, plan_of}
 use Rattle.requests.specs.Reports.{report_of}
 use Rattle.sinks.specs.Appended.{AppendsAll}
-use Rattle.notations.specs.declared.format.Format.{Format}
+use Rattle.notations.specs.declared.printer.Format.{Format}
 use Rattle.requests.specs.Requests.{Look, Search, Wish, conditions, make, pick, stream}
 use Rattle.requests.specs.declared.request.Notices.{Notices}
 use Rattle.requests.specs.declared.report.Report.{Report}

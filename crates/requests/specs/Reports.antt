@@ -5,7 +5,7 @@ use Rattle.cond_lang.specs.Form.{Form}
 use Rattle.plans.specs.Text.{accepted, end_of}
 use Rattle.plans.specs.Plans.{Planned}
 use Rattle.notations.specs.Formats.{numbers_boards}
-use Rattle.notations.specs.declared.format.Format.{Format}
+use Rattle.notations.specs.declared.printer.Format.{Format}
 
 -- 1 board, 2 boards
 abbrev pub boards_text : ℕ → List ℕ

@@ -1,11 +1,11 @@
 -- What can be asked for.
 use Rattle.std.specs.Prelude.{ℕ, Bool, List, Option, None, Some, false, option_map}
-use Rattle.boards.specs.declared.law2.Vul.{Vul}
+use Rattle.boards.specs.declared.setting.Vul.{Vul}
 use Rattle.cards.specs.declared.seat.Seat.{Seat}
 use Rattle.predeal.specs.PredealtHands.{GivenHands, given_by, none_given}
-use Rattle.notations.specs.declared.format.Format.{Format}
-use Rattle.notations.specs.declared.format.Format.TheVariants.{Numbers, Pbn}
-use Rattle.requests.specs.declared.look.Look as given
+use Rattle.notations.specs.declared.printer.Format.{Format}
+use Rattle.notations.specs.declared.printer.Format.TheVariants.{Numbers, Pbn}
+use Rattle.requests.specs.declared.search.Look as given
 use Rattle.requests.specs.declared.request.Notices.{Notices}
 use Rattle.requests.specs.declared.request.Request.{Request}
 use Rattle.requests.specs.declared.request.Request.TheVariants.{Conditions, Find, Make, Pick, Stream}
@@ -66,16 +66,20 @@ plain_look = record {
 abbrev pub plain_notices : Notices
 plain_notices = record { report = false; progress = Auto; hints = Auto }
 
+-- the look of boards in this format, where no other option is given
+abbrev pub look_as : Format → Look
+look_as format = record plain_look { format = format }
+
 -- the look of what `find` writes: the numbers of candidates
 abbrev pub numbers_look : Look
-numbers_look = record plain_look { format = Numbers }
+numbers_look = look_as Numbers
 
 -- the search of a `pick`, which tries no candidates of its own
 abbrev pub no_search : ℕ → GivenHands → Search
 no_search seed hands = record (plain_search seed) { candidates = Some 0; lane = 1; hands = hands }
 
 pub data Wish : Type 0 where
-  -- `make`, and `find` with the look of its numbers
+  -- `make`, and `find` with the look of its format alone
   make : Search → Look → Notices → Wish
   -- the page of the language
   conditions : Wish
@@ -111,7 +115,7 @@ look_of l = record {
 
 abbrev pub wish_of : Request → Wish
 wish_of (Make search look notices) = make (search_of search) (look_of look) notices
-wish_of (Find search notices) = make (search_of search) numbers_look notices
+wish_of (Find search format notices) = make (search_of search) (look_as format) notices
 wish_of (Pick seed hands look hints) = pick seed (given_by hands) (look_of look) hints
 wish_of Conditions = conditions
 wish_of (Stream r) = stream r.seed r.count

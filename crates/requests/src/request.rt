@@ -2,9 +2,9 @@
 
 ghost use Rattle.std.specs.Prelude.{◌≤◌, ◌^◌};
 
-use crate::look::Look;
-use crate::search::Search;
+use crate::search::{Look, Search};
 use crate::when::When;
+use notations::Format;
 use predeal::PredealtHands;
 
 /// What a person is told while a run lasts and when it has ended. Nothing else depends on it.
@@ -35,9 +35,11 @@ pub enum Request<'a> {
         look: Look<'a>,
         notices: Notices,
     },
-    /// The numbers of the accepted candidates.
+    /// What the format writes of the accepted candidates, where no option of the boards' look is
+    /// given: their numbers.
     Find {
         search: Search<'a>,
+        format: Format,
         notices: Notices,
     },
     /// The boards of the candidates whose numbers the input gives.
@@ -57,7 +59,7 @@ impl<'a> Request<'a> {
     pub fn plans(&self) -> Option<(Search<'a>, Look<'a>)> {
         match self {
             Request::Make { search, look, .. } => Some((*search, *look)),
-            Request::Find { search, .. } => Some((*search, Look::numbers())),
+            Request::Find { search, format, .. } => Some((*search, Look::plain(*format))),
             Request::Pick {
                 seed,
                 hands,

@@ -4,10 +4,8 @@
 //! appended, also if the sink failed within it.
 #![tactic(auto)]
 
-mod piped;
 mod sink;
 mod testing;
 
-pub use piped::Piped;
-pub use sink::{Sink, SinkFault, put_all};
+pub use sink::{Piped, Sink, SinkFault, put_all};
 pub use testing::{Fuse, MemSink};

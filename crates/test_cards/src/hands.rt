@@ -1,7 +1,7 @@
 //! What hands are counted to have.
 
 use crate::support::{deal_of, same};
-use cards::testing::WORKED;
+use cards::testing::{IN_ORDER, WORKED};
 use cards::{Hand, Honours, Measure, Seat, Suit};
 use std::process::Abort;
 
@@ -22,7 +22,16 @@ type Counts = (u8, u8, u8, [u8; 4]);
 /// worked deal suit by suit by hand too, and the rest by hand.
 type Counted = (&'static [u8], [Counts; 4]);
 
-const COUNTED: [Counted; 3] = [
+const COUNTED: [Counted; 4] = [
+    (
+        IN_ORDER,
+        [
+            (10, 3, 0, [13, 0, 0, 0]),
+            (10, 3, 0, [0, 13, 0, 0]),
+            (10, 3, 0, [0, 0, 13, 0]),
+            (10, 3, 0, [0, 0, 0, 13]),
+        ],
+    ),
     (
         WORKED,
         [
@@ -66,6 +75,16 @@ fn counts_of_hands(rt: HostRuntime) {
     }
 }
 
+/// Every deal has the pack's forty points.
+#[test]
+fn forty_points(rt: HostRuntime) {
+    for hands in [IN_ORDER, WORKED, FIRST, SECOND, EVEN, LONG_CLUBS] {
+        let deal = deal_of(&rt, hands);
+        let [north, east, south, west] = SEATS.map(|seat| u32::from(deal.hand(seat).points()));
+        same(&rt, north + east + south + west, 40);
+    }
+}
+
 #[test]
 fn weights_of_measures(rt: HostRuntime) {
     let weights = MEASURES.map(|measure| measure.weights());
@@ -83,7 +102,8 @@ fn hand_has(rt: &impl Abort, hand: &Hand, (points, controls, losers, shape): Cou
 /// A deal, which of its seats are balanced, and the longest and shortest suits of North and South.
 type Shapes = (&'static [u8], [bool; 4], (u8, u8), (u8, u8));
 
-const SHAPES: [Shapes; 5] = [
+const SHAPES: [Shapes; 6] = [
+    (IN_ORDER, [false, false, false, false], (13, 0), (13, 0)),
     (WORKED, [false, false, false, false], (6, 0), (6, 1)),
     (FIRST, [false, false, true, false], (5, 2), (4, 2)),
     (SECOND, [false, true, true, false], (6, 0), (4, 3)),

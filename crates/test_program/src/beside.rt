@@ -3,8 +3,11 @@
 use crate::gates::{CountsCalls, TwoWay, WaitsForBytes, Watcher};
 use crate::support::{ended, plan_of, same};
 use dealrun::{MemSink, Piped, Plan};
-use std::sync::Arc;
+use std::alloc::Global;
+use std::process::Abort;
 use std::sync::atomic::{AtomicU64, Ordering};
+use std::sync::{Arc, Wait};
+use std::thread::Threads;
 
 /// Each worker waits for the other at its first candidate.
 #[test]
@@ -37,20 +40,34 @@ fn writes_beside_the_worker(rt: HostRuntime) {
     same(&rt, end, Ok(10));
 }
 
-/// Over a lane of one verdict the worker is at most two candidates ahead.
+/// Before the writer takes anything, a worker sends as many verdicts as its lane holds, and asks
+/// its gate for one more.
 #[test]
 fn waits_for_the_writer(rt: HostRuntime) {
-    let plan = Plan::new(0, 0, 10, 1, 1).expect(&rt, "a plan");
-    let calls = Arc::new(rt.alloc(), AtomicU64::new(0)).expect(&rt, "memory");
-    let most = Arc::new(rt.alloc(), AtomicU64::new(0)).expect(&rt, "memory");
+    for capacity in [1, 4, 64, 65] {
+        let most = most_ahead(&rt, rt.alloc(), capacity);
+        assert!(rt; most <= u64::from(capacity) + 1);
+    }
+}
+
+/// For how many candidates the gate of a lane of this capacity was asked while the writer wrote the
+/// header.
+fn most_ahead<R: Abort + Threads + Wait + Clone + Send + 'static>(
+    rt: &R,
+    alloc: Global,
+    capacity: u32,
+) -> u64 {
+    let plan = Plan::new(0, 0, 300, 1, capacity).expect(rt, "a plan");
+    let calls = Arc::new(alloc, AtomicU64::new(0)).expect(rt, "memory");
+    let most = Arc::new(alloc, AtomicU64::new(0)).expect(rt, "memory");
     let watcher = Watcher {
-        written: Arc::new(rt.alloc(), AtomicU64::new(0)).expect(&rt, "memory"),
-        watched: Arc::try_clone(&calls).expect(&rt, "memory"),
-        most: Arc::try_clone(&most).expect(&rt, "memory"),
+        written: Arc::new(alloc, AtomicU64::new(0)).expect(rt, "memory"),
+        watched: Arc::try_clone(&calls).expect(rt, "memory"),
+        most: Arc::try_clone(&most).expect(rt, "memory"),
         looks: 1_000_000,
     };
     let mut sink = Piped::new(watcher);
-    let end = ended(&rt, rt.alloc(), &plan, &mut sink, CountsCalls(calls));
-    same(&rt, end, Ok(10));
-    assert!(rt; most.load(Ordering::SeqCst) <= 2);
+    let end = ended(rt, alloc, &plan, &mut sink, CountsCalls(calls));
+    same(rt, end, Ok(300));
+    most.load(Ordering::SeqCst)
 }

@@ -68,6 +68,15 @@ fn works<G: Gate + Drop>(
     Ok((end, stop.load(Ordering::SeqCst)))
 }
 
+/// Works a share after the stop flag was raised.
+fn works_stopped(rt: &impl Wait, alloc: Global, job: Job, sender: LaneIn) -> Result<WorkEnd, Fail>
+    requires { sender.sent ≡ [] }
+{
+    let (gate, seen, stop) = shared(alloc, OpenGate)?;
+    stop.store(true, Ordering::SeqCst);
+    Ok(work(rt, job, sender, gate, seen))
+}
+
 #[test]
 fn a_whole_share(rt: HostRuntime) -> Result<(), Fail> {
     let (sender, mut taker) = lane(rt.alloc(), 4)?;
@@ -88,5 +97,16 @@ fn a_share_stopped_within_a_block(rt: HostRuntime) -> Result<(), Fail> {
     holds(&rt, "stopped", matches!(&end, WorkEnd::Stopped(_)));
     holds(&rt, "a stop flag", stopped);
     holds(&rt, "its verdicts", takes_just(&mut taker, 5..25));
+    Ok(())
+}
+
+/// The stop flag is up before the work begins: nothing is sent, though there is room.
+#[test]
+fn a_share_stopped_at_once(rt: HostRuntime) -> Result<(), Fail> {
+    let (sender, mut taker) = lane_in_blocks(rt.alloc(), 64, Pace::Spins)?;
+    let job = job(rt.alloc(), [5, 30], [1, 0])?;
+    let end = works_stopped(&rt, rt.alloc(), job, sender)?;
+    holds(&rt, "stopped", matches!(&end, WorkEnd::Stopped(_)));
+    holds(&rt, "nothing sent", taker.take().is_none());
     Ok(())
 }

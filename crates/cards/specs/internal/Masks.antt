@@ -12,7 +12,8 @@ use Rattle.cards.specs.Shuffle.{pack}
 use Rattle.cards.specs.Deals.{IsPartition}
 use Rattle.cards.specs.declared.honours.Honours.{Honours}
 use Rattle.cards.specs.Pack.{rank_of}
-use Rattle.cards.specs.Hands.{hand_of, has_honour}
+use Rattle.cards.specs.Hands.{hand_of}
+use Rattle.cards.specs.Counts.{has_honour}
 
 -- the cards whose bits are set
 unfoldable pub cards_of_mask : ℕ → List Bool

@@ -8,7 +8,7 @@ ghost use Rattle.cond_lang.specs.internal.Reading.{comma_suit_close, ranks_close
 ghost use Rattle.cond_lang.specs.internal.Reading.{items, seat_and_items};
 
 use super::{Parser, Refusal};
-use crate::token::Token;
+use crate::scanner::Token;
 use cards::{Honours, Seat, Suit};
 use conditions::{Item, Op};
 

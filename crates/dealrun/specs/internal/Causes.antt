@@ -3,8 +3,8 @@
 use Rattle.std.specs.Prelude.{ℕ, Option, None, Some}
 use Rattle.dealrun.specs.declared.cause.Cause.{Cause}
 use Rattle.dealrun.specs.declared.cause.Cause.TheVariants as cause
-use Rattle.dealrun.specs.declared.ending.Written.{Written}
-use Rattle.dealrun.specs.declared.ending.Written.TheVariants.{Failed, Full, Open}
+use Rattle.dealrun.specs.declared.join.Written.{Written}
+use Rattle.dealrun.specs.declared.join.Written.TheVariants.{Failed, Full, Open}
 
 abbrev pub cause_by : Written → Option ℕ → Option ℕ → Option Cause
 cause_by Failed stopped unclosed = Some cause.Output

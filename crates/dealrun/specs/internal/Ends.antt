@@ -5,8 +5,8 @@ use Rattle.conditions.specs.Form.{Form}
 use Rattle.lanes.specs.Views.{OutView}
 use Rattle.plans.specs.Plans.{Planned}
 use Rattle.plans.specs.Text.{end_of}
-use Rattle.dealrun.specs.Outcomes.{InterruptedIn, StandsCompleteIn, footer_taken}
-use Rattle.dealrun.specs.Outcomes.{TakesWhatIsOwed, WritesTextIn}
+use Rattle.dealrun.specs.Interrupted.{InterruptedIn, StandsCompleteIn, footer_taken}
+use Rattle.dealrun.specs.Headline.{TakesWhatIsOwed, WritesTextIn}
 use Rattle.dealrun.specs.declared.runs.Counted.{Counted}
 use Rattle.dealrun.specs.declared.runs.RunFault.{RunFault}
 

@@ -11,7 +11,7 @@ use Rattle.lanes.specs.Prefixes.{IsPrefix, IsProperPrefix}
 use Rattle.conditions.specs.Form.{Form}
 use Rattle.plans.specs.Plans.{Planned}
 use Rattle.dealrun.specs.MergedVerdicts.{verdicts_for}
-use Rattle.dealrun.specs.Outcomes.{contents_of}
+use Rattle.dealrun.specs.Headline.{contents_of}
 
 -- the lane of a worker that owed the verdicts `all`, before and after the worker was joined
 abbrev pub JoinsAs : List Verdict → OutView → OutView → WorkEnd → Type 0

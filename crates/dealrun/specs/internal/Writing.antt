@@ -12,10 +12,11 @@ use Rattle.plans.specs.Plans.{Planned}
 use Rattle.sinks.specs.Appended.{append_known}
 use Rattle.plans.specs.Text.{board_of, text_of_boards}
 use Rattle.dealrun.specs.MergedVerdicts.{boards_after}
-use Rattle.dealrun.specs.Outcomes.{BreaksOffLastPiece, contents_of}
+use Rattle.dealrun.specs.Headline.{contents_of}
+use Rattle.dealrun.specs.Interrupted.{BreaksOffLastPiece}
 use Rattle.dealrun.specs.internal.Joins.{AllParts, AllWhole}
-use Rattle.dealrun.specs.declared.ending.Written.{Written}
-use Rattle.dealrun.specs.declared.ending.Written.TheVariants.{Failed, Full, Open}
+use Rattle.dealrun.specs.declared.join.Written.{Written}
+use Rattle.dealrun.specs.declared.join.Written.TheVariants.{Failed, Full, Open}
 use Rattle.dealrun.specs.declared.writer.Writer.{Writer}
 
 -- what was taken from each lane

@@ -3,10 +3,10 @@ use Rattle.std.specs.Prelude.{map}
 use Rattle.clap.specs.Simple.{Shape}
 use Rattle.clap.specs.Words.{App, Rule, Text}
 use Rattle.clap.specs.declared.builder.value_parser.ValueParser.TheVariants.{String}
-use Rattle.deals_cli.specs.declared.commands.Subcommand.{Subcommand}
-use Rattle.deals_cli.specs.declared.row.Row.{Row}
-use Rattle.deals_cli.specs.declared.row.Takes.{Takes}
-use Rattle.deals_cli.specs.declared.row.Takes.TheVariants as kinds
+use Rattle.deals_cli.specs.declared.options.Subcommand.{Subcommand}
+use Rattle.deals_cli.specs.declared.options.Row.{Row}
+use Rattle.deals_cli.specs.declared.options.Takes.{Takes}
+use Rattle.deals_cli.specs.declared.options.Takes.TheVariants as kinds
 use Rattle.deals_cli.specs.Commands.{command_with, count_parser, flag_rule, option_rule, u32_parser, u64_parser}
 
 abbrev pub taking : Takes → Text → Rule

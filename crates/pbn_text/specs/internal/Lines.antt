@@ -3,8 +3,8 @@ use Rattle.std.specs.Prelude.{ℕ, List, [], ◌++◌, Option, Some, None, codes
 use Rattle.cards.specs.declared.seat.Seat.{Seat}
 use Rattle.cards.specs.declared.seat.Seat.TheVariants.{North, East, South, West}
 use Rattle.cards.specs.Hands.{hand_of}
-use Rattle.boards.specs.declared.law2.Vul.{Vul}
-use Rattle.boards.specs.declared.law2.Vul.TheVariants.{Neither, NorthSouth, EastWest, Both}
+use Rattle.boards.specs.declared.setting.Vul.{Vul}
+use Rattle.boards.specs.declared.setting.Vul.TheVariants.{Neither, NorthSouth, EastWest, Both}
 use Rattle.pbn_text.specs.Games.{HeadingView, heading_text, tag, dealer_text}
 use Rattle.pbn_text.specs.Games.{vulnerable_text, hand_text, deal_text}
 

@@ -1,6 +1,6 @@
 -- How the parts of a job end.
 use Rattle.std.specs.Prelude.{◌≡◌, ℕ, List, Option, Result, Ok, Err}
-use Rattle.dealrun.specs.Outcomes.{FaultsAfter}
+use Rattle.dealrun.specs.Interrupted.{FaultsAfter}
 use Rattle.dealrun.specs.declared.cause.Cause.{Cause}
 use Rattle.dealrun.specs.declared.cause.Cause.TheVariants.{Memory, Output}
 use Rattle.notations.specs.Formats.{layout_of}

@@ -75,11 +75,13 @@ impl Fuse {
 }
 
 impl Sink for Fuse {
-    ghost use Rattle.std.specs.Prelude.{Some};
+    ghost use Rattle.std.specs.Prelude.{Some, ⊤};
 
     ghost bytes = { λ s. Some s.memory.bytes };
 
     ghost faults = { λ s. s.memory.faults };
+
+    ghost is_flushed = { λ _. ⊤ };
 
     fn write(&mut self, piece: &[u8]) -> Result<usize, SinkFault>
         requires { self.old.memory.faults < 2 ^ 64 - 1 }

@@ -53,11 +53,13 @@ impl MemSink {
 }
 
 impl Sink for MemSink {
-    ghost use Rattle.std.specs.Prelude.{Some};
+    ghost use Rattle.std.specs.Prelude.{Some, ⊤};
 
     ghost bytes = { λ s. Some s.bytes };
 
     ghost faults = { λ s. s.faults };
+
+    ghost is_flushed = { λ _. ⊤ };
 
     fn write(&mut self, piece: &[u8]) -> Result<usize, SinkFault> {
         match self.taken.extend_from_slice(piece) {

@@ -1,5 +1,5 @@
 use Rattle.std.proofs.Common.{◌≡◌, ◌+◌, ◌∙◌, refl, sym, ap, arith}
-use Rattle.cards.specs.Hands.{total_of, total_in, longest_of, shortest_of}
+use Rattle.cards.specs.Counts.{total_of, total_in, longest_of, shortest_of}
 use Rattle.conditions.specs.Meaning.{value_in}
 use Rattle.conditions.specs.Limits.{atoms_of}
 use Rattle.conditions.specs.Form.{amount_of}

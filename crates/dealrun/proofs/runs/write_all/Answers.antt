@@ -2,7 +2,7 @@ use Rattle.std.proofs.Common.{◌≡◌, ◌<◌, ◌∙◌, [], All, ap, arith,
 use Rattle.std.proofs.lemmas.List.{length-map}
 use Rattle.std.proofs.lemmas.Option.{MatchOption-at_none, MatchOption-at_some}
 use Rattle.lanes.specs.Views.{OutView}
-use Rattle.dealrun.specs.Outcomes.{InterruptedIn}
+use Rattle.dealrun.specs.Interrupted.{InterruptedIn}
 use Rattle.dealrun.specs.declared.cause.Cause.TheVariants.{Output}
 use Rattle.dealrun.specs.internal.Ends.{Closes}
 use Rattle.dealrun.specs.internal.Handles.{owed_by}

@@ -1,0 +1,162 @@
+-- A list of the first words goes wrong at the same place in the whole grammar and in the first one.
+use Rattle.std.proofs.Common.{◌≡◌, ℕ, ◌+◌, List, [], ◌∷◌, ◌++◌, take, drop, take-append-drop, refl, ap, subst, arith}
+use Rattle.std.specs.Prelude.{Contains, ◌↔◌}
+use Rattle.std.proofs.lemmas.List.Elements.{Contains-append_left}
+use Rattle.cards.specs.declared.hand.Measure.TheVariants.{Hcp}
+use Rattle.cards.specs.declared.seat.Seat.{Seat as ASeat}
+use Rattle.conditions.specs.declared.tree.Item.{Item}
+use Rattle.conditions.specs.declared.tree.Item.TheVariants.{Length, Any}
+use Rattle.conditions.specs.declared.tree.Op.TheVariants.{Equal}
+use Rattle.cond_lang.specs.declared.scanner.Token.{Token}
+use Rattle.cond_lang.specs.declared.scanner.Token.TheVariants.{Or, And, Not, Shape, Pattern, Measure, Cards, Longest, Shortest, Number, Open, Close, Plus, Relation}
+use Rattle.conditions.specs.Form.{Amount, number, Form, any_of, all_of, negation, compare}
+use Rattle.cond_lang.specs.Grammar.{Forms, SpellsAtom, a_number, measure, measure_in, len, cards, cards_in, longest_suit, shortest_suit, SpellsValue, atom, plus, item_token, four, SpellsCond, both, or, BothOf, SpellsBoth, unit, and, UnitOf, SpellsUnit, not, brackets, test, SpellsTest, comparison, in_range, is_balanced, has_shape, has_pattern, Spells}
+use Rattle.cond_lang.specs.Faults.{IsViableIn, IsFirstFaultIn, IsViable, IsFirstFault}
+use Rattle.cond_lang.specs.SmallerGrammars as small
+use Rattle.cond_lang.specs.SmallerGrammars.{SpellsFirstAtom, four_numbers, FirstTestOf, SpellsInFirstGrammar, IsOldest, IsViableFirst}
+use Rattle.cond_lang.proofs.SmallerGrammars.{after_first, same_in_first_grammar, spelled_again}
+
+-- ---- lists that are alike up to a newer token
+
+-- U is T up to T's first newer token, and T itself if it has none
+data Keeps : List Token → List Token → Type 0 where
+  newer : {c : Token} {T U : List Token} → (IsOldest c → ⊥) → Keeps (c ∷ T) U
+  end : Keeps [] []
+  same : {c : Token} {T U : List Token} → Keeps T U → Keeps (c ∷ T) (c ∷ U)
+
+keeps_all : (T : List Token) → Keeps T T
+keeps_all [] = end
+keeps_all (c ∷ T) = same (keeps_all T)
+
+keeps_both : {T U R S : List Token} → Keeps T U → Keeps R S → Keeps (T ++ R) (U ++ S)
+keeps_both (newer n) k = newer n
+keeps_both end k = k
+keeps_both (same h) k = same (keeps_both h k)
+
+-- what stands from a newer token on may be left out
+keeps_before : {T U : List Token} (c : Token) (R : List Token) → (IsOldest c → ⊥) → Keeps T U → Keeps (T ++ c ∷ R) U
+keeps_before c R n (newer m) = newer m
+keeps_before c R n end = newer n
+keeps_before c R n (same h) = same (keeps_before c R n h)
+
+-- oldest tokens that begin T begin U too
+rest_of : (L more : List Token) {U : List Token} → ((c : Token) → Contains L c → IsOldest c) → Keeps (L ++ more) U → (rest : List Token) × (U ≡ L ++ rest)
+rest_of [] more {U} old k = (U, refl)
+rest_of (c ∷ L) more old (newer n) = absurd (n (old c (0, omega arith, refl)))
+rest_of (c ∷ L) more old (same h) =
+    let r = rest_of L more (λ d i. old d (after_first c d L i)) h in (r.0, ap (λ T. c ∷ T) r.1)
+
+-- ---- what the first grammar spells in place of a list
+
+-- N spells something that is alike up to a newer token
+abbrev Kept : {A : Type 0} → (List Token → A → Type 0) → List Token → Type 0
+Kept {A} N T = (U : List Token) × (x : A) × N U x × Keeps T U
+
+itself : {A : Type 0} (N : List Token → A → Type 0) (T : List Token) (x : A) → N T x → Kept N T
+itself N T x h = (T, x, h, keeps_all T)
+
+zero_for : (c : Token) (T : List Token) → (IsOldest c → ⊥) → Kept SpellsFirstAtom (c ∷ T)
+zero_for c T n = (Number 0 ∷ [], number 0, small.a_number, newer n)
+
+keep_atom : {T : List Token} {a : Amount} → SpellsAtom T a → Kept SpellsFirstAtom T
+keep_atom {T} a_number = itself SpellsFirstAtom T _ small.a_number
+keep_atom {T} (measure {m = Hcp}) = itself SpellsFirstAtom T _ small.hcp
+keep_atom (measure {m}) = zero_for (Measure m) _ (λ i. i)
+keep_atom {T} (measure_in {m = Hcp}) = itself SpellsFirstAtom T _ small.hcp_in
+keep_atom (measure_in {m}) = zero_for (Measure m) _ (λ i. i)
+keep_atom {T} len = itself SpellsFirstAtom T _ small.len
+keep_atom cards = zero_for Cards _ (λ i. i)
+keep_atom cards_in = zero_for Cards _ (λ i. i)
+keep_atom longest_suit = zero_for Longest _ (λ i. i)
+keep_atom shortest_suit = zero_for Shortest _ (λ i. i)
+
+keep_value : {T : List Token} {a : Amount} → SpellsValue T a → Kept SpellsFirstAtom T
+keep_value (atom h) = keep_atom h
+keep_value (plus {L} {R} l r) = let k = keep_value l in (k.0, k.1, k.2, keeps_before Plus R (λ i. i) k.3)
+
+-- the length that an item asks for, or 0
+length_of : Item → ℕ
+length_of (Length n) = n
+length_of Any = 0
+
+keeps_item : (i : Item) {T U : List Token} → Keeps T U → Keeps (item_token i ∷ T) (Number (length_of i) ∷ U)
+unfolding length_of
+keeps_item (Length n) h = same h
+keeps_item Any h = newer (λ i. i)
+
+keeps_four : (q : ASeat) (a b c d : Item) → Keeps (four q a b c d) (four_numbers q (length_of a) (length_of b) (length_of c) (length_of d))
+keeps_four q a b c d =
+    same (same (same (keeps_item a (same (keeps_item b (same (keeps_item c (same (keeps_item d (keeps_all (Close ∷ [])))))))))))
+
+keep_test : {T : List Token} {t : Form} → SpellsTest T t → Kept (FirstTestOf SpellsFirstAtom) T
+keep_test (comparison {L} {R} {a} {b} {o} l r) =
+    let k = keep_value l in
+    let j = keep_value r in
+    (k.0 ++ Relation o ∷ j.0, compare k.1 o j.1, small.comparison k.2 j.2, keeps_both k.3 (same j.3))
+keep_test (in_range l) =
+    let k = keep_value l in
+    (k.0 ++ Relation Equal ∷ Number 0 ∷ [], compare k.1 Equal (number 0), small.comparison k.2 small.a_number, keeps_both k.3 (newer (λ i. i)))
+keep_test {T} is_balanced = itself (FirstTestOf SpellsFirstAtom) T _ small.is_balanced
+keep_test (has_shape {q} a b c d) =
+    (Shape ∷ four_numbers q (length_of a) (length_of b) (length_of c) (length_of d), _, small.has_shape, same (keeps_four q a b c d))
+keep_test (has_pattern {q} a b c d) =
+    (Pattern ∷ four_numbers q (length_of a) (length_of b) (length_of c) (length_of d), _, small.has_pattern, same (keeps_four q a b c d))
+
+mutual
+  keep_cond : {T : List Token} {t : Form} → SpellsCond T t → Kept SpellsInFirstGrammar T
+  keep_cond (both h) = let k = keep_both h in (k.0, k.1, both k.2, k.3)
+  keep_cond (or l r) =
+      let k = keep_cond l in
+      let j = keep_both r in
+      (k.0 ++ Or ∷ j.0, any_of k.1 j.1, or k.2 j.2, keeps_both k.3 (same j.3))
+
+  keep_both : {T : List Token} {t : Form} → SpellsBoth T t → Kept (BothOf (FirstTestOf SpellsFirstAtom)) T
+  keep_both (unit h) = let k = keep_unit h in (k.0, k.1, unit k.2, k.3)
+  keep_both (and l r) =
+      let k = keep_both l in
+      let j = keep_unit r in
+      (k.0 ++ And ∷ j.0, all_of k.1 j.1, and k.2 j.2, keeps_both k.3 (same j.3))
+
+  keep_unit : {T : List Token} {t : Form} → SpellsUnit T t → Kept (UnitOf (FirstTestOf SpellsFirstAtom)) T
+  keep_unit (not h) = let k = keep_unit h in (Not ∷ k.0, negation k.1, not k.2, same k.3)
+  keep_unit (brackets h) =
+      let k = keep_cond h in
+      (Open ∷ k.0 ++ Close ∷ [], k.1, brackets k.2, same (keeps_both k.3 (keeps_all (Close ∷ []))))
+  keep_unit (test h) = let k = keep_test h in (k.0, k.1, test k.2, k.3)
+
+-- ---- viable lists
+
+to_first : (T : List Token) → ((c : Token) → Contains T c → IsOldest c) → IsViable T → IsViableFirst T
+to_first T old v =
+    let k = keep_cond v.2 in
+    let r = rest_of T v.0 old k.3 in
+    (r.0, k.1, subst (λ U. SpellsInFirstGrammar U k.1) r.1 k.2)
+
+from_first : (T : List Token) → IsViableFirst T → IsViable T
+from_first T v = (v.0, v.1, spelled_again v.2)
+
+pub viable_in_first_grammar : (T : List Token) → ((c : Token) → Contains T c → IsOldest c) → IsViable T ↔ IsViableFirst T
+viable_in_first_grammar T old = (to_first T old, from_first T)
+
+-- ---- first faults
+
+old_part : (n : ℕ) (T : List Token) → ((c : Token) → Contains T c → IsOldest c) → (c : Token) → Contains (take n T) c → IsOldest c
+old_part n T old c i = old c (subst (λ L. Contains L c) (take-append-drop n T) (Contains-append_left (take n T) (drop n T) c i))
+
+fault_in :
+    (S W : Forms) (T : List Token) (n : ℕ)
+    → ((k : ℕ) → IsViableIn S (take k T) ↔ IsViableIn W (take k T)) → ((t : Form) → W T t → S T t)
+    → IsFirstFaultIn S T n → IsFirstFaultIn W T n
+fault_in S W T n viable spells f = record {
+  within = f.within;
+  before = (viable n).0 f.before;
+  with_it = λ lt v. f.with_it lt ((viable (n + 1)).1 v);
+  at_end = λ e t h. f.at_end e t (spells t h);
+}
+
+pub same_faults_in_first_grammar : (T : List Token) (n : ℕ) → ((c : Token) → Contains T c → IsOldest c) → IsFirstFault T n ↔ IsFirstFaultIn SpellsInFirstGrammar T n
+same_faults_in_first_grammar T n old = (
+  fault_in Spells SpellsInFirstGrammar T n (λ k. viable_in_first_grammar (take k T) (old_part k T old)) (λ t. spelled_again),
+  fault_in SpellsInFirstGrammar Spells T n
+      (λ k. let v = viable_in_first_grammar (take k T) (old_part k T old) in (v.1, v.0)) (λ t. (same_in_first_grammar T t old).0),
+)

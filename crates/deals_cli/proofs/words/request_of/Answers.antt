@@ -1,0 +1,46 @@
+use Rattle.std.proofs.Common.{◌∙◌, ap, ap₂, is_some, sym, Some}
+use Rattle.clap.specs.Words.{found_of, rows_of}
+use Rattle.clap.specs.declared.error.kind.ErrorKind.TheVariants.{InvalidValue, MissingRequiredArgument}
+use Rattle.requests.specs.Requests.{Wish, stream}
+use Rattle.deals_cli.specs.CommandLine.{has_no_end, made_by}
+use Rattle.deals_cli.proofs.Asked.{refused_asked, refused_kind}
+use Rattle.deals_cli.proofs.words.request_of.Goals as goal
+
+pub stream_request-requires : goal.stream_request-requires
+stream_request-requires c = c.requires.stream (sym c.if-eq.ensures)
+
+pub returns-then-eq : goal.returns-then-eq
+returns-then-eq c words at =
+    at.stream (sym c.if-eq.ensures) ∙ ap₂ (λ x y. Some (stream x y)) (sym c.stream_request.ensures.seed) (sym c.stream_request.ensures.count)
+
+pub returns-then-eq-2 : goal.returns-then-eq-2
+returns-then-eq-2 c words at = at.conditions_too (sym c.if-eq-2.ensures)
+
+pub search_in-search-requires : goal.search_in-search-requires
+search_in-search-requires c = (c.requires.make (sym c.if-eq.ensures) (sym c.if-eq-2.ensures)).search
+
+pub request_by-requires : goal.request_by-requires
+request_by-requires c = (c.requires.make (sym c.if-eq.ensures) (sym c.if-eq-2.ensures)).first_board
+
+pub returns-in-Some : goal.returns-in-Some
+returns-in-Some c words at =
+    let asks = at.make (sym c.if-eq.ensures) (sym c.if-eq-2.ensures) in
+    let unknown = sym c.unknown_in.ensures ∙ ap is_some c.in-Some.is in
+    (λ some. refused_asked words InvalidValue (asks.unknown unknown) some, refused_kind words InvalidValue c.in_ok-invalid_value.field-0 (asks.unknown unknown) c.in_ok-invalid_value.ensures)
+
+pub returns-then-has_no_end : goal.returns-then-has_no_end
+returns-then-has_no_end c words at =
+    let asks = at.make (sym c.if-eq.ensures) (sym c.if-eq-2.ensures) in
+    let known = sym c.unknown_in.ensures ∙ ap is_some c.in_default.is in
+    let end = ap (has_no_end c.args.name.now) (sym c.search_in-search.ensures) ∙ sym c.if-has_no_end.ensures in (
+      λ some. refused_asked words MissingRequiredArgument (asks.no_end known end) some,
+      refused_kind words MissingRequiredArgument c.in_ok-missing_end.field-0 (asks.no_end known end) c.in_ok-missing_end.ensures,
+    )
+
+pub returns : goal.returns
+returns c words at =
+    let asks = at.make (sym c.if-eq.ensures) (sym c.if-eq-2.ensures) in
+    let known = sym c.unknown_in.ensures ∙ ap is_some c.in_default.is in
+    let end = ap (has_no_end c.args.name.now) (sym c.search_in-search.ensures) ∙ sym c.if-has_no_end.ensures in
+    asks.ends known end ∙ ap (λ s. Some (made_by c.args.name.now s (rows_of (found_of c.args.matches.now)))) (sym c.search_in-search.ensures)
+    ∙ ap (λ (w : Wish). Some w) (sym c.request_by.ensures)

@@ -1,0 +1,37 @@
+-- What words ask for that `clap` takes, by the subcommand that they name.
+use Rattle.std.specs.Prelude.{◌≡◌, true, false, List, [], ◌∷◌, None, Some, codes}
+use Rattle.std.specs.Str.{bytes_eq}
+use Rattle.clap.specs.Walk.{Row, Text}
+use Rattle.clap.specs.declared.error.kind.ErrorKind.{ErrorKind}
+use Rattle.clap.specs.declared.error.kind.ErrorKind.TheVariants.{InvalidValue, MissingRequiredArgument}
+use Rattle.deals_cli.specs.CommandLine.{asked, has_no_end, has_unknown, kinds_for, made_by, search_in, stream_wish}
+use Rattle.deals_cli.specs.internal.Readings.{MakeValues, StreamValues}
+use Rattle.requests.specs.Requests.{conditions}
+
+-- the words are refused with an error of this kind
+pub record IsRefused (words : List Text) (kind : ErrorKind) : Type 0 where
+  pub asked_is : asked words ≡ None
+  pub kinds_are : kinds_for words ≡ kind ∷ []
+
+-- words that name `make` or one of its kind ask for it if each word is one of its option's values
+-- and an end is given, and else they are refused
+pub record AsksMake (words : List Text) (name : Text) (rows : List Row) : Type 0 where
+  pub ends : has_unknown rows ≡ false → has_no_end name (search_in rows) ≡ false
+      → asked words ≡ Some (made_by name (search_in rows) rows)
+  pub no_end : has_unknown rows ≡ false → has_no_end name (search_in rows) ≡ true
+      → IsRefused words MissingRequiredArgument
+  pub unknown : has_unknown rows ≡ true → IsRefused words InvalidValue
+
+-- the options of the subcommand have the values that are read of them
+pub record HasValues (name : Text) (rows : List Row) : Type 0 where
+  pub stream : bytes_eq name (codes "stream") ≡ true → StreamValues rows
+  pub make : bytes_eq name (codes "stream") ≡ false → bytes_eq name (codes "conditions") ≡ false
+      → MakeValues rows
+
+-- what the words ask for, by the name of the subcommand that was met
+pub record Chosen (words : List Text) (name : Text) (rows : List Row) : Type 0 where
+  pub values : HasValues name rows
+  pub stream : bytes_eq name (codes "stream") ≡ true → asked words ≡ Some (stream_wish rows)
+  pub conditions_too : bytes_eq name (codes "conditions") ≡ true → asked words ≡ Some conditions
+  pub make : bytes_eq name (codes "stream") ≡ false → bytes_eq name (codes "conditions") ≡ false
+      → AsksMake words name rows
