@@ -6,7 +6,7 @@ use Rattle.boards.specs.declared.board.Board.{Board}
 pub record Layout : Type 0 where
   pub header : List ℕ
   pub board : Board → List ℕ
-  -- of these boards, which so many candidates gave
+  -- of these boards, and of how many candidates were tried
   pub footer : List Board → ℕ → List ℕ
 
 -- the footer of a notation that has the same one behind all boards

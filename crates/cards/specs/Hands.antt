@@ -32,8 +32,8 @@ abbrev pub weight_in : List ℕ → List Bool → Suit → ℕ
 weight_in weights hand suit =
     sum_by (λ c. cond (holds_in hand suit c) (slice_index_or weights (rank_of c) 0) 0) pack
 
--- the high card points of the hand, and those of one suit: an ace counts 4, a king 3, a queen 2 and a
--- jack 1
+-- the high card points of the hand, and those of one suit: an ace counts 4, a king 3, a queen 2 and
+-- a jack 1
 abbrev pub points_of : List Bool → ℕ
 points_of = weight_of (4 ∷ 3 ∷ 2 ∷ 1 ∷ [])
 

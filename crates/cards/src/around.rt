@@ -185,7 +185,8 @@ pub(crate) fn settle(cards: &mut [u8; 52], generator: &mut Lcg48, end: usize, co
     requires inside { end ≤ 52 }
     requires cards { AreCards cards.old }
     ensures cards { AreCards cards.new }
-    ensures settled { IsSettled generator.old generator.new cards.old cards.new result (end - count) end }
+    ensures settled { IsSettled generator.old generator.new
+        cards.old cards.new result (end - count) end }
 {
     let mut mask = 0;
     for pair in 0..count / 2 {

@@ -31,8 +31,8 @@ number_or default id rows = unwrap_or (number_in id rows) default
 abbrev pub is_set : Text → List Row → Bool
 is_set id rows = option_map_or (λ t. bytes_eq t (codes "true")) (first_of id rows) false
 
--- the options that have one of a few words, as `formats` of the notations, and what each word stands
--- for, in just this case
+-- the options that have one of a few words, as `formats` of the notations, and what each word
+-- stands for, in just this case
 abbrev pub dealers : List (Text × Seat)
 dealers =
     (codes "N", North) ∷ (codes "E", East) ∷ (codes "S", South) ∷ (codes "W", West) ∷ []

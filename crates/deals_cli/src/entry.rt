@@ -3,8 +3,8 @@
 ghost use Rattle.std.specs.Prelude.{◌≡◌, ◌≢◌, ◌⊎◌, ◌+◌, ◌-◌, ◌^◌, ◌<◌, ◌≤◌, ◌==◌};
 ghost use Rattle.std.specs.Prelude.{Some, if◌then◌else◌, map, string_bytes};
 ghost use Rattle.deals_cli.specs.CommandLine.{asked};
-ghost use Rattle.deals_cli.specs.Program.{Answers, HasReport, IsFlushedAfter, IsStatusFor, TellsWhy};
-ghost use Rattle.deals_cli.specs.Program.{TellsWhyFrom, WantsInput};
+ghost use Rattle.deals_cli.specs.Program.{Answers, HasReport, IsFlushedAfter, IsStatusFor};
+ghost use Rattle.deals_cli.specs.Program.{TellsWhy, TellsWhyFrom, WantsInput};
 ghost use Rattle.requests.specs.Failures.{CountsInput, faults_in, status_in};
 ghost use Rattle.requests.specs.Requests.{Wish};
 ghost use Rattle.requests.specs.Wishes.{Appends, AppendsFrom, IsStatus, IsStatusWithInput};
@@ -32,8 +32,8 @@ fn answer<R: Threads + Wait + Clone + Send + 'static, I: Source, O: Sink>(
         (I.rest input.old) (I.rest input.new) (O.bytes out.old) (O.bytes out.new) }
     ensures faults { O.faults out.new ≡ O.faults out.old + faults_in result }
     ensures input { CountsInput result (I.faults input.old) (I.faults input.new) }
-    ensures unread { (WantsInput (map string_bytes words.now) → ⊥) → (I.rest input.new ≡ I.rest input.old)
-        × (I.faults input.new ≡ I.faults input.old) }
+    ensures unread { (WantsInput (map string_bytes words.now) → ⊥)
+        → (I.rest input.new ≡ I.rest input.old) × (I.faults input.new ≡ I.faults input.old) }
     ensures flushed { IsFlushedAfter (status_in result) (O.is_flushed out.new) }
 {
     let read = read_words(alloc, words);
@@ -84,8 +84,8 @@ pub fn program_with_input<R: Threads + Wait + Clone + Send + 'static, I: Source,
     ensures output { O.faults out.new ≡ O.faults out.old + (if result == 4 then 1 else 0) }
     // The input failed with status 7 alone, or before the output did; only a `pick` reads it.
     ensures input { result ≢ 4 → result ≢ 7 → I.faults input.new ≡ I.faults input.old }
-    ensures unread { (WantsInput (map string_bytes words.now) → ⊥) → (I.rest input.new ≡ I.rest input.old)
-        × (I.faults input.new ≡ I.faults input.old) }
+    ensures unread { (WantsInput (map string_bytes words.now) → ⊥)
+        → (I.rest input.new ≡ I.rest input.old) × (I.faults input.new ≡ I.faults input.old) }
     // With status 0 or 7 all that was written is passed on.
     ensures flushed { IsFlushedAfter result (O.is_flushed out.new) }
     // With status 0 a report that was asked for is on the error output, unless that failed itself,

@@ -150,7 +150,7 @@ const LANE: Row = optional! { "lane" U32("C") =>
 
 const NORTH: Row = optional! { "north" Text("HAND") =>
     "The cards that North holds, as AKQ32.K..A: the spades, hearts, diamonds and \
-    clubs, parted by three dots; the rest is dealt [default: none]" };
+    clubs, separated by three dots; the rest is dealt [default: none]" };
 
 const EAST: Row = optional! { "east" Text("HAND") =>
     "The cards that East holds, like North's [default: none]" };

@@ -1,6 +1,7 @@
 //! Tasks: what words ask for, ready to be done.
 
-ghost use Rattle.std.specs.Prelude.{◌≡◌, ◌-◌, ◌+◌, ◌^◌, ◌<◌, IfErr, IfOk, List, map, string_bytes, true};
+ghost use Rattle.std.specs.Prelude.{◌≡◌, ◌-◌, ◌+◌, ◌^◌, ◌<◌, IfErr, IfOk, List, map};
+ghost use Rattle.std.specs.Prelude.{string_bytes, true};
 ghost use Rattle.clap.specs.Walk.{Text};
 ghost use Rattle.clap.specs.Words.{kind_of};
 ghost use Rattle.deals_cli.specs.Program.{Answers, AreRead, AreRefused, IsFlushedAfter, IsTaskFor};
@@ -98,8 +99,8 @@ fn write<R: Threads + Wait + Clone + Send + 'static, I: Source, O: Sink>(
     }
 }
 
-/// Does the task and flushes the output, unless it failed. Returns the report, if one was asked for. Of the
-/// subcommands `pick` alone reads the input. It may wait for its workers and its input.
+/// Does the task and flushes the output, unless it failed. Returns the report, if one was asked
+/// for. Of the subcommands `pick` alone reads the input. It may wait for its workers and its input.
 ///
 /// # Errors
 ///

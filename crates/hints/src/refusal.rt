@@ -22,7 +22,7 @@ use std::alloc::{AllocError, Global};
 /// They are the line of the text that has the fault, cut to 72 columns around it, and carets below
 /// the fault; for a syntax fault what could stand there; and a hint, if a rule gives one. Bytes
 /// that would disturb a terminal, or aren't ASCII, are shown as `?`, and a tab as a space. For a
-/// text that is too long the hint alone tells how long it is, and for want of memory there is
+/// text that is too long the hint alone tells how long it is, and where memory runs out there is
 /// nothing to say.
 ///
 /// # Errors

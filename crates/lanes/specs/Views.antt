@@ -10,8 +10,8 @@ pub record Ring : Type 0 where
   pub slots : Ptr
   pub names : Names
 
--- the end that takes: what was taken, how many verdicts are known to wait, and what is left once it
--- is settled
+-- the end that takes: what was taken, how many verdicts are known to wait, which ring it is,
+-- whether it is settled, so that nothing can come any more, and what is left in it then
 pub record OutView : Type 0 where
   pub taken : List Verdict
   pub known : ℕ

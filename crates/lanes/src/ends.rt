@@ -1,6 +1,8 @@
 //! The two ends of a lane, which is a bounded ring between one worker and the writer.
 
-ghost use Rattle.std.specs.Prelude.{◌≡◌, ◌+◌, ◌*◌, ◌/◌, ◌<◌, ◌≤◌, ◌↔◌, ◌⊎◌, min, [], ◌∷◌, ◌++◌, length, IsTrue, IsOk, IsSome, IsErrOf, OnOk, IfOk, IfErr, IfSome, IfNone, true, false};
+ghost use Rattle.std.specs.Prelude.{◌≡◌, ◌+◌, ◌*◌, ◌/◌, ◌<◌, ◌≤◌, ◌↔◌, ◌⊎◌, min, [], ◌∷◌, ◌++◌, length};
+ghost use Rattle.std.specs.Prelude.{IsTrue, IsOk, IsSome, IsErrOf, OnOk, IfOk, IfErr, IfSome, IfNone};
+ghost use Rattle.std.specs.Prelude.{true, false};
 ghost use Rattle.lanes.specs.declared.ends.LaneError.TheVariants.{Capacity, Memory};
 
 use crate::limits::MAX_CAPACITY;

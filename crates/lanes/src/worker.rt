@@ -20,8 +20,8 @@ use std::sync::atomic::{AtomicBool, Ordering};
 use std::sync::{Arc, Wait};
 
 /// Is asked once for each candidate, by the worker with this number, before the candidate's verdict
-/// is sent; `false` stops the whole run. By then a worker may have judged the candidate and up to 15
-/// after it. It is shared between the workers' threads, and may wait.
+/// is sent; `false` stops the whole run. By then a worker may have judged the candidate and up to
+/// 15 after it. It is shared between the workers' threads, and may wait.
 pub trait Gate {
     fn pass(&self, worker: u32, number: u64) -> bool;
 }

@@ -85,7 +85,8 @@ game_text heading board =
     ++ tag (codes "Deal") (deal_text board.deal)
     ++ codes "\n"
 
--- the game of the board of this number, with the dealer and the vulnerability of Law 2
+-- the game of the board of this number, with the dealer and the vulnerability of Law 2. It doesn't
+-- depend on the number of the candidate, which is 0 here
 unfoldable pub game : ℕ → HeadingView → List Seat → List ℕ
 game board heading deal = game_text heading (board_by_law board 0 deal)
 

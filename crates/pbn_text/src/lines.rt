@@ -1,6 +1,6 @@
-//! What both ways to print share: the header, and the lines of a heading; and the lines of a board's
-//! dealer and vulnerability with the opening of its deal's line, ready for each dealer and each
-//! vulnerability, to be copied.
+//! What both ways to print share: the header, and the lines of a heading; and the lines of a
+//! board's dealer and vulnerability with the opening of its deal's line, ready for each dealer and
+//! each vulnerability, to be copied.
 
 ghost use Rattle.std.specs.Prelude.{◌≡◌, ◌≤◌, ◌+◌, ◌++◌, length, take};
 ghost use Rattle.arrayvec.specs.ArrayVec.{array_vec_len};

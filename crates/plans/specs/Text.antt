@@ -11,7 +11,8 @@ use Rattle.conditions.specs.Form.{Form}
 use Rattle.conditions.specs.Meaning.{holds}
 use Rattle.plans.specs.Plans.{Planned, candidate_of}
 
--- the numbers of the accepted ones among n candidates from `first` on, in order, by their deals
+-- the numbers of the accepted ones among n candidates from `first` on, in order; `deals k` is the
+-- deal of candidate k
 unfoldable pub accepted_among : (ℕ → List Seat) → ℕ → Form → ℕ → List ℕ
 accepted_among deals first form n =
     filter (λ k. holds form (deals k)) (range_with_len first n)
@@ -21,7 +22,7 @@ abbrev pub limited : Option ℕ → List ℕ → List ℕ
 limited None xs = xs
 limited (Some most) xs = take most xs
 
--- the numbers of the accepted candidates of a plan, by their deals, within its limit
+-- the numbers of the accepted candidates of a plan, within its limit, if these are the deals
 abbrev pub accepted_by : (ℕ → List Seat) → Planned → Form → List ℕ
 accepted_by deals plan form =
     limited plan.limit (accepted_among deals plan.first form plan.count)
@@ -29,7 +30,8 @@ accepted_by deals plan form =
 abbrev pub accepted : Planned → Form → List ℕ
 accepted plan = accepted_by (candidate_of plan) plan
 
--- how many candidates are needed, by their deals: up to the one whose board meets the limit, or all
+-- how many candidates are needed, if these are the deals: the least number with as many accepted
+-- ones as the limit says, or all
 unfoldable pub needed_by : (ℕ → List Seat) → Planned → Form → ℕ
 needed_by deals plan form = ends_at plan.limit
   where

@@ -108,7 +108,7 @@ seat_given hands c = find (λ seat. has_given (given_at hands seat) c) all_seats
 unfoldable pub shares : GivenHands → List ℕ → Bool
 shares earlier text = list_any (λ c. has_card text c && is_some (seat_given earlier c)) pack
 
--- a text is refused that is no hand or has a card of an earlier one
+-- a text is refused that is malformed or has a card of an earlier one
 abbrev pub is_refused : GivenHands → Option (List ℕ) → Bool
 is_refused earlier None = false
 is_refused earlier (Some text) = not (is_hand text) || shares earlier text

@@ -35,7 +35,7 @@ pub enum Failure {
     Plan(PlanError),
     /// The label can't be written between the quotes of a tag.
     Label(LabelName),
-    /// The text of this seat's hand is no hand, or has a card of an earlier one.
+    /// The text of this seat's hand is malformed, or has a card of an earlier one.
     Hand(Seat),
     /// The condition is refused, and not since memory ran out.
     Condition(CondError),

@@ -20,7 +20,7 @@ fn first_deal() -> Deal {
     Deal::shuffled(&Places::draw(&mut Lcg48::seeded(0)))
 }
 
-/// Aborts unless the condition holds of the deal, or was refused for want of memory.
+/// Aborts unless the condition holds of the deal, or was refused since memory ran out.
 fn holds_or_wants_memory(rt: &impl Abort, condition: &Result<Cond, CondError>, deal: &Deal) {
     match condition {
         Ok(condition) => holds(rt, "the condition holds", condition.holds(deal)),
@@ -28,7 +28,7 @@ fn holds_or_wants_memory(rt: &impl Abort, condition: &Result<Cond, CondError>, d
     }
 }
 
-/// A text is parsed, or refused for want of memory.
+/// A text is parsed, or refused since memory ran out.
 #[test]
 fn parses_or_wants_memory(rt: HostRuntime) {
     let deal = first_deal();
@@ -37,7 +37,7 @@ fn parses_or_wants_memory(rt: HostRuntime) {
     }
 }
 
-/// A text that is no condition is never accepted.
+/// A malformed condition is never accepted.
 #[test]
 fn refuses_or_wants_memory(rt: HostRuntime) {
     let parsed = parse(rt.alloc(), b"not (1+2==3 and 4+5==9) or 6==");
