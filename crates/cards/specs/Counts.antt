@@ -1,5 +1,6 @@
--- What else is counted in a hand: losers, measures, honours, its longest and its shortest suit.
-use Rattle.std.specs.Prelude.{ℕ, ◌+◌, ◌*◌, min, max, not, ◌&&◌, Bool, false, List, [], ◌∷◌, count_by, slice_index_or, unwrap_or, option_map}
+-- What else is counted in a hand: losers, measures, honours, its longest and its shortest suit, and
+-- the suits that it stops.
+use Rattle.std.specs.Prelude.{ℕ, ◌+◌, ◌*◌, nat_le, min, max, not, ◌&&◌, ◌||◌, Bool, false, List, [], ◌∷◌, count_by, slice_index_or, unwrap_or, option_map}
 use Rattle.std.specs.List.{range_with_len}
 use Rattle.cards.specs.declared.suit.Suit.{Suit}
 use Rattle.cards.specs.declared.suit.Suit.TheVariants.{Spades, Hearts, Diamonds, Clubs}
@@ -8,6 +9,7 @@ use Rattle.cards.specs.declared.honours.Honours.{Honours}
 use Rattle.cards.specs.Hands.{holds_card, holds_in, length_of, weight_of, weight_in}
 use Rattle.cards.specs.Measures.{weights_of}
 use Rattle.cards.specs.Pack.{suit_number, rank_of}
+use Rattle.cards.specs.Ranks.{has_rank}
 use Rattle.cards.specs.Shuffle.{pack}
 
 -- the losers in a suit: the ace, king and queen that aren't in the hand, of which the king counts
@@ -56,3 +58,24 @@ abbrev pub shortest_of : List Bool → ℕ
 shortest_of hand =
     min (min (length_of hand Spades) (length_of hand Hearts))
     (min (length_of hand Diamonds) (length_of hand Clubs))
+
+-- the greatest number of cards that two suits reach, which the second longest suit has: of each two
+-- suits the shorter length, and of these six the greatest
+abbrev pub greatest_of_two : ℕ → ℕ → ℕ → ℕ → ℕ
+greatest_of_two s h d c =
+    max (max (min s h) (min d c)) (max (max (min s d) (min s c)) (max (min h d) (min h c)))
+
+abbrev pub second_of : List Bool → ℕ
+second_of hand =
+    greatest_of_two
+    (length_of hand Spades) (length_of hand Hearts)
+    (length_of hand Diamonds) (length_of hand Clubs)
+
+-- whether the hand stops the suit: it has the ace, or the king and two cards or more, or the queen
+-- and three or more, or the jack and four or more
+abbrev pub stops_in : List Bool → Suit → Bool
+stops_in hand suit =
+    has_rank hand suit 0
+    || ((has_rank hand suit 1 && nat_le 2 (length_of hand suit))
+    || ((has_rank hand suit 2 && nat_le 3 (length_of hand suit))
+    || (has_rank hand suit 3 && nat_le 4 (length_of hand suit))))

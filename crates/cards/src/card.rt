@@ -27,7 +27,7 @@ impl Model for Card {
 impl Card {
     ghost use Rattle.cards.specs.Pack.{suit_number, rank_of};
 
-    /// The card of this number, or `None` exactly for 52 and above.
+    /// The card of this number, or `None` for 52 and above.
     pub fn new(number: u8) -> Option<Card>
         ensures in_pack { IsSome result ↔ (number < 52) }
         ensures kept { IfSome result (λ c. c ≡ number) }

@@ -28,7 +28,7 @@ impl Model for Fixed {
 }
 
 impl Fixed {
-    /// These cards, or `None` exactly if a seat has more than thirteen.
+    /// These cards, or `None` if a seat has more than thirteen.
     pub fn new(seats: [Option<Seat>; 52]) -> Option<Fixed>
         ensures room { IsSome result ↔ IsFixed seats }
         ensures kept { IfSome result (λ f. f ≡ seats) }

@@ -8,7 +8,7 @@ ghost use Rattle.cards.specs.Counts.{total_of, total_in};
 ghost use Rattle.cards.specs.Hands.{weight_in};
 ghost use Rattle.cards.specs.Counts.{losers_of, losers_in, honours_of, honours_in};
 ghost use Rattle.cards.specs.Hands.{is_balanced};
-ghost use Rattle.cards.specs.Counts.{longest_of, shortest_of};
+ghost use Rattle.cards.specs.Counts.{longest_of, second_of, shortest_of, stops_in};
 ghost use Rattle.cards.specs.Balanced.{IsBalanced};
 ghost use Rattle.cards.specs.Ranks.{has_rank, ranks_of};
 ghost use Rattle.cards.specs.internal.Masks.{cards_of_mask};
@@ -165,6 +165,15 @@ impl Hand {
         spades.max(hearts).max(diamonds.max(clubs))
     }
 
+    /// The second greatest of the four lengths: of 5-5-2-1 it is 5.
+    pub fn second(&self) -> u8
+        ensures { result ≡ second_of self.now }
+    {
+        let [spades, hearts, diamonds, clubs] = self.shape();
+        let alike = spades.min(hearts).max(diamonds.min(clubs));
+        alike.max(spades.max(hearts).min(diamonds.max(clubs)))
+    }
+
     /// The least of the four lengths.
     pub fn shortest(&self) -> u8
         ensures { result ≡ shortest_of self.now }
@@ -181,6 +190,27 @@ impl Hand {
         let mut shape = self.shape();
         shape.sort_unstable();
         is_balanced_in_order(&shape)
+    }
+
+    /// Whether the hand stops the suit: it has the ace, or the king and two cards or more, or the
+    /// queen and three or more, or the jack and four or more.
+    pub fn stops(&self, suit: Suit) -> bool
+        ensures { result ≡ stops_in self.now suit }
+    {
+        let length = self.length(suit);
+        self.has_rank(suit, 0)
+            || self.has_rank(suit, 1) && length >= 2
+            || self.has_rank(suit, 2) && length >= 3
+            || self.has_rank(suit, 3) && length >= 4
+    }
+
+    /// Whether the hand has the suit's card of this rank, the ace being 0 and the two 12.
+    #[inline(always)]
+    fn has_rank(&self, suit: Suit, rank: usize) -> bool
+        requires { rank < 13 }
+        ensures { result ≡ has_rank self.now suit rank }
+    {
+        (self.cards >> (first_card(suit) + rank)) & 1 == 1
     }
 
     /// Which of the suit's thirteen ranks the hand has, from the ace down to the two.

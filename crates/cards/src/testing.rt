@@ -1,6 +1,6 @@
 //! Deals for tests, as they are written: four hands from North on, separated by spaces, and in each
-//! the spades, hearts, diamonds and clubs, separated by dots. Nothing but tests calls this; printers'
-//! tests write the hands again.
+//! the spades, hearts, diamonds and clubs, separated by dots. Nothing but tests calls this;
+//! printers' tests write the hands again.
 
 ghost use Rattle.std.specs.Prelude.{◌≤◌};
 

@@ -11,9 +11,9 @@ use Rattle.conditions.specs.declared.tree.Op.{Op}
 use Rattle.conditions.specs.declared.tree.Item.{Item}
 use Rattle.conditions.specs.declared.tree.Item.TheVariants.{Length as Counted, Any}
 use Rattle.conditions.specs.declared.tree.Value.{Value}
-use Rattle.conditions.specs.declared.tree.Value.TheVariants.{Sum', Number, Points, SuitPoints, Total, SuitTotal, Cards, SuitCards, Length, Longest, Shortest}
+use Rattle.conditions.specs.declared.tree.Value.TheVariants.{Sum', Number, Points, SuitPoints, Total, SuitTotal, Cards, SuitCards, Length, Longest, Second, Shortest}
 use Rattle.conditions.specs.declared.tree.Tree.{Tree}
-use Rattle.conditions.specs.declared.tree.Tree.TheVariants.{AnyOf', AllOf', Negation', Compare, Within, Balanced, Shape, Pattern, LooseShape, LoosePattern}
+use Rattle.conditions.specs.declared.tree.Tree.TheVariants.{AnyOf', AllOf', Negation', Compare, Within, Balanced, Shape, Pattern, LooseShape, LoosePattern, Stops}
 
 -- a value: the high card points have `points` and `suit_points`, each other measure `total` and
 -- `suit_total`
@@ -28,6 +28,7 @@ pub data Amount : Type 0 where
   suit_cards_held : Seat → Suit → Honours → Amount
   suit_length : Seat → Suit → Amount
   longest : Seat → Amount
+  second : Seat → Amount
   shortest : Seat → Amount
 
 -- the measure of a hand, and of its cards of one suit: no form has `total Hcp` or `suit_total Hcp`
@@ -52,6 +53,7 @@ pub data Form : Type 0 where
   pattern : Seat → List ℕ → Form
   loose_shape : Seat → List Item → Form
   loose_pattern : Seat → List Item → Form
+  stops : Seat → Suit → Form
 
 -- whether an item is `x`, and the number of one that isn't
 abbrev pub is_any : Item → Bool
@@ -82,6 +84,7 @@ amount_of (Cards q h) = cards_held q h
 amount_of (SuitCards q s h) = suit_cards_held q s h
 amount_of (Length q s) = suit_length q s
 amount_of (Longest q) = longest q
+amount_of (Second q) = second q
 amount_of (Shortest q) = shortest q
 
 abbrev pub form_of : Tree → Form
@@ -95,3 +98,4 @@ form_of (Shape q n) = shape q n
 form_of (Pattern q n) = pattern q n
 form_of (LooseShape q items) = loose_shape q items
 form_of (LoosePattern q items) = loose_pattern q items
+form_of (Stops q s) = stops q s

@@ -1,6 +1,6 @@
 -- The limits that every condition keeps: how many values a sum adds up, and how large a number is.
 use Rattle.std.specs.Prelude.{ℕ, ◌+◌, ◌≤◌, All}
-use Rattle.conditions.specs.Form.{Amount, sum, number, points, suit_points, total, suit_total, cards_held, suit_cards_held, suit_length, longest, shortest, Form, any_of, all_of, negation, compare, within, balanced, shape, pattern, loose_shape, loose_pattern, number_of}
+use Rattle.conditions.specs.Form.{Amount, sum, number, points, suit_points, total, suit_total, cards_held, suit_cards_held, suit_length, longest, second, shortest, Form, any_of, all_of, negation, compare, within, balanced, shape, pattern, loose_shape, loose_pattern, stops, number_of}
 
 -- the atoms of a value: each part that isn't a sum is one
 abbrev pub atoms_of : Amount → ℕ
@@ -14,6 +14,7 @@ atoms_of (cards_held q h) = 1
 atoms_of (suit_cards_held q s h) = 1
 atoms_of (suit_length q s) = 1
 atoms_of (longest q) = 1
+atoms_of (second q) = 1
 atoms_of (shortest q) = 1
 
 -- each value in the tree has at most so many atoms
@@ -28,6 +29,7 @@ HasAtMostAtoms n (shape q ns) = Unit {0}
 HasAtMostAtoms n (pattern q ns) = Unit {0}
 HasAtMostAtoms n (loose_shape q items) = Unit {0}
 HasAtMostAtoms n (loose_pattern q items) = Unit {0}
+HasAtMostAtoms n (stops q s) = Unit {0}
 
 -- each number that the value adds up is at most m
 abbrev pub AddsNumbersUpTo : ℕ → Amount → Type 0
@@ -41,6 +43,7 @@ AddsNumbersUpTo m (cards_held q h) = Unit {0}
 AddsNumbersUpTo m (suit_cards_held q s h) = Unit {0}
 AddsNumbersUpTo m (suit_length q s) = Unit {0}
 AddsNumbersUpTo m (longest q) = Unit {0}
+AddsNumbersUpTo m (second q) = Unit {0}
 AddsNumbersUpTo m (shortest q) = Unit {0}
 
 -- each number in the tree is at most m: those of its values, ranges, shapes and patterns
@@ -55,6 +58,7 @@ HasNumbersUpTo m (shape q ns) = All (λ n. n ≤ m) ns
 HasNumbersUpTo m (pattern q ns) = All (λ n. n ≤ m) ns
 HasNumbersUpTo m (loose_shape q items) = All (λ i. number_of i ≤ m) items
 HasNumbersUpTo m (loose_pattern q items) = All (λ i. number_of i ≤ m) items
+HasNumbersUpTo m (stops q s) = Unit {0}
 
 -- the limits of a condition
 pub record IsWithinLimits (tree : Form) : Type 0 where

@@ -3,12 +3,12 @@ use Rattle.std.specs.Prelude.{ℕ, ◌+◌, Bool, true, false, not, ◌&&◌, �
 use Rattle.std.specs.List.{list_any}
 use Rattle.cards.specs.declared.seat.Seat.{Seat}
 use Rattle.cards.specs.Hands.{hand_of, points_of, points_in, length_of, shape_of, is_balanced, is_same, is_rearrangement, orders_of}
-use Rattle.cards.specs.Counts.{total_of, total_in, honours_of, honours_in, longest_of, shortest_of}
+use Rattle.cards.specs.Counts.{total_of, total_in, honours_of, honours_in, longest_of, second_of, shortest_of, stops_in}
 use Rattle.conditions.specs.declared.tree.Item.{Item}
 use Rattle.conditions.specs.declared.tree.Item.TheVariants.{Length, Any}
 use Rattle.conditions.specs.declared.tree.Op.{Op}
 use Rattle.conditions.specs.declared.tree.Op.TheVariants.{Equal, NotEqual, Less, AtMost, More, AtLeast}
-use Rattle.conditions.specs.Form.{Amount, sum, number, points, suit_points, total, suit_total, cards_held, suit_cards_held, suit_length, longest, shortest, Form, any_of, all_of, negation, compare, within, balanced, shape, pattern, loose_shape, loose_pattern}
+use Rattle.conditions.specs.Form.{Amount, sum, number, points, suit_points, total, suit_total, cards_held, suit_cards_held, suit_length, longest, second, shortest, Form, any_of, all_of, negation, compare, within, balanced, shape, pattern, loose_shape, loose_pattern, stops}
 
 -- the number that a value is
 abbrev pub value_in : List Seat → Amount → ℕ
@@ -22,6 +22,7 @@ value_in deal (cards_held q h) = honours_of h (hand_of deal q)
 value_in deal (suit_cards_held q s h) = honours_in h (hand_of deal q) s
 value_in deal (suit_length q s) = length_of (hand_of deal q) s
 value_in deal (longest q) = longest_of (hand_of deal q)
+value_in deal (second q) = second_of (hand_of deal q)
 value_in deal (shortest q) = shortest_of (hand_of deal q)
 
 -- whether two numbers stand in the relation
@@ -60,3 +61,4 @@ holds (shape q lengths) deal = is_same (shape_of (hand_of deal q)) lengths
 holds (pattern q lengths) deal = is_rearrangement (shape_of (hand_of deal q)) lengths
 holds (loose_shape q items) deal = are_allowed items (shape_of (hand_of deal q))
 holds (loose_pattern q items) deal = are_allowed_in_some_order items (shape_of (hand_of deal q))
+holds (stops q s) deal = stops_in (hand_of deal q) s

@@ -59,7 +59,10 @@ impl Cond {
         Cond { alloc, tree }
     }
 
-    /// An equal condition. Its only error is `Memory`, which comes only when an allocation failed.
+    /// Returns an equal condition.
+    ///
+    /// # Errors
+    /// `Memory` if an allocation failed.
     pub fn try_clone(&self) -> Result<Cond, CondError>
         ensures { IsUnlessMemory result self.now }
     {

@@ -17,9 +17,10 @@ use Rattle.conditions.specs.declared.tree.Op.{Op}
 use Rattle.conditions.specs.declared.tree.Op.TheVariants.{Equal, NotEqual, Less}
 use Rattle.conditions.specs.declared.tree.Op.TheVariants.{AtMost, More, AtLeast}
 use Rattle.conditions.specs.Form.{Amount, sum, number, points, suit_points, suit_length, total}
-use Rattle.conditions.specs.Form.{suit_total, cards_held, suit_cards_held, longest, shortest}
+use Rattle.conditions.specs.Form.{suit_total, cards_held, suit_cards_held, longest, second}
+use Rattle.conditions.specs.Form.{shortest}
 use Rattle.conditions.specs.Form.{Form, any_of, all_of, negation, compare, within, balanced}
-use Rattle.conditions.specs.Form.{shape, pattern, loose_shape, loose_pattern}
+use Rattle.conditions.specs.Form.{shape, pattern, loose_shape, loose_pattern, stops}
 
 abbrev suit_of_number : ℕ → Suit
 suit_of_number zero = Spades
@@ -179,6 +180,7 @@ amount_stored (suit_cards_held q s h) =
     gcons (gnum 8) (gcons (seat_stored q) (gcons (suit_stored s) (honours_stored h)))
 amount_stored (longest q) = gcons (gnum 9) (seat_stored q)
 amount_stored (shortest q) = gcons (gnum 10) (seat_stored q)
+amount_stored (second q) = gcons (gnum 11) (seat_stored q)
 
 abbrev amount_from : Gv → Amount
 amount_from (gcons (gnum zero) (gcons a b)) = sum (amount_from a) (amount_from b)
@@ -199,8 +201,11 @@ amount_from
     suit_cards_held (seat_from q) (suit_from s) (honours_from h)
 amount_from (gcons (gnum (suc (suc (suc (suc (suc (suc (suc (suc (suc zero)))))))))) q) =
     longest (seat_from q)
-amount_from (gcons (gnum (suc (suc (suc (suc (suc (suc (suc (suc (suc (suc k))))))))))) q) =
+amount_from (gcons (gnum (suc (suc (suc (suc (suc (suc (suc (suc (suc (suc zero))))))))))) q) =
     shortest (seat_from q)
+amount_from
+    (gcons (gnum (suc (suc (suc (suc (suc (suc (suc (suc (suc (suc (suc k)))))))))))) q) =
+    second (seat_from q)
 amount_from _ = number 0
 
 amount_back : (a : Amount) → amount_from (amount_stored a) ≡ a
@@ -224,6 +229,7 @@ amount_back (suit_cards_held q s h) =
     ∙ ap (suit_cards_held q s) (honours_back h)
 amount_back (longest q) = ap longest (seat_back q)
 amount_back (shortest q) = ap shortest (seat_back q)
+amount_back (second q) = ap second (seat_back q)
 
 -- and so each kind of tree
 abbrev form_stored : Form → Gv
@@ -238,6 +244,7 @@ form_stored (pattern q ns) = gcons (gnum 6) (gcons (seat_stored q) (numbers_stor
 form_stored (loose_shape q items) = gcons (gnum 7) (gcons (seat_stored q) (items_stored items))
 form_stored (loose_pattern q items) = gcons (gnum 8) (gcons (seat_stored q) (items_stored items))
 form_stored (within a m n) = gcons (gnum 9) (gcons (amount_stored a) (gcons (gnum m) (gnum n)))
+form_stored (stops q s) = gcons (gnum 10) (gcons (seat_stored q) (suit_stored s))
 
 abbrev form_from : Gv → Form
 form_from (gcons (gnum zero) (gcons a b)) = any_of (form_from a) (form_from b)
@@ -255,8 +262,12 @@ form_from (gcons (gnum (suc (suc (suc (suc (suc (suc (suc zero)))))))) (gcons q 
 form_from (gcons (gnum (suc (suc (suc (suc (suc (suc (suc (suc zero))))))))) (gcons q items)) =
     loose_pattern (seat_from q) (items_of items)
 form_from
-    (gcons (gnum (suc (suc (suc (suc (suc (suc (suc (suc (suc k)))))))))) (gcons a (gcons m n))) =
+    (gcons (gnum (suc (suc (suc (suc (suc (suc (suc (suc (suc zero))))))))))
+    (gcons a (gcons m n))) =
     within (amount_from a) (number_of m) (number_of n)
+form_from
+    (gcons (gnum (suc (suc (suc (suc (suc (suc (suc (suc (suc (suc k))))))))))) (gcons q s)) =
+    stops (seat_from q) (suit_from s)
 form_from _ = balanced North
 
 form_back : (t : Form) → form_from (form_stored t) ≡ t
@@ -279,6 +290,7 @@ form_back (loose_pattern q items) =
     ap (λ p. loose_pattern p (items_of (items_stored items))) (seat_back q)
     ∙ ap (loose_pattern q) (items_back items)
 form_back (within a m n) = ap (λ x. within x m n) (amount_back a)
+form_back (stops q s) = rw (seat_back q, suit_back s) refl
 
 pub one_form : (a b : Form) → form_stored a ≡ form_stored b → a ≡ b
 one_form a b e = sym (form_back a) ∙ ap form_from e ∙ form_back b

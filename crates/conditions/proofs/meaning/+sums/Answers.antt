@@ -1,5 +1,5 @@
 use Rattle.std.proofs.Common.{◌≡◌, ◌+◌, ◌∙◌, refl, sym, ap, arith}
-use Rattle.cards.specs.Counts.{total_of, total_in, longest_of, shortest_of}
+use Rattle.cards.specs.Counts.{total_of, total_in, longest_of, second_of, shortest_of}
 use Rattle.conditions.specs.Meaning.{value_in}
 use Rattle.conditions.specs.Limits.{atoms_of}
 use Rattle.conditions.specs.Form.{amount_of}
@@ -34,6 +34,11 @@ pub value_in-returns-in-Longest-clause-value : goal.value_in-returns-in-Longest-
 value_in-returns-in-Longest-clause-value t c =
     c.from-in-Longest.ensures ∙ c.longest.ensures ∙ ap longest_of c.hand-in-Longest.ensures.value
     ∙ ap (λ v. value_in c.args.deal.now (amount_of v)) (sym c.in-Longest.is)
+
+pub value_in-returns-in-Second-clause-value : goal.value_in-returns-in-Second-clause-value
+value_in-returns-in-Second-clause-value t c =
+    c.from-in-Second.ensures ∙ c.second.ensures ∙ ap second_of c.hand-in-Second.ensures.value
+    ∙ ap (λ v. value_in c.args.deal.now (amount_of v)) (sym c.in-Second.is)
 
 pub value_in-returns-in-Shortest-clause-value : goal.value_in-returns-in-Shortest-clause-value
 value_in-returns-in-Shortest-clause-value t c =
