@@ -1,20 +1,27 @@
--- A condition stays one if a token gives way to another of its kind.
-use Rattle.std.proofs.Common.{◌≡◌, ℕ, List, [], ◌∷◌, ◌++◌, Option, Some, None, refl, sym, ap, ◌∙◌, subst}
+-- A condition stays one if a token gives way to another of its kind, and if the bound classes stand
+-- for other suits.
+use Rattle.std.proofs.Common.{◌≡◌, ℕ, true, List, [], ◌∷◌, ◌++◌, Option, Some, None, refl, sym, ap, ◌∙◌, subst}
+use Rattle.std.specs.Prelude.{is_some, fold}
 use Rattle.cards.specs.declared.honours.Honours.{Honours}
 use Rattle.cards.specs.declared.hand.Measure.{Measure as AMeasure}
 use Rattle.cards.specs.declared.seat.Seat.{Seat as ASeat}
 use Rattle.cards.specs.declared.suit.Suit.{Suit as ASuit}
+use Rattle.cond_lang.specs.declared.classes.Bound.{Bound}
+use Rattle.cond_lang.specs.declared.classes.Class.{Class as AClass}
+use Rattle.cond_lang.specs.declared.classes.Quantifier.{Quantifier as AQuantifier}
 use Rattle.cond_lang.specs.declared.words.Kind.{Kind}
 use Rattle.cond_lang.specs.declared.words.Kind.TheVariants as kind
 use Rattle.conditions.specs.declared.tree.Item.{Item}
 use Rattle.conditions.specs.declared.tree.Item.TheVariants.{Length, Any}
 use Rattle.conditions.specs.declared.tree.Op.{Op}
 use Rattle.cond_lang.specs.declared.scanner.Token.{Token}
-use Rattle.cond_lang.specs.declared.scanner.Token.TheVariants.{Or, And, Not, Balanced, Shape, Pattern, Measure, Cards, Len, Longest, Shortest, In, X, Seat, Suit, Ranks, Number, Open, Close, Comma, Dash, Plus, Relation}
+use Rattle.cond_lang.specs.declared.scanner.Token.TheVariants.{Or, And, Not, Balanced, Shape, Pattern, Quantifier, Stops, Measure, Cards, Len, Longest, Second, Shortest, In, X, Seat, Suit, Class, Ranks, Number, Open, Close, Comma, Dash, Plus, Relation}
 use Rattle.cond_lang.specs.Continuations.{kind_of}
 use Rattle.cond_lang.specs.Faults.{IsViable}
-use Rattle.conditions.specs.Form.{Amount, sum, number, measured, suit_measured, cards_held, suit_cards_held, suit_length, longest, shortest, Form, any_of, all_of, negation, compare, within, balanced, shaped, patterned}
-use Rattle.cond_lang.specs.Grammar.{SpellsAtom, SpellsValue, atom, plus, a_number, measure, measure_in, len, cards, cards_in, longest_suit, shortest_suit, item_token, four, SpellsCond, both, or, SpellsBoth, unit, and, SpellsUnit, not, brackets, test, SpellsTest, comparison, in_range, is_balanced, has_shape, has_pattern}
+use Rattle.conditions.specs.Form.{Amount, sum, number, measured, suit_measured, cards_held, suit_cards_held, suit_length, longest, second, shortest, Form, any_of, all_of, negation, compare, within, balanced, shaped, patterned, stops}
+use Rattle.cond_lang.specs.Classes.{unbound, bound_to, bind, members, Names, by_suit, by_class}
+use Rattle.cond_lang.specs.Grammar.{SpellsAtom, SpellsValue, atom, plus, a_number, measure, measure_in, len, cards, cards_in, longest_suit, second_suit, shortest_suit, item_token, four, SpellsCond, both, or, SpellsBoth, unit, and, SpellsUnit, not, brackets, quantified, test, SpellsTest, comparison, in_range, is_balanced, has_shape, has_pattern, has_stopper, joined, SpellsEach, none as no_more, one_more}
+use Rattle.cond_lang.proofs.Scopes.{SameScope, same_scope, bind_same, can_bind_same, some_of, members_some}
 
 -- the lists have tokens of the same kinds
 data Alike : List Token → List Token → Type 0 where
@@ -44,16 +51,20 @@ only kind.Open = Some Open
 only kind.Balanced = Some Balanced
 only kind.Shape = Some Shape
 only kind.Pattern = Some Pattern
+only (kind.Quantifier k) = Some (Quantifier k)
+only kind.Stops = Some Stops
 only (kind.Measure m) = Some (Measure m)
 only kind.Cards = Some Cards
 only kind.Len = Some Len
 only kind.Longest = Some Longest
+only kind.Second = Some Second
 only kind.Shortest = Some Shortest
 only kind.Plus = Some Plus
 only kind.In = Some In
 only kind.Dash = Some Dash
 only kind.X = Some X
 only kind.Comma = Some Comma
+only (kind.Class c) = Some (Class c)
 only kind.Close = Some Close
 only kind.And = Some And
 only kind.Or = Some Or
@@ -66,10 +77,13 @@ only_of Not t e = cc
 only_of Balanced t e = cc
 only_of Shape t e = cc
 only_of Pattern t e = cc
+only_of (Quantifier k) t e = cc
+only_of Stops t e = cc
 only_of (Measure m) t e = cc
 only_of Cards t e = cc
 only_of Len t e = cc
 only_of Longest t e = cc
+only_of Second t e = cc
 only_of Shortest t e = cc
 only_of In t e = cc
 only_of X t e = cc
@@ -78,6 +92,7 @@ only_of Close t e = cc
 only_of Comma t e = cc
 only_of Dash t e = cc
 only_of Plus t e = cc
+only_of (Class c) t e = cc
 only_of (Seat q) t e = absurd (cc)
 only_of (Suit s) t e = absurd (cc)
 only_of (Ranks h) t e = absurd (cc)
@@ -99,9 +114,31 @@ like_seat : (q : ASeat) (y : Token) → kind_of (Seat q) ≡ kind_of y → (r : 
 like_seat q (Seat r) e = (r, refl)
 like_seat q y e = absurd (cc)
 
-like_suit : (s : ASuit) (y : Token) → kind_of (Suit s) ≡ kind_of y → (r : ASuit) × (y ≡ Suit r)
-like_suit s (Suit r) e = (r, refl)
-like_suit s y e = absurd (cc)
+same_class : (c : AClass) {y : Token} → kind_of (Class c) ≡ kind_of y → y ≡ Class c
+same_class c e = same (Class c) refl e
+
+same_quantifier : (k : AQuantifier) {y : Token} → kind_of (Quantifier k) ≡ kind_of y → y ≡ Quantifier k
+same_quantifier k e = same (Quantifier k) refl e
+
+-- some suit that the token names
+abbrev SomeNamed : Bound → Token → Type 0
+SomeNamed E y = (r : ASuit) × Names E y r
+
+like_suit : (F : Bound) (s : ASuit) (y : Token) → kind_of (Suit s) ≡ kind_of y → SomeNamed F y
+like_suit F s (Suit r) e = (r, by_suit)
+like_suit F s y e = absurd (cc)
+
+class_named : (F : Bound) (c : AClass) (y : Token) → y ≡ Class c → (r : ASuit) × (bound_to F c ≡ Some r) → SomeNamed F y
+class_named F c y e r = (r.0, subst (λ x. Names F x r.0) (sym e) (by_class r.1))
+
+bound_is_some : (o : Option ASuit) (s : ASuit) → o ≡ Some s → is_some o ≡ true
+bound_is_some None s e = absurd (cc)
+bound_is_some (Some r) s e = refl
+
+like_named : {E F : Bound} → SameScope E F → {x : Token} {s : ASuit} → Names E x s → (y : Token) → kind_of x ≡ kind_of y → SomeNamed F y
+like_named {E} {F} f (by_suit {s}) y e = like_suit F s y e
+like_named {E} {F} f (by_class {c} {s} h) y e =
+    class_named F c y (same_class c e) (some_of (bound_to F c) (sym (f c) ∙ bound_is_some (bound_to E c) s h))
 
 like_ranks : (h : Honours) (y : Token) → kind_of (Ranks h) ≡ kind_of y → (r : Honours) × (y ≡ Ranks r)
 like_ranks h (Ranks r) e = (r, refl)
@@ -148,71 +185,74 @@ split_is {L} {R} {U} {x} p h = p.is ∙ ap (λ y. p.left ++ y ∷ p.right) (same
 
 -- ---- atoms
 
-abbrev SomeAtom : List Token → Type 0
-SomeAtom T = (a : Amount) × SpellsAtom T a
+abbrev SomeAtom : Bound → List Token → Type 0
+SomeAtom E T = (a : Amount) × SpellsAtom E T a
 
-some_atom : {T U : List Token} (a : Amount) → U ≡ T → SpellsAtom T a → SomeAtom U
-some_atom a e h = (a, moved (λ L. SpellsAtom L a) e h)
+some_atom : {E : Bound} {T U : List Token} (a : Amount) → U ≡ T → SpellsAtom E T a → SomeAtom E U
+some_atom {E} a e h = (a, moved (λ L. SpellsAtom E L a) e h)
 
-keep_atom : {T U : List Token} {a : Amount} → SpellsAtom T a → Alike T U → SomeAtom U
-keep_atom (a_number {n}) (more {y} e none) =
+keep_atom : {E F : Bound} {T U : List Token} {a : Amount} → SameScope E F → SpellsAtom E T a → Alike T U → SomeAtom F U
+keep_atom f (a_number {n}) (more {y} e none) =
     let m = like_number n y e in some_atom (number m.0) (join m.1 refl) a_number
-keep_atom (measure {m} {q}) (more e0 (more e1 (more {y} e2 (more e3 none)))) =
+keep_atom f (measure {m} {q}) (more e0 (more e1 (more {y} e2 (more e3 none)))) =
     let r = like_seat q y e2 in
     some_atom (measured m r.0) (join (same_measure m e0) (join (same Open refl e1) (join r.1 (join (same Close refl e3) refl)))) measure
-keep_atom (measure_in {m} {q} {s}) (more e0 (more e1 (more {y} e2 (more e3 (more {y = z} e4 (more e5 none)))))) =
+keep_atom f (measure_in {m} {q} {s} i) (more e0 (more e1 (more {y} e2 (more e3 (more {y = z} e4 (more e5 none)))))) =
     let r = like_seat q y e2 in
-    let t = like_suit s z e4 in
+    let t = like_named f i z e4 in
     some_atom (suit_measured m r.0 t.0)
-    (join (same_measure m e0) (join (same Open refl e1) (join r.1 (join (same Comma refl e3) (join t.1 (join (same Close refl e5) refl))))))
-    measure_in
-keep_atom (len {q} {s}) (more e0 (more e1 (more {y} e2 (more e3 (more {y = z} e4 (more e5 none)))))) =
+    (join (same_measure m e0) (join (same Open refl e1) (join r.1 (join (same Comma refl e3) (join refl (join (same Close refl e5) refl))))))
+    (measure_in t.1)
+keep_atom f (len {q} {s} i) (more e0 (more e1 (more {y} e2 (more e3 (more {y = z} e4 (more e5 none)))))) =
     let r = like_seat q y e2 in
-    let t = like_suit s z e4 in
+    let t = like_named f i z e4 in
     some_atom (suit_length r.0 t.0)
-    (join (same Len refl e0) (join (same Open refl e1) (join r.1 (join (same Comma refl e3) (join t.1 (join (same Close refl e5) refl))))))
-    len
-keep_atom (cards {q} {h}) (more e0 (more e1 (more {y} e2 (more e3 (more {y = z} e4 (more e5 none)))))) =
+    (join (same Len refl e0) (join (same Open refl e1) (join r.1 (join (same Comma refl e3) (join refl (join (same Close refl e5) refl))))))
+    (len t.1)
+keep_atom f (cards {q} {h}) (more e0 (more e1 (more {y} e2 (more e3 (more {y = z} e4 (more e5 none)))))) =
     let r = like_seat q y e2 in
     let t = like_ranks h z e4 in
     some_atom (cards_held r.0 t.0)
     (join (same Cards refl e0) (join (same Open refl e1) (join r.1 (join (same Comma refl e3) (join t.1 (join (same Close refl e5) refl))))))
     cards
-keep_atom (cards_in {q} {s} {h}) (more e0 (more e1 (more {y} e2 (more e3 (more {y = z} e4 (more e5 (more {y = w} e6 (more e7 none)))))))) =
+keep_atom f (cards_in {q} {s} {h} i) (more e0 (more e1 (more {y} e2 (more e3 (more {y = z} e4 (more e5 (more {y = w} e6 (more e7 none)))))))) =
     let r = like_seat q y e2 in
-    let t = like_suit s z e4 in
+    let t = like_named f i z e4 in
     let g = like_ranks h w e6 in
     some_atom (suit_cards_held r.0 t.0 g.0)
-    (join (same Cards refl e0) (join (same Open refl e1) (join r.1 (join (same Comma refl e3) (join t.1
+    (join (same Cards refl e0) (join (same Open refl e1) (join r.1 (join (same Comma refl e3) (join refl
     (join (same Comma refl e5) (join g.1 (join (same Close refl e7) refl))))))))
-    cards_in
-keep_atom (longest_suit {q}) (more e0 (more e1 (more {y} e2 (more e3 none)))) =
+    (cards_in t.1)
+keep_atom f (longest_suit {q}) (more e0 (more e1 (more {y} e2 (more e3 none)))) =
     let r = like_seat q y e2 in
     some_atom (longest r.0) (join (same Longest refl e0) (join (same Open refl e1) (join r.1 (join (same Close refl e3) refl)))) longest_suit
-keep_atom (shortest_suit {q}) (more e0 (more e1 (more {y} e2 (more e3 none)))) =
+keep_atom f (second_suit {q} w) (more e0 (more e1 (more {y} e2 (more e3 none)))) =
+    let r = like_seat q y e2 in
+    some_atom (second r.0) (join (same Second refl e0) (join (same Open refl e1) (join r.1 (join (same Close refl e3) refl)))) (second_suit w)
+keep_atom f (shortest_suit {q}) (more e0 (more e1 (more {y} e2 (more e3 none)))) =
     let r = like_seat q y e2 in
     some_atom (shortest r.0) (join (same Shortest refl e0) (join (same Open refl e1) (join r.1 (join (same Close refl e3) refl)))) shortest_suit
 
 -- ---- values
 
-abbrev SomeValue : List Token → Type 0
-SomeValue T = (a : Amount) × SpellsValue T a
+abbrev SomeValue : Bound → List Token → Type 0
+SomeValue E T = (a : Amount) × SpellsValue E T a
 
-keep_value : {T U : List Token} {a : Amount} → SpellsValue T a → Alike T U → SomeValue U
-keep_value (atom h) a = let k = keep_atom h a in (k.0, atom k.1)
-keep_value {T} {U} (plus {L} {R} l r) a =
+keep_value : {E F : Bound} {T U : List Token} {a : Amount} → SameScope E F → SpellsValue E T a → Alike T U → SomeValue F U
+keep_value f (atom h) a = let k = keep_atom f h a in (k.0, atom k.1)
+keep_value {F} {T} {U} f (plus {L} {R} l r) a =
     let p = between L Plus R U a in
-    let left = keep_value l p.like_left in
-    let right = keep_atom r p.like_right in
-    (sum left.0 right.0, moved (λ L. SpellsValue L (sum left.0 right.0)) (split_is p refl) (plus left.1 right.1))
+    let left = keep_value f l p.like_left in
+    let right = keep_atom f r p.like_right in
+    (sum left.0 right.0, moved (λ L. SpellsValue F L (sum left.0 right.0)) (split_is p refl) (plus left.1 right.1))
 
 -- ---- tests
 
-abbrev SomeTest : List Token → Type 0
-SomeTest T = (t : Form) × SpellsTest T t
+abbrev SomeTest : Bound → List Token → Type 0
+SomeTest E T = (t : Form) × SpellsTest E T t
 
-some_test : {T U : List Token} (t : Form) → U ≡ T → SpellsTest T t → SomeTest U
-some_test t e h = (t, moved (λ L. SpellsTest L t) e h)
+some_test : {E : Bound} {T U : List Token} (t : Form) → U ≡ T → SpellsTest E T t → SomeTest E U
+some_test {E} t e h = (t, moved (λ L. SpellsTest E L t) e h)
 
 -- number - number
 like_range :
@@ -252,29 +292,35 @@ like_four q a b c d U
           (join (same Close refl e10) refl))))))))));
     }
 
-keep_test : {T U : List Token} {t : Form} → SpellsTest T t → Alike T U → SomeTest U
-keep_test {T} {U} (comparison {L} {R} {a} {b} {o} l r) h =
+keep_test : {E F : Bound} {T U : List Token} {t : Form} → SameScope E F → SpellsTest E T t → Alike T U → SomeTest F U
+keep_test {T} {U} f (comparison {L} {R} {a} {b} {o} l r) h =
     let p = between L (Relation o) R U h in
-    let left = keep_value l p.like_left in
-    let right = keep_value r p.like_right in
+    let left = keep_value f l p.like_left in
+    let right = keep_value f r p.like_right in
     let by = like_relation o p.token p.like in
     some_test (compare left.0 by.0 right.0) (p.is ∙ ap (λ y. p.left ++ y ∷ p.right) by.1) (comparison left.1 right.1)
-keep_test {T} {U} (in_range {L} {a} {m} {n = k} l) h =
+keep_test {T} {U} f (in_range {L} {a} {m} {n = k} l) h =
     let p = between L In (Number m ∷ Dash ∷ Number k ∷ []) U h in
-    let left = keep_value l p.like_left in
+    let left = keep_value f l p.like_left in
     let r = like_range m k p.right p.like_right in
     some_test (within left.0 r.0 r.1.0) (split_is p refl ∙ ap (λ R. p.left ++ In ∷ R) r.1.1) (in_range left.1)
-keep_test (is_balanced {q}) (more e0 (more e1 (more {y} e2 (more e3 none)))) =
+keep_test f (is_balanced {q}) (more e0 (more e1 (more {y} e2 (more e3 none)))) =
     let r = like_seat q y e2 in
     some_test (balanced r.0) (join (same Balanced refl e0) (join (same Open refl e1) (join r.1 (join (same Close refl e3) refl)))) is_balanced
-keep_test (has_shape {q} a b c d) (more {U} e h) =
+keep_test s (has_shape {q} a b c d) (more {U} e h) =
     let f = like_four q a b c d U h in
     some_test (shaped f.seat (f.first ∷ f.second ∷ f.third ∷ f.fourth ∷ []))
     (join (same Shape refl e) f.is) (has_shape f.first f.second f.third f.fourth)
-keep_test (has_pattern {q} a b c d) (more {U} e h) =
+keep_test s (has_pattern {q} a b c d) (more {U} e h) =
     let f = like_four q a b c d U h in
     some_test (patterned f.seat (f.first ∷ f.second ∷ f.third ∷ f.fourth ∷ []))
     (join (same Pattern refl e) f.is) (has_pattern f.first f.second f.third f.fourth)
+keep_test f (has_stopper {q} {s} v i) (more e0 (more e1 (more {y} e2 (more e3 (more {y = z} e4 (more e5 none)))))) =
+    let r = like_seat q y e2 in
+    let t = like_named f i z e4 in
+    some_test (stops r.0 t.0)
+    (join (same Stops refl e0) (join (same Open refl e1) (join r.1 (join (same Comma refl e3) (join refl (join (same Close refl e5) refl))))))
+    (has_stopper v t.1)
 
 -- ---- conditions
 
@@ -282,47 +328,83 @@ nothing_like : (U : List Token) → Alike [] U → U ≡ []
 nothing_like [] none = refl
 nothing_like (y ∷ U) a = elim a [ ]
 
-abbrev SomeCond : List Token → Type 0
-SomeCond T = (t : Form) × SpellsCond T t
+abbrev pub SomeCond : Bound → List Token → Type 0
+SomeCond E T = (t : Form) × SpellsCond E T t
 
-abbrev SomeBoth : List Token → Type 0
-SomeBoth T = (t : Form) × SpellsBoth T t
+abbrev SomeBoth : Bound → List Token → Type 0
+SomeBoth E T = (t : Form) × SpellsBoth E T t
 
-abbrev SomeUnit : List Token → Type 0
-SomeUnit T = (t : Form) × SpellsUnit T t
+abbrev SomeUnit : Bound → List Token → Type 0
+SomeUnit E T = (t : Form) × SpellsUnit E T t
+
+-- with each suit of the class the list spells a tree
+abbrev pub SomeEach : Bound → AClass → List Token → Type 0
+SomeEach E c T = (t : Form) × (ts : List Form) × SpellsEach E c (members E c) T (t ∷ ts)
+
+each_of : (E : Bound) (c : AClass) (T : List Token) → ((s : ASuit) → SomeCond (bind E c s) T) → (ss : List ASuit) → (ts : List Form) × SpellsEach E c ss T ts
+each_of E c T f [] = ([], no_more)
+each_of E c T f (s ∷ ss) =
+    let t = f s in
+    let ts = each_of E c T f ss in
+    (t.0 ∷ ts.0, one_more t.1 ts.1)
+
+pub some_each : (E : Bound) (c : AClass) (T : List Token) → ((s : ASuit) → SomeCond (bind E c s) T) → SomeEach E c T
+some_each E c T f =
+    let m = members_some E c in
+    let t = f m.0 in
+    let ts = each_of E c T f m.1 in
+    (t.0, ts.0, subst (λ ss. SpellsEach E c ss T (t.0 ∷ ts.0)) (sym m.2) (one_more t.1 ts.1))
 
 mutual
-  keep_cond : {T U : List Token} {t : Form} → SpellsCond T t → Alike T U → SomeCond U
-  keep_cond (both h) a = let k = keep_both h a in (k.0, both k.1)
-  keep_cond {T} {U} (or {L} {R} l r) a =
+  keep_cond : {E F : Bound} {T U : List Token} {t : Form} → SameScope E F → SpellsCond E T t → Alike T U → SomeCond F U
+  keep_cond f (both h) a = let k = keep_both f h a in (k.0, both k.1)
+  keep_cond {F} {T} {U} f (or {L} {R} l r) a =
       let p = between L Or R U a in
-      let left = keep_cond l p.like_left in
-      let right = keep_both r p.like_right in
-      (any_of left.0 right.0, moved (λ L. SpellsCond L (any_of left.0 right.0)) (split_is p refl) (or left.1 right.1))
+      let left = keep_cond f l p.like_left in
+      let right = keep_both f r p.like_right in
+      (any_of left.0 right.0, moved (λ L. SpellsCond F L (any_of left.0 right.0)) (split_is p refl) (or left.1 right.1))
 
-  keep_both : {T U : List Token} {t : Form} → SpellsBoth T t → Alike T U → SomeBoth U
-  keep_both (unit h) a = let k = keep_unit h a in (k.0, unit k.1)
-  keep_both {T} {U} (and {L} {R} l r) a =
+  keep_both : {E F : Bound} {T U : List Token} {t : Form} → SameScope E F → SpellsBoth E T t → Alike T U → SomeBoth F U
+  keep_both f (unit h) a = let k = keep_unit f h a in (k.0, unit k.1)
+  keep_both {F} {T} {U} f (and {L} {R} l r) a =
       let p = between L And R U a in
-      let left = keep_both l p.like_left in
-      let right = keep_unit r p.like_right in
-      (all_of left.0 right.0, moved (λ L. SpellsBoth L (all_of left.0 right.0)) (split_is p refl) (and left.1 right.1))
+      let left = keep_both f l p.like_left in
+      let right = keep_unit f r p.like_right in
+      (all_of left.0 right.0, moved (λ L. SpellsBoth F L (all_of left.0 right.0)) (split_is p refl) (and left.1 right.1))
 
-  keep_unit : {T U : List Token} {t : Form} → SpellsUnit T t → Alike T U → SomeUnit U
-  keep_unit (not h) (more {U} e a) =
-      let k = keep_unit h a in
-      (negation k.0, moved (λ L. SpellsUnit L (negation k.0)) (join (same Not refl e) refl) (not k.1))
-  keep_unit (brackets {T} h) (more {U} e a) =
+  keep_unit : {E F : Bound} {T U : List Token} {t : Form} → SameScope E F → SpellsUnit E T t → Alike T U → SomeUnit F U
+  keep_unit {F} f (not h) (more {U} e a) =
+      let k = keep_unit f h a in
+      (negation k.0, moved (λ L. SpellsUnit F L (negation k.0)) (join (same Not refl e) refl) (not k.1))
+  keep_unit {F} f (brackets {T} h) (more {U} e a) =
       let p = between T Close [] U a in
-      let k = keep_cond h p.like_left in
+      let k = keep_cond f h p.like_left in
       let is : U ≡ p.left ++ Close ∷ [] = split_is p refl ∙ ap (λ R. p.left ++ Close ∷ R) (nothing_like p.right p.like_right) in
-      (k.0, moved (λ L. SpellsUnit L k.0) (join (same Open refl e) is) (brackets k.1))
-  keep_unit (test h) a = let k = keep_test h a in (k.0, test k.1)
+      (k.0, moved (λ L. SpellsUnit F L k.0) (join (same Open refl e) is) (brackets k.1))
+  keep_unit {F} f (quantified {k} {c} {T} w b each) (more e0 (more e1 (more {U} e2 a))) =
+      let p = between T Close [] U a in
+      let ts = some_each F c p.left (keep_each f each p.like_left) in
+      let is : U ≡ p.left ++ Close ∷ [] = split_is p refl ∙ ap (λ R. p.left ++ Close ∷ R) (nothing_like p.right p.like_right) in
+      let t : Form = fold (joined k) ts.0 ts.1 in (
+        t,
+        moved (λ L. SpellsUnit F L t) (join (same_quantifier k e0) (join (same_class c e1) (join (same Open refl e2) is)))
+            (quantified w (sym (can_bind_same f c) ∙ b) ts.2),
+      )
+  keep_unit f (test h) a = let k = keep_test f h a in (k.0, test k.1)
+
+  keep_each :
+      {E F : Bound} {c : AClass} {ss : List ASuit} {T U : List Token} {t : Form} {ts : List Form}
+      → SameScope E F → SpellsEach E c ss T (t ∷ ts) → Alike T U → (s : ASuit) → SomeCond (bind F c s) U
+  keep_each {c} f (one_more {s = r} h hs) a s = keep_cond (bind_same f c r s) h a
+
+-- What is spelled with some suits for the bound classes is spelled with others.
+pub spelled_with : {E F : Bound} {T : List Token} {t : Form} → SameScope E F → SpellsCond E T t → SomeCond F T
+spelled_with {T} f h = keep_cond f h (alike_refl T)
 
 -- What goes on to a condition still does with another token of the same kind.
 pub viable_like : (T : List Token) (c d : Token) → kind_of c ≡ kind_of d → IsViable (T ++ c ∷ []) → IsViable (T ++ d ∷ [])
 viable_like T c d e v =
     let a : Alike ((T ++ c ∷ []) ++ v.0) ((T ++ d ∷ []) ++ v.0) =
     alike_append (alike_append (alike_refl T) (more e none)) (alike_refl v.0) in
-    let k = keep_cond v.2 a in
+    let k = keep_cond (same_scope unbound) v.2 a in
     (v.0, k.0, k.1)

@@ -4,12 +4,17 @@ use Rattle.cards.specs.declared.hand.Measure.{Measure}
 use Rattle.cards.specs.declared.hand.Measure.TheVariants.{Hcp}
 use Rattle.cards.specs.declared.seat.Seat.{Seat}
 use Rattle.cards.specs.declared.suit.Suit.{Suit}
+use Rattle.cond_lang.specs.declared.classes.Bound.{Bound}
+use Rattle.cond_lang.specs.declared.classes.Class.{Class as AClass}
+use Rattle.cond_lang.specs.declared.classes.Quantifier.{Quantifier as AQuantifier}
+use Rattle.cond_lang.specs.declared.classes.Quantifier.TheVariants.{Any as OneOf, Every}
 use Rattle.cond_lang.specs.declared.scanner.Token.{Token}
 use Rattle.cond_lang.specs.declared.scanner.Token.TheVariants.{Or, And, Shape, Pattern, In, Number, Dash, Close, Plus, Relation}
-use Rattle.conditions.specs.Form.{Amount, measured, suit_measured, Form, any_of, all_of, negation, compare, within, balanced, shape, pattern, loose_shape, loose_pattern, is_any, number_of, shaped, patterned}
-use Rattle.std.specs.List.{list_any}
+use Rattle.conditions.specs.Form.{Amount, measured, suit_measured, Form, any_of, all_of, negation, compare, within, balanced, shape, pattern, loose_shape, loose_pattern, stops, is_any, number_of, shaped, patterned}
+use Rattle.std.specs.Prelude.{fold}
+use Rattle.std.specs.List.{AllByRecursion, list_any}
 use Rattle.conditions.specs.declared.tree.Item.{Item}
-use Rattle.cond_lang.specs.Grammar.{SpellsAtom, SpellsValue, atom, plus, a_number, measure, measure_in, len, cards, cards_in, longest_suit, shortest_suit, four, SpellsCond, both, or, SpellsBoth, unit, and, SpellsUnit, not, brackets, test, comparison, in_range, is_balanced, has_shape, has_pattern, Spells}
+use Rattle.cond_lang.specs.Grammar.{SpellsAtom, SpellsValue, atom, plus, a_number, measure, measure_in, len, cards, cards_in, longest_suit, second_suit, shortest_suit, four, SpellsCond, both, or, SpellsBoth, unit, and, SpellsUnit, not, brackets, quantified, SpellsEach, none, one_more, joined, test, comparison, in_range, is_balanced, has_shape, has_pattern, has_stopper, Spells}
 use Rattle.conditions.specs.Limits.{atoms_of, HasAtMostAtoms}
 
 -- however the measure is written, it is one atom
@@ -21,27 +26,29 @@ suit_measured_count : (m : Measure) (q : Seat) (s : Suit) → atoms_of (suit_mea
 suit_measured_count Hcp q s = omega arith
 suit_measured_count m q s = omega arith
 
-atom_count : {T : List Token} {a : Amount} → SpellsAtom T a → atoms_of a ≤ 1
+atom_count : {E : Bound} {T : List Token} {a : Amount} → SpellsAtom E T a → atoms_of a ≤ 1
 atom_count a_number = omega arith
 atom_count (measure {m} {q}) = measured_count m q
-atom_count (measure_in {m} {q} {s}) = suit_measured_count m q s
-atom_count len = omega arith
+atom_count (measure_in {m} {q} {s} i) = suit_measured_count m q s
+atom_count (len i) = omega arith
 atom_count cards = omega arith
-atom_count cards_in = omega arith
+atom_count (cards_in i) = omega arith
 atom_count longest_suit = omega arith
+atom_count (second_suit w) = omega arith
 atom_count shortest_suit = omega arith
 
-atom_some : {T : List Token} {a : Amount} → SpellsAtom T a → 1 ≤ length T
+atom_some : {E : Bound} {T : List Token} {a : Amount} → SpellsAtom E T a → 1 ≤ length T
 atom_some a_number = omega arith
 atom_some measure = omega arith
-atom_some measure_in = omega arith
-atom_some len = omega arith
+atom_some (measure_in i) = omega arith
+atom_some (len i) = omega arith
 atom_some cards = omega arith
-atom_some cards_in = omega arith
+atom_some (cards_in i) = omega arith
 atom_some longest_suit = omega arith
+atom_some (second_suit w) = omega arith
 atom_some shortest_suit = omega arith
 
-value_count : {T : List Token} {a : Amount} → SpellsValue T a → atoms_of a ≤ length T
+value_count : {E : Bound} {T : List Token} {a : Amount} → SpellsValue E T a → atoms_of a ≤ length T
 value_count (atom h) = omega (arith, atom_count h, atom_some h)
 value_count (plus {L} {R} l r) = omega (arith, value_count l, atom_count r, length-append L (Plus ∷ R))
 
@@ -56,6 +63,7 @@ more_atoms n m (shape q ns) i h = tt
 more_atoms n m (pattern q ns) i h = tt
 more_atoms n m (loose_shape q items) i h = tt
 more_atoms n m (loose_pattern q items) i h = tt
+more_atoms n m (stops q s) i h = tt
 
 -- a shape or a pattern has no value
 either : (n : ℕ) (b : Bool) (x y : Form) → HasAtMostAtoms n x → HasAtMostAtoms n y → HasAtMostAtoms n (if b then x else y)
@@ -68,26 +76,43 @@ shaped_atoms n q items = either n (list_any is_any items) (loose_shape q items) 
 patterned_atoms : (n : ℕ) (q : Seat) (items : List Item) → HasAtMostAtoms n (patterned q items)
 patterned_atoms n q items = either n (list_any is_any items) (loose_pattern q items) (pattern q (map number_of items)) tt tt
 
+-- trees that are joined
+joined_atoms : (n : ℕ) (k : AQuantifier) (a b : Form) → HasAtMostAtoms n a → HasAtMostAtoms n b → HasAtMostAtoms n (joined k a b)
+joined_atoms n OneOf a b h i = (h, i)
+joined_atoms n Every a b h i = (h, i)
+
+all_joined_atoms : (n : ℕ) (k : AQuantifier) (t : Form) (ts : List Form) → HasAtMostAtoms n t → AllByRecursion (HasAtMostAtoms n) ts → HasAtMostAtoms n (fold (joined k) t ts)
+all_joined_atoms n k t [] h hs = h
+all_joined_atoms n k t (u ∷ us) h hs = all_joined_atoms n k (joined k t u) us (joined_atoms n k t u h hs.0) hs.1
+
 mutual
-  cond_count : {T : List Token} {t : Form} → SpellsCond T t → HasAtMostAtoms (length T) t
+  cond_count : {E : Bound} {T : List Token} {t : Form} → SpellsCond E T t → HasAtMostAtoms (length T) t
   cond_count (both h) = both_count h
   cond_count (or {L} {R} {a} {b} l r) =
       (more_atoms (length L) _ a (omega (arith, length-append L (Or ∷ R))) (cond_count l), more_atoms (length R) _ b (omega (arith, length-append L (Or ∷ R))) (both_count r))
 
-  both_count : {T : List Token} {t : Form} → SpellsBoth T t → HasAtMostAtoms (length T) t
+  both_count : {E : Bound} {T : List Token} {t : Form} → SpellsBoth E T t → HasAtMostAtoms (length T) t
   both_count (unit h) = unit_count h
   both_count (and {L} {R} {a} {b} l r) =
       (more_atoms (length L) _ a (omega (arith, length-append L (And ∷ R))) (both_count l), more_atoms (length R) _ b (omega (arith, length-append L (And ∷ R))) (unit_count r))
 
-  unit_count : {T : List Token} {t : Form} → SpellsUnit T t → HasAtMostAtoms (length T) t
+  unit_count : {E : Bound} {T : List Token} {t : Form} → SpellsUnit E T t → HasAtMostAtoms (length T) t
   unit_count (not {T} {t} h) = more_atoms (length T) _ t (omega arith) (unit_count h)
   unit_count (brackets {T} {t} h) = more_atoms (length T) _ t (omega (arith, length-append T (Close ∷ []))) (cond_count h)
+  unit_count (quantified {k} {c} {T} {t} {ts} w b each) =
+      let counts = each_count each in
+      more_atoms (length T) _ (fold (joined k) t ts) (omega (arith, length-append T (Close ∷ []))) (all_joined_atoms (length T) k t ts counts.0 counts.1)
   unit_count (test (in_range {L} {m = m} {n = n} l)) = omega (arith, value_count l, length-append L (In ∷ Number m ∷ Dash ∷ Number n ∷ []))
   unit_count (test (comparison {L} {R} {o = o} l r)) =
       (omega (arith, value_count l, length-append L (Relation o ∷ R)), omega (arith, value_count r, length-append L (Relation o ∷ R)))
   unit_count (test is_balanced) = tt
   unit_count (test (has_shape {q} a b c d)) = shaped_atoms (length (Shape ∷ four q a b c d)) q (a ∷ b ∷ c ∷ d ∷ [])
   unit_count (test (has_pattern {q} a b c d)) = patterned_atoms (length (Pattern ∷ four q a b c d)) q (a ∷ b ∷ c ∷ d ∷ [])
+  unit_count (test (has_stopper w i)) = tt
+
+  each_count : {E : Bound} {c : AClass} {ss : List Suit} {T : List Token} {ts : List Form} → SpellsEach E c ss T ts → AllByRecursion (HasAtMostAtoms (length T)) ts
+  each_count none = tt
+  each_count (one_more h hs) = (cond_count h, each_count hs)
 
 -- Each value of a tree that n tokens spell has at most n atoms.
 pub few_atoms : (n : ℕ) (T : List Token) (t : Form) → length T ≤ n → Spells T t → HasAtMostAtoms n t

@@ -7,10 +7,13 @@ use Rattle.cards.specs.declared.seat.Seat.{Seat as ASeat}
 use Rattle.conditions.specs.declared.tree.Item.{Item}
 use Rattle.conditions.specs.declared.tree.Item.TheVariants.{Length, Any}
 use Rattle.conditions.specs.declared.tree.Op.TheVariants.{Equal}
+use Rattle.cards.specs.declared.suit.Suit.TheVariants.{Spades}
+use Rattle.cond_lang.specs.declared.classes.Bound.{Bound}
 use Rattle.cond_lang.specs.declared.scanner.Token.{Token}
-use Rattle.cond_lang.specs.declared.scanner.Token.TheVariants.{Or, And, Not, Shape, Pattern, Measure, Cards, Longest, Shortest, Number, Open, Close, Plus, Relation}
-use Rattle.conditions.specs.Form.{Amount, number, Form, any_of, all_of, negation, compare}
-use Rattle.cond_lang.specs.Grammar.{Forms, SpellsAtom, a_number, measure, measure_in, len, cards, cards_in, longest_suit, shortest_suit, SpellsValue, atom, plus, item_token, four, SpellsCond, both, or, BothOf, SpellsBoth, unit, and, UnitOf, SpellsUnit, not, brackets, test, SpellsTest, comparison, in_range, is_balanced, has_shape, has_pattern, Spells}
+use Rattle.cond_lang.specs.declared.scanner.Token.TheVariants.{Or, And, Not, Shape, Pattern, Measure, Cards, Len, Longest, Second, Shortest, Seat, Suit, Number, Open, Close, Comma, Plus, Relation}
+use Rattle.conditions.specs.Form.{Amount, number, suit_points, suit_length, Form, any_of, all_of, negation, compare}
+use Rattle.cond_lang.specs.Classes.{unbound, by_suit, by_class}
+use Rattle.cond_lang.specs.Grammar.{Forms, FormsAt, SpellsAtom, a_number, measure, measure_in, len, cards, cards_in, longest_suit, second_suit, shortest_suit, SpellsValue, atom, plus, item_token, four, SpellsCond, both, or, BothOf, SpellsBoth, unit, and, UnitOf, SpellsUnit, not, brackets, quantified, test, SpellsTest, comparison, in_range, is_balanced, has_shape, has_pattern, has_stopper, Spells}
 use Rattle.cond_lang.specs.Faults.{IsViableIn, IsFirstFaultIn, IsViable, IsFirstFault}
 use Rattle.cond_lang.specs.SmallerGrammars as small
 use Rattle.cond_lang.specs.SmallerGrammars.{SpellsFirstAtom, four_numbers, FirstTestOf, SpellsInFirstGrammar, IsOldest, IsViableFirst}
@@ -58,19 +61,24 @@ itself N T x h = (T, x, h, keeps_all T)
 zero_for : (c : Token) (T : List Token) → (IsOldest c → ⊥) → Kept SpellsFirstAtom (c ∷ T)
 zero_for c T n = (Number 0 ∷ [], number 0, small.a_number, newer n)
 
-keep_atom : {T : List Token} {a : Amount} → SpellsAtom T a → Kept SpellsFirstAtom T
+keep_atom : {E : Bound} {T : List Token} {a : Amount} → SpellsAtom E T a → Kept SpellsFirstAtom T
 keep_atom {T} a_number = itself SpellsFirstAtom T _ small.a_number
 keep_atom {T} (measure {m = Hcp}) = itself SpellsFirstAtom T _ small.hcp
 keep_atom (measure {m}) = zero_for (Measure m) _ (λ i. i)
-keep_atom {T} (measure_in {m = Hcp}) = itself SpellsFirstAtom T _ small.hcp_in
-keep_atom (measure_in {m}) = zero_for (Measure m) _ (λ i. i)
-keep_atom {T} len = itself SpellsFirstAtom T _ small.len
+keep_atom {T} (measure_in {m = Hcp} by_suit) = itself SpellsFirstAtom T _ small.hcp_in
+keep_atom (measure_in {m = Hcp} {q} (by_class e)) =
+    (Measure Hcp ∷ Open ∷ Seat q ∷ Comma ∷ Suit Spades ∷ Close ∷ [], suit_points q Spades, small.hcp_in, same (same (same (same (newer (λ i. i))))))
+keep_atom (measure_in {m} i) = zero_for (Measure m) _ (λ i. i)
+keep_atom {T} (len by_suit) = itself SpellsFirstAtom T _ small.len
+keep_atom (len {q} (by_class e)) =
+    (Len ∷ Open ∷ Seat q ∷ Comma ∷ Suit Spades ∷ Close ∷ [], suit_length q Spades, small.len, same (same (same (same (newer (λ i. i))))))
 keep_atom cards = zero_for Cards _ (λ i. i)
-keep_atom cards_in = zero_for Cards _ (λ i. i)
+keep_atom (cards_in i) = zero_for Cards _ (λ i. i)
 keep_atom longest_suit = zero_for Longest _ (λ i. i)
+keep_atom (second_suit w) = zero_for Second _ (λ i. i)
 keep_atom shortest_suit = zero_for Shortest _ (λ i. i)
 
-keep_value : {T : List Token} {a : Amount} → SpellsValue T a → Kept SpellsFirstAtom T
+keep_value : {E : Bound} {T : List Token} {a : Amount} → SpellsValue E T a → Kept SpellsFirstAtom T
 keep_value (atom h) = keep_atom h
 keep_value (plus {L} {R} l r) = let k = keep_value l in (k.0, k.1, k.2, keeps_before Plus R (λ i. i) k.3)
 
@@ -88,7 +96,15 @@ keeps_four : (q : ASeat) (a b c d : Item) → Keeps (four q a b c d) (four_numbe
 keeps_four q a b c d =
     same (same (same (keeps_item a (same (keeps_item b (same (keeps_item c (same (keeps_item d (keeps_all (Close ∷ [])))))))))))
 
-keep_test : {T : List Token} {t : Form} → SpellsTest T t → Kept (FirstTestOf SpellsFirstAtom) T
+-- in place of a list that begins with a newer token
+zero_equals : List Token
+zero_equals = Number 0 ∷ Relation Equal ∷ Number 0 ∷ []
+
+zero_test : FirstTestOf SpellsFirstAtom zero_equals (compare (number 0) Equal (number 0))
+unfolding zero_equals
+zero_test = small.comparison {L = Number 0 ∷ []} {R = Number 0 ∷ []} small.a_number small.a_number
+
+keep_test : {E : Bound} {T : List Token} {t : Form} → SpellsTest E T t → Kept (FirstTestOf SpellsFirstAtom) T
 keep_test (comparison {L} {R} {a} {b} {o} l r) =
     let k = keep_value l in
     let j = keep_value r in
@@ -101,27 +117,33 @@ keep_test (has_shape {q} a b c d) =
     (Shape ∷ four_numbers q (length_of a) (length_of b) (length_of c) (length_of d), _, small.has_shape, same (keeps_four q a b c d))
 keep_test (has_pattern {q} a b c d) =
     (Pattern ∷ four_numbers q (length_of a) (length_of b) (length_of c) (length_of d), _, small.has_pattern, same (keeps_four q a b c d))
+keep_test (has_stopper w i) = (zero_equals, compare (number 0) Equal (number 0), zero_test, newer (λ i. i))
+
+-- the first tests, whichever classes are bound
+abbrev FirstTests : FormsAt
+FirstTests E = FirstTestOf SpellsFirstAtom
 
 mutual
-  keep_cond : {T : List Token} {t : Form} → SpellsCond T t → Kept SpellsInFirstGrammar T
+  keep_cond : {E : Bound} {T : List Token} {t : Form} → SpellsCond E T t → Kept SpellsInFirstGrammar T
   keep_cond (both h) = let k = keep_both h in (k.0, k.1, both k.2, k.3)
   keep_cond (or l r) =
       let k = keep_cond l in
       let j = keep_both r in
       (k.0 ++ Or ∷ j.0, any_of k.1 j.1, or k.2 j.2, keeps_both k.3 (same j.3))
 
-  keep_both : {T : List Token} {t : Form} → SpellsBoth T t → Kept (BothOf (FirstTestOf SpellsFirstAtom)) T
+  keep_both : {E : Bound} {T : List Token} {t : Form} → SpellsBoth E T t → Kept (BothOf ⊥ FirstTests unbound) T
   keep_both (unit h) = let k = keep_unit h in (k.0, k.1, unit k.2, k.3)
   keep_both (and l r) =
       let k = keep_both l in
       let j = keep_unit r in
       (k.0 ++ And ∷ j.0, all_of k.1 j.1, and k.2 j.2, keeps_both k.3 (same j.3))
 
-  keep_unit : {T : List Token} {t : Form} → SpellsUnit T t → Kept (UnitOf (FirstTestOf SpellsFirstAtom)) T
+  keep_unit : {E : Bound} {T : List Token} {t : Form} → SpellsUnit E T t → Kept (UnitOf ⊥ FirstTests unbound) T
   keep_unit (not h) = let k = keep_unit h in (Not ∷ k.0, negation k.1, not k.2, same k.3)
   keep_unit (brackets h) =
       let k = keep_cond h in
       (Open ∷ k.0 ++ Close ∷ [], k.1, brackets k.2, same (keeps_both k.3 (keeps_all (Close ∷ []))))
+  keep_unit (quantified w b each) = (zero_equals, compare (number 0) Equal (number 0), test zero_test, newer (λ i. i))
   keep_unit (test h) = let k = keep_test h in (k.0, k.1, test k.2, k.3)
 
 -- ---- viable lists

@@ -9,6 +9,7 @@ use Rattle.cond_lang.specs.Faults.{offset_of}
 use Rattle.std.proofs.Math.Seq.{take-append_seam, take-append-add}
 use Rattle.cond_lang.specs.declared.scanner.Token.{Token}
 use Rattle.conditions.specs.Form.{Form}
+use Rattle.cond_lang.specs.Classes.{unbound}
 use Rattle.cond_lang.specs.Grammar.{SpellsCond, Spells}
 use Rattle.cond_lang.specs.Faults.{IsViable, IsFirstFault}
 use Rattle.cond_lang.specs.internal.Reading.{Outcome, got, stuck, Reader, after, front, a_cond, steps, reading, ended, whole}
@@ -27,17 +28,17 @@ reads_ended a (c ∷ S) = stops_at _ c (ended a) S ([], a, (refl, refl)) (λ X. 
 
 -- reading the whole, by a number of steps
 by_steps : ℕ → Reader Form
-by_steps n S = after (steps n a_cond S) ended
+by_steps n S = after (steps n unbound a_cond S) ended
 
 by_steps_reads : (n : ℕ) (S : List Token) → Reads Spells (by_steps n) S (by_steps n S)
 unfolding by_steps ends_with
 by_steps_reads n S =
-    reads_after SpellsCond ends_with Spells (steps n a_cond) ended S (steps n a_cond S)
-    (λ P Q a t h m. rw (m.0, m.1, append-nil P) h) (λ a. ([], a, (refl, refl))) (steps_reads n a_cond S) reads_ended
+    reads_after (SpellsCond unbound) ends_with Spells (steps n unbound a_cond) ended S (steps n unbound a_cond S)
+    (λ P Q a t h m. rw (m.0, m.1, append-nil P) h) (λ a. ([], a, (refl, refl))) (steps_reads n unbound a_cond S) reads_ended
 
 whole-by_steps : (n : ℕ) (S : List Token) → 4 + 5 * length S < n → whole S ≡ by_steps n S
 unfolding by_steps whole
-whole-by_steps n S h = ap (λ o. after o ended) (reading-steps n a_cond S h)
+whole-by_steps n S h = ap (λ o. after o ended) (reading-steps n unbound a_cond S h)
 
 -- What is spelled is read.
 pub whole_spelled : {T : List Token} {t : Form} → Spells T t → whole T ≡ got t []
@@ -121,7 +122,7 @@ ended_nil (stuck S) t R e = absurd (cc)
 
 pub whole_all : (T R : List Token) (t : Form) → whole T ≡ got t R → Spells T t
 unfolding whole
-whole_all T R t e = whole_right T t (e ∙ ap (λ R. got t R) (ended_nil (reading a_cond T) t R e))
+whole_all T R t e = whole_right T t (e ∙ ap (λ R. got t R) (ended_nil (reading unbound a_cond T) t R e))
 
 pub never_both : (T R : List Token) (t : Form) → whole T ≡ stuck R → Spells T t → ⊥
 never_both T R t e h = not_spelled T R e t h

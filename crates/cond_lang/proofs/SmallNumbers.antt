@@ -2,7 +2,7 @@
 use Rattle.std.proofs.Common.{◌≡◌, ℕ, ◌+◌, ◌-◌, ◌≤◌, ◌&&◌, Bool, true, false, if◌then◌else◌, map, List, [], ◌∷◌, ◌++◌, length, refl, sym, subst, arith}
 use Rattle.std.proofs.lemmas.Bool.{false≢true}
 use Rattle.std.proofs.lemmas.Bool.Decides.{nat_tests}
-use Rattle.std.specs.Prelude.{All, Contains}
+use Rattle.std.specs.Prelude.{All, Contains, fold}
 use Rattle.std.specs.List.{AllByRecursion, filter_map, list_any}
 use Rattle.std.proofs.lemmas.List.Elements.{All-from_recursion}
 use Rattle.std.specs.Char.{is_ascii_digit}
@@ -10,6 +10,10 @@ use Rattle.cards.specs.declared.hand.Measure.{Measure}
 use Rattle.cards.specs.declared.hand.Measure.TheVariants.{Hcp}
 use Rattle.cards.specs.declared.seat.Seat.{Seat}
 use Rattle.cards.specs.declared.suit.Suit.{Suit}
+use Rattle.cond_lang.specs.declared.classes.Bound.{Bound}
+use Rattle.cond_lang.specs.declared.classes.Class.{Class as AClass}
+use Rattle.cond_lang.specs.declared.classes.Quantifier.{Quantifier as AQuantifier}
+use Rattle.cond_lang.specs.declared.classes.Quantifier.TheVariants.{Any as OneOf, Every}
 use Rattle.cond_lang.specs.declared.scanner.Token.{Token}
 use Rattle.cond_lang.specs.declared.scanner.Token.TheVariants.{Or, And, In, Dash, Number, Close, Plus, Relation}
 use Rattle.cond_lang.specs.declared.scanner.Placed.{Placed}
@@ -19,7 +23,7 @@ use Rattle.cond_lang.specs.Cut.{words, symbols, decimal, IsPiece, blank, comment
 use Rattle.conditions.specs.Form.{Amount, Form, measured, suit_measured, shape, pattern, loose_shape, loose_pattern, is_any, number_of, shaped, patterned}
 use Rattle.conditions.specs.declared.tree.Item.{Item}
 use Rattle.conditions.specs.declared.tree.Item.TheVariants.{Length, Any}
-use Rattle.cond_lang.specs.Grammar.{SpellsAtom, SpellsValue, atom, plus, a_number, measure, measure_in, len, cards, cards_in, longest_suit, shortest_suit, item_token, SpellsCond, both, or, SpellsBoth, unit, and, SpellsUnit, not, brackets, test, comparison, in_range, is_balanced, has_shape, has_pattern, Spells}
+use Rattle.cond_lang.specs.Grammar.{SpellsAtom, SpellsValue, atom, plus, a_number, measure, measure_in, len, cards, cards_in, longest_suit, second_suit, shortest_suit, item_token, SpellsCond, both, or, SpellsBoth, unit, and, SpellsUnit, not, brackets, quantified, SpellsEach, none, one_more, joined, test, comparison, in_range, is_balanced, has_shape, has_pattern, has_stopper, Spells}
 use Rattle.conditions.specs.Limits.{AddsNumbersUpTo, HasNumbersUpTo}
 use Rattle.cond_lang.specs.Text.{kinds}
 use Rattle.cond_lang.proofs.Tables.{Table, EachEntry, at_entry}
@@ -122,17 +126,18 @@ small_suit_measured : (m : Measure) (q : Seat) (s : Suit) → AddsNumbersUpTo 99
 small_suit_measured Hcp q s = tt
 small_suit_measured m q s = tt
 
-small_atom : {T : List Token} {a : Amount} → SpellsAtom T a → AreSmall T → AddsNumbersUpTo 9999 a
+small_atom : {E : Bound} {T : List Token} {a : Amount} → SpellsAtom E T a → AreSmall T → AddsNumbersUpTo 9999 a
 small_atom a_number s = s.0
 small_atom (measure {m} {q}) s = small_measured m q
-small_atom (measure_in {m} {q} {s = u}) s = small_suit_measured m q u
-small_atom len s = tt
+small_atom (measure_in {m} {q} {s = u} i) s = small_suit_measured m q u
+small_atom (len i) s = tt
 small_atom cards s = tt
-small_atom cards_in s = tt
+small_atom (cards_in i) s = tt
 small_atom longest_suit s = tt
+small_atom (second_suit w) s = tt
 small_atom shortest_suit s = tt
 
-small_value : {T : List Token} {a : Amount} → SpellsValue T a → AreSmall T → AddsNumbersUpTo 9999 a
+small_value : {E : Bound} {T : List Token} {a : Amount} → SpellsValue E T a → AreSmall T → AddsNumbersUpTo 9999 a
 small_value (atom h) s = small_atom h s
 small_value (plus {L} {R} l r) s = (small_value l (left_small L (Plus ∷ R) s), small_atom r (behind_small L Plus R s))
 
@@ -156,18 +161,30 @@ small_shape q items h k = either 9999 (list_any is_any items) (loose_shape q ite
 small_pattern : (q : Seat) (items : List Item) → All (λ i. number_of i ≤ 9999) items → All (λ n. n ≤ 9999) (map number_of items) → HasNumbersUpTo 9999 (patterned q items)
 small_pattern q items h k = either 9999 (list_any is_any items) (loose_pattern q items) (pattern q (map number_of items)) h k
 
+-- trees that are joined
+small_joined : (k : AQuantifier) (a b : Form) → HasNumbersUpTo 9999 a → HasNumbersUpTo 9999 b → HasNumbersUpTo 9999 (joined k a b)
+small_joined OneOf a b h i = (h, i)
+small_joined Every a b h i = (h, i)
+
+all_joined_small : (k : AQuantifier) (t : Form) (ts : List Form) → HasNumbersUpTo 9999 t → AllByRecursion (HasNumbersUpTo 9999) ts → HasNumbersUpTo 9999 (fold (joined k) t ts)
+all_joined_small k t [] h hs = h
+all_joined_small k t (u ∷ us) h hs = all_joined_small k (joined k t u) us (small_joined k t u h hs.0) hs.1
+
 mutual
-  small_cond : {T : List Token} {t : Form} → SpellsCond T t → AreSmall T → HasNumbersUpTo 9999 t
+  small_cond : {E : Bound} {T : List Token} {t : Form} → SpellsCond E T t → AreSmall T → HasNumbersUpTo 9999 t
   small_cond (both h) s = small_both h s
   small_cond (or {L} {R} l r) s = (small_cond l (left_small L (Or ∷ R) s), small_both r (behind_small L Or R s))
 
-  small_both : {T : List Token} {t : Form} → SpellsBoth T t → AreSmall T → HasNumbersUpTo 9999 t
+  small_both : {E : Bound} {T : List Token} {t : Form} → SpellsBoth E T t → AreSmall T → HasNumbersUpTo 9999 t
   small_both (unit h) s = small_unit h s
   small_both (and {L} {R} l r) s = (small_both l (left_small L (And ∷ R) s), small_unit r (behind_small L And R s))
 
-  small_unit : {T : List Token} {t : Form} → SpellsUnit T t → AreSmall T → HasNumbersUpTo 9999 t
+  small_unit : {E : Bound} {T : List Token} {t : Form} → SpellsUnit E T t → AreSmall T → HasNumbersUpTo 9999 t
   small_unit (not h) s = small_unit h s.1
   small_unit (brackets {T} h) s = small_cond h (left_small T (Close ∷ []) s.1)
+  small_unit (quantified {k} {c} {T} {t} {ts} w b each) s =
+      let smalls = small_each each (left_small T (Close ∷ []) s.1.1.1) in
+      all_joined_small k t ts smalls.0 smalls.1
   small_unit (test (in_range {L} {m = m} {n = n} l)) s =
       let behind : AreSmall (Number m ∷ Dash ∷ Number n ∷ []) = behind_small L In (Number m ∷ Dash ∷ Number n ∷ []) s in
       (small_value l (left_small L (In ∷ Number m ∷ Dash ∷ Number n ∷ []) s), behind.0, behind.1.1.0)
@@ -182,6 +199,11 @@ mutual
       small_pattern q (a ∷ b ∷ c ∷ d ∷ [])
       (small_items a b c d s.1.1.1.1.0 s.1.1.1.1.1.1.0 s.1.1.1.1.1.1.1.1.0 s.1.1.1.1.1.1.1.1.1.1.0)
       (small_four a b c d s.1.1.1.1.0 s.1.1.1.1.1.1.0 s.1.1.1.1.1.1.1.1.0 s.1.1.1.1.1.1.1.1.1.1.0)
+  small_unit (test (has_stopper w i)) s = tt
+
+  small_each : {E : Bound} {c : AClass} {ss : List Suit} {T : List Token} {ts : List Form} → SpellsEach E c ss T ts → AreSmall T → AllByRecursion (HasNumbersUpTo 9999) ts
+  small_each none s = tt
+  small_each (one_more h hs) s = (small_cond h s, small_each hs s)
 
 -- The numbers of a text's tree are at most 9,999.
 pub small_numbers : (text : List ℕ) (ts us : List Placed) (t : Form) → HasTokens text ts → us ≡ ts → Spells (kinds us) t → HasNumbersUpTo 9999 t

@@ -1,68 +1,84 @@
 -- What is spelled is read.
-use Rattle.std.proofs.Common.{◌≡◌, ◌≢◌, ℕ, List, [], ◌∷◌, ◌++◌, Some, refl, sym, ap, ◌∙◌, append_assoc, append-nil}
+use Rattle.std.proofs.Common.{◌≡◌, ◌≢◌, ℕ, true, cond, List, [], ◌∷◌, ◌++◌, Some, refl, sym, ap, ◌∙◌, append_assoc, append-nil}
+use Rattle.cards.specs.declared.seat.Seat.{Seat as ASeat}
+use Rattle.cards.specs.declared.suit.Suit.{Suit as ASuit}
 use Rattle.conditions.specs.declared.tree.Item.{Item}
 use Rattle.conditions.specs.declared.tree.Item.TheVariants.{Length, Any}
 use Rattle.conditions.specs.declared.tree.Op.{Op}
+use Rattle.cond_lang.specs.declared.classes.Bound.{Bound}
+use Rattle.cond_lang.specs.declared.classes.Class.{Class as AClass}
+use Rattle.cond_lang.specs.declared.classes.Quantifier.{Quantifier as AQuantifier}
 use Rattle.cond_lang.specs.declared.scanner.Token.{Token}
-use Rattle.cond_lang.specs.declared.scanner.Token.TheVariants.{Or, And, Not, Balanced, Shape, Pattern, In, Dash, Number, Seat, Open, Close, Plus, Relation}
-use Rattle.conditions.specs.Form.{Amount, sum, Form, any_of, all_of, negation, compare, within, shaped, patterned}
-use Rattle.cond_lang.specs.Grammar.{SpellsAtom, SpellsValue, atom, plus, a_number, measure, measure_in, len, cards, cards_in, longest_suit, shortest_suit, item_token, four, SpellsCond, both, or, SpellsBoth, unit, and, SpellsUnit, not, brackets, test, comparison, in_range, is_balanced, has_shape, has_pattern, Spells}
-use Rattle.cond_lang.specs.internal.Reading.{got, after, front, closing, item, items, seat_and_items, atom_of, related_by, comparing_by, a_value, sums, a_cond, a_both, a_unit, ors, ands, unit_by, reading}
+use Rattle.cond_lang.specs.declared.scanner.Token.TheVariants.{Or, And, Not, Balanced, Shape, Pattern, Quantifier, Stops, In, Dash, Number, Seat, Class, Open, Close, Comma, Plus, Relation}
+use Rattle.conditions.specs.Form.{Amount, sum, Form, any_of, all_of, negation, compare, within, shaped, patterned, stops}
+use Rattle.cond_lang.specs.Classes.{unbound, bind, can_bind, Names, by_suit, by_class}
+use Rattle.cond_lang.specs.Grammar.{SpellsAtom, SpellsValue, atom, plus, a_number, measure, measure_in, len, cards, cards_in, longest_suit, second_suit, shortest_suit, item_token, four, SpellsCond, both, or, SpellsBoth, unit, and, SpellsUnit, not, brackets, quantified, SpellsEach, none, one_more, test, comparison, in_range, is_balanced, has_shape, has_pattern, has_stopper, Spells}
+use Rattle.cond_lang.specs.internal.Reading.{got, stuck, after, front, class_suit, suit, closing, item, items, seat_and_items, seat_and_suit, atom_of, related_by, comparing_by, a_value, sums, a_cond, a_both, a_unit, ors, ands, bracketed_by, unit_by, class, reading}
+use Rattle.cond_lang.proofs.Scopes.{bindable_quantifies}
+use Rattle.cond_lang.proofs.Members.{ReadsEach, each_got}
 use Rattle.cond_lang.proofs.Enough.{reads}
 
-atom_reads : {A : List Token} {a : Amount} → SpellsAtom A a → (B : List Token) → atom_of (A ++ B) ≡ got a B
+-- a token that names a suit is read as the suit
+named_reads : {E : Bound} {c : Token} {s : ASuit} → Names E c s → (B : List Token) → suit E (c ∷ B) ≡ got s B
+named_reads by_suit B = refl
+named_reads (by_class {c} {s} e) B = ap (λ o. class_suit o c B) e
+
+atom_reads : {E : Bound} {A : List Token} {a : Amount} → SpellsAtom E A a → (B : List Token) → atom_of E (A ++ B) ≡ got a B
 unfolding atom_of
 atom_reads a_number B = refl
 atom_reads measure B = refl
-atom_reads measure_in B = refl
-atom_reads len B = refl
+atom_reads (measure_in i) B = rw (named_reads i (Close ∷ B)) refl
+atom_reads (len i) B = rw (named_reads i (Close ∷ B)) refl
 atom_reads cards B = refl
-atom_reads cards_in B = refl
+atom_reads (cards_in by_suit) B = refl
+atom_reads {E} (cards_in {h} (by_class {c} e)) B = rw e refl
 atom_reads longest_suit B = refl
+atom_reads (second_suit w) B = refl
 atom_reads shortest_suit B = refl
 
-value_reads : {A : List Token} {a : Amount} → SpellsValue A a → (B : List Token) → reading a_value (A ++ B) ≡ reading (sums a) B
-value_reads (atom {T} {a} h) B = reads a_value (T ++ B) ∙ ap (λ o. after o (λ a R. reading (sums a) R)) (atom_reads h B)
-value_reads (plus {L} {R} {a} {b} l r) B =
-    ap (reading a_value) (append_assoc L (Plus ∷ R) B)
+value_reads : {E : Bound} {A : List Token} {a : Amount} → SpellsValue E A a → (B : List Token) → reading E a_value (A ++ B) ≡ reading E (sums a) B
+value_reads {E} (atom {T} {a} h) B = reads E a_value (T ++ B) ∙ ap (λ o. after o (λ a R. reading E (sums a) R)) (atom_reads h B)
+value_reads {E} (plus {L} {R} {a} {b} l r) B =
+    ap (reading E a_value) (append_assoc L (Plus ∷ R) B)
     ∙ value_reads l (Plus ∷ (R ++ B))
-    ∙ reads (sums a) (Plus ∷ (R ++ B))
-    ∙ ap (λ o. after o (λ b R. reading (sums (sum a b)) R)) (atom_reads r B)
+    ∙ reads E (sums a) (Plus ∷ (R ++ B))
+    ∙ ap (λ o. after o (λ b R. reading E (sums (sum a b)) R)) (atom_reads r B)
 
 -- a chain of `+` ends if none follows
-sums_stop : (a : Amount) (B : List Token) → front B ≢ Some Plus → reading (sums a) B ≡ got a B
-sums_stop a [] h = reads (sums a) []
-sums_stop a (Plus ∷ B) h = absurd (h refl)
-sums_stop a (c ∷ B) h = reads (sums a) (c ∷ B)
+sums_stop : (E : Bound) (a : Amount) (B : List Token) → front B ≢ Some Plus → reading E (sums a) B ≡ got a B
+sums_stop E a [] h = reads E (sums a) []
+sums_stop E a (Plus ∷ B) h = absurd (h refl)
+sums_stop E a (c ∷ B) h = reads E (sums a) (c ∷ B)
 
 -- a chain of `and` ends if none follows
-ands_stop : (a : Form) (B : List Token) → front B ≢ Some And → reading (ands a) B ≡ got a B
-ands_stop a [] h = reads (ands a) []
-ands_stop a (And ∷ B) h = absurd (h refl)
-ands_stop a (c ∷ B) h = reads (ands a) (c ∷ B)
+ands_stop : (E : Bound) (a : Form) (B : List Token) → front B ≢ Some And → reading E (ands a) B ≡ got a B
+ands_stop E a [] h = reads E (ands a) []
+ands_stop E a (And ∷ B) h = absurd (h refl)
+ands_stop E a (c ∷ B) h = reads E (ands a) (c ∷ B)
 
-compares : {L R : List Token} {a b : Amount} (o : Op) → SpellsValue L a → SpellsValue R b → (B : List Token) → front B ≢ Some Plus → comparing_by reading (L ++ (Relation o ∷ (R ++ B))) ≡ got (compare a o b) B
-compares {L} {R} {a} {b} o l r B n =
-    ap (λ v. after v (λ a S. related_by reading a S))
-    (value_reads l (Relation o ∷ (R ++ B)) ∙ sums_stop a (Relation o ∷ (R ++ B)) (λ e. cc))
-    ∙ ap (λ v. after v (λ b S. got (compare a o b) S)) (value_reads r B ∙ sums_stop b B n)
+compares : {E : Bound} {L R : List Token} {a b : Amount} (o : Op) → SpellsValue E L a → SpellsValue E R b → (B : List Token) → front B ≢ Some Plus → comparing_by reading E (L ++ (Relation o ∷ (R ++ B))) ≡ got (compare a o b) B
+compares {E} {L} {R} {a} {b} o l r B n =
+    ap (λ v. after v (λ a S. related_by reading E a S))
+    (value_reads l (Relation o ∷ (R ++ B)) ∙ sums_stop E a (Relation o ∷ (R ++ B)) (λ e. cc))
+    ∙ ap (λ v. after v (λ b S. got (compare a o b) S)) (value_reads r B ∙ sums_stop E b B n)
 
-ranges : {L : List Token} {a : Amount} (m n : ℕ) → SpellsValue L a → (B : List Token) → comparing_by reading (L ++ (In ∷ Number m ∷ Dash ∷ Number n ∷ B)) ≡ got (within a m n) B
-ranges {L} {a} m n l B =
-    ap (λ v. after v (λ a S. related_by reading a S))
-    (value_reads l (In ∷ Number m ∷ Dash ∷ Number n ∷ B) ∙ sums_stop a (In ∷ Number m ∷ Dash ∷ Number n ∷ B) (λ e. cc))
+ranges : {E : Bound} {L : List Token} {a : Amount} (m n : ℕ) → SpellsValue E L a → (B : List Token) → comparing_by reading E (L ++ (In ∷ Number m ∷ Dash ∷ Number n ∷ B)) ≡ got (within a m n) B
+ranges {E} {L} {a} m n l B =
+    ap (λ v. after v (λ a S. related_by reading E a S))
+    (value_reads l (In ∷ Number m ∷ Dash ∷ Number n ∷ B) ∙ sums_stop E a (In ∷ Number m ∷ Dash ∷ Number n ∷ B) (λ e. cc))
 
-atom_compares : {L : List Token} {a : Amount} → SpellsAtom L a → (X : List Token) → unit_by reading (L ++ X) ≡ comparing_by reading (L ++ X)
+atom_compares : {E : Bound} {L : List Token} {a : Amount} → SpellsAtom E L a → (X : List Token) → unit_by reading E (L ++ X) ≡ comparing_by reading E (L ++ X)
 atom_compares a_number X = refl
 atom_compares measure X = refl
-atom_compares measure_in X = refl
-atom_compares len X = refl
+atom_compares (measure_in i) X = refl
+atom_compares (len i) X = refl
 atom_compares cards X = refl
-atom_compares cards_in X = refl
+atom_compares (cards_in i) X = refl
 atom_compares longest_suit X = refl
+atom_compares (second_suit w) X = refl
 atom_compares shortest_suit X = refl
 
-unit_compares : {L : List Token} {a : Amount} → SpellsValue L a → (X : List Token) → unit_by reading (L ++ X) ≡ comparing_by reading (L ++ X)
+unit_compares : {E : Bound} {L : List Token} {a : Amount} → SpellsValue E L a → (X : List Token) → unit_by reading E (L ++ X) ≡ comparing_by reading E (L ++ X)
 unit_compares (atom h) X = atom_compares h X
 unit_compares (plus {L} {R} l r) X = rw (append_assoc L (Plus ∷ R) X) (unit_compares l (Plus ∷ (R ++ X)))
 
@@ -70,7 +86,7 @@ item_reads : (i : Item) (B : List Token) → item (item_token i ∷ B) ≡ got i
 item_reads (Length n) B = refl
 item_reads Any B = refl
 
-four_reads : (q : Rattle.cards.specs.declared.seat.Seat.Seat) (a b c d : Item) (B : List Token) → seat_and_items (four q a b c d ++ B) ≡ got (q, (a ∷ b ∷ c ∷ d ∷ [])) B
+four_reads : (q : ASeat) (a b c d : Item) (B : List Token) → seat_and_items (four q a b c d ++ B) ≡ got (q, (a ∷ b ∷ c ∷ d ∷ [])) B
 unfolding seat_and_items items
 four_reads q a b c d B =
     rw (
@@ -80,48 +96,74 @@ four_reads q a b c d B =
       item_reads d (Close ∷ B),
     ) refl
 
+seat_and_suit_reads : {E : Bound} {c : Token} {s : ASuit} → Names E c s → (q : ASeat) (B : List Token) → seat_and_suit E (Open ∷ Seat q ∷ Comma ∷ c ∷ Close ∷ B) ≡ got (q, s) B
+seat_and_suit_reads by_suit q B = refl
+seat_and_suit_reads (by_class e) q B = rw e refl
+
+class_reads : (E : Bound) (c : AClass) (S : List Token) → can_bind E c ≡ true → class E (Class c ∷ S) ≡ got c S
+class_reads E c S b = ap (λ b. cond b (got c S) (stuck (Class c ∷ S))) b
+
+-- a quantifier leads to its class and its brackets
+quantifier_reads : (E : Bound) (k : AQuantifier) (c : AClass) (S : List Token) → can_bind E c ≡ true → unit_by reading E (Quantifier k ∷ Class c ∷ S) ≡ bracketed_by reading E k c S
+quantifier_reads E k c S b =
+    ap (λ b. after (cond b (got k (Class c ∷ S)) (stuck (Quantifier k ∷ Class c ∷ S))) (λ k S. after (class E S) (λ c S. bracketed_by reading E k c S))) (bindable_quantifies E c b)
+    ∙ ap (λ o. after o (λ c S. bracketed_by reading E k c S)) (class_reads E c S b)
+
 mutual
-  pub spelled_unit : {A : List Token} {t : Form} → SpellsUnit A t → (B : List Token) → front B ≢ Some Plus → reading a_unit (A ++ B) ≡ got t B
-  spelled_unit (not {T} {t} h) B n =
-      reads a_unit (Not ∷ T ++ B) ∙ ap (λ o. after o (λ t R. got (negation t) R)) (spelled_unit h B n)
-  spelled_unit (brackets {T} {t} h) B n =
-      reads a_unit (Open ∷ (T ++ Close ∷ []) ++ B)
-      ∙ ap (λ L. after (reading a_cond L) closing) (append_assoc T (Close ∷ []) B)
-      ∙ ap (λ o. after o closing) (spelled_cond h (Close ∷ B) (λ e. cc) (λ e. cc) ∙ reads (ors t) (Close ∷ B))
-  spelled_unit (test (in_range {L} {a} {m} {n = k} l)) B n =
-      ap (reading a_unit) (append_assoc L (In ∷ Number m ∷ Dash ∷ Number k ∷ []) B)
-      ∙ reads a_unit (L ++ (In ∷ Number m ∷ Dash ∷ Number k ∷ B))
+  pub spelled_unit : {E : Bound} {A : List Token} {t : Form} → SpellsUnit E A t → (B : List Token) → front B ≢ Some Plus → reading E a_unit (A ++ B) ≡ got t B
+  spelled_unit {E} (not {T} {t} h) B n =
+      reads E a_unit (Not ∷ T ++ B) ∙ ap (λ o. after o (λ t R. got (negation t) R)) (spelled_unit h B n)
+  spelled_unit {E} (brackets {T} {t} h) B n =
+      reads E a_unit (Open ∷ (T ++ Close ∷ []) ++ B)
+      ∙ ap (λ L. after (reading E a_cond L) closing) (append_assoc T (Close ∷ []) B)
+      ∙ ap (λ o. after o closing) (spelled_cond h (Close ∷ B) (λ e. cc) (λ e. cc) ∙ reads E (ors t) (Close ∷ B))
+  spelled_unit {E} (quantified {k} {c} {T} {t} {ts} w b each) B n =
+      reads E a_unit (Quantifier k ∷ Class c ∷ Open ∷ (T ++ Close ∷ []) ++ B)
+      ∙ quantifier_reads E k c (Open ∷ (T ++ Close ∷ []) ++ B) b
+      ∙ ap (λ L. bracketed_by reading E k c (Open ∷ L)) (append_assoc T (Close ∷ []) B)
+      ∙ ap (λ o. after o closing) (each_got reading E k c (T ++ Close ∷ B) (Close ∷ B) t ts (spelled_each each B))
+  spelled_unit {E} (test (in_range {L} {a} {m} {n = k} l)) B n =
+      ap (reading E a_unit) (append_assoc L (In ∷ Number m ∷ Dash ∷ Number k ∷ []) B)
+      ∙ reads E a_unit (L ++ (In ∷ Number m ∷ Dash ∷ Number k ∷ B))
       ∙ unit_compares l (In ∷ Number m ∷ Dash ∷ Number k ∷ B)
       ∙ ranges m k l B
-  spelled_unit (test (comparison {L} {R} {a} {b} {o} l r)) B n =
-      ap (reading a_unit) (append_assoc L (Relation o ∷ R) B)
-      ∙ reads a_unit (L ++ (Relation o ∷ (R ++ B)))
+  spelled_unit {E} (test (comparison {L} {R} {a} {b} {o} l r)) B n =
+      ap (reading E a_unit) (append_assoc L (Relation o ∷ R) B)
+      ∙ reads E a_unit (L ++ (Relation o ∷ (R ++ B)))
       ∙ unit_compares l (Relation o ∷ (R ++ B))
       ∙ compares o l r B n
-  spelled_unit (test (is_balanced {q})) B n = reads a_unit (Balanced ∷ Open ∷ Seat q ∷ Close ∷ B)
-  spelled_unit (test (has_shape {q} a b c d)) B n = reads a_unit (Shape ∷ four q a b c d ++ B) ∙ ap (λ o. after o (λ p R. got (shaped p.0 p.1) R)) (four_reads q a b c d B)
-  spelled_unit (test (has_pattern {q} a b c d)) B n = reads a_unit (Pattern ∷ four q a b c d ++ B) ∙ ap (λ o. after o (λ p R. got (patterned p.0 p.1) R)) (four_reads q a b c d B)
+  spelled_unit {E} (test (is_balanced {q})) B n = reads E a_unit (Balanced ∷ Open ∷ Seat q ∷ Close ∷ B)
+  spelled_unit {E} (test (has_shape {q} a b c d)) B n = reads E a_unit (Shape ∷ four q a b c d ++ B) ∙ ap (λ o. after o (λ p R. got (shaped p.0 p.1) R)) (four_reads q a b c d B)
+  spelled_unit {E} (test (has_pattern {q} a b c d)) B n = reads E a_unit (Pattern ∷ four q a b c d ++ B) ∙ ap (λ o. after o (λ p R. got (patterned p.0 p.1) R)) (four_reads q a b c d B)
+  spelled_unit {E} (test (has_stopper {q} {c} {s} w i)) B n =
+      reads E a_unit (Stops ∷ Open ∷ Seat q ∷ Comma ∷ c ∷ Close ∷ B)
+      ∙ ap (λ o. after o (λ p R. got (stops p.0 p.1) R)) (seat_and_suit_reads i q B)
 
-  pub spelled_both : {A : List Token} {t : Form} → SpellsBoth A t → (B : List Token) → front B ≢ Some Plus → reading a_both (A ++ B) ≡ reading (ands t) B
-  spelled_both (unit {T} {t} h) B n = reads a_both (T ++ B) ∙ ap (λ o. after o (λ a R. reading (ands a) R)) (spelled_unit h B n)
-  spelled_both (and {L} {R} {a} {b} l r) B n =
-      ap (reading a_both) (append_assoc L (And ∷ R) B)
+  pub spelled_both : {E : Bound} {A : List Token} {t : Form} → SpellsBoth E A t → (B : List Token) → front B ≢ Some Plus → reading E a_both (A ++ B) ≡ reading E (ands t) B
+  spelled_both {E} (unit {T} {t} h) B n = reads E a_both (T ++ B) ∙ ap (λ o. after o (λ a R. reading E (ands a) R)) (spelled_unit h B n)
+  spelled_both {E} (and {L} {R} {a} {b} l r) B n =
+      ap (reading E a_both) (append_assoc L (And ∷ R) B)
       ∙ spelled_both l (And ∷ (R ++ B)) (λ e. cc)
-      ∙ reads (ands a) (And ∷ (R ++ B))
-      ∙ ap (λ o. after o (λ b R. reading (ands (all_of a b)) R)) (spelled_unit r B n)
+      ∙ reads E (ands a) (And ∷ (R ++ B))
+      ∙ ap (λ o. after o (λ b R. reading E (ands (all_of a b)) R)) (spelled_unit r B n)
 
-  pub spelled_cond : {A : List Token} {t : Form} → SpellsCond A t → (B : List Token) → front B ≢ Some And → front B ≢ Some Plus → reading a_cond (A ++ B) ≡ reading (ors t) B
-  spelled_cond (both {T} {t} h) B n m =
-      reads a_cond (T ++ B) ∙ ap (λ o. after o (λ a R. reading (ors a) R)) (spelled_both h B m ∙ ands_stop t B n)
-  spelled_cond (or {L} {R} {a} {b} l r) B n m =
-      ap (reading a_cond) (append_assoc L (Or ∷ R) B)
+  pub spelled_cond : {E : Bound} {A : List Token} {t : Form} → SpellsCond E A t → (B : List Token) → front B ≢ Some And → front B ≢ Some Plus → reading E a_cond (A ++ B) ≡ reading E (ors t) B
+  spelled_cond {E} (both {T} {t} h) B n m =
+      reads E a_cond (T ++ B) ∙ ap (λ o. after o (λ a R. reading E (ors a) R)) (spelled_both h B m ∙ ands_stop E t B n)
+  spelled_cond {E} (or {L} {R} {a} {b} l r) B n m =
+      ap (reading E a_cond) (append_assoc L (Or ∷ R) B)
       ∙ spelled_cond l (Or ∷ (R ++ B)) (λ e. cc) (λ e. cc)
-      ∙ reads (ors a) (Or ∷ (R ++ B))
-      ∙ ap (λ o. after o (λ b R. reading (ors (any_of a b)) R)) (spelled_both r B m ∙ ands_stop b B n)
+      ∙ reads E (ors a) (Or ∷ (R ++ B))
+      ∙ ap (λ o. after o (λ b R. reading E (ors (any_of a b)) R)) (spelled_both r B m ∙ ands_stop E b B n)
+
+  spelled_each : {E : Bound} {c : AClass} {ss : List ASuit} {T : List Token} {ts : List Form} → SpellsEach E c ss T ts → (B : List Token) → ReadsEach reading E c (T ++ Close ∷ B) (Close ∷ B) ss ts
+  spelled_each none B = tt
+  spelled_each {E} {c} (one_more {s} {t} h hs) B =
+      (spelled_cond h (Close ∷ B) (λ e. cc) (λ e. cc) ∙ reads (bind E c s) (ors t) (Close ∷ B), spelled_each hs B)
 
 -- the whole list
-pub spelled : {T : List Token} {t : Form} → Spells T t → reading a_cond T ≡ got t []
-spelled {T} {t} h = ap (reading a_cond) (sym (append-nil T)) ∙ spelled_cond h [] (λ e. cc) (λ e. cc) ∙ reads (ors t) []
+pub spelled : {T : List Token} {t : Form} → Spells T t → reading unbound a_cond T ≡ got t []
+spelled {T} {t} h = ap (reading unbound a_cond) (sym (append-nil T)) ∙ spelled_cond h [] (λ e. cc) (λ e. cc) ∙ reads unbound (ors t) []
 
 -- a list spells at most one tree
 pub one_tree : (T : List Token) (a b : Form) → Spells T a → Spells T b → a ≡ b

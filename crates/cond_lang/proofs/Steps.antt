@@ -1,25 +1,34 @@
 -- The readers that lead back to a condition.
-use Rattle.std.proofs.Common.{◌≡◌, ℕ, zero, suc, List, [], ◌∷◌, ◌++◌, refl, sym, subst, append_assoc, append-nil}
+use Rattle.std.proofs.Common.{◌≡◌, ℕ, zero, suc, Bool, true, false, cond, List, [], ◌∷◌, ◌++◌, refl, sym, ap, subst, append_assoc, append-nil}
 use Rattle.cards.specs.declared.seat.Seat.{Seat as ASeat}
+use Rattle.cards.specs.declared.suit.Suit.{Suit as ASuit}
+use Rattle.cards.specs.declared.suit.Suit.TheVariants.{Spades}
 use Rattle.conditions.specs.declared.tree.Item.{Item}
 use Rattle.conditions.specs.declared.tree.Op.TheVariants.{Equal}
+use Rattle.cond_lang.specs.declared.classes.Bound.{Bound}
+use Rattle.cond_lang.specs.declared.classes.Class.{Class as AClass}
+use Rattle.cond_lang.specs.declared.classes.Quantifier.{Quantifier as AQuantifier}
 use Rattle.cond_lang.specs.declared.scanner.Token.{Token}
-use Rattle.cond_lang.specs.declared.scanner.Token.TheVariants.{Or, And, Not, Balanced, Shape, Pattern, In, Seat, Number, Dash, Open, Close, Plus, Relation}
-use Rattle.conditions.specs.Form.{Amount, sum, number, Form, any_of, all_of, negation, compare, within, balanced, shaped, patterned}
-use Rattle.cond_lang.specs.Grammar.{SpellsAtom, SpellsValue, atom, plus, a_number, SpellsCond, both, or, SpellsBoth, unit, and, SpellsUnit, not, brackets, test, comparison, in_range, is_balanced, has_shape, has_pattern}
-use Rattle.cond_lang.specs.internal.Reading.{got, after, closing, open_seat, seat_and_items, relation, range, atom_of, compared_by, related_by, comparing_by, sums_by, a_value, sums, Of, Readers, Goal, a_cond, a_both, a_unit, ors, ands, unit_by, ors_by, ands_by, step, steps}
-use Rattle.cond_lang.proofs.Sequences.{Reads, HasSome, reads_after, reads_token, gets_at, gets_at_end, reads_like, like_at, like_at_end}
-use Rattle.cond_lang.proofs.Terminals.{gets, reads_then, reads_closing, reads_open_seat, AreSeatAndItems, reads_seat_and_items, reads_relation, reads_range, reads_atom}
+use Rattle.cond_lang.specs.declared.scanner.Token.TheVariants.{Or, And, Not, Balanced, Shape, Pattern, Quantifier, Stops, In, Seat, Class, Number, Dash, Open, Close, Plus, Relation}
+use Rattle.conditions.specs.Form.{Amount, sum, number, Form, any_of, all_of, negation, compare, within, balanced, shaped, patterned, stops}
+use Rattle.cond_lang.specs.Classes.{bind, can_bind}
+use Rattle.cond_lang.specs.Grammar.{SpellsAtom, SpellsValue, atom, plus, a_number, SpellsCond, both, or, SpellsBoth, unit, and, SpellsUnit, not, brackets, quantified, test, comparison, in_range, is_balanced, has_shape, has_pattern, has_stopper}
+use Rattle.cond_lang.specs.internal.Reading.{got, stuck, after, opened, closing, can_quantify, class, open_seat, seat_and_items, seat_and_suit, relation, range, atom_of, compared_by, related_by, comparing_by, sums_by, a_value, sums, Of, Readers, Goal, a_cond, a_both, a_unit, ors, ands, bracketed_by, unit_by, ors_by, ands_by, step, steps}
+use Rattle.cond_lang.proofs.Scopes.{SameScope, some_bindable}
+use Rattle.cond_lang.proofs.Sequences.{Reads, HasSome, reads_after, reads_token, gets_at, gets_at_end, stops_at, reads_like, like_at, like_at_end}
+use Rattle.cond_lang.proofs.Terminals.{gets, reads_then, reads_closing, reads_opened, reads_open_seat, AreSeatAndItems, reads_seat_and_items, AreSeatAndSuit, reads_seat_and_suit, IsBindable, reads_class, reads_relation, reads_range, reads_atom}
+use Rattle.cond_lang.proofs.Shapes.{shape, conds_alike}
+use Rattle.cond_lang.proofs.Quantified.{AreEach, each_spelled, each_reader, reads_each}
 
 -- what a goal's tokens mean: behind the first part of a chain, what they make of it
-abbrev pub Means : (g : Goal) → List Token → Of g → Type 0
-Means a_cond P t = SpellsCond P t
-Means a_both P t = SpellsBoth P t
-Means a_unit P t = SpellsUnit P t
-Means (ors a) P t = (L : List Token) → SpellsCond L a → SpellsCond (L ++ P) t
-Means (ands a) P t = (L : List Token) → SpellsBoth L a → SpellsBoth (L ++ P) t
-Means a_value P t = SpellsValue P t
-Means (sums a) P t = (L : List Token) → SpellsValue L a → SpellsValue (L ++ P) t
+abbrev pub Means : Bound → (g : Goal) → List Token → Of g → Type 0
+Means E a_cond P t = SpellsCond E P t
+Means E a_both P t = SpellsBoth E P t
+Means E a_unit P t = SpellsUnit E P t
+Means E (ors a) P t = (L : List Token) → SpellsCond E L a → SpellsCond E (L ++ P) t
+Means E (ands a) P t = (L : List Token) → SpellsBoth E L a → SpellsBoth E (L ++ P) t
+Means E a_value P t = SpellsValue E P t
+Means E (sums a) P t = (L : List Token) → SpellsValue E L a → SpellsValue E (L ++ P) t
 
 sample : List Token
 sample = Number 0 ∷ Relation Equal ∷ Number 0 ∷ []
@@ -27,130 +36,180 @@ sample = Number 0 ∷ Relation Equal ∷ Number 0 ∷ []
 sampled : Form
 sampled = compare (number 0) Equal (number 0)
 
-sample_unit : SpellsUnit sample sampled
+sample_unit : (E : Bound) → SpellsUnit E sample sampled
 unfolding sample sampled
-sample_unit = test (comparison {L = Number 0 ∷ []} {R = Number 0 ∷ []} (atom a_number) (atom a_number))
+sample_unit E = test (comparison {L = Number 0 ∷ []} {R = Number 0 ∷ []} (atom a_number) (atom a_number))
 
-ends_cond : (a : Form) → Means (ors a) [] a
-ends_cond a = λ L h. subst (λ L. SpellsCond L a) (sym (append-nil L)) h
+ends_cond : (E : Bound) (a : Form) → Means E (ors a) [] a
+ends_cond E a = λ L h. subst (λ L. SpellsCond E L a) (sym (append-nil L)) h
 
-ends_both : (a : Form) → Means (ands a) [] a
-ends_both a = λ L h. subst (λ L. SpellsBoth L a) (sym (append-nil L)) h
+ends_both : (E : Bound) (a : Form) → Means E (ands a) [] a
+ends_both E a = λ L h. subst (λ L. SpellsBoth E L a) (sym (append-nil L)) h
 
-ends_value : (a : Amount) → Means (sums a) [] a
-ends_value a = λ L h. subst (λ L. SpellsValue L a) (sym (append-nil L)) h
+ends_value : (E : Bound) (a : Amount) → Means E (sums a) [] a
+ends_value E a = λ L h. subst (λ L. SpellsValue E L a) (sym (append-nil L)) h
 
-pub has_some : (g : Goal) → HasSome (Means g)
-has_some a_cond = (sample, sampled, both (unit sample_unit))
-has_some a_both = (sample, sampled, unit sample_unit)
-has_some a_unit = (sample, sampled, sample_unit)
-has_some (ors a) = ([], a, ends_cond a)
-has_some (ands a) = ([], a, ends_both a)
-has_some a_value = (Number 0 ∷ [], number 0, atom a_number)
-has_some (sums a) = ([], a, ends_value a)
+pub has_some : (E : Bound) (g : Goal) → HasSome (Means E g)
+has_some E a_cond = (sample, sampled, both (unit (sample_unit E)))
+has_some E a_both = (sample, sampled, unit (sample_unit E))
+has_some E a_unit = (sample, sampled, sample_unit E)
+has_some E (ors a) = ([], a, ends_cond E a)
+has_some E (ands a) = ([], a, ends_both E a)
+has_some E a_value = (Number 0 ∷ [], number 0, atom a_number)
+has_some E (sums a) = ([], a, ends_value E a)
 
-joined_shape : (P Q : List Token) (p : ASeat × List Item) (t : Form) → AreSeatAndItems P p → (Q ≡ []) × (t ≡ shaped p.0 p.1) → SpellsUnit (Shape ∷ P ++ Q) t
-joined_shape P Q p t (a, b, c, d, e, i) m = rw (m.0, m.1, append-nil P, i, e) (test (has_shape a b c d))
+joined_shape : (E : Bound) (P Q : List Token) (p : ASeat × List Item) (t : Form) → AreSeatAndItems P p → (Q ≡ []) × (t ≡ shaped p.0 p.1) → SpellsUnit E (Shape ∷ P ++ Q) t
+joined_shape E P Q p t (a, b, c, d, e, i) m = rw (m.0, m.1, append-nil P, i, e) (test (has_shape a b c d))
 
-joined_pattern : (P Q : List Token) (p : ASeat × List Item) (t : Form) → AreSeatAndItems P p → (Q ≡ []) × (t ≡ patterned p.0 p.1) → SpellsUnit (Pattern ∷ P ++ Q) t
-joined_pattern P Q p t (a, b, c, d, e, i) m = rw (m.0, m.1, append-nil P, i, e) (test (has_pattern a b c d))
+joined_pattern : (E : Bound) (P Q : List Token) (p : ASeat × List Item) (t : Form) → AreSeatAndItems P p → (Q ≡ []) × (t ≡ patterned p.0 p.1) → SpellsUnit E (Pattern ∷ P ++ Q) t
+joined_pattern E P Q p t (a, b, c, d, e, i) m = rw (m.0, m.1, append-nil P, i, e) (test (has_pattern a b c d))
+
+joined_stops : (E : Bound) (P Q : List Token) (p : ASeat × ASuit) (t : Form) → AreSeatAndSuit E P p → (Q ≡ []) × (t ≡ stops p.0 p.1) → SpellsUnit E (Stops ∷ P ++ Q) t
+joined_stops E P Q p t h m = rw (m.0, m.1, h.2) (test (has_stopper tt h.1))
 
 -- what a value is compared with: tokens behind those that spell it
-abbrev Relates : Amount → List Token → Form → Type 0
-Relates a P t = (L : List Token) → SpellsValue L a → SpellsUnit (L ++ P) t
+abbrev Relates : Bound → Amount → List Token → Form → Type 0
+Relates E a P t = (L : List Token) → SpellsValue E L a → SpellsUnit E (L ++ P) t
 
-module _ (r : Readers) (k : (g : Goal) (S : List Token) → Reads (Means g) (r g) S (r g S)) where
-  compared : (a : Amount) (S : List Token) → Reads (Relates a) (compared_by r a) S (compared_by r a S)
+module _ (r : Readers) (k : (E : Bound) (g : Goal) (S : List Token) → Reads (Means E g) (r E g) S (r E g S))
+    (alike : (E F : Bound) → SameScope E F → (S : List Token) → shape (r E a_cond S) ≡ shape (r F a_cond S)) (E : Bound) where
+  compared : (a : Amount) (S : List Token) → Reads (Relates E a) (compared_by r E a) S (compared_by r E a S)
   compared a S =
-      reads_then (λ o. Relation o ∷ []) (Relates a) relation _ S (relation S)
+      reads_then (λ o. Relation o ∷ []) (Relates E a) relation _ S (relation S)
       (λ o. (Number 0 ∷ [], compare a o (number 0), λ L h. test (comparison h (atom a_number)))) (reads_relation S)
-      (λ o S. reads_after SpellsValue (λ b P t. (P ≡ []) × (t ≡ compare a o b)) (λ P. Relates a (Relation o ∷ P)) (r a_value) _ S (r a_value S)
+      (λ o S. reads_after (SpellsValue E) (λ b P t. (P ≡ []) × (t ≡ compare a o b)) (λ P. Relates E a (Relation o ∷ P)) (r E a_value) _ S (r E a_value S)
       (λ P Q b t h m. λ L l. rw (m.0, m.1, append-nil P) (test (comparison l h)))
-      (λ b. ([], compare a o b, (refl, refl))) (k a_value S)
+      (λ b. ([], compare a o b, (refl, refl))) (k E a_value S)
       (λ b S. gets _ (compare a o b) S (refl, refl)))
 
-  related : (a : Amount) (S : List Token) → Reads (Relates a) (related_by r a) S (related_by r a S)
-  related a [] = reads_like (Relates a) (compared_by r a) (related_by r a) [] _ (like_at_end (compared_by r a) (related_by r a) refl) (compared a [])
+  related : (a : Amount) (S : List Token) → Reads (Relates E a) (related_by r E a) S (related_by r E a S)
+  related a [] = reads_like (Relates E a) (compared_by r E a) (related_by r E a) [] _ (like_at_end (compared_by r E a) (related_by r E a) refl) (compared a [])
   related a (In ∷ S) =
-      reads_token (λ P. Relates a (In ∷ P)) (Relates a) In (λ S. after (range S) (λ p S. got (within a p.0 p.1) S)) (related_by r a) S _ (λ P x m. m) (λ X. refl)
-      (reads_then (λ p. Number p.0 ∷ Dash ∷ Number p.1 ∷ []) (λ P. Relates a (In ∷ P)) range (λ p S. got (within a p.0 p.1) S) S (range S)
+      reads_token (λ P. Relates E a (In ∷ P)) (Relates E a) In (λ S. after (range S) (λ p S. got (within a p.0 p.1) S)) (related_by r E a) S _ (λ P x m. m) (λ X. refl)
+      (reads_then (λ p. Number p.0 ∷ Dash ∷ Number p.1 ∷ []) (λ P. Relates E a (In ∷ P)) range (λ p S. got (within a p.0 p.1) S) S (range S)
       (λ p. ([], within a p.0 p.1, λ L h. test (in_range h))) (reads_range S) (λ p S. gets _ (within a p.0 p.1) S (λ L h. test (in_range h))))
-  related a (c ∷ S) = reads_like (Relates a) (compared_by r a) (related_by r a) (c ∷ S) _ (like_at (compared_by r a) (related_by r a) c S (λ X. refl)) (compared a (c ∷ S))
+  related a (c ∷ S) = reads_like (Relates E a) (compared_by r E a) (related_by r E a) (c ∷ S) _ (like_at (compared_by r E a) (related_by r E a) c S (λ X. refl)) (compared a (c ∷ S))
 
-  compares : (S : List Token) → Reads SpellsUnit (comparing_by r) S (comparing_by r S)
+  compares : (S : List Token) → Reads (SpellsUnit E) (comparing_by r E) S (comparing_by r E S)
   compares S =
-      reads_after SpellsValue Relates SpellsUnit (r a_value) (λ a S. related_by r a S) S (r a_value S)
+      reads_after (SpellsValue E) (Relates E) (SpellsUnit E) (r E a_value) (λ a S. related_by r E a S) S (r E a_value S)
       (λ P Q a t h m. m P h)
-      (λ a. (Relation Equal ∷ Number 0 ∷ [], compare a Equal (number 0), λ L h. test (comparison h (atom a_number)))) (k a_value S)
+      (λ a. (Relation Equal ∷ Number 0 ∷ [], compare a Equal (number 0), λ L h. test (comparison h (atom a_number)))) (k E a_value S)
       related
 
-  sums_reads : (a : Amount) (S : List Token) → Reads (Means (sums a)) (sums_by r a) S (sums_by r a S)
-  sums_reads a [] = gets_at_end (Means (sums a)) (sums_by r a) a (ends_value a) refl
+  sums_reads : (a : Amount) (S : List Token) → Reads (Means E (sums a)) (sums_by r E a) S (sums_by r E a S)
+  sums_reads a [] = gets_at_end (Means E (sums a)) (sums_by r E a) a (ends_value E a) refl
   sums_reads a (Plus ∷ S) =
-      reads_token (λ P. Means (sums a) (Plus ∷ P)) (Means (sums a)) Plus (λ S. after (atom_of S) (λ b R. r (sums (sum a b)) R)) (sums_by r a) S _ (λ P x m. m) (λ X. refl)
-      (reads_after SpellsAtom (λ b. Means (sums (sum a b))) (λ P. Means (sums a) (Plus ∷ P)) atom_of (λ b R. r (sums (sum a b)) R) S (atom_of S)
-      (λ P Q b t h m. λ L l. subst (λ L. SpellsValue L t) (append_assoc L (Plus ∷ P) Q) (m (L ++ Plus ∷ P) (plus l h)))
-      (λ b. has_some (sums (sum a b))) (reads_atom S) (λ b R. k (sums (sum a b)) R))
-  sums_reads a (c ∷ S) = gets_at (Means (sums a)) c (sums_by r a) S a (ends_value a) (λ X. refl)
+      reads_token (λ P. Means E (sums a) (Plus ∷ P)) (Means E (sums a)) Plus (λ S. after (atom_of E S) (λ b R. r E (sums (sum a b)) R)) (sums_by r E a) S _ (λ P x m. m) (λ X. refl)
+      (reads_after (SpellsAtom E) (λ b. Means E (sums (sum a b))) (λ P. Means E (sums a) (Plus ∷ P)) (atom_of E) (λ b R. r E (sums (sum a b)) R) S (atom_of E S)
+      (λ P Q b t h m. λ L l. subst (λ L. SpellsValue E L t) (append_assoc L (Plus ∷ P) Q) (m (L ++ Plus ∷ P) (plus l h)))
+      (λ b. has_some E (sums (sum a b))) (reads_atom E S) (λ b R. k E (sums (sum a b)) R))
+  sums_reads a (c ∷ S) = gets_at (Means E (sums a)) c (sums_by r E a) S a (ends_value E a) (λ X. refl)
 
-  unit_reads : (S : List Token) → Reads SpellsUnit (unit_by r) S (unit_by r S)
+  -- ---- quantifiers
+
+  -- ( cond ) behind a class that can be bound
+  abbrev Brackets : AQuantifier → AClass → List Token → Form → Type 0
+  Brackets j c Q t = can_bind E c ≡ true → SpellsUnit E (Quantifier j ∷ Class c ∷ Q) t
+
+  joined_each : (j : AQuantifier) (c : AClass) (P Q : List Token) (t u : Form) → AreEach E j c P t → (Q ≡ Close ∷ []) × (u ≡ t) → Brackets j c (Open ∷ P ++ Q) u
+  joined_each j c P Q t u h m = rw (m.0, m.1, h.3) (λ b. quantified tt b h.2)
+
+  brackets_read : (j : AQuantifier) (c : AClass) (S : List Token) → Reads (Brackets j c) (bracketed_by r E j c) S (bracketed_by r E j c S)
+  brackets_read j c S =
+      let some = each_spelled E j c Spades sample sampled (both (unit (sample_unit (bind E c Spades)))) in
+      reads_then (λ _. Open ∷ []) (Brackets j c) opened (λ _ S. after (each_reader r E j c S) closing) S (opened S)
+      (λ _. (sample ++ Close ∷ [], some.0, joined_each j c sample (Close ∷ []) some.0 some.0 some.1 (refl, refl))) (reads_opened S)
+      (λ _ S. reads_after (AreEach E j c) (λ t Q u. (Q ≡ Close ∷ []) × (u ≡ t)) (λ Q. Brackets j c (Open ∷ Q)) (each_reader r E j c) closing S (each_reader r E j c S)
+      (joined_each j c) (λ t. (Close ∷ [], t, (refl, refl))) (reads_each r (λ E S. k E a_cond S) alike E j c S) (λ t R. reads_closing _ t R (refl, refl)))
+
+  -- class ( cond ) behind a quantifier
+  abbrev Quantifies : AQuantifier → List Token → Form → Type 0
+  Quantifies j Q t = SpellsUnit E (Quantifier j ∷ Q) t
+
+  class_reads : (j : AQuantifier) (S : List Token) → can_quantify E ≡ true
+      → Reads (Quantifies j) (λ S. after (class E S) (λ c S. bracketed_by r E j c S)) S (after (class E S) (λ c S. bracketed_by r E j c S))
+  class_reads j S e =
+      reads_after (IsBindable E) (Brackets j) (Quantifies j) (class E) (bracketed_by r E j) S (class E S)
+      (λ P Q c t h m. subst (λ P. SpellsUnit E (Quantifier j ∷ P ++ Q) t) (sym h.0) (m h.1))
+      (λ c.
+      let some = each_spelled E j c Spades sample sampled (both (unit (sample_unit (bind E c Spades)))) in
+      (Open ∷ sample ++ Close ∷ [], some.0, joined_each j c sample (Close ∷ []) some.0 some.0 some.1 (refl, refl)))
+      (reads_class E (some_bindable E e) S) (λ c R. brackets_read j c R)
+
+  quantified_reads :
+      (j : AQuantifier) (S : List Token) (b : Bool) → can_quantify E ≡ b
+      → Reads (SpellsUnit E) (unit_by r E) (Quantifier j ∷ S) (after (cond b (got j S) (stuck (Quantifier j ∷ S))) (λ k S. after (class E S) (λ c S. bracketed_by r E k c S)))
+  quantified_reads j S true e =
+      reads_token (Quantifies j) (SpellsUnit E) (Quantifier j) (λ S. after (class E S) (λ c S. bracketed_by r E j c S)) (unit_by r E) S _ (λ P x m. m)
+      (λ X. ap (λ b. after (cond b (got j X) (stuck (Quantifier j ∷ X))) (λ k S. after (class E S) (λ c S. bracketed_by r E k c S))) e) (class_reads j S e)
+  quantified_reads j S false e =
+      stops_at _ (Quantifier j) (unit_by r E) S (sample, sampled, sample_unit E)
+      (λ X. ap (λ b. after (cond b (got j X) (stuck (Quantifier j ∷ X))) (λ k S. after (class E S) (λ c S. bracketed_by r E k c S))) e)
+
+  unit_reads : (S : List Token) → Reads (SpellsUnit E) (unit_by r E) S (unit_by r E S)
   unit_reads (Not ∷ S) =
-      reads_token (λ P. SpellsUnit (Not ∷ P)) SpellsUnit Not (λ S. after (r a_unit S) (λ t R. got (negation t) R)) (unit_by r) S _ (λ P x m. m) (λ X. refl)
-      (reads_after SpellsUnit (λ a P t. (P ≡ []) × (t ≡ negation a)) (λ P. SpellsUnit (Not ∷ P)) (r a_unit) (λ t R. got (negation t) R) S (r a_unit S)
-      (λ P Q a t h m. rw (m.0, m.1, append-nil P) (not h)) (λ a. ([], negation a, (refl, refl))) (k a_unit S) (λ a R. gets _ (negation a) R (refl, refl)))
+      reads_token (λ P. SpellsUnit E (Not ∷ P)) (SpellsUnit E) Not (λ S. after (r E a_unit S) (λ t R. got (negation t) R)) (unit_by r E) S _ (λ P x m. m) (λ X. refl)
+      (reads_after (SpellsUnit E) (λ a P t. (P ≡ []) × (t ≡ negation a)) (λ P. SpellsUnit E (Not ∷ P)) (r E a_unit) (λ t R. got (negation t) R) S (r E a_unit S)
+      (λ P Q a t h m. rw (m.0, m.1, append-nil P) (not h)) (λ a. ([], negation a, (refl, refl))) (k E a_unit S) (λ a R. gets _ (negation a) R (refl, refl)))
   unit_reads (Open ∷ S) =
-      reads_token (λ P. SpellsUnit (Open ∷ P)) SpellsUnit Open (λ S. after (r a_cond S) closing) (unit_by r) S _ (λ P x m. m) (λ X. refl)
-      (reads_after SpellsCond (λ a P t. (P ≡ Close ∷ []) × (t ≡ a)) (λ P. SpellsUnit (Open ∷ P)) (r a_cond) closing S (r a_cond S)
-      (λ P Q a t h m. rw (m.0, m.1) (brackets h)) (λ a. (Close ∷ [], a, (refl, refl))) (k a_cond S) (λ a R. reads_closing _ a R (refl, refl)))
+      reads_token (λ P. SpellsUnit E (Open ∷ P)) (SpellsUnit E) Open (λ S. after (r E a_cond S) closing) (unit_by r E) S _ (λ P x m. m) (λ X. refl)
+      (reads_after (SpellsCond E) (λ a P t. (P ≡ Close ∷ []) × (t ≡ a)) (λ P. SpellsUnit E (Open ∷ P)) (r E a_cond) closing S (r E a_cond S)
+      (λ P Q a t h m. rw (m.0, m.1) (brackets h)) (λ a. (Close ∷ [], a, (refl, refl))) (k E a_cond S) (λ a R. reads_closing _ a R (refl, refl)))
   unit_reads (Balanced ∷ S) =
-      reads_token (λ P. SpellsUnit (Balanced ∷ P)) SpellsUnit Balanced (λ S. after (open_seat S) (λ q R. closing (balanced q) R)) (unit_by r) S _ (λ P x m. m) (λ X. refl)
-      (reads_then (λ q. Open ∷ Seat q ∷ []) (λ P. SpellsUnit (Balanced ∷ P)) open_seat (λ q R. closing (balanced q) R) S (open_seat S)
+      reads_token (λ P. SpellsUnit E (Balanced ∷ P)) (SpellsUnit E) Balanced (λ S. after (open_seat S) (λ q R. closing (balanced q) R)) (unit_by r E) S _ (λ P x m. m) (λ X. refl)
+      (reads_then (λ q. Open ∷ Seat q ∷ []) (λ P. SpellsUnit E (Balanced ∷ P)) open_seat (λ q R. closing (balanced q) R) S (open_seat S)
       (λ q. (Close ∷ [], balanced q, test is_balanced)) (reads_open_seat S) (λ q R. reads_closing _ (balanced q) R (test is_balanced)))
   unit_reads (Shape ∷ S) =
-      reads_token (λ P. SpellsUnit (Shape ∷ P)) SpellsUnit Shape (λ S. after (seat_and_items S) (λ p R. got (shaped p.0 p.1) R)) (unit_by r) S _ (λ P x m. m) (λ X. refl)
-      (reads_after AreSeatAndItems (λ p Q t. (Q ≡ []) × (t ≡ shaped p.0 p.1)) (λ P. SpellsUnit (Shape ∷ P)) seat_and_items (λ p R. got (shaped p.0 p.1) R) S (seat_and_items S)
-      joined_shape (λ p. ([], shaped p.0 p.1, (refl, refl))) (reads_seat_and_items S) (λ p R. gets _ (shaped p.0 p.1) R (refl, refl)))
+      reads_token (λ P. SpellsUnit E (Shape ∷ P)) (SpellsUnit E) Shape (λ S. after (seat_and_items S) (λ p R. got (shaped p.0 p.1) R)) (unit_by r E) S _ (λ P x m. m) (λ X. refl)
+      (reads_after AreSeatAndItems (λ p Q t. (Q ≡ []) × (t ≡ shaped p.0 p.1)) (λ P. SpellsUnit E (Shape ∷ P)) seat_and_items (λ p R. got (shaped p.0 p.1) R) S (seat_and_items S)
+      (joined_shape E) (λ p. ([], shaped p.0 p.1, (refl, refl))) (reads_seat_and_items S) (λ p R. gets _ (shaped p.0 p.1) R (refl, refl)))
   unit_reads (Pattern ∷ S) =
-      reads_token (λ P. SpellsUnit (Pattern ∷ P)) SpellsUnit Pattern (λ S. after (seat_and_items S) (λ p R. got (patterned p.0 p.1) R)) (unit_by r) S _ (λ P x m. m) (λ X. refl)
-      (reads_after AreSeatAndItems (λ p Q t. (Q ≡ []) × (t ≡ patterned p.0 p.1)) (λ P. SpellsUnit (Pattern ∷ P)) seat_and_items (λ p R. got (patterned p.0 p.1) R) S (seat_and_items S)
-      joined_pattern (λ p. ([], patterned p.0 p.1, (refl, refl))) (reads_seat_and_items S) (λ p R. gets _ (patterned p.0 p.1) R (refl, refl)))
-  unit_reads [] = reads_like SpellsUnit (comparing_by r) (unit_by r) [] _ (like_at_end (comparing_by r) (unit_by r) refl) (compares [])
-  unit_reads (c ∷ S) = reads_like SpellsUnit (comparing_by r) (unit_by r) (c ∷ S) _ (like_at (comparing_by r) (unit_by r) c S (λ X. refl)) (compares (c ∷ S))
+      reads_token (λ P. SpellsUnit E (Pattern ∷ P)) (SpellsUnit E) Pattern (λ S. after (seat_and_items S) (λ p R. got (patterned p.0 p.1) R)) (unit_by r E) S _ (λ P x m. m) (λ X. refl)
+      (reads_after AreSeatAndItems (λ p Q t. (Q ≡ []) × (t ≡ patterned p.0 p.1)) (λ P. SpellsUnit E (Pattern ∷ P)) seat_and_items (λ p R. got (patterned p.0 p.1) R) S (seat_and_items S)
+      (joined_pattern E) (λ p. ([], patterned p.0 p.1, (refl, refl))) (reads_seat_and_items S) (λ p R. gets _ (patterned p.0 p.1) R (refl, refl)))
+  unit_reads (Quantifier j ∷ S) = quantified_reads j S (can_quantify E) refl
+  unit_reads (Stops ∷ S) =
+      reads_token (λ P. SpellsUnit E (Stops ∷ P)) (SpellsUnit E) Stops (λ S. after (seat_and_suit E S) (λ p R. got (stops p.0 p.1) R)) (unit_by r E) S _ (λ P x m. m) (λ X. refl)
+      (reads_after (AreSeatAndSuit E) (λ p Q t. (Q ≡ []) × (t ≡ stops p.0 p.1)) (λ P. SpellsUnit E (Stops ∷ P)) (seat_and_suit E) (λ p R. got (stops p.0 p.1) R) S (seat_and_suit E S)
+      (joined_stops E) (λ p. ([], stops p.0 p.1, (refl, refl))) (reads_seat_and_suit E S) (λ p R. gets _ (stops p.0 p.1) R (refl, refl)))
+  unit_reads [] = reads_like (SpellsUnit E) (comparing_by r E) (unit_by r E) [] _ (like_at_end (comparing_by r E) (unit_by r E) refl) (compares [])
+  unit_reads (c ∷ S) = reads_like (SpellsUnit E) (comparing_by r E) (unit_by r E) (c ∷ S) _ (like_at (comparing_by r E) (unit_by r E) c S (λ X. refl)) (compares (c ∷ S))
 
-  ors_reads : (a : Form) (S : List Token) → Reads (Means (ors a)) (ors_by r a) S (ors_by r a S)
-  ors_reads a [] = gets_at_end (Means (ors a)) (ors_by r a) a (ends_cond a) refl
+  ors_reads : (a : Form) (S : List Token) → Reads (Means E (ors a)) (ors_by r E a) S (ors_by r E a S)
+  ors_reads a [] = gets_at_end (Means E (ors a)) (ors_by r E a) a (ends_cond E a) refl
   ors_reads a (Or ∷ S) =
-      reads_token (λ P. Means (ors a) (Or ∷ P)) (Means (ors a)) Or (λ S. after (r a_both S) (λ b R. r (ors (any_of a b)) R)) (ors_by r a) S _ (λ P x m. m) (λ X. refl)
-      (reads_after SpellsBoth (λ b. Means (ors (any_of a b))) (λ P. Means (ors a) (Or ∷ P)) (r a_both) (λ b R. r (ors (any_of a b)) R) S (r a_both S)
-      (λ P Q b t h m. λ L l. subst (λ L. SpellsCond L t) (append_assoc L (Or ∷ P) Q) (m (L ++ Or ∷ P) (or l h)))
-      (λ b. has_some (ors (any_of a b))) (k a_both S) (λ b R. k (ors (any_of a b)) R))
-  ors_reads a (c ∷ S) = gets_at (Means (ors a)) c (ors_by r a) S a (ends_cond a) (λ X. refl)
+      reads_token (λ P. Means E (ors a) (Or ∷ P)) (Means E (ors a)) Or (λ S. after (r E a_both S) (λ b R. r E (ors (any_of a b)) R)) (ors_by r E a) S _ (λ P x m. m) (λ X. refl)
+      (reads_after (SpellsBoth E) (λ b. Means E (ors (any_of a b))) (λ P. Means E (ors a) (Or ∷ P)) (r E a_both) (λ b R. r E (ors (any_of a b)) R) S (r E a_both S)
+      (λ P Q b t h m. λ L l. subst (λ L. SpellsCond E L t) (append_assoc L (Or ∷ P) Q) (m (L ++ Or ∷ P) (or l h)))
+      (λ b. has_some E (ors (any_of a b))) (k E a_both S) (λ b R. k E (ors (any_of a b)) R))
+  ors_reads a (c ∷ S) = gets_at (Means E (ors a)) c (ors_by r E a) S a (ends_cond E a) (λ X. refl)
 
-  ands_reads : (a : Form) (S : List Token) → Reads (Means (ands a)) (ands_by r a) S (ands_by r a S)
-  ands_reads a [] = gets_at_end (Means (ands a)) (ands_by r a) a (ends_both a) refl
+  ands_reads : (a : Form) (S : List Token) → Reads (Means E (ands a)) (ands_by r E a) S (ands_by r E a S)
+  ands_reads a [] = gets_at_end (Means E (ands a)) (ands_by r E a) a (ends_both E a) refl
   ands_reads a (And ∷ S) =
-      reads_token (λ P. Means (ands a) (And ∷ P)) (Means (ands a)) And (λ S. after (r a_unit S) (λ b R. r (ands (all_of a b)) R)) (ands_by r a) S _ (λ P x m. m) (λ X. refl)
-      (reads_after SpellsUnit (λ b. Means (ands (all_of a b))) (λ P. Means (ands a) (And ∷ P)) (r a_unit) (λ b R. r (ands (all_of a b)) R) S (r a_unit S)
-      (λ P Q b t h m. λ L l. subst (λ L. SpellsBoth L t) (append_assoc L (And ∷ P) Q) (m (L ++ And ∷ P) (and l h)))
-      (λ b. has_some (ands (all_of a b))) (k a_unit S) (λ b R. k (ands (all_of a b)) R))
-  ands_reads a (c ∷ S) = gets_at (Means (ands a)) c (ands_by r a) S a (ends_both a) (λ X. refl)
+      reads_token (λ P. Means E (ands a) (And ∷ P)) (Means E (ands a)) And (λ S. after (r E a_unit S) (λ b R. r E (ands (all_of a b)) R)) (ands_by r E a) S _ (λ P x m. m) (λ X. refl)
+      (reads_after (SpellsUnit E) (λ b. Means E (ands (all_of a b))) (λ P. Means E (ands a) (And ∷ P)) (r E a_unit) (λ b R. r E (ands (all_of a b)) R) S (r E a_unit S)
+      (λ P Q b t h m. λ L l. subst (λ L. SpellsBoth E L t) (append_assoc L (And ∷ P) Q) (m (L ++ And ∷ P) (and l h)))
+      (λ b. has_some E (ands (all_of a b))) (k E a_unit S) (λ b R. k E (ands (all_of a b)) R))
+  ands_reads a (c ∷ S) = gets_at (Means E (ands a)) c (ands_by r E a) S a (ends_both E a) (λ X. refl)
 
-  step_reads : (g : Goal) (S : List Token) → Reads (Means g) (step r g) S (step r g S)
+  step_reads : (g : Goal) (S : List Token) → Reads (Means E g) (step r E g) S (step r E g S)
   step_reads a_cond S =
-      reads_after SpellsBoth (λ a. Means (ors a)) SpellsCond (r a_both) (λ a R. r (ors a) R) S (r a_both S)
-      (λ P Q a t h m. m P (both h)) (λ a. has_some (ors a)) (k a_both S) (λ a R. k (ors a) R)
+      reads_after (SpellsBoth E) (λ a. Means E (ors a)) (SpellsCond E) (r E a_both) (λ a R. r E (ors a) R) S (r E a_both S)
+      (λ P Q a t h m. m P (both h)) (λ a. has_some E (ors a)) (k E a_both S) (λ a R. k E (ors a) R)
   step_reads a_both S =
-      reads_after SpellsUnit (λ a. Means (ands a)) SpellsBoth (r a_unit) (λ a R. r (ands a) R) S (r a_unit S)
-      (λ P Q a t h m. m P (unit h)) (λ a. has_some (ands a)) (k a_unit S) (λ a R. k (ands a) R)
+      reads_after (SpellsUnit E) (λ a. Means E (ands a)) (SpellsBoth E) (r E a_unit) (λ a R. r E (ands a) R) S (r E a_unit S)
+      (λ P Q a t h m. m P (unit h)) (λ a. has_some E (ands a)) (k E a_unit S) (λ a R. k E (ands a) R)
   step_reads a_unit S = unit_reads S
   step_reads (ors a) S = ors_reads a S
   step_reads (ands a) S = ands_reads a S
   step_reads a_value S =
-      reads_after SpellsAtom (λ a. Means (sums a)) SpellsValue atom_of (λ a R. r (sums a) R) S (atom_of S)
-      (λ P Q a t h m. m P (atom h)) (λ a. has_some (sums a)) (reads_atom S) (λ a R. k (sums a) R)
+      reads_after (SpellsAtom E) (λ a. Means E (sums a)) (SpellsValue E) (atom_of E) (λ a R. r E (sums a) R) S (atom_of E S)
+      (λ P Q a t h m. m P (atom h)) (λ a. has_some E (sums a)) (reads_atom E S) (λ a R. k E (sums a) R)
   step_reads (sums a) S = sums_reads a S
 
-pub steps_reads : (n : ℕ) (g : Goal) (S : List Token) → Reads (Means g) (steps n g) S (steps n g S)
+pub steps_reads : (n : ℕ) (E : Bound) (g : Goal) (S : List Token) → Reads (Means E g) (steps n E g) S (steps n E g S)
 unfolding steps
-steps_reads zero g S = record { done = []; cut = refl; same = λ X i. refl; right = has_some g }
-steps_reads (suc n) g S = step_reads (steps n) (steps_reads n) g S
+steps_reads zero E g S = record { done = []; cut = refl; same = λ X i. refl; right = has_some E g }
+steps_reads (suc n) E g S = step_reads (steps n) (steps_reads n) (conds_alike n) E g S

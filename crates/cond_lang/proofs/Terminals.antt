@@ -1,18 +1,22 @@
 -- The readers that don't lead back to a condition.
-use Rattle.std.proofs.Common.{◌≡◌, false, List, [], ◌∷◌, ◌++◌, refl, sym, ap, ◌∙◌, subst}
+use Rattle.std.proofs.Common.{◌≡◌, Bool, true, false, cond, List, [], ◌∷◌, ◌++◌, Option, Some, None, refl, sym, ap, ◌∙◌, subst}
 use Rattle.cards.specs.declared.honours.Honours.{Honours}
 use Rattle.cards.specs.declared.hand.Measure.{Measure as AMeasure}
 use Rattle.cards.specs.declared.seat.Seat.{Seat as ASeat}
 use Rattle.cards.specs.declared.seat.Seat.TheVariants.{North}
+use Rattle.cards.specs.declared.suit.Suit.{Suit as ASuit}
 use Rattle.cards.specs.declared.suit.Suit.TheVariants.{Spades}
+use Rattle.cond_lang.specs.declared.classes.Bound.{Bound}
+use Rattle.cond_lang.specs.declared.classes.Class.{Class as AClass}
 use Rattle.conditions.specs.declared.tree.Item.{Item}
 use Rattle.conditions.specs.declared.tree.Item.TheVariants.{Length, Any}
 use Rattle.conditions.specs.declared.tree.Op.TheVariants.{Equal}
 use Rattle.cond_lang.specs.declared.scanner.Token.{Token}
-use Rattle.cond_lang.specs.declared.scanner.Token.TheVariants.{Measure, Cards, Len, Longest, Shortest, X, Seat, Suit, Ranks, Number, Open, Close, Comma, Dash, Relation}
-use Rattle.conditions.specs.Form.{Amount, number, measured, suit_measured, cards_held, suit_cards_held, suit_length, longest, shortest}
-use Rattle.cond_lang.specs.Grammar.{SpellsAtom, a_number, measure, measure_in, len, cards, cards_in, longest_suit, shortest_suit, item_token, four}
-use Rattle.cond_lang.specs.internal.Reading.{Outcome, got, Reader, after, opened, closed, comma, dash, seat, suit, digits, ranks, item, relation, closing, comma_suit_close, rest_of_measure, ranks_close, comma_ranks_close, rest_of_cards, open_seat, seat_in_brackets, open_seat_comma, range, atom_of, items, seat_and_items}
+use Rattle.cond_lang.specs.declared.scanner.Token.TheVariants.{Measure, Cards, Len, Longest, Second, Shortest, X, Seat, Suit, Class, Ranks, Number, Open, Close, Comma, Dash, Relation}
+use Rattle.conditions.specs.Form.{Amount, number, measured, suit_measured, cards_held, suit_cards_held, suit_length, longest, second, shortest}
+use Rattle.cond_lang.specs.Classes.{bound_to, can_bind, Names, by_suit, by_class}
+use Rattle.cond_lang.specs.Grammar.{SpellsAtom, a_number, measure, measure_in, len, cards, cards_in, longest_suit, second_suit, shortest_suit, item_token, four}
+use Rattle.cond_lang.specs.internal.Reading.{Outcome, got, stuck, Reader, after, opened, closed, comma, dash, seat, suit, class_suit, class, digits, ranks, item, relation, closing, comma_suit_close, rest_of_measure, ranks_close, comma_ranks_close, suit_and_ranks, rest_of_cards, open_seat, seat_in_brackets, seat_and_suit, open_seat_comma, range, atom_of, items, seat_and_items}
 use Rattle.cond_lang.proofs.Sequences.{Reads, HasSome, reads_after, reads_as, reads_token, reads_like, like_at, like_at_end, gets_token, stops_at, stops_at_end}
 
 -- nothing more
@@ -54,10 +58,45 @@ reads_seat [] = stops_at_end _ seat (Seat North ∷ [], North, refl) refl
 reads_seat (Seat q ∷ S) = gets_token _ (Seat q) seat S q refl (λ X. refl)
 reads_seat (c ∷ S) = stops_at _ c seat S (Seat North ∷ [], North, refl) (λ X. refl)
 
-pub reads_suit : (S : List Token) → Reads (λ P s. P ≡ Suit s ∷ []) suit S (suit S)
-reads_suit [] = stops_at_end _ suit (Suit Spades ∷ [], Spades, refl) refl
-reads_suit (Suit s ∷ S) = gets_token _ (Suit s) suit S s refl (λ X. refl)
-reads_suit (c ∷ S) = stops_at _ c suit S (Suit Spades ∷ [], Spades, refl) (λ X. refl)
+-- one token that names the suit
+abbrev pub IsNamed : Bound → List Token → ASuit → Type 0
+IsNamed E P s = (c : Token) × Names E c s × (P ≡ c ∷ [])
+
+some_named : (E : Bound) → HasSome (IsNamed E)
+some_named E = (Suit Spades ∷ [], Spades, (Suit Spades, by_suit, refl))
+
+reads_class_suit : (E : Bound) (c : AClass) (S : List Token) (o : Option ASuit) → bound_to E c ≡ o → Reads (IsNamed E) (suit E) (Class c ∷ S) (class_suit o c S)
+reads_class_suit E c S None e = stops_at _ (Class c) (suit E) S (some_named E) (λ X. ap (λ o. class_suit o c X) e)
+reads_class_suit E c S (Some s) e = gets_token _ (Class c) (suit E) S s (Class c, by_class e, refl) (λ X. ap (λ o. class_suit o c X) e)
+
+pub reads_suit : (E : Bound) (S : List Token) → Reads (IsNamed E) (suit E) S (suit E S)
+reads_suit E [] = stops_at_end _ (suit E) (some_named E) refl
+reads_suit E (Suit s ∷ S) = gets_token _ (Suit s) (suit E) S s (Suit s, by_suit, refl) (λ X. refl)
+reads_suit E (Class c ∷ S) = reads_class_suit E c S (bound_to E c) refl
+reads_suit E (c ∷ S) = stops_at _ c (suit E) S (some_named E) (λ X. refl)
+
+-- a token that names a suit, and then a reader
+reads_named :
+    {B : Type 0} (E : Bound) (K : List Token → B → Type 0) (f : ASuit → Reader B) (S : List Token)
+    → ((s : ASuit) → HasSome (λ Q y. (c : Token) → Names E c s → K (c ∷ Q) y))
+    → ((s : ASuit) (R : List Token) → Reads (λ Q y. (c : Token) → Names E c s → K (c ∷ Q) y) (f s) R (f s R))
+    → Reads K (λ S. after (suit E S) f) S (after (suit E S) f)
+reads_named E K f S some k =
+    reads_after (IsNamed E) (λ s Q y. (c : Token) → Names E c s → K (c ∷ Q) y) K (suit E) f S (suit E S)
+    (λ P Q s y h m. subst (λ P. K (P ++ Q) y) (sym h.2) (m h.0 h.1)) some (reads_suit E S) k
+
+-- a class that can be bound
+abbrev pub IsBindable : Bound → List Token → AClass → Type 0
+IsBindable E P c = (P ≡ Class c ∷ []) × (can_bind E c ≡ true)
+
+reads_this_class : (E : Bound) → HasSome (IsBindable E) → (c : AClass) (S : List Token) (b : Bool) → can_bind E c ≡ b → Reads (IsBindable E) (class E) (Class c ∷ S) (cond b (got c S) (stuck (Class c ∷ S)))
+reads_this_class E some c S true e = gets_token _ (Class c) (class E) S c (refl, e) (λ X. ap (λ b. cond b (got c X) (stuck (Class c ∷ X))) e)
+reads_this_class E some c S false e = stops_at _ (Class c) (class E) S some (λ X. ap (λ b. cond b (got c X) (stuck (Class c ∷ X))) e)
+
+pub reads_class : (E : Bound) → (c : AClass) × (can_bind E c ≡ true) → (S : List Token) → Reads (IsBindable E) (class E) S (class E S)
+reads_class E some [] = stops_at_end _ (class E) (Class some.0 ∷ [], some.0, (refl, some.1)) refl
+reads_class E some (Class c ∷ S) = reads_this_class E (Class some.0 ∷ [], some.0, (refl, some.1)) c S (can_bind E c) refl
+reads_class E some (c ∷ S) = stops_at _ c (class E) S (Class some.0 ∷ [], some.0, (refl, some.1)) (λ X. refl)
 
 pub reads_digits : (S : List Token) → Reads (λ P n. P ≡ Number n ∷ []) digits S (digits S)
 reads_digits [] = stops_at_end _ digits (Number 0 ∷ [], 0, refl) refl
@@ -92,21 +131,39 @@ reads_open_seat S =
     reads_then (λ _. Open ∷ []) (λ P q. P ≡ Open ∷ Seat q ∷ []) opened (λ _ R. seat R) S (opened S) (λ _. (Seat North ∷ [], North, refl)) (reads_opened S)
     (λ _ R. reads_as (λ P q. P ≡ Seat q ∷ []) _ seat seat R (seat R) (λ P q e. ap (λ L. Open ∷ L) e) (λ X. refl) (reads_seat R))
 
-pub reads_rest_of_measure : (m : AMeasure) (q : ASeat) (S : List Token) → Reads (λ Q. SpellsAtom (Measure m ∷ Open ∷ Seat q ∷ Q)) (rest_of_measure m q) S (rest_of_measure m q S)
-reads_rest_of_measure m q [] = stops_at_end _ (rest_of_measure m q) (Close ∷ [], measured m q, measure) refl
-reads_rest_of_measure m q (Close ∷ S) = gets_token _ Close (rest_of_measure m q) S (measured m q) measure (λ X. refl)
-reads_rest_of_measure m q (Comma ∷ S) =
-    reads_token _ _ Comma (λ S. after (suit S) (λ s R. closing (suit_measured m q s) R)) (rest_of_measure m q) S _ (λ P x h. h) (λ X. refl)
-    (reads_then (λ s. Suit s ∷ []) (λ Q. SpellsAtom (Measure m ∷ Open ∷ Seat q ∷ Comma ∷ Q)) suit (λ s R. closing (suit_measured m q s) R) S (suit S)
-    (λ s. (Close ∷ [], suit_measured m q s, measure_in)) (reads_suit S) (λ s R. reads_closing _ (suit_measured m q s) R measure_in))
-reads_rest_of_measure m q (c ∷ S) = stops_at _ c (rest_of_measure m q) S (Close ∷ [], measured m q, measure) (λ X. refl)
+pub reads_rest_of_measure : (E : Bound) (m : AMeasure) (q : ASeat) (S : List Token) → Reads (λ Q. SpellsAtom E (Measure m ∷ Open ∷ Seat q ∷ Q)) (rest_of_measure E m q) S (rest_of_measure E m q S)
+reads_rest_of_measure E m q [] = stops_at_end _ (rest_of_measure E m q) (Close ∷ [], measured m q, measure) refl
+reads_rest_of_measure E m q (Close ∷ S) = gets_token _ Close (rest_of_measure E m q) S (measured m q) measure (λ X. refl)
+reads_rest_of_measure E m q (Comma ∷ S) =
+    reads_token _ _ Comma (λ S. after (suit E S) (λ s R. closing (suit_measured m q s) R)) (rest_of_measure E m q) S _ (λ P x h. h) (λ X. refl)
+    (reads_named E (λ Q. SpellsAtom E (Measure m ∷ Open ∷ Seat q ∷ Comma ∷ Q)) (λ s R. closing (suit_measured m q s) R) S
+    (λ s. (Close ∷ [], suit_measured m q s, λ c n. measure_in n)) (λ s R. reads_closing _ (suit_measured m q s) R (λ c n. measure_in n)))
+reads_rest_of_measure E m q (c ∷ S) = stops_at _ c (rest_of_measure E m q) S (Close ∷ [], measured m q, measure) (λ X. refl)
 
-pub reads_comma_suit_close : (S : List Token) → Reads (λ P s. P ≡ Comma ∷ Suit s ∷ Close ∷ []) comma_suit_close S (comma_suit_close S)
-reads_comma_suit_close S =
-    reads_then (λ _. Comma ∷ []) (λ P s. P ≡ Comma ∷ Suit s ∷ Close ∷ []) comma (λ _ S. after (suit S) closing) S (comma S)
-    (λ _. (Suit Spades ∷ Close ∷ [], Spades, refl)) (reads_comma S)
-    (λ _ R. reads_then (λ s. Suit s ∷ []) (λ P s. Comma ∷ P ≡ Comma ∷ Suit s ∷ Close ∷ []) suit closing R (suit R)
-    (λ s. (Close ∷ [], s, refl)) (reads_suit R) (λ s R. reads_closing _ s R refl))
+-- , suit )
+abbrev pub IsNamedLast : Bound → List Token → ASuit → Type 0
+IsNamedLast E P s = (c : Token) × Names E c s × (P ≡ Comma ∷ c ∷ Close ∷ [])
+
+pub reads_comma_suit_close : (E : Bound) (S : List Token) → Reads (IsNamedLast E) (comma_suit_close E) S (comma_suit_close E S)
+reads_comma_suit_close E S =
+    reads_then (λ _. Comma ∷ []) (IsNamedLast E) comma (λ _ S. after (suit E S) closing) S (comma S)
+    (λ _. (Suit Spades ∷ Close ∷ [], Spades, (Suit Spades, by_suit, refl))) (reads_comma S)
+    (λ _ R. reads_named E (λ P. IsNamedLast E (Comma ∷ P)) closing R
+    (λ s. (Close ∷ [], s, λ c n. (c, n, refl))) (λ s R. reads_closing _ s R (λ c n. (c, n, refl))))
+
+-- ( seat , suit )
+abbrev pub AreSeatAndSuit : Bound → List Token → ASeat × ASuit → Type 0
+AreSeatAndSuit E P p = (c : Token) × Names E c p.1 × (P ≡ Open ∷ Seat p.0 ∷ Comma ∷ c ∷ Close ∷ [])
+
+pub reads_seat_and_suit : (E : Bound) (S : List Token) → Reads (AreSeatAndSuit E) (seat_and_suit E) S (seat_and_suit E S)
+reads_seat_and_suit E S =
+    reads_then (λ q. Open ∷ Seat q ∷ []) (AreSeatAndSuit E) open_seat (λ q S. after (comma_suit_close E S) (λ s R. got (q, s) R)) S (open_seat S)
+    (λ q. (Comma ∷ Suit Spades ∷ Close ∷ [], (q, Spades), (Suit Spades, by_suit, refl))) (reads_open_seat S)
+    (λ q R. reads_after (IsNamedLast E) (λ s Q p. (Q ≡ []) × (p ≡ (q, s))) (λ P. AreSeatAndSuit E (Open ∷ Seat q ∷ P)) (comma_suit_close E) (λ s R. got (q, s) R) R (comma_suit_close E R)
+    (λ P Q s p h m. named_pair q P Q s p h m) (λ s. ([], (q, s), (refl, refl))) (reads_comma_suit_close E R) (λ s R. gets _ (q, s) R (refl, refl)))
+  where
+    named_pair : (q : ASeat) (P Q : List Token) (s : ASuit) (p : ASeat × ASuit) → IsNamedLast E P s → (Q ≡ []) × (p ≡ (q, s)) → AreSeatAndSuit E (Open ∷ Seat q ∷ P ++ Q) p
+    named_pair q P Q s p h m = rw (m.0, m.1, h.2) (h.0, h.1, refl)
 
 pub reads_seat_in_brackets : (S : List Token) → Reads (λ P q. P ≡ Open ∷ Seat q ∷ Close ∷ []) seat_in_brackets S (seat_in_brackets S)
 reads_seat_in_brackets S =
@@ -135,20 +192,25 @@ reads_comma_ranks_close S =
 ranks_of_cards : ASeat → Reader Amount
 ranks_of_cards q S = after (ranks_close S) (λ h R. got (cards_held q h) R)
 
-reads_ranks_of_cards : (q : ASeat) (S : List Token) → Reads (λ Q. SpellsAtom (Cards ∷ Open ∷ Seat q ∷ Comma ∷ Q)) (ranks_of_cards q) S (ranks_of_cards q S)
+reads_ranks_of_cards : (E : Bound) (q : ASeat) (S : List Token) → Reads (λ Q. SpellsAtom E (Cards ∷ Open ∷ Seat q ∷ Comma ∷ Q)) (ranks_of_cards q) S (ranks_of_cards q S)
 unfolding ranks_of_cards
-reads_ranks_of_cards q S =
-    reads_then (λ h. Ranks h ∷ Close ∷ []) (λ Q. SpellsAtom (Cards ∷ Open ∷ Seat q ∷ Comma ∷ Q)) ranks_close (λ h R. got (cards_held q h) R) S (ranks_close S)
+reads_ranks_of_cards E q S =
+    reads_then (λ h. Ranks h ∷ Close ∷ []) (λ Q. SpellsAtom E (Cards ∷ Open ∷ Seat q ∷ Comma ∷ Q)) ranks_close (λ h R. got (cards_held q h) R) S (ranks_close S)
     (λ h. ([], cards_held q h, cards)) (reads_ranks_close S) (λ h R. gets _ (cards_held q h) R cards)
 
-pub reads_rest_of_cards : (q : ASeat) (S : List Token) → Reads (λ Q. SpellsAtom (Cards ∷ Open ∷ Seat q ∷ Comma ∷ Q)) (rest_of_cards q) S (rest_of_cards q S)
+pub reads_suit_and_ranks : (E : Bound) (q : ASeat) (S : List Token) → Reads (λ Q. SpellsAtom E (Cards ∷ Open ∷ Seat q ∷ Comma ∷ Q)) (suit_and_ranks E q) S (suit_and_ranks E q S)
+reads_suit_and_ranks E q S =
+    reads_named E (λ Q. SpellsAtom E (Cards ∷ Open ∷ Seat q ∷ Comma ∷ Q)) (λ s S. after (comma_ranks_close S) (λ h R. got (suit_cards_held q s h) R)) S
+    (λ s. (Comma ∷ Ranks some_ranks ∷ Close ∷ [], suit_cards_held q s some_ranks, λ c n. cards_in n))
+    (λ s R. reads_then (λ h. Comma ∷ Ranks h ∷ Close ∷ []) (λ Q y. (c : Token) → Names E c s → SpellsAtom E (Cards ∷ Open ∷ Seat q ∷ Comma ∷ c ∷ Q) y) comma_ranks_close (λ h R. got (suit_cards_held q s h) R) R (comma_ranks_close R)
+    (λ h. ([], suit_cards_held q s h, λ c n. cards_in n)) (reads_comma_ranks_close R) (λ h R. gets _ (suit_cards_held q s h) R (λ c n. cards_in n)))
+
+pub reads_rest_of_cards : (E : Bound) (q : ASeat) (S : List Token) → Reads (λ Q. SpellsAtom E (Cards ∷ Open ∷ Seat q ∷ Comma ∷ Q)) (rest_of_cards E q) S (rest_of_cards E q S)
 unfolding ranks_of_cards
-reads_rest_of_cards q [] = reads_like _ (ranks_of_cards q) (rest_of_cards q) [] _ (like_at_end (ranks_of_cards q) (rest_of_cards q) refl) (reads_ranks_of_cards q [])
-reads_rest_of_cards q (Suit s ∷ S) =
-    reads_token _ _ (Suit s) (λ S. after (comma_ranks_close S) (λ h R. got (suit_cards_held q s h) R)) (rest_of_cards q) S _ (λ P x m. m) (λ X. refl)
-    (reads_then (λ h. Comma ∷ Ranks h ∷ Close ∷ []) (λ Q. SpellsAtom (Cards ∷ Open ∷ Seat q ∷ Comma ∷ Suit s ∷ Q)) comma_ranks_close (λ h R. got (suit_cards_held q s h) R) S (comma_ranks_close S)
-    (λ h. ([], suit_cards_held q s h, cards_in)) (reads_comma_ranks_close S) (λ h R. gets _ (suit_cards_held q s h) R cards_in))
-reads_rest_of_cards q (c ∷ S) = reads_like _ (ranks_of_cards q) (rest_of_cards q) (c ∷ S) _ (like_at (ranks_of_cards q) (rest_of_cards q) c S (λ X. refl)) (reads_ranks_of_cards q (c ∷ S))
+reads_rest_of_cards E q [] = reads_like _ (ranks_of_cards q) (rest_of_cards E q) [] _ (like_at_end (ranks_of_cards q) (rest_of_cards E q) refl) (reads_ranks_of_cards E q [])
+reads_rest_of_cards E q (Suit s ∷ S) = reads_like _ (suit_and_ranks E q) (rest_of_cards E q) (Suit s ∷ S) _ (like_at (suit_and_ranks E q) (rest_of_cards E q) (Suit s) S (λ X. refl)) (reads_suit_and_ranks E q (Suit s ∷ S))
+reads_rest_of_cards E q (Class c ∷ S) = reads_like _ (suit_and_ranks E q) (rest_of_cards E q) (Class c ∷ S) _ (like_at (suit_and_ranks E q) (rest_of_cards E q) (Class c) S (λ X. refl)) (reads_suit_and_ranks E q (Class c ∷ S))
+reads_rest_of_cards E q (c ∷ S) = reads_like _ (ranks_of_cards q) (rest_of_cards E q) (c ∷ S) _ (like_at (ranks_of_cards q) (rest_of_cards E q) c S (λ X. refl)) (reads_ranks_of_cards E q (c ∷ S))
 
 pub reads_range : (S : List Token) → Reads (λ P p. P ≡ Number p.0 ∷ Dash ∷ Number p.1 ∷ []) range S (range S)
 reads_range S =
@@ -159,36 +221,41 @@ reads_range S =
     (λ _ S. reads_then (λ n. Number n ∷ []) (λ P p. Number m ∷ Dash ∷ P ≡ Number p.0 ∷ Dash ∷ Number p.1 ∷ []) digits _ S (digits S)
     (λ n. ([], (m, n), refl)) (reads_digits S) (λ n S. gets _ (m, n) S refl)))
 
-some_atom : HasSome SpellsAtom
-some_atom = (Number 0 ∷ [], number 0, a_number)
+some_atom : (E : Bound) → HasSome (SpellsAtom E)
+some_atom E = (Number 0 ∷ [], number 0, a_number)
 
-pub reads_atom : (S : List Token) → Reads SpellsAtom atom_of S (atom_of S)
+joined_len : (E : Bound) (P Q : List Token) (p : ASeat × ASuit) (a : Amount) → AreSeatAndSuit E P p → (Q ≡ []) × (a ≡ suit_length p.0 p.1) → SpellsAtom E (Len ∷ P ++ Q) a
+joined_len E P Q p a h m = rw (m.0, m.1, h.2) (len h.1)
+
+pub reads_atom : (E : Bound) (S : List Token) → Reads (SpellsAtom E) (atom_of E) S (atom_of E S)
 unfolding atom_of
-reads_atom [] = stops_at_end _ atom_of some_atom refl
-reads_atom (Number n ∷ S) = gets_token _ (Number n) atom_of S (number n) a_number (λ X. refl)
-reads_atom (Measure m ∷ S) =
-    reads_token _ _ (Measure m) (λ S. after (open_seat S) (rest_of_measure m)) atom_of S _ (λ P x h. h) (λ X. refl)
-    (reads_then (λ q. Open ∷ Seat q ∷ []) (λ Q. SpellsAtom (Measure m ∷ Q)) open_seat (rest_of_measure m) S (open_seat S)
-    (λ q. (Close ∷ [], measured m q, measure)) (reads_open_seat S) (reads_rest_of_measure m))
-reads_atom (Len ∷ S) =
-    reads_token _ _ Len (λ S. after (open_seat S) (λ q R. after (comma_suit_close R) (λ s. got (suit_length q s)))) atom_of S _ (λ P x m. m) (λ X. refl)
-    (reads_then (λ q. Open ∷ Seat q ∷ []) (λ Q. SpellsAtom (Len ∷ Q)) open_seat (λ q R. after (comma_suit_close R) (λ s. got (suit_length q s))) S (open_seat S)
-    (λ q. (Comma ∷ Suit Spades ∷ Close ∷ [], suit_length q Spades, len)) (reads_open_seat S)
-    (λ q R. reads_then (λ s. Comma ∷ Suit s ∷ Close ∷ []) (λ Q. SpellsAtom (Len ∷ Open ∷ Seat q ∷ Q)) comma_suit_close (λ s. got (suit_length q s)) R (comma_suit_close R)
-    (λ s. ([], suit_length q s, len)) (reads_comma_suit_close R) (λ s R. gets _ (suit_length q s) R len)))
-reads_atom (Cards ∷ S) =
-    reads_token _ _ Cards (λ S. after (open_seat_comma S) (λ q R. rest_of_cards q R)) atom_of S _ (λ P x m. m) (λ X. refl)
-    (reads_then (λ q. Open ∷ Seat q ∷ Comma ∷ []) (λ Q. SpellsAtom (Cards ∷ Q)) open_seat_comma (λ q R. rest_of_cards q R) S (open_seat_comma S)
-    (λ q. (Ranks some_ranks ∷ Close ∷ [], cards_held q some_ranks, cards)) (reads_open_seat_comma S) (λ q R. reads_rest_of_cards q R))
-reads_atom (Longest ∷ S) =
-    reads_token _ _ Longest (λ S. after (seat_in_brackets S) (λ q R. got (longest q) R)) atom_of S _ (λ P x m. m) (λ X. refl)
-    (reads_then (λ q. Open ∷ Seat q ∷ Close ∷ []) (λ Q. SpellsAtom (Longest ∷ Q)) seat_in_brackets (λ q R. got (longest q) R) S (seat_in_brackets S)
+reads_atom E [] = stops_at_end _ (atom_of E) (some_atom E) refl
+reads_atom E (Number n ∷ S) = gets_token _ (Number n) (atom_of E) S (number n) a_number (λ X. refl)
+reads_atom E (Measure m ∷ S) =
+    reads_token _ _ (Measure m) (λ S. after (open_seat S) (rest_of_measure E m)) (atom_of E) S _ (λ P x h. h) (λ X. refl)
+    (reads_then (λ q. Open ∷ Seat q ∷ []) (λ Q. SpellsAtom E (Measure m ∷ Q)) open_seat (rest_of_measure E m) S (open_seat S)
+    (λ q. (Close ∷ [], measured m q, measure)) (reads_open_seat S) (reads_rest_of_measure E m))
+reads_atom E (Len ∷ S) =
+    reads_token _ _ Len (λ S. after (seat_and_suit E S) (λ p R. got (suit_length p.0 p.1) R)) (atom_of E) S _ (λ P x m. m) (λ X. refl)
+    (reads_after (AreSeatAndSuit E) (λ p Q a. (Q ≡ []) × (a ≡ suit_length p.0 p.1)) (λ P. SpellsAtom E (Len ∷ P)) (seat_and_suit E) (λ p R. got (suit_length p.0 p.1) R) S (seat_and_suit E S)
+    (joined_len E) (λ p. ([], suit_length p.0 p.1, (refl, refl))) (reads_seat_and_suit E S) (λ p R. gets _ (suit_length p.0 p.1) R (refl, refl)))
+reads_atom E (Cards ∷ S) =
+    reads_token _ _ Cards (λ S. after (open_seat_comma S) (λ q R. rest_of_cards E q R)) (atom_of E) S _ (λ P x m. m) (λ X. refl)
+    (reads_then (λ q. Open ∷ Seat q ∷ Comma ∷ []) (λ Q. SpellsAtom E (Cards ∷ Q)) open_seat_comma (λ q R. rest_of_cards E q R) S (open_seat_comma S)
+    (λ q. (Ranks some_ranks ∷ Close ∷ [], cards_held q some_ranks, cards)) (reads_open_seat_comma S) (λ q R. reads_rest_of_cards E q R))
+reads_atom E (Longest ∷ S) =
+    reads_token _ _ Longest (λ S. after (seat_in_brackets S) (λ q R. got (longest q) R)) (atom_of E) S _ (λ P x m. m) (λ X. refl)
+    (reads_then (λ q. Open ∷ Seat q ∷ Close ∷ []) (λ Q. SpellsAtom E (Longest ∷ Q)) seat_in_brackets (λ q R. got (longest q) R) S (seat_in_brackets S)
     (λ q. ([], longest q, longest_suit)) (reads_seat_in_brackets S) (λ q R. gets _ (longest q) R longest_suit))
-reads_atom (Shortest ∷ S) =
-    reads_token _ _ Shortest (λ S. after (seat_in_brackets S) (λ q R. got (shortest q) R)) atom_of S _ (λ P x m. m) (λ X. refl)
-    (reads_then (λ q. Open ∷ Seat q ∷ Close ∷ []) (λ Q. SpellsAtom (Shortest ∷ Q)) seat_in_brackets (λ q R. got (shortest q) R) S (seat_in_brackets S)
+reads_atom E (Second ∷ S) =
+    reads_token _ _ Second (λ S. after (seat_in_brackets S) (λ q R. got (second q) R)) (atom_of E) S _ (λ P x m. m) (λ X. refl)
+    (reads_then (λ q. Open ∷ Seat q ∷ Close ∷ []) (λ Q. SpellsAtom E (Second ∷ Q)) seat_in_brackets (λ q R. got (second q) R) S (seat_in_brackets S)
+    (λ q. ([], second q, (second_suit tt))) (reads_seat_in_brackets S) (λ q R. gets _ (second q) R (second_suit tt)))
+reads_atom E (Shortest ∷ S) =
+    reads_token _ _ Shortest (λ S. after (seat_in_brackets S) (λ q R. got (shortest q) R)) (atom_of E) S _ (λ P x m. m) (λ X. refl)
+    (reads_then (λ q. Open ∷ Seat q ∷ Close ∷ []) (λ Q. SpellsAtom E (Shortest ∷ Q)) seat_in_brackets (λ q R. got (shortest q) R) S (seat_in_brackets S)
     (λ q. ([], shortest q, shortest_suit)) (reads_seat_in_brackets S) (λ q R. gets _ (shortest q) R shortest_suit))
-reads_atom (c ∷ S) = stops_at _ c atom_of S some_atom (λ X. refl)
+reads_atom E (c ∷ S) = stops_at _ c (atom_of E) S (some_atom E) (λ X. refl)
 
 -- four items with dashes between them
 abbrev pub AreItems : List Token → List Item → Type 0

@@ -4,7 +4,7 @@ use Rattle.cond_lang.specs.declared.words.Kind.{Kind}
 use Rattle.cond_lang.specs.declared.words.Kind.TheVariants as kind
 use Rattle.cond_lang.specs.declared.scanner.Placed.{Placed}
 use Rattle.cond_lang.specs.declared.scanner.Token.{Token}
-use Rattle.cond_lang.specs.declared.scanner.Token.TheVariants.{Or, And, Not, Balanced, Shape, Pattern, Measure, Cards, Len, Longest, Shortest, In, X, Seat, Suit, Ranks, Number, Open, Close, Comma, Dash, Plus, Relation}
+use Rattle.cond_lang.specs.declared.scanner.Token.TheVariants.{Or, And, Not, Balanced, Shape, Pattern, Quantifier, Stops, Measure, Cards, Len, Longest, Second, Shortest, In, X, Seat, Suit, Class, Ranks, Number, Open, Close, Comma, Dash, Plus, Relation}
 use Rattle.cond_lang.specs.Cut.{HasTokens}
 use Rattle.cond_lang.specs.Faults.{IsViable}
 use Rattle.conditions.specs.Form.{Form}
@@ -18,11 +18,14 @@ kind_of Open = kind.Open
 kind_of Balanced = kind.Balanced
 kind_of Shape = kind.Shape
 kind_of Pattern = kind.Pattern
+kind_of (Quantifier k) = kind.Quantifier k
+kind_of Stops = kind.Stops
 kind_of (Number n) = kind.Number
 kind_of (Measure m) = kind.Measure m
 kind_of Cards = kind.Cards
 kind_of Len = kind.Len
 kind_of Longest = kind.Longest
+kind_of Second = kind.Second
 kind_of Shortest = kind.Shortest
 kind_of Plus = kind.Plus
 kind_of (Relation o) = kind.Relation
@@ -32,6 +35,7 @@ kind_of X = kind.X
 kind_of Comma = kind.Comma
 kind_of (Seat q) = kind.Seat
 kind_of (Suit s) = kind.Suit
+kind_of (Class c) = kind.Class c
 kind_of (Ranks h) = kind.Ranks
 kind_of Close = kind.Close
 kind_of And = kind.And

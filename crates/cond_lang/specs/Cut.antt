@@ -10,8 +10,10 @@ use Rattle.cards.specs.declared.honours.Honours.{Honours}
 use Rattle.cards.specs.declared.seat.Seat.TheVariants.{North, East, South, West}
 use Rattle.cards.specs.declared.suit.Suit.TheVariants.{Spades, Hearts, Diamonds, Clubs}
 use Rattle.conditions.specs.declared.tree.Op.TheVariants.{Equal, NotEqual, Less, AtMost, More, AtLeast}
+use Rattle.cond_lang.specs.declared.classes.Class.TheVariants.{Suit as AnySuit, Major, Minor, Other}
+use Rattle.cond_lang.specs.declared.classes.Quantifier.TheVariants.{Any, Every}
 use Rattle.cond_lang.specs.declared.scanner.Token.{Token}
-use Rattle.cond_lang.specs.declared.scanner.Token.TheVariants.{Or, And, Not, Balanced, Shape, Pattern, Measure, Cards, Len, Longest, Shortest, In, X, Seat, Suit, Ranks, Number, Open, Close, Comma, Dash, Plus, Relation}
+use Rattle.cond_lang.specs.declared.scanner.Token.TheVariants.{Or, And, Not, Balanced, Shape, Pattern, Quantifier, Stops, Measure, Cards, Len, Longest, Second, Shortest, In, X, Seat, Suit, Class, Ranks, Number, Open, Close, Comma, Dash, Plus, Relation}
 use Rattle.cond_lang.specs.declared.scanner.Placed.{Placed}
 use Rattle.cond_lang.specs.declared.scanner.Piece.{Piece}
 use Rattle.cond_lang.specs.declared.scanner.Piece.TheVariants.{Separator, Token as TokenPiece, StrayByte, UnknownWord, LongNumber}
@@ -33,10 +35,14 @@ words =
     ∷ (codes "balanced", Balanced)
     ∷ (codes "shape", Shape)
     ∷ (codes "pattern", Pattern)
+    ∷ (codes "any", Quantifier Any)
+    ∷ (codes "every", Quantifier Every)
+    ∷ (codes "stops", Stops)
     ∷ map (λ m. (measure_word m, Measure m)) measures
     ++ (codes "cards", Cards)
     ∷ (codes "len", Len)
     ∷ (codes "longest", Longest)
+    ∷ (codes "second", Second)
     ∷ (codes "shortest", Shortest)
     ∷ (codes "in", In)
     ∷ (codes "x", X)
@@ -48,6 +54,10 @@ words =
     ∷ (codes "hearts", Suit Hearts)
     ∷ (codes "diamonds", Suit Diamonds)
     ∷ (codes "clubs", Suit Clubs)
+    ∷ (codes "suit", Class AnySuit)
+    ∷ (codes "major", Class Major)
+    ∷ (codes "minor", Class Minor)
+    ∷ (codes "other", Class Other)
     ∷ []
 
 -- the symbols, each with its token

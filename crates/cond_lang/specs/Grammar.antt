@@ -1,16 +1,23 @@
 -- Which token lists spell which tree, by cases on splits of the list:
 --     cond  = both ( "or" both )*
 --     both  = unit ( "and" unit )*
---     unit  = "not" unit | "(" cond ")" | test
+--     unit  = "not" unit | "(" cond ")" | ( "any" | "every" ) class "(" cond ")" | test
+--     class = "suit" | "major" | "minor" | "other"
 --     test  = value op value | value "in" number "-" number | "balanced" "(" seat ")"
 --           | ( "shape" | "pattern" ) "(" seat "," item "-" item "-" item "-" item ")"
+--           | "stops" "(" seat "," suit ")"
 --     item  = number | "x"
 --     value = atom ( "+" atom )*
 --     atom  = number | measure "(" seat [ "," suit ] ")"
 --           | "cards" "(" seat [ "," suit ] "," ranks ")" | "len" "(" seat "," suit ")"
---           | ( "longest" | "shortest" ) "(" seat ")"
--- Chains group to the left, and brackets leave no node.
-use Rattle.std.specs.Prelude.{ℕ, List, [], ◌∷◌, ◌++◌}
+--           | ( "longest" | "second" | "shortest" ) "(" seat ")"
+-- Chains group to the left, and brackets leave no node. Inside the brackets of a class its word
+-- stands wherever a suit's does: the tree is that of each suit of the class in the word's place,
+-- joined by `or` for `any` and by `and` for `every`.
+--
+-- The rules of the words that came last, `any`, `every`, `second` and `stops`, want a W: where W is
+-- empty the grammar is the one without them. E says which classes are bound, and to which suits.
+use Rattle.std.specs.Prelude.{◌≡◌, ℕ, true, List, [], ◌∷◌, ◌++◌, fold}
 use Rattle.cards.specs.declared.honours.Honours.{Honours}
 use Rattle.cards.specs.declared.hand.Measure.{Measure as AMeasure}
 use Rattle.cards.specs.declared.seat.Seat.{Seat as ASeat}
@@ -18,32 +25,38 @@ use Rattle.cards.specs.declared.suit.Suit.{Suit as ASuit}
 use Rattle.conditions.specs.declared.tree.Item.{Item}
 use Rattle.conditions.specs.declared.tree.Item.TheVariants.{Length, Any}
 use Rattle.conditions.specs.declared.tree.Op.{Op}
+use Rattle.cond_lang.specs.declared.classes.Bound.{Bound}
+use Rattle.cond_lang.specs.declared.classes.Class.{Class as AClass}
+use Rattle.cond_lang.specs.declared.classes.Quantifier.{Quantifier as AQuantifier}
+use Rattle.cond_lang.specs.declared.classes.Quantifier.TheVariants.{Any as OneOf, Every}
 use Rattle.cond_lang.specs.declared.scanner.Token.{Token}
-use Rattle.cond_lang.specs.declared.scanner.Token.TheVariants.{Or, And, Not, Balanced, Shape, Pattern, Measure, Cards, Len, Longest, Shortest, In, X, Seat, Suit, Ranks, Number, Open, Close, Comma, Dash, Plus, Relation}
-use Rattle.conditions.specs.Form.{Amount, sum, number, measured, suit_measured, cards_held, suit_cards_held, suit_length, longest, shortest, Form, any_of, all_of, negation, compare, within, balanced, shaped, patterned}
+use Rattle.cond_lang.specs.declared.scanner.Token.TheVariants.{Or, And, Not, Balanced, Shape, Pattern, Quantifier, Stops, Measure, Cards, Len, Longest, Second, Shortest, In, X, Seat, Class, Ranks, Number, Open, Close, Comma, Dash, Plus, Relation}
+use Rattle.conditions.specs.Form.{Amount, sum, number, measured, suit_measured, cards_held, suit_cards_held, suit_length, longest, second, shortest, Form, any_of, all_of, negation, compare, within, balanced, shaped, patterned, stops}
+use Rattle.cond_lang.specs.Classes.{unbound, bind, can_bind, members, Names}
 
 -- a number, a measure of a hand or of one of its suits, cards of some ranks, or lengths
-pub data SpellsAtom : List Token → Amount → Type 0 where
-  a_number : {n : ℕ} → SpellsAtom (Number n ∷ []) (number n)
+pub data AtomOf (W : Type 0) (E : Bound) : List Token → Amount → Type 0 where
+  a_number : {n : ℕ} → AtomOf W E (Number n ∷ []) (number n)
   measure :
       {m : AMeasure} {q : ASeat}
-      → SpellsAtom (Measure m ∷ Open ∷ Seat q ∷ Close ∷ []) (measured m q)
+      → AtomOf W E (Measure m ∷ Open ∷ Seat q ∷ Close ∷ []) (measured m q)
   measure_in :
-      {m : AMeasure} {q : ASeat} {s : ASuit}
-      → SpellsAtom (Measure m ∷ Open ∷ Seat q ∷ Comma ∷ Suit s ∷ Close ∷ []) (suit_measured m q s)
+      {m : AMeasure} {q : ASeat} {c : Token} {s : ASuit} → Names E c s
+      → AtomOf W E (Measure m ∷ Open ∷ Seat q ∷ Comma ∷ c ∷ Close ∷ []) (suit_measured m q s)
   len :
-      {q : ASeat} {s : ASuit}
-      → SpellsAtom (Len ∷ Open ∷ Seat q ∷ Comma ∷ Suit s ∷ Close ∷ []) (suit_length q s)
+      {q : ASeat} {c : Token} {s : ASuit} → Names E c s
+      → AtomOf W E (Len ∷ Open ∷ Seat q ∷ Comma ∷ c ∷ Close ∷ []) (suit_length q s)
   cards :
       {q : ASeat} {h : Honours}
-      → SpellsAtom (Cards ∷ Open ∷ Seat q ∷ Comma ∷ Ranks h ∷ Close ∷ []) (cards_held q h)
+      → AtomOf W E (Cards ∷ Open ∷ Seat q ∷ Comma ∷ Ranks h ∷ Close ∷ []) (cards_held q h)
   cards_in :
-      {q : ASeat} {s : ASuit} {h : Honours}
-      → SpellsAtom
-      (Cards ∷ Open ∷ Seat q ∷ Comma ∷ Suit s ∷ Comma ∷ Ranks h ∷ Close ∷ [])
+      {q : ASeat} {c : Token} {s : ASuit} {h : Honours} → Names E c s
+      → AtomOf W E
+      (Cards ∷ Open ∷ Seat q ∷ Comma ∷ c ∷ Comma ∷ Ranks h ∷ Close ∷ [])
       (suit_cards_held q s h)
-  longest_suit : {q : ASeat} → SpellsAtom (Longest ∷ Open ∷ Seat q ∷ Close ∷ []) (longest q)
-  shortest_suit : {q : ASeat} → SpellsAtom (Shortest ∷ Open ∷ Seat q ∷ Close ∷ []) (shortest q)
+  longest_suit : {q : ASeat} → AtomOf W E (Longest ∷ Open ∷ Seat q ∷ Close ∷ []) (longest q)
+  second_suit : {q : ASeat} → W → AtomOf W E (Second ∷ Open ∷ Seat q ∷ Close ∷ []) (second q)
+  shortest_suit : {q : ASeat} → AtomOf W E (Shortest ∷ Open ∷ Seat q ∷ Close ∷ []) (shortest q)
 
 -- what token lists spell which amounts
 abbrev pub Amounts : Type 1
@@ -72,57 +85,93 @@ four q a b c d =
 abbrev pub Forms : Type 1
 Forms = List Token → Form → Type 0
 
+-- and with which suits for the classes
+abbrev pub FormsAt : Type 1
+FormsAt = Bound → Forms
+
 -- one test, of values that V spells
-pub data TestOf (V : Amounts) : List Token → Form → Type 0 where
+pub data TestOf (W : Type 0) (E : Bound) (V : Amounts) : List Token → Form → Type 0 where
   comparison :
       {L R : List Token} {a b : Amount} {o : Op} → V L a → V R b
-      → TestOf V (L ++ Relation o ∷ R) (compare a o b)
+      → TestOf W E V (L ++ Relation o ∷ R) (compare a o b)
   in_range :
       {L : List Token} {a : Amount} {m n : ℕ} → V L a
-      → TestOf V (L ++ In ∷ Number m ∷ Dash ∷ Number n ∷ []) (within a m n)
-  is_balanced : {q : ASeat} → TestOf V (Balanced ∷ Open ∷ Seat q ∷ Close ∷ []) (balanced q)
+      → TestOf W E V (L ++ In ∷ Number m ∷ Dash ∷ Number n ∷ []) (within a m n)
+  is_balanced : {q : ASeat} → TestOf W E V (Balanced ∷ Open ∷ Seat q ∷ Close ∷ []) (balanced q)
   has_shape :
       {q : ASeat} (a b c d : Item)
-      → TestOf V (Shape ∷ four q a b c d) (shaped q (a ∷ b ∷ c ∷ d ∷ []))
+      → TestOf W E V (Shape ∷ four q a b c d) (shaped q (a ∷ b ∷ c ∷ d ∷ []))
   has_pattern :
       {q : ASeat} (a b c d : Item)
-      → TestOf V (Pattern ∷ four q a b c d) (patterned q (a ∷ b ∷ c ∷ d ∷ []))
+      → TestOf W E V (Pattern ∷ four q a b c d) (patterned q (a ∷ b ∷ c ∷ d ∷ []))
+  has_stopper :
+      {q : ASeat} {c : Token} {s : ASuit} → W → Names E c s
+      → TestOf W E V (Stops ∷ Open ∷ Seat q ∷ Comma ∷ c ∷ Close ∷ []) (stops q s)
+
+-- `any` of two trees is one of them or both, `every` is both
+abbrev pub joined : AQuantifier → Form → Form → Form
+joined OneOf a b = any_of a b
+joined Every a b = all_of a b
 
 -- conditions, of tests that U spells
 mutual
-  pub data CondOf (U : Forms) : List Token → Form → Type 0 where
-    both : {T : List Token} {t : Form} → BothOf U T t → CondOf U T t
+  pub data CondOf (W : Type 0) (U : FormsAt) : Bound → List Token → Form → Type 0 where
+    both : {E : Bound} {T : List Token} {t : Form} → BothOf W U E T t → CondOf W U E T t
     or :
-        {L R : List Token} {a b : Form} → CondOf U L a → BothOf U R b
-        → CondOf U (L ++ Or ∷ R) (any_of a b)
+        {E : Bound} {L R : List Token} {a b : Form} → CondOf W U E L a → BothOf W U E R b
+        → CondOf W U E (L ++ Or ∷ R) (any_of a b)
 
-  pub data BothOf (U : Forms) : List Token → Form → Type 0 where
-    unit : {T : List Token} {t : Form} → UnitOf U T t → BothOf U T t
+  pub data BothOf (W : Type 0) (U : FormsAt) : Bound → List Token → Form → Type 0 where
+    unit : {E : Bound} {T : List Token} {t : Form} → UnitOf W U E T t → BothOf W U E T t
     and :
-        {L R : List Token} {a b : Form} → BothOf U L a → UnitOf U R b
-        → BothOf U (L ++ And ∷ R) (all_of a b)
+        {E : Bound} {L R : List Token} {a b : Form} → BothOf W U E L a → UnitOf W U E R b
+        → BothOf W U E (L ++ And ∷ R) (all_of a b)
 
-  pub data UnitOf (U : Forms) : List Token → Form → Type 0 where
-    not : {T : List Token} {t : Form} → UnitOf U T t → UnitOf U (Not ∷ T) (negation t)
-    brackets : {T : List Token} {t : Form} → CondOf U T t → UnitOf U (Open ∷ T ++ Close ∷ []) t
-    test : {T : List Token} {t : Form} → U T t → UnitOf U T t
+  pub data UnitOf (W : Type 0) (U : FormsAt) : Bound → List Token → Form → Type 0 where
+    not :
+        {E : Bound} {T : List Token} {t : Form} → UnitOf W U E T t
+        → UnitOf W U E (Not ∷ T) (negation t)
+    brackets :
+        {E : Bound} {T : List Token} {t : Form} → CondOf W U E T t
+        → UnitOf W U E (Open ∷ T ++ Close ∷ []) t
+    quantified :
+        {E : Bound} {k : AQuantifier} {c : AClass} {T : List Token} {t : Form} {ts : List Form}
+        → W → can_bind E c ≡ true → EachOf W U E c (members E c) T (t ∷ ts)
+        → UnitOf W U E (Quantifier k ∷ Class c ∷ Open ∷ T ++ Close ∷ []) (fold (joined k) t ts)
+    test : {E : Bound} {T : List Token} {t : Form} → U E T t → UnitOf W U E T t
+
+  -- with each of the suits in the place of the class's word the tokens spell a tree
+  pub data EachOf (W : Type 0) (U : FormsAt)
+      : Bound → AClass → List ASuit → List Token → List Form → Type 0 where
+    none : {E : Bound} {c : AClass} {T : List Token} → EachOf W U E c [] T []
+    one_more :
+        {E : Bound} {c : AClass} {s : ASuit} {ss : List ASuit} {T : List Token}
+        {t : Form} {ts : List Form}
+        → CondOf W U (bind E c s) T t → EachOf W U E c ss T ts
+        → EachOf W U E c (s ∷ ss) T (t ∷ ts)
 
 -- the rules of this language
-abbrev pub SpellsValue : List Token → Amount → Type 0
-SpellsValue = ValueOf SpellsAtom
+abbrev pub SpellsAtom : Bound → Amounts
+SpellsAtom E = AtomOf (Unit {0}) E
 
-abbrev pub SpellsTest : List Token → Form → Type 0
-SpellsTest = TestOf SpellsValue
+abbrev pub SpellsValue : Bound → Amounts
+SpellsValue E = ValueOf (SpellsAtom E)
 
-abbrev pub SpellsUnit : List Token → Form → Type 0
-SpellsUnit = UnitOf SpellsTest
+abbrev pub SpellsTest : FormsAt
+SpellsTest E = TestOf (Unit {0}) E (SpellsValue E)
 
-abbrev pub SpellsBoth : List Token → Form → Type 0
-SpellsBoth = BothOf SpellsTest
+abbrev pub SpellsUnit : FormsAt
+SpellsUnit = UnitOf (Unit {0}) SpellsTest
 
-abbrev pub SpellsCond : List Token → Form → Type 0
-SpellsCond = CondOf SpellsTest
+abbrev pub SpellsBoth : FormsAt
+SpellsBoth = BothOf (Unit {0}) SpellsTest
+
+abbrev pub SpellsCond : FormsAt
+SpellsCond = CondOf (Unit {0}) SpellsTest
+
+abbrev pub SpellsEach : Bound → AClass → List ASuit → List Token → List Form → Type 0
+SpellsEach = EachOf (Unit {0}) SpellsTest
 
 -- the whole list is one condition
 abbrev pub Spells : List Token → Form → Type 0
-Spells T t = SpellsCond T t
+Spells T t = SpellsCond unbound T t

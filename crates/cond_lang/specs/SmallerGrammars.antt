@@ -1,46 +1,67 @@
--- Smaller grammars: one whose values are atoms alone, one whose only measure is hcp, one in the
--- words that the language had first, and the first grammar: those words without sums. What they
--- spell, the whole grammar spells too.
+-- Smaller grammars: one without the words that came last, one whose values are atoms alone, one
+-- whose only measure is hcp, one in the words that the language had first, and the first grammar:
+-- those words without sums. What they spell, the whole grammar spells too.
 use Rattle.std.specs.Prelude.{ℕ, List, [], ◌∷◌, ◌++◌}
 use Rattle.cards.specs.declared.honours.Honours.{Honours}
 use Rattle.cards.specs.declared.hand.Measure.TheVariants.{Hcp}
 use Rattle.cards.specs.declared.seat.Seat.{Seat as ASeat}
 use Rattle.cards.specs.declared.suit.Suit.{Suit as ASuit}
 use Rattle.conditions.specs.declared.tree.Op.{Op}
+use Rattle.cond_lang.specs.declared.classes.Bound.{Bound}
 use Rattle.cond_lang.specs.declared.scanner.Token.{Token}
-use Rattle.cond_lang.specs.declared.scanner.Token.TheVariants.{Balanced, Shape, Pattern, Measure, Cards, Len, Longest, Shortest, In, X, Seat, Suit, Ranks, Number, Open, Close, Comma, Dash, Plus, Relation}
-use Rattle.conditions.specs.Form.{Amount, Form, number, points, suit_points, cards_held, suit_cards_held, suit_length, longest, shortest, compare, balanced, shape, pattern}
+use Rattle.cond_lang.specs.declared.scanner.Token.TheVariants.{Balanced, Shape, Pattern, Quantifier, Stops, Measure, Cards, Len, Longest, Second, Shortest, In, X, Seat, Suit, Class, Ranks, Number, Open, Close, Comma, Dash, Plus, Relation}
+use Rattle.conditions.specs.Form.{Amount, Form, number, points, suit_points, cards_held, suit_cards_held, suit_length, longest, second, shortest, compare, balanced, shape, pattern}
+use Rattle.cond_lang.specs.Classes.{unbound, Names}
 use Rattle.cond_lang.specs.Faults.{IsViableIn}
-use Rattle.cond_lang.specs.Grammar.{Amounts, SpellsAtom, ValueOf, TestOf, CondOf}
+use Rattle.cond_lang.specs.Grammar.{Amounts, SpellsAtom, AtomOf, ValueOf, TestOf, CondOf}
+
+-- ---- without the words that came last
+
+-- none of their rules is there, and no class is bound
+abbrev pub SpellsEarlier : List Token → Form → Type 0
+SpellsEarlier T t = CondOf ⊥ (λ E. TestOf ⊥ E (ValueOf (AtomOf ⊥ E))) unbound T t
+
+-- the token is none of `any`, `every`, `second`, `stops` and the words of the classes
+abbrev pub IsEarlier : Token → Type 0
+IsEarlier (Quantifier k) = ⊥
+IsEarlier Stops = ⊥
+IsEarlier Second = ⊥
+IsEarlier (Class c) = ⊥
+IsEarlier t = Unit {0}
+
+-- ---- without sums
 
 abbrev pub SpellsWithoutSums : List Token → Form → Type 0
-SpellsWithoutSums T t = CondOf (TestOf SpellsAtom) T t
+SpellsWithoutSums T t = CondOf (Unit {0}) (λ E. TestOf (Unit {0}) E (SpellsAtom E)) unbound T t
 
 -- ---- hcp alone
 
 -- an atom without another measure
-pub data SpellsHcpAtom : List Token → Amount → Type 0 where
-  a_number : {n : ℕ} → SpellsHcpAtom (Number n ∷ []) (number n)
-  hcp : {q : ASeat} → SpellsHcpAtom (Measure Hcp ∷ Open ∷ Seat q ∷ Close ∷ []) (points q)
+pub data SpellsHcpAtom (E : Bound) : List Token → Amount → Type 0 where
+  a_number : {n : ℕ} → SpellsHcpAtom E (Number n ∷ []) (number n)
+  hcp : {q : ASeat} → SpellsHcpAtom E (Measure Hcp ∷ Open ∷ Seat q ∷ Close ∷ []) (points q)
   hcp_in :
-      {q : ASeat} {s : ASuit}
-      → SpellsHcpAtom (Measure Hcp ∷ Open ∷ Seat q ∷ Comma ∷ Suit s ∷ Close ∷ []) (suit_points q s)
+      {q : ASeat} {c : Token} {s : ASuit} → Names E c s
+      → SpellsHcpAtom E (Measure Hcp ∷ Open ∷ Seat q ∷ Comma ∷ c ∷ Close ∷ []) (suit_points q s)
   len :
-      {q : ASeat} {s : ASuit}
-      → SpellsHcpAtom (Len ∷ Open ∷ Seat q ∷ Comma ∷ Suit s ∷ Close ∷ []) (suit_length q s)
+      {q : ASeat} {c : Token} {s : ASuit} → Names E c s
+      → SpellsHcpAtom E (Len ∷ Open ∷ Seat q ∷ Comma ∷ c ∷ Close ∷ []) (suit_length q s)
   cards :
       {q : ASeat} {h : Honours}
-      → SpellsHcpAtom (Cards ∷ Open ∷ Seat q ∷ Comma ∷ Ranks h ∷ Close ∷ []) (cards_held q h)
+      → SpellsHcpAtom E (Cards ∷ Open ∷ Seat q ∷ Comma ∷ Ranks h ∷ Close ∷ []) (cards_held q h)
   cards_in :
-      {q : ASeat} {s : ASuit} {h : Honours}
-      → SpellsHcpAtom
-      (Cards ∷ Open ∷ Seat q ∷ Comma ∷ Suit s ∷ Comma ∷ Ranks h ∷ Close ∷ [])
+      {q : ASeat} {c : Token} {s : ASuit} {h : Honours} → Names E c s
+      → SpellsHcpAtom E
+      (Cards ∷ Open ∷ Seat q ∷ Comma ∷ c ∷ Comma ∷ Ranks h ∷ Close ∷ [])
       (suit_cards_held q s h)
-  longest_suit : {q : ASeat} → SpellsHcpAtom (Longest ∷ Open ∷ Seat q ∷ Close ∷ []) (longest q)
-  shortest_suit : {q : ASeat} → SpellsHcpAtom (Shortest ∷ Open ∷ Seat q ∷ Close ∷ []) (shortest q)
+  longest_suit : {q : ASeat} → SpellsHcpAtom E (Longest ∷ Open ∷ Seat q ∷ Close ∷ []) (longest q)
+  second_suit : {q : ASeat} → SpellsHcpAtom E (Second ∷ Open ∷ Seat q ∷ Close ∷ []) (second q)
+  shortest_suit :
+      {q : ASeat} → SpellsHcpAtom E (Shortest ∷ Open ∷ Seat q ∷ Close ∷ []) (shortest q)
 
 abbrev pub SpellsWithHcpAlone : List Token → Form → Type 0
-SpellsWithHcpAlone T t = CondOf (TestOf (ValueOf SpellsHcpAtom)) T t
+SpellsWithHcpAlone T t =
+    CondOf (Unit {0}) (λ E. TestOf (Unit {0}) E (ValueOf (SpellsHcpAtom E))) unbound T t
 
 -- ---- the first words
 
@@ -77,7 +98,7 @@ pub data FirstTestOf (V : Amounts) : List Token → Form → Type 0 where
       → FirstTestOf V (Pattern ∷ four_numbers q a b c d) (pattern q (a ∷ b ∷ c ∷ d ∷ []))
 
 abbrev pub SpellsInFirstWords : List Token → Form → Type 0
-SpellsInFirstWords T t = CondOf (FirstTestOf (ValueOf SpellsFirstAtom)) T t
+SpellsInFirstWords T t = CondOf ⊥ (λ E. FirstTestOf (ValueOf SpellsFirstAtom)) unbound T t
 
 -- the token was there first: it is no measure but hcp, and none of the later words
 abbrev pub IsFirst : Token → Type 0
@@ -89,13 +110,17 @@ IsFirst Shortest = ⊥
 IsFirst In = ⊥
 IsFirst X = ⊥
 IsFirst (Ranks h) = ⊥
+IsFirst (Quantifier k) = ⊥
+IsFirst Stops = ⊥
+IsFirst Second = ⊥
+IsFirst (Class c) = ⊥
 IsFirst t = Unit {0}
 
 -- ---- the first grammar
 
 -- the first words, where each value is one atom
 abbrev pub SpellsInFirstGrammar : List Token → Form → Type 0
-SpellsInFirstGrammar T t = CondOf (FirstTestOf SpellsFirstAtom) T t
+SpellsInFirstGrammar T t = CondOf ⊥ (λ E. FirstTestOf SpellsFirstAtom) unbound T t
 
 -- the token was in the first grammar: it is a first one, and no plus
 abbrev pub IsOldest : Token → Type 0

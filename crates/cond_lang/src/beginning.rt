@@ -36,13 +36,12 @@ impl Model for Beginning {
 }
 
 impl Beginning {
-    /// The tokens of the text, up to the first that no condition goes on with. A text that spells a
-    /// condition is a beginning as a whole.
+    /// Returns the tokens of the text, up to the first that no condition goes on with. A text that
+    /// spells a condition is a beginning as a whole.
     ///
-    /// A text that has more than 1,024 bytes or a faulty piece is refused as by [`parse`], and
-    /// never as `Syntax`. `Memory` comes when an allocation failed.
-    ///
-    /// [`parse`]: crate::parse
+    /// # Errors
+    /// Those of `parse` but `Syntax`: the text has more than 1,024 bytes or a faulty piece, or an
+    /// allocation failed.
     pub fn of(alloc: Global, text: &[u8]) -> Result<Beginning, CondError>
         ensures begins { IfOk result (λ b. IsBeginning text.now b) }
         ensures refused { IfErr result (λ e. IsDue text.now e) }
@@ -60,9 +59,11 @@ impl Beginning {
         })
     }
 
-    /// Whether some token of the kind could stand next: some condition begins with these tokens and
-    /// that one. The end may stand if the tokens are a condition. The only error is `Memory`, which
-    /// comes only when an allocation failed.
+    /// Returns whether some token of the kind could stand next: some condition begins with these
+    /// tokens and that one. The end may stand if the tokens are a condition.
+    ///
+    /// # Errors
+    /// `Memory` if an allocation failed.
     pub fn allows(&self, kind: Kind) -> Result<bool, CondError>
         ensures allowed { IfOk result (λ b. IsTrue b ↔ CanFollow self.now kind) }
         ensures memory { IfErr result (λ e. e ≡ CondError.Memory) }

@@ -12,12 +12,13 @@ use crate::scanner::{MAX_BYTES, scan};
 use conditions::{Cond, CondError};
 use std::alloc::Global;
 
-/// The condition that a text spells.
+/// Returns the condition that a text spells.
 ///
+/// # Errors
 /// A text of more than 1,024 bytes is `TooLong`. Otherwise the leftmost faulty piece of the whole
 /// text is refused, as `Byte`, `Word` or `Number` with its offset. A text without one that spells
 /// no condition is `Syntax`, at the first token that no condition goes on with, or at the text's
-/// length. `Memory` comes when an allocation failed.
+/// length. `Memory` if an allocation failed.
 pub fn parse(alloc: Global, text: &[u8]) -> Result<Cond, CondError>
     ensures too_long { (result ≡ Err CondError.TooLong) ↔ (1024 < length text.now) }
     ensures fault { (e : Fault) → length text.now ≤ 1024 → HasFault text.now e → result ≡ Err e }

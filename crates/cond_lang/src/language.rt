@@ -19,7 +19,10 @@ const BEHIND_MEASURES: &str =
   cards(north,spades,akq)     how many of them in spades
   len(north,spades)           how many spades
   longest(north)              how many cards the longest suit has
+  second(north)               how many cards the second longest suit has
   shortest(north)             how many cards the shortest suit has
+  stops(north,spades)         the ace, or the king with one more card, the queen
+                              with two or the jack with three
   balanced(north)             4-3-3-3, 4-4-3-2 or 5-3-3-2, in any order
   shape(north,5-3-3-2)        5 spades, 3 hearts, 3 diamonds and 2 clubs
   pattern(north,5-3-3-2)      these lengths, whichever suit is which
@@ -32,6 +35,10 @@ Sums:         hcp(north)+hcp(south)>=25
 Ranges:       hcp(north) in 15-17, both ends included
 Tests:        and, or, not, and brackets around tests; and binds tighter than
               or, not belongs to the one test after it
+Some suit:    any suit (len(north,suit)>=6) is true with some suit in the place
+              of the word suit, every suit (..) with each of the four; major is
+              spades or hearts, minor diamonds or clubs, and inside the brackets
+              any other (..) goes through the suits that are left
 
 Everything is written in small letters. Spaces and new lines don't matter, and a
 comment goes from # to the end of its line. A condition has at most 1024 bytes,
@@ -43,15 +50,15 @@ Examples:
   a weak two in spades
     shape(north,6-x-x-x) and hcp(north) in 6-10 and cards(north,spades,akq)>=2
   an opening in a five-card major
-    hcp(north)>=12 and (len(north,spades)>=5 or len(north,hearts)>=5)
+    hcp(north)>=12 and any major (len(north,major)>=5)
   a strong two clubs
     hcp(south)>=22 or hcp(south)>=18 and losers(south)<=3
-  a preempt
-    longest(east)>=7 and hcp(east)<10
-  an eight-card fit in hearts
-    len(north,hearts)+len(south,hearts)>=8
-  a slam with its controls
-    hcp(north)+hcp(south)>=30 and controls(north)+controls(south)>=10
+  a preempt in any suit
+    any suit (len(east,suit)>=7 and cards(east,suit,akq)>=1) and hcp(east)<10
+  an eight-card fit
+    any suit (len(north,suit)+len(south,suit)>=8)
+  a notrump hand that stops each suit
+    hcp(north) in 18-19 and balanced(north) and every suit (stops(north,suit))
   a two-suiter
     pattern(north,5-5-x-x)
   a void with South

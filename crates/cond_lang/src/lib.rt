@@ -7,6 +7,7 @@
 #![tactic(auto)]
 
 mod beginning;
+mod classes;
 mod condition;
 mod language;
 pub mod laws;
@@ -15,6 +16,7 @@ mod scanner;
 mod words;
 
 pub use beginning::Beginning;
+pub use classes::{Class, Quantifier};
 pub use condition::parse;
 pub use conditions::{Cond, CondError, Item, Op, Tree, Value};
 pub use language::LANGUAGE;

@@ -2,22 +2,24 @@
 //! it goes.
 
 ghost use Rattle.std.specs.Prelude.{◌≡◌, ◌≢◌, ◌≤◌, ◌⊎◌, ◌↔◌, ℕ, List, ◌∷◌, length};
-ghost use Rattle.std.specs.Prelude.{IfOk, IfErr, Err, IsTrue};
+ghost use Rattle.std.specs.Prelude.{IfOk, IfErr, Err, IsTrue, option_map};
 ghost use Rattle.cond_lang.specs.declared.scanner.Token.{Token as AToken};
 ghost use Rattle.conditions.specs.Form.{Form, amount_of, form_of, any_of, all_of, negation};
-ghost use Rattle.cond_lang.specs.Grammar.{Spells};
+ghost use Rattle.cond_lang.specs.Grammar.{Spells, joined};
 ghost use Rattle.cond_lang.specs.Text.{kinds};
 ghost use Rattle.cond_lang.specs.Continuations.{IsLongestViable};
 ghost use Rattle.cond_lang.specs.Faults.{offset_of, IsPlace};
 ghost use Rattle.cond_lang.specs.internal.Reading.{Gives, front, rest_of_measure, rest_of_cards};
+ghost use Rattle.cond_lang.specs.internal.Reading.{suit_and_ranks};
 ghost use Rattle.cond_lang.specs.internal.Reading.{atom_of, reading, a_value, comparing_by};
 ghost use Rattle.cond_lang.specs.internal.Reading.{test_by, a_unit, a_both, a_cond};
-ghost use Rattle.cond_lang.specs.internal.Reading.{whole};
+ghost use Rattle.cond_lang.specs.internal.Reading.{whole, behind, with_suit_by, quantified_by};
 
 mod terminals;
 
+use crate::classes::{Bound, Class, Quantifier};
 use crate::scanner::{Placed, Token};
-use cards::{Measure, Seat};
+use cards::{Measure, Seat, Suit};
 use conditions::{CondError, Tree, Value};
 use std::alloc::{AllocFailed, Global};
 use std::marker::Model;
@@ -94,8 +96,8 @@ impl<'a> Parser<'a> {
 
     /// A number, a measure of a hand or suit, cards of some ranks, or a length.
     #[tactic(auto, unfolding(crate::specs::internal::Reading::atom_of))]
-    fn atom(&mut self) -> Result<Value, Refusal>
-        ensures gives { Gives amount_of result self.new (atom_of self.old) }
+    fn atom(&mut self, bound: Bound) -> Result<Value, Refusal>
+        ensures gives { Gives amount_of result self.new (atom_of bound self.old) }
         ensures shorter { length self.new ≤ length self.old }
     {
         match self.peek() {
@@ -106,22 +108,25 @@ impl<'a> Parser<'a> {
             Some(Token::Measure(measure)) => {
                 self.advance();
                 let seat = self.open_seat()?;
-                self.rest_of_measure(measure, seat)
+                self.rest_of_measure(bound, measure, seat)
             }
             Some(Token::Len) => {
                 self.advance();
-                let seat = self.open_seat()?;
-                let suit = self.comma_suit_close()?;
+                let (seat, suit) = self.seat_and_suit(bound)?;
                 Ok(Value::Length(seat, suit))
             }
             Some(Token::Cards) => {
                 self.advance();
                 let seat = self.open_seat_comma()?;
-                self.rest_of_cards(seat)
+                self.rest_of_cards(bound, seat)
             }
             Some(Token::Longest) => {
                 self.advance();
                 Ok(Value::Longest(self.seat_in_brackets()?))
+            }
+            Some(Token::Second) => {
+                self.advance();
+                Ok(Value::Second(self.seat_in_brackets()?))
             }
             Some(Token::Shortest) => {
                 self.advance();
@@ -132,13 +137,19 @@ impl<'a> Parser<'a> {
     }
 
     /// `)` or `, suit )` after `measure ( seat`
-    fn rest_of_measure(&mut self, measure: Measure, seat: Seat) -> Result<Value, Refusal>
-        ensures gives { Gives amount_of result self.new (rest_of_measure measure seat self.old) }
+    fn rest_of_measure(
+        &mut self,
+        bound: Bound,
+        measure: Measure,
+        seat: Seat,
+    ) -> Result<Value, Refusal>
+        ensures gives { Gives amount_of result self.new
+            (rest_of_measure bound measure seat self.old) }
         ensures shorter { length self.new ≤ length self.old }
     {
         if let Some(Token::Comma) = self.peek() {
             self.advance();
-            let suit = self.suit()?;
+            let suit = self.suit(bound)?;
             self.close()?;
             return Ok(Value::suit_measured(measure, seat, suit));
         }
@@ -147,52 +158,61 @@ impl<'a> Parser<'a> {
     }
 
     /// `ranks )` or `suit , ranks )` after `cards ( seat ,`
-    fn rest_of_cards(&mut self, seat: Seat) -> Result<Value, Refusal>
-        ensures gives { Gives amount_of result self.new (rest_of_cards seat self.old) }
+    fn rest_of_cards(&mut self, bound: Bound, seat: Seat) -> Result<Value, Refusal>
+        ensures gives { Gives amount_of result self.new (rest_of_cards bound seat self.old) }
         ensures shorter { length self.new ≤ length self.old }
     {
-        if let Some(Token::Suit(suit)) = self.peek() {
-            self.advance();
-            self.comma()?;
-            return Ok(Value::SuitCards(seat, suit, self.ranks_close()?));
+        match self.peek() {
+            Some(Token::Suit(_)) => self.suit_and_ranks(bound, seat),
+            Some(Token::Class(_)) => self.suit_and_ranks(bound, seat),
+            _ => Ok(Value::Cards(seat, self.ranks_close()?)),
         }
-        Ok(Value::Cards(seat, self.ranks_close()?))
+    }
+
+    /// `suit , ranks )` after `cards ( seat ,`
+    fn suit_and_ranks(&mut self, bound: Bound, seat: Seat) -> Result<Value, Refusal>
+        ensures gives { Gives amount_of result self.new (suit_and_ranks bound seat self.old) }
+        ensures shorter { length self.new ≤ length self.old }
+    {
+        let suit = self.suit(bound)?;
+        self.comma()?;
+        Ok(Value::SuitCards(seat, suit, self.ranks_close()?))
     }
 
     /// Atoms with `+` between them.
     #[tactic(auto, using(crate::proofs::Enough::reads))]
-    fn value(&mut self) -> Result<Value, Refusal>
-        ensures gives { Gives amount_of result self.new (reading a_value self.old) }
+    fn value(&mut self, bound: Bound) -> Result<Value, Refusal>
+        ensures gives { Gives amount_of result self.new (reading bound a_value self.old) }
         ensures shorter { length self.new ≤ length self.old }
     {
-        let mut left = self.atom()?;
+        let mut left = self.atom(bound)?;
         while let Some(Token::Plus) = self.peek() {
             self.advance();
-            let right = self.atom()?;
+            let right = self.atom(bound)?;
             left = Value::Sum(Box::new(self.alloc, left)?, Box::new(self.alloc, right)?);
         }
         Ok(left)
     }
 
     /// A value, and `in number - number` or `op value`.
-    fn comparison(&mut self) -> Result<Tree, Refusal>
-        ensures gives { Gives form_of result self.new (comparing_by reading self.old) }
+    fn comparison(&mut self, bound: Bound) -> Result<Tree, Refusal>
+        ensures gives { Gives form_of result self.new (comparing_by reading bound self.old) }
         ensures shorter { length self.new ≤ length self.old }
     {
-        let left = self.value()?;
+        let left = self.value(bound)?;
         if let Some(Token::In) = self.peek() {
             self.advance();
             let (least, most) = self.range()?;
             return Ok(Tree::Within(left, least, most));
         }
         let op = self.relation()?;
-        let right = self.value()?;
+        let right = self.value(bound)?;
         Ok(Tree::Compare { left, op, right })
     }
 
-    /// One test with no `not` and no bracket before it.
-    fn test(&mut self) -> Result<Tree, Refusal>
-        ensures gives { Gives form_of result self.new (test_by reading self.old) }
+    /// One test with no `not`, no bracket and no quantifier before it.
+    fn test(&mut self, bound: Bound) -> Result<Tree, Refusal>
+        ensures gives { Gives form_of result self.new (test_by reading bound self.old) }
         ensures shorter { length self.new ≤ length self.old }
     {
         match self.peek() {
@@ -210,17 +230,23 @@ impl<'a> Parser<'a> {
                 let (seat, items) = self.seat_and_items()?;
                 Ok(Tree::pattern(seat, items))
             }
-            _ => self.comparison(),
+            Some(Token::Stops) => {
+                self.advance();
+                let (seat, suit) = self.seat_and_suit(bound)?;
+                Ok(Tree::Stops(seat, suit))
+            }
+            _ => self.comparison(bound),
         }
     }
 
     /// The same on the heap.
     #[inline(never)]
-    fn boxed_test(&mut self) -> Result<Box<Tree>, Refusal>
-        ensures gives { Gives (λ b. form_of b.value) result self.new (test_by reading self.old) }
+    fn boxed_test(&mut self, bound: Bound) -> Result<Box<Tree>, Refusal>
+        ensures gives { Gives (λ b. form_of b.value) result self.new
+            (test_by reading bound self.old) }
         ensures shorter { length self.new ≤ length self.old }
     {
-        let tree = self.test()?;
+        let tree = self.test(bound)?;
         Ok(Box::new(self.alloc, tree)?)
     }
 
@@ -253,6 +279,28 @@ impl<'a> Parser<'a> {
         Ok(Box::new(self.alloc, Tree::AnyOf(left, right))?)
     }
 
+    /// The tree joined to the one before it, if there is one.
+    #[inline(never)]
+    fn behind(
+        &self,
+        quantifier: Quantifier,
+        left: Option<Box<Tree>>,
+        tree: Box<Tree>,
+    ) -> Result<Box<Tree>, Refusal>
+        ensures ok { IfOk result (λ b.
+            form_of b.value
+            ≡ behind quantifier (option_map (λ b. form_of b.value) left) (form_of tree.value)) }
+        ensures err { result ≢ Err Refusal.Syntax }
+    {
+        let Some(left) = left else {
+            return Ok(tree);
+        };
+        match quantifier {
+            Quantifier::Any => self.any_of(left, tree),
+            Quantifier::Every => self.all_of(left, tree),
+        }
+    }
+
     // A text has up to 1,024 opening brackets, and each keeps a frame of the next three functions
     // on the stack. So they carry trees in boxes, and leave the rest to functions that aren't
     // inlined.
@@ -260,37 +308,40 @@ impl<'a> Parser<'a> {
     /// One test.
     #[cycle(conditions)]
     #[tactic(auto, using(crate::proofs::Enough::reads))]
-    fn unit(&mut self) -> Result<Box<Tree>, Refusal>
-        ensures gives { Gives (λ b. form_of b.value) result self.new (reading a_unit self.old) }
+    fn unit(&mut self, bound: Bound) -> Result<Box<Tree>, Refusal>
+        ensures gives { Gives (λ b. form_of b.value) result self.new
+            (reading bound a_unit self.old) }
         ensures shorter { length self.new ≤ length self.old }
     {
         match self.peek() {
             Some(Token::Not) => {
                 self.advance();
-                let inner = self.unit()?;
+                let inner = self.unit(bound)?;
                 self.negation(inner)
             }
             Some(Token::Open) => {
                 self.advance();
-                let inner = self.cond()?;
+                let inner = self.cond(bound)?;
                 self.close()?;
                 Ok(inner)
             }
-            _ => self.boxed_test(),
+            Some(Token::Quantifier(_)) => self.quantified(bound),
+            _ => self.boxed_test(bound),
         }
     }
 
     /// Tests with `and` between them.
     #[cycle(conditions)]
     #[tactic(auto, using(crate::proofs::Enough::reads))]
-    fn both(&mut self) -> Result<Box<Tree>, Refusal>
-        ensures gives { Gives (λ b. form_of b.value) result self.new (reading a_both self.old) }
+    fn both(&mut self, bound: Bound) -> Result<Box<Tree>, Refusal>
+        ensures gives { Gives (λ b. form_of b.value) result self.new
+            (reading bound a_both self.old) }
         ensures shorter { length self.new ≤ length self.old }
     {
-        let mut left = self.unit()?;
+        let mut left = self.unit(bound)?;
         while let Some(Token::And) = self.peek() {
             self.advance();
-            let right = self.unit()?;
+            let right = self.unit(bound)?;
             left = self.all_of(left, right)?;
         }
         Ok(left)
@@ -299,17 +350,69 @@ impl<'a> Parser<'a> {
     /// What `and` joins, with `or` between.
     #[cycle(conditions)]
     #[tactic(auto, using(crate::proofs::Enough::reads))]
-    fn cond(&mut self) -> Result<Box<Tree>, Refusal>
-        ensures gives { Gives (λ b. form_of b.value) result self.new (reading a_cond self.old) }
+    fn cond(&mut self, bound: Bound) -> Result<Box<Tree>, Refusal>
+        ensures gives { Gives (λ b. form_of b.value) result self.new
+            (reading bound a_cond self.old) }
         ensures shorter { length self.new ≤ length self.old }
     {
-        let mut left = self.both()?;
+        let mut left = self.both(bound)?;
         while let Some(Token::Or) = self.peek() {
             self.advance();
-            let right = self.both()?;
+            let right = self.both(bound)?;
             left = self.any_of(left, right)?;
         }
         Ok(left)
+    }
+
+    /// `any` or `every`, and `class ( cond )`: the condition is read once for each suit of the
+    /// class, from the same token on. At most four quantifiers enclose each other.
+    #[cycle(conditions)]
+    #[inline(never)]
+    fn quantified(&mut self, bound: Bound) -> Result<Box<Tree>, Refusal>
+        ensures gives { Gives (λ b. form_of b.value) result self.new
+            (quantified_by reading bound self.old) }
+        ensures shorter { length self.new ≤ length self.old }
+    {
+        let quantifier = self.quantifier(bound)?;
+        let class = self.class(bound)?;
+        self.open()?;
+        let start = self.rest;
+        let first = self.with_suit(start, bound, quantifier, class, Suit::Spades, None)?;
+        let second = self.with_suit(start, bound, quantifier, class, Suit::Hearts, first)?;
+        let third = self.with_suit(start, bound, quantifier, class, Suit::Diamonds, second)?;
+        let last = self.with_suit(start, bound, quantifier, class, Suit::Clubs, third)?;
+        let Some(tree) = last else {
+            return Err(Refusal::Syntax);
+        };
+        self.close()?;
+        Ok(tree)
+    }
+
+    /// The tree of the condition that begins at `start`, with the suit in the place of the class's
+    /// word, behind the tree of the suits before it. A suit that isn't of the class adds nothing.
+    #[cycle(conditions)]
+    #[inline(never)]
+    fn with_suit(
+        &mut self,
+        start: &'a [Placed],
+        bound: Bound,
+        quantifier: Quantifier,
+        class: Class,
+        suit: Suit,
+        left: Option<Box<Tree>>,
+    ) -> Result<Option<Box<Tree>>, Refusal>
+        requires { length self.old ≤ length start.now }
+        ensures gives { Gives (option_map (λ b. form_of b.value)) result self.new
+            (with_suit_by reading bound quantifier class (kinds start.entry.now) suit
+            (option_map (λ b. form_of b.value) left) self.old) }
+        ensures shorter { length self.new ≤ length start.entry.now }
+    {
+        if !bound.is_member(class, suit) {
+            return Ok(left);
+        }
+        self.rest = start;
+        let tree = self.cond(bound.with(class, suit))?;
+        Ok(Some(self.behind(quantifier, left, tree)?))
     }
 
     /// One condition, and no more.
@@ -318,7 +421,7 @@ impl<'a> Parser<'a> {
         ensures gives { Gives form_of result self.new (whole self.old) }
         ensures shorter { length self.new ≤ length self.old }
     {
-        let tree = self.cond()?;
+        let tree = self.cond(Bound::none())?;
         if self.peek().is_some() {
             return Err(Refusal::Syntax);
         }

@@ -11,6 +11,7 @@ ghost use Rattle.cond_lang.specs.Runs.{run};
 ghost use Rattle.cond_lang.specs.internal.Scanning.{token_of, begins_with, symbol_at, word_piece};
 ghost use Rattle.cond_lang.specs.internal.Scanning.{ranks_piece, number_piece, piece_at};
 
+use crate::classes::{Class, Quantifier};
 use crate::words::WORDS;
 use arrayvec::ArrayVec;
 use cards::{Honours, Measure, Seat, Suit};
@@ -26,15 +27,19 @@ pub enum Token {
     Balanced,
     Shape,
     Pattern,
+    Quantifier(Quantifier),
+    Stops,
     Measure(Measure),
     Cards,
     Len,
     Longest,
+    Second,
     Shortest,
     In,
     X,
     Seat(Seat),
     Suit(Suit),
+    Class(Class),
     Ranks(Honours),
     Number(u16),
     Open,

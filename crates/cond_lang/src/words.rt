@@ -5,24 +5,29 @@ ghost use Rattle.cond_lang.specs.Continuations.{kind_of};
 ghost use Rattle.cond_lang.specs.Cut.{measure_word};
 ghost use Rattle.cond_lang.specs.Kinds.{all_kinds, place_of};
 
+use crate::classes::{Class, Quantifier};
 use crate::scanner::Token;
 use cards::{Honours, Measure, Seat, Suit};
 use conditions::Op;
 
 /// The words of the language, each with its token: the table `words` of the definition.
-pub const WORDS: [(&str, Token); 20 + Measure::COUNT] = [
+pub const WORDS: [(&str, Token); 28 + Measure::COUNT] = [
     ("or", Token::Or),
     ("and", Token::And),
     ("not", Token::Not),
     ("balanced", Token::Balanced),
     ("shape", Token::Shape),
     ("pattern", Token::Pattern),
+    ("any", Token::Quantifier(Quantifier::Any)),
+    ("every", Token::Quantifier(Quantifier::Every)),
+    ("stops", Token::Stops),
     ("hcp", Token::Measure(Measure::Hcp)),
     ("controls", Token::Measure(Measure::Controls)),
     ("losers", Token::Measure(Measure::Losers)),
     ("cards", Token::Cards),
     ("len", Token::Len),
     ("longest", Token::Longest),
+    ("second", Token::Second),
     ("shortest", Token::Shortest),
     ("in", Token::In),
     ("x", Token::X),
@@ -34,6 +39,10 @@ pub const WORDS: [(&str, Token); 20 + Measure::COUNT] = [
     ("hearts", Token::Suit(Suit::Hearts)),
     ("diamonds", Token::Suit(Suit::Diamonds)),
     ("clubs", Token::Suit(Suit::Clubs)),
+    ("suit", Token::Class(Class::Suit)),
+    ("major", Token::Class(Class::Major)),
+    ("minor", Token::Class(Class::Minor)),
+    ("other", Token::Class(Class::Other)),
 ];
 
 /// The word of the measure.
@@ -67,11 +76,14 @@ pub enum Kind {
     Balanced,
     Shape,
     Pattern,
+    Quantifier(Quantifier),
+    Stops,
     Number,
     Measure(Measure),
     Cards,
     Len,
     Longest,
+    Second,
     Shortest,
     Plus,
     Relation,
@@ -81,6 +93,7 @@ pub enum Kind {
     Comma,
     Seat,
     Suit,
+    Class(Class),
     Ranks,
     Close,
     And,
@@ -99,7 +112,7 @@ const ACE: Honours = Honours {
 
 impl Kind {
     /// How many kinds there are.
-    pub const COUNT: usize = 23 + Measure::COUNT;
+    pub const COUNT: usize = 31 + Measure::COUNT;
 
     /// All kinds, in the order in which a person is told them.
     pub const ALL: [Kind; Kind::COUNT] = [
@@ -108,6 +121,9 @@ impl Kind {
         Kind::Balanced,
         Kind::Shape,
         Kind::Pattern,
+        Kind::Quantifier(Quantifier::Any),
+        Kind::Quantifier(Quantifier::Every),
+        Kind::Stops,
         Kind::Number,
         Kind::Measure(Measure::Hcp),
         Kind::Measure(Measure::Controls),
@@ -115,6 +131,7 @@ impl Kind {
         Kind::Cards,
         Kind::Len,
         Kind::Longest,
+        Kind::Second,
         Kind::Shortest,
         Kind::Plus,
         Kind::Relation,
@@ -124,6 +141,10 @@ impl Kind {
         Kind::Comma,
         Kind::Seat,
         Kind::Suit,
+        Kind::Class(Class::Suit),
+        Kind::Class(Class::Major),
+        Kind::Class(Class::Minor),
+        Kind::Class(Class::Other),
         Kind::Ranks,
         Kind::Close,
         Kind::And,
@@ -144,25 +165,33 @@ impl Kind {
             Kind::Balanced => 2,
             Kind::Shape => 3,
             Kind::Pattern => 4,
-            Kind::Number => 5,
-            Kind::Measure(measure) => 6 + measure.place(),
-            Kind::Cards => 6 + Measure::COUNT,
-            Kind::Len => 7 + Measure::COUNT,
-            Kind::Longest => 8 + Measure::COUNT,
-            Kind::Shortest => 9 + Measure::COUNT,
-            Kind::Plus => 10 + Measure::COUNT,
-            Kind::Relation => 11 + Measure::COUNT,
-            Kind::In => 12 + Measure::COUNT,
-            Kind::Dash => 13 + Measure::COUNT,
-            Kind::X => 14 + Measure::COUNT,
-            Kind::Comma => 15 + Measure::COUNT,
-            Kind::Seat => 16 + Measure::COUNT,
-            Kind::Suit => 17 + Measure::COUNT,
-            Kind::Ranks => 18 + Measure::COUNT,
-            Kind::Close => 19 + Measure::COUNT,
-            Kind::And => 20 + Measure::COUNT,
-            Kind::Or => 21 + Measure::COUNT,
-            Kind::End => 22 + Measure::COUNT,
+            Kind::Quantifier(Quantifier::Any) => 5,
+            Kind::Quantifier(Quantifier::Every) => 6,
+            Kind::Stops => 7,
+            Kind::Number => 8,
+            Kind::Measure(measure) => 9 + measure.place(),
+            Kind::Cards => 9 + Measure::COUNT,
+            Kind::Len => 10 + Measure::COUNT,
+            Kind::Longest => 11 + Measure::COUNT,
+            Kind::Second => 12 + Measure::COUNT,
+            Kind::Shortest => 13 + Measure::COUNT,
+            Kind::Plus => 14 + Measure::COUNT,
+            Kind::Relation => 15 + Measure::COUNT,
+            Kind::In => 16 + Measure::COUNT,
+            Kind::Dash => 17 + Measure::COUNT,
+            Kind::X => 18 + Measure::COUNT,
+            Kind::Comma => 19 + Measure::COUNT,
+            Kind::Seat => 20 + Measure::COUNT,
+            Kind::Suit => 21 + Measure::COUNT,
+            Kind::Class(Class::Suit) => 22 + Measure::COUNT,
+            Kind::Class(Class::Major) => 23 + Measure::COUNT,
+            Kind::Class(Class::Minor) => 24 + Measure::COUNT,
+            Kind::Class(Class::Other) => 25 + Measure::COUNT,
+            Kind::Ranks => 26 + Measure::COUNT,
+            Kind::Close => 27 + Measure::COUNT,
+            Kind::And => 28 + Measure::COUNT,
+            Kind::Or => 29 + Measure::COUNT,
+            Kind::End => 30 + Measure::COUNT,
         }
     }
 
@@ -178,11 +207,14 @@ impl Kind {
             Kind::Balanced => Token::Balanced,
             Kind::Shape => Token::Shape,
             Kind::Pattern => Token::Pattern,
+            Kind::Quantifier(quantifier) => Token::Quantifier(quantifier),
+            Kind::Stops => Token::Stops,
             Kind::Number => Token::Number(0),
             Kind::Measure(measure) => Token::Measure(measure),
             Kind::Cards => Token::Cards,
             Kind::Len => Token::Len,
             Kind::Longest => Token::Longest,
+            Kind::Second => Token::Second,
             Kind::Shortest => Token::Shortest,
             Kind::Plus => Token::Plus,
             Kind::Relation => Token::Relation(Op::Equal),
@@ -192,6 +224,7 @@ impl Kind {
             Kind::Comma => Token::Comma,
             Kind::Seat => Token::Seat(Seat::North),
             Kind::Suit => Token::Suit(Suit::Spades),
+            Kind::Class(class) => Token::Class(class),
             Kind::Ranks => Token::Ranks(ACE),
             Kind::Close => Token::Close,
             Kind::And => Token::And,

@@ -1,6 +1,6 @@
 -- Reading from the left with one token in sight, as a function of the tokens that are left: what
 -- the parser's own functions return.
-use Rattle.std.specs.Prelude.{◌≡◌, ℕ, zero, suc, ◌+◌, ◌*◌, List, [], ◌∷◌, length, Result, Ok, Err, Option, Some, None}
+use Rattle.std.specs.Prelude.{◌≡◌, ℕ, zero, suc, ◌+◌, ◌*◌, List, [], ◌∷◌, length, Result, Ok, Err, Option, Some, None, Bool, ◌||◌, if◌then◌else◌}
 use Rattle.cards.specs.declared.honours.Honours.{Honours}
 use Rattle.cards.specs.declared.hand.Measure.{Measure as AMeasure}
 use Rattle.cards.specs.declared.seat.Seat.{Seat as ASeat}
@@ -8,11 +8,17 @@ use Rattle.cards.specs.declared.suit.Suit.{Suit as ASuit}
 use Rattle.conditions.specs.declared.tree.Item.{Item}
 use Rattle.conditions.specs.declared.tree.Item.TheVariants.{Length, Any}
 use Rattle.conditions.specs.declared.tree.Op.{Op}
+use Rattle.cond_lang.specs.declared.classes.Bound.{Bound}
+use Rattle.cond_lang.specs.declared.classes.Class.{Class as AClass}
+use Rattle.cond_lang.specs.declared.classes.Class.TheVariants.{Suit as AnySuit, Major, Minor, Other}
+use Rattle.cond_lang.specs.declared.classes.Quantifier.{Quantifier as AQuantifier}
 use Rattle.cond_lang.specs.declared.scanner.Token.{Token}
-use Rattle.cond_lang.specs.declared.scanner.Token.TheVariants.{Or, And, Not, Balanced, Shape, Pattern, Measure, Cards, Len, Longest, Shortest, In, X, Seat, Suit, Ranks, Number, Open, Close, Comma, Dash, Plus, Relation}
+use Rattle.cond_lang.specs.declared.scanner.Token.TheVariants.{Or, And, Not, Balanced, Shape, Pattern, Quantifier, Stops, Measure, Cards, Len, Longest, Second, Shortest, In, X, Seat, Suit, Class, Ranks, Number, Open, Close, Comma, Dash, Plus, Relation}
 use Rattle.cond_lang.specs.declared.parser.Refusal.{Refusal}
 use Rattle.cond_lang.specs.declared.parser.Refusal.TheVariants.{Syntax, Memory}
-use Rattle.conditions.specs.Form.{Amount, sum, number, measured, suit_measured, cards_held, suit_cards_held, suit_length, longest, shortest, Form, any_of, all_of, negation, compare, within, balanced, shaped, patterned}
+use Rattle.conditions.specs.Form.{Amount, sum, number, measured, suit_measured, cards_held, suit_cards_held, suit_length, longest, second, shortest, Form, any_of, all_of, negation, compare, within, balanced, shaped, patterned, stops}
+use Rattle.cond_lang.specs.Classes.{unbound, bound_to, bind, can_bind, is_member, all_suits}
+use Rattle.cond_lang.specs.Grammar.{joined}
 
 -- what was read and what is left, or where it stopped
 pub data Outcome (A : Type 0) : Type 0 where
@@ -46,9 +52,30 @@ abbrev pub seat : Reader ASeat
 seat (Seat q ∷ S) = got q S
 seat S = stuck S
 
-abbrev pub suit : Reader ASuit
-suit (Suit s ∷ S) = got s S
-suit S = stuck S
+-- the suit that a class's word stands for
+abbrev pub class_suit : Option ASuit → AClass → Reader ASuit
+class_suit None c S = stuck (Class c ∷ S)
+class_suit (Some s) c S = got s S
+
+abbrev pub suit : Bound → Reader ASuit
+suit E (Suit s ∷ S) = got s S
+suit E (Class c ∷ S) = class_suit (bound_to E c) c S
+suit E S = stuck S
+
+-- whether some class can be bound
+abbrev pub can_quantify : Bound → Bool
+can_quantify E =
+    can_bind E AnySuit || (can_bind E Major || (can_bind E Minor || can_bind E Other))
+
+-- a quantifier, where some class can be bound
+abbrev pub quantifier : Bound → Reader AQuantifier
+quantifier E (Quantifier k ∷ S) = if can_quantify E then got k S else stuck (Quantifier k ∷ S)
+quantifier E S = stuck S
+
+-- a class that can be bound
+abbrev pub class : Bound → Reader AClass
+class E (Class c ∷ S) = if can_bind E c then got c S else stuck (Class c ∷ S)
+class E S = stuck S
 
 abbrev pub digits : Reader ℕ
 digits (Number n ∷ S) = got n S
@@ -72,13 +99,13 @@ abbrev pub closing : {A : Type 0} → A → Reader A
 closing x S = after (closed S) (λ _ R. got x R)
 
 -- , suit )
-abbrev pub comma_suit_close : Reader ASuit
-comma_suit_close S = after (comma S) (λ _ S. after (suit S) closing)
+abbrev pub comma_suit_close : Bound → Reader ASuit
+comma_suit_close E S = after (comma S) (λ _ S. after (suit E S) closing)
 
 -- ) or , suit )
-abbrev pub rest_of_measure : AMeasure → ASeat → Reader Amount
-rest_of_measure m q (Comma ∷ S) = after (suit S) (λ s R. closing (suit_measured m q s) R)
-rest_of_measure m q S = closing (measured m q) S
+abbrev pub rest_of_measure : Bound → AMeasure → ASeat → Reader Amount
+rest_of_measure E m q (Comma ∷ S) = after (suit E S) (λ s R. closing (suit_measured m q s) R)
+rest_of_measure E m q S = closing (measured m q) S
 
 -- ranks )
 abbrev pub ranks_close : Reader Honours
@@ -88,10 +115,16 @@ ranks_close S = after (ranks S) closing
 abbrev pub comma_ranks_close : Reader Honours
 comma_ranks_close S = after (comma S) (λ _ S. ranks_close S)
 
+-- suit , ranks )
+abbrev pub suit_and_ranks : Bound → ASeat → Reader Amount
+suit_and_ranks E q S =
+    after (suit E S) (λ s S. after (comma_ranks_close S) (λ h R. got (suit_cards_held q s h) R))
+
 -- ranks ) or suit , ranks )
-abbrev pub rest_of_cards : ASeat → Reader Amount
-rest_of_cards q (Suit s ∷ S) = after (comma_ranks_close S) (λ h R. got (suit_cards_held q s h) R)
-rest_of_cards q S = after (ranks_close S) (λ h R. got (cards_held q h) R)
+abbrev pub rest_of_cards : Bound → ASeat → Reader Amount
+rest_of_cards E q (Suit s ∷ S) = suit_and_ranks E q (Suit s ∷ S)
+rest_of_cards E q (Class c ∷ S) = suit_and_ranks E q (Class c ∷ S)
+rest_of_cards E q S = after (ranks_close S) (λ h R. got (cards_held q h) R)
 
 -- ( seat
 abbrev pub open_seat : Reader ASeat
@@ -100,6 +133,11 @@ open_seat S = after (opened S) (λ _ R. seat R)
 -- ( seat )
 abbrev pub seat_in_brackets : Reader ASeat
 seat_in_brackets S = after (open_seat S) closing
+
+-- ( seat , suit )
+abbrev pub seat_and_suit : Bound → Reader (ASeat × ASuit)
+seat_and_suit E S =
+    after (open_seat S) (λ q S. after (comma_suit_close E S) (λ s R. got (q, s) R))
 
 -- ( seat ,
 abbrev pub open_seat_comma : Reader ASeat
@@ -110,15 +148,15 @@ abbrev pub range : Reader (ℕ × ℕ)
 range S =
     after (digits S) (λ m S. after (dash S) (λ _ S. after (digits S) (λ n S. got (m, n) S)))
 
-unfoldable pub atom_of : Reader Amount
-atom_of (Number n ∷ S) = got (number n) S
-atom_of (Measure m ∷ S) = after (open_seat S) (rest_of_measure m)
-atom_of (Len ∷ S) =
-    after (open_seat S) (λ q R. after (comma_suit_close R) (λ s. got (suit_length q s)))
-atom_of (Cards ∷ S) = after (open_seat_comma S) (λ q R. rest_of_cards q R)
-atom_of (Longest ∷ S) = after (seat_in_brackets S) (λ q R. got (longest q) R)
-atom_of (Shortest ∷ S) = after (seat_in_brackets S) (λ q R. got (shortest q) R)
-atom_of S = stuck S
+unfoldable pub atom_of : Bound → Reader Amount
+atom_of E (Number n ∷ S) = got (number n) S
+atom_of E (Measure m ∷ S) = after (open_seat S) (rest_of_measure E m)
+atom_of E (Len ∷ S) = after (seat_and_suit E S) (λ p R. got (suit_length p.0 p.1) R)
+atom_of E (Cards ∷ S) = after (open_seat_comma S) (λ q R. rest_of_cards E q R)
+atom_of E (Longest ∷ S) = after (seat_in_brackets S) (λ q R. got (longest q) R)
+atom_of E (Second ∷ S) = after (seat_in_brackets S) (λ q R. got (second q) R)
+atom_of E (Shortest ∷ S) = after (seat_in_brackets S) (λ q R. got (shortest q) R)
+atom_of E S = stuck S
 
 unfoldable pub items : Reader (List Item)
 items S =
@@ -154,57 +192,95 @@ Of a_value = Amount
 Of (sums a) = Amount
 
 abbrev pub Readers : Type 0
-Readers = (g : Goal) → Reader (Of g)
+Readers = Bound → (g : Goal) → Reader (Of g)
 
 -- op value
-abbrev pub compared_by : Readers → Amount → Reader Form
-compared_by r a S =
-    after (relation S) (λ o S. after (r a_value S) (λ b S. got (compare a o b) S))
+abbrev pub compared_by : Readers → Bound → Amount → Reader Form
+compared_by r E a S =
+    after (relation S) (λ o S. after (r E a_value S) (λ b S. got (compare a o b) S))
 
 -- in number - number, or op value
-abbrev pub related_by : Readers → Amount → Reader Form
-related_by r a (In ∷ S) = after (range S) (λ p S. got (within a p.0 p.1) S)
-related_by r a S = compared_by r a S
+abbrev pub related_by : Readers → Bound → Amount → Reader Form
+related_by r E a (In ∷ S) = after (range S) (λ p S. got (within a p.0 p.1) S)
+related_by r E a S = compared_by r E a S
 
-abbrev pub comparing_by : Readers → Reader Form
-comparing_by r S = after (r a_value S) (λ a S. related_by r a S)
+abbrev pub comparing_by : Readers → Bound → Reader Form
+comparing_by r E S = after (r E a_value S) (λ a S. related_by r E a S)
 
-abbrev pub sums_by : Readers → Amount → Reader Amount
-sums_by r a (Plus ∷ S) = after (atom_of S) (λ b R. r (sums (sum a b)) R)
-sums_by r a S = got a S
+abbrev pub sums_by : Readers → Bound → Amount → Reader Amount
+sums_by r E a (Plus ∷ S) = after (atom_of E S) (λ b R. r E (sums (sum a b)) R)
+sums_by r E a S = got a S
 
--- a test with no `not` and no bracket before it
-abbrev pub test_by : Readers → Reader Form
-test_by r (Balanced ∷ S) = after (open_seat S) (λ q R. closing (balanced q) R)
-test_by r (Shape ∷ S) = after (seat_and_items S) (λ p R. got (shaped p.0 p.1) R)
-test_by r (Pattern ∷ S) = after (seat_and_items S) (λ p R. got (patterned p.0 p.1) R)
-test_by r S = comparing_by r S
+-- a test with no `not`, no bracket and no quantifier before it
+abbrev pub test_by : Readers → Bound → Reader Form
+test_by r E (Balanced ∷ S) = after (open_seat S) (λ q R. closing (balanced q) R)
+test_by r E (Shape ∷ S) = after (seat_and_items S) (λ p R. got (shaped p.0 p.1) R)
+test_by r E (Pattern ∷ S) = after (seat_and_items S) (λ p R. got (patterned p.0 p.1) R)
+test_by r E (Stops ∷ S) = after (seat_and_suit E S) (λ p R. got (stops p.0 p.1) R)
+test_by r E S = comparing_by r E S
 
-abbrev pub unit_by : Readers → Reader Form
-unit_by r (Not ∷ S) = after (r a_unit S) (λ t R. got (negation t) R)
-unit_by r (Open ∷ S) = after (r a_cond S) closing
-unit_by r S = test_by r S
+-- a tree behind those of the suits before it
+abbrev pub behind : AQuantifier → Option Form → Form → Form
+behind k None b = b
+behind k (Some a) b = joined k a b
 
-abbrev pub ors_by : Readers → Form → Reader Form
-ors_by r a (Or ∷ S) = after (r a_both S) (λ b R. r (ors (any_of a b)) R)
-ors_by r a S = got a S
+-- the condition S with the suit in the class's place, if the suit is one of the class
+abbrev pub with_suit_by :
+    Readers → Bound → AQuantifier → AClass → List Token → ASuit → Option Form
+    → Reader (Option Form)
+with_suit_by r E k c S s left R =
+    if is_member E c s
+    then after (r (bind E c s) a_cond S) (λ b Q. got (Some (behind k left b)) Q)
+    else got left R
 
-abbrev pub ands_by : Readers → Form → Reader Form
-ands_by r a (And ∷ S) = after (r a_unit S) (λ b R. r (ands (all_of a b)) R)
-ands_by r a S = got a S
+-- no class is without a suit
+abbrev pub some_tree : Option Form → Reader Form
+some_tree None R = stuck R
+some_tree (Some t) R = got t R
 
-abbrev pub step : Readers → (g : Goal) → Reader (Of g)
-step r a_cond S = after (r a_both S) (λ a R. r (ors a) R)
-step r a_both S = after (r a_unit S) (λ a R. r (ands a) R)
-step r a_unit S = unit_by r S
-step r (ors a) S = ors_by r a S
-step r (ands a) S = ands_by r a S
-step r a_value S = after (atom_of S) (λ a R. r (sums a) R)
-step r (sums a) S = sums_by r a S
+-- the condition S with each of the suits, one after the other
+abbrev pub each_by :
+    Readers → Bound → AQuantifier → AClass → List Token → List ASuit → Option Form → Reader Form
+each_by r E k c S [] left R = some_tree left R
+each_by r E k c S (s ∷ ss) left R =
+    after (with_suit_by r E k c S s left R) (λ left Q. each_by r E k c S ss left Q)
+
+-- ( cond ) with each suit of the class in its place
+abbrev pub bracketed_by : Readers → Bound → AQuantifier → AClass → Reader Form
+bracketed_by r E k c S =
+    after (opened S) (λ _ S. after (each_by r E k c S all_suits None S) closing)
+
+-- quantifier class ( cond )
+abbrev pub quantified_by : Readers → Bound → Reader Form
+quantified_by r E S =
+    after (quantifier E S) (λ k S. after (class E S) (λ c S. bracketed_by r E k c S))
+
+abbrev pub unit_by : Readers → Bound → Reader Form
+unit_by r E (Not ∷ S) = after (r E a_unit S) (λ t R. got (negation t) R)
+unit_by r E (Open ∷ S) = after (r E a_cond S) closing
+unit_by r E (Quantifier k ∷ S) = quantified_by r E (Quantifier k ∷ S)
+unit_by r E S = test_by r E S
+
+abbrev pub ors_by : Readers → Bound → Form → Reader Form
+ors_by r E a (Or ∷ S) = after (r E a_both S) (λ b R. r E (ors (any_of a b)) R)
+ors_by r E a S = got a S
+
+abbrev pub ands_by : Readers → Bound → Form → Reader Form
+ands_by r E a (And ∷ S) = after (r E a_unit S) (λ b R. r E (ands (all_of a b)) R)
+ands_by r E a S = got a S
+
+abbrev pub step : Readers → Bound → (g : Goal) → Reader (Of g)
+step r E a_cond S = after (r E a_both S) (λ a R. r E (ors a) R)
+step r E a_both S = after (r E a_unit S) (λ a R. r E (ands a) R)
+step r E a_unit S = unit_by r E S
+step r E (ors a) S = ors_by r E a S
+step r E (ands a) S = ands_by r E a S
+step r E a_value S = after (atom_of E S) (λ a R. r E (sums a) R)
+step r E (sums a) S = sums_by r E a S
 
 unfoldable pub steps : ℕ → Readers
-steps zero g S = stuck S
-steps (suc n) g S = step (steps n) g S
+steps zero E g S = stuck S
+steps (suc n) E g S = step (steps n) E g S
 
 abbrev pub rank : Goal → ℕ
 rank a_cond = 4
@@ -217,7 +293,7 @@ rank (ands a) = 0
 
 -- as many steps as are enough
 unfoldable pub reading : Readers
-reading g S = steps (suc (rank g + 5 * length S)) g S
+reading E g S = steps (suc (rank g + 5 * length S)) E g S
 
 -- nothing is left
 abbrev pub ended : Form → Reader Form
@@ -226,7 +302,7 @@ ended t (c ∷ S) = stuck (c ∷ S)
 
 -- one condition, and no more
 unfoldable pub whole : Reader Form
-whole S = after (reading a_cond S) ended
+whole S = after (reading unbound a_cond S) ended
 
 -- A function returned what is read, and left what is left, unless memory ran out.
 abbrev pub Gives : {X A : Type 0} → (X → A) → Result X Refusal → List Token → Outcome A → Type 0

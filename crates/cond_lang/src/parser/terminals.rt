@@ -1,13 +1,15 @@
 //! The parser's smallest parts: single tokens, and the short runs of tokens that its rules share.
 
-ghost use Rattle.std.specs.Prelude.{◌≤◌, length};
+ghost use Rattle.std.specs.Prelude.{◌<◌, ◌≤◌, length, IfOk};
 ghost use Rattle.cond_lang.specs.internal.Reading.{Gives, opened, closed, comma, dash, seat, suit};
+ghost use Rattle.cond_lang.specs.internal.Reading.{quantifier, class, seat_and_suit};
 ghost use Rattle.cond_lang.specs.internal.Reading.{digits, ranks, item, relation, open_seat};
 ghost use Rattle.cond_lang.specs.internal.Reading.{open_seat_comma, seat_in_brackets, range};
 ghost use Rattle.cond_lang.specs.internal.Reading.{comma_suit_close, ranks_close};
 ghost use Rattle.cond_lang.specs.internal.Reading.{items, seat_and_items};
 
 use super::{Parser, Refusal};
+use crate::classes::{Bound, Class, Quantifier};
 use crate::scanner::Token;
 use cards::{Honours, Seat, Suit};
 use conditions::{Item, Op};
@@ -68,15 +70,52 @@ impl<'a> Parser<'a> {
         Ok(seat)
     }
 
-    pub(super) fn suit(&mut self) -> Result<Suit, Refusal>
-        ensures gives { Gives (λ s. s) result self.new (suit self.old) }
+    /// A suit, or a bound class, which is the suit that it stands for.
+    pub(super) fn suit(&mut self, bound: Bound) -> Result<Suit, Refusal>
+        ensures gives { Gives (λ s. s) result self.new (suit bound self.old) }
         ensures shorter { length self.new ≤ length self.old }
     {
-        let Some(Token::Suit(suit)) = self.peek() else {
+        let named = match self.peek() {
+            Some(Token::Suit(suit)) => Some(suit),
+            Some(Token::Class(class)) => bound.suit_of(class),
+            _ => None,
+        };
+        let Some(suit) = named else {
             return Err(Refusal::Syntax);
         };
         self.advance();
         Ok(suit)
+    }
+
+    /// A quantifier, where some class can be bound.
+    pub(super) fn quantifier(&mut self, bound: Bound) -> Result<Quantifier, Refusal>
+        ensures gives { Gives (λ k. k) result self.new (quantifier bound self.old) }
+        ensures shorter { length self.new ≤ length self.old }
+        ensures passed { IfOk result (λ _. length self.new < length self.old) }
+    {
+        let Some(Token::Quantifier(quantifier)) = self.peek() else {
+            return Err(Refusal::Syntax);
+        };
+        if !bound.can_quantify() {
+            return Err(Refusal::Syntax);
+        }
+        self.advance();
+        Ok(quantifier)
+    }
+
+    /// A class that can be bound.
+    pub(super) fn class(&mut self, bound: Bound) -> Result<Class, Refusal>
+        ensures gives { Gives (λ c. c) result self.new (class bound self.old) }
+        ensures shorter { length self.new ≤ length self.old }
+    {
+        let Some(Token::Class(class)) = self.peek() else {
+            return Err(Refusal::Syntax);
+        };
+        if !bound.can_bind(class) {
+            return Err(Refusal::Syntax);
+        }
+        self.advance();
+        Ok(class)
     }
 
     pub(super) fn number(&mut self) -> Result<u16, Refusal>
@@ -177,14 +216,24 @@ impl<'a> Parser<'a> {
     }
 
     /// `, suit )`
-    pub(super) fn comma_suit_close(&mut self) -> Result<Suit, Refusal>
-        ensures gives { Gives (λ s. s) result self.new (comma_suit_close self.old) }
+    fn comma_suit_close(&mut self, bound: Bound) -> Result<Suit, Refusal>
+        ensures gives { Gives (λ s. s) result self.new (comma_suit_close bound self.old) }
         ensures shorter { length self.new ≤ length self.old }
     {
         self.comma()?;
-        let suit = self.suit()?;
+        let suit = self.suit(bound)?;
         self.close()?;
         Ok(suit)
+    }
+
+    /// `( seat , suit )`
+    pub(super) fn seat_and_suit(&mut self, bound: Bound) -> Result<(Seat, Suit), Refusal>
+        ensures gives { Gives (λ p. (p.0, p.1)) result self.new (seat_and_suit bound self.old) }
+        ensures shorter { length self.new ≤ length self.old }
+    {
+        let seat = self.open_seat()?;
+        let suit = self.comma_suit_close(bound)?;
+        Ok((seat, suit))
     }
 
     /// `item - item - item - item`

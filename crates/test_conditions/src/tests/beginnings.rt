@@ -2,38 +2,68 @@
 
 use super::*;
 use cards::Measure;
-use cond_lang::{Beginning, Kind};
+use cond_lang::{Beginning, Class, Kind, Quantifier};
 
 /// Any measure: all of them stand in the same places.
 const MEASURE: Kind = Kind::Measure(Measure::Hcp);
 
+const SUIT: Kind = Kind::Class(Class::Suit);
+
+const MAJOR: Kind = Kind::Class(Class::Major);
+
+const MINOR: Kind = Kind::Class(Class::Minor);
+
+const OTHER: Kind = Kind::Class(Class::Other);
+
 /// All that begins a condition.
-const CONDITION: [Kind; 11] = [
+const CONDITION: [Kind; 15] = [
     Kind::Not,
     Kind::Open,
     Kind::Balanced,
     Kind::Shape,
     Kind::Pattern,
+    Kind::Quantifier(Quantifier::Any),
+    Kind::Quantifier(Quantifier::Every),
+    Kind::Stops,
     Kind::Number,
     MEASURE,
     Kind::Cards,
     Kind::Len,
     Kind::Longest,
+    Kind::Second,
+    Kind::Shortest,
+];
+
+/// The same where each class is bound.
+const INSIDE_ALL: [Kind; 13] = [
+    Kind::Not,
+    Kind::Open,
+    Kind::Balanced,
+    Kind::Shape,
+    Kind::Pattern,
+    Kind::Stops,
+    Kind::Number,
+    MEASURE,
+    Kind::Cards,
+    Kind::Len,
+    Kind::Longest,
+    Kind::Second,
     Kind::Shortest,
 ];
 
 /// All that begins a value.
-const VALUE: [Kind; 6] = [
+const VALUE: [Kind; 7] = [
     Kind::Number,
     MEASURE,
     Kind::Cards,
     Kind::Len,
     Kind::Longest,
+    Kind::Second,
     Kind::Shortest,
 ];
 
 /// Texts with a syntax fault, or whole ones, and what could stand there.
-const EXPECTED: [(&str, &[Kind]); 19] = [
+const EXPECTED: [(&str, &[Kind]); 31] = [
     ("", &CONDITION),
     ("1==1+", &VALUE),
     ("hcp(north)", &[Kind::Plus, Kind::Relation, Kind::In]),
@@ -62,6 +92,30 @@ const EXPECTED: [(&str, &[Kind]); 19] = [
     ("hcp(east) in 3-4 5", &[Kind::And, Kind::Or, Kind::End]),
     ("(1 in 3-4 5", &[Kind::Close, Kind::And, Kind::Or]),
     ("pattern(east,x-x-x-in", &[Kind::Number, Kind::X]),
+    ("any", &[SUIT, MAJOR, MINOR]),
+    ("any suit", &[Kind::Open]),
+    ("any suit (any suit (0==0))", &[MAJOR, MINOR, OTHER]),
+    ("any suit (any other (any other (0==0)))", &[MAJOR, MINOR]),
+    ("any suit (len(north,major)>=2)", &[Kind::Suit, SUIT]),
+    ("any major (0==0) and len(north,major)>=2", &[Kind::Suit]),
+    (
+        "any suit (any major (any minor (any other (any",
+        &INSIDE_ALL,
+    ),
+    (
+        "every minor (cards(north,",
+        &[Kind::Suit, MINOR, Kind::Ranks],
+    ),
+    (
+        "any suit (stops(north,suit)",
+        &[Kind::Close, Kind::And, Kind::Or],
+    ),
+    (
+        "stops(north,hearts) >= 1",
+        &[Kind::And, Kind::Or, Kind::End],
+    ),
+    ("second(north)", &[Kind::Plus, Kind::Relation, Kind::In]),
+    ("second(north,hearts)==3", &[Kind::Close]),
 ];
 
 #[test]

@@ -3,7 +3,7 @@
 use super::*;
 
 /// Texts, and their trees.
-const TREES: [(&str, &str); 38] = [
+const TREES: [(&str, &str); 43] = [
     (
         "0==0",
         "Compare { left: Number(0), op: Equal, right: Number(0) }",
@@ -130,6 +130,28 @@ const TREES: [(&str, &str); 38] = [
         "AllOf(Negation(AnyOf(Compare { left: Sum(Sum(Points(North), Length(South, Clubs)), \
         Number(3)), op: AtLeast, right: Number(15) }, Shape(East, [4, 4, 3, 2]))), \
         Pattern(West, [4, 3, 3, 3]))",
+    ),
+    // Each suit of a class, in the place of its word.
+    ("stops(north,hearts)", "Stops(North, Hearts)"),
+    (
+        "second(east)==5",
+        "Compare { left: Second(East), op: Equal, right: Number(5) }",
+    ),
+    (
+        "any major (stops(north,major))",
+        "AnyOf(Stops(North, Spades), Stops(North, Hearts))",
+    ),
+    (
+        "not every suit (stops(north,suit))",
+        "Negation(AllOf(AllOf(AllOf(Stops(North, Spades), Stops(North, Hearts)), \
+        Stops(North, Diamonds)), Stops(North, Clubs)))",
+    ),
+    (
+        "any minor (stops(west,minor) and every other (stops(east,other)))",
+        "AnyOf(AllOf(Stops(West, Diamonds), AllOf(AllOf(Stops(East, Spades), \
+        Stops(East, Hearts)), Stops(East, Clubs))), \
+        AllOf(Stops(West, Clubs), AllOf(AllOf(Stops(East, Spades), \
+        Stops(East, Hearts)), Stops(East, Diamonds))))",
     ),
     // Comments and ends of lines.
     ("1==1#2==2", ONE_IS_ONE),

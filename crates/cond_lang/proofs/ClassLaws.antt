@@ -1,0 +1,160 @@
+-- What a quantifier spells, and what it means.
+use Rattle.std.proofs.Common.{◌≡◌, ◌≢◌, Bool, true, false, not, ◌&&◌, ◌||◌, List, [], ◌∷◌, ◌++◌, map, Some, refl, sym, ap, ◌∙◌, subst, append_assoc}
+use Rattle.std.specs.Prelude.{◌↔◌, fold}
+use Rattle.std.specs.List.{list_any, list_all}
+use Rattle.std.proofs.lemmas.List.{append_cancel_right}
+use Rattle.cards.specs.declared.seat.Seat.{Seat as ASeat}
+use Rattle.cards.specs.declared.suit.Suit.{Suit as ASuit}
+use Rattle.cards.specs.declared.suit.Suit.TheVariants.{Spades, Hearts}
+use Rattle.cond_lang.specs.declared.classes.Bound.{Bound}
+use Rattle.cond_lang.specs.declared.classes.Class.{Class as AClass}
+use Rattle.cond_lang.specs.declared.classes.Class.TheVariants.{Major}
+use Rattle.cond_lang.specs.declared.classes.Quantifier.{Quantifier as AQuantifier}
+use Rattle.cond_lang.specs.declared.classes.Quantifier.TheVariants.{Any, Every}
+use Rattle.cond_lang.specs.declared.scanner.Token.{Token}
+use Rattle.cond_lang.specs.declared.scanner.Token.TheVariants.{Not, Quantifier, Class, Open, Close, Plus, Relation, In, Number, Dash}
+use Rattle.conditions.specs.Form.{Amount, Form, any_of, all_of, negation}
+use Rattle.conditions.specs.Meaning.{holds}
+use Rattle.cond_lang.specs.Classes.{bind, can_bind, members}
+use Rattle.cond_lang.specs.Grammar.{SpellsAtom, SpellsValue, atom, plus, a_number, measure, measure_in, len, cards, cards_in, longest_suit, second_suit, shortest_suit, SpellsCond, both, unit, SpellsUnit, not as negated, brackets, quantified, test, SpellsEach, none, one_more, joined, SpellsTest, comparison, in_range, is_balanced, has_shape, has_pattern, has_stopper}
+use Rattle.cond_lang.specs.internal.Reading.{front}
+use Rattle.cond_lang.proofs.Quantified.{AreEach}
+
+-- ---- what it spells
+
+-- a value doesn't begin with a quantifier
+atom_front : {E : Bound} {L : List Token} {a : Amount} → SpellsAtom E L a → (X : List Token) (k : AQuantifier) → front (L ++ X) ≢ Some (Quantifier k)
+atom_front a_number X k = λ e. cc
+atom_front measure X k = λ e. cc
+atom_front (measure_in i) X k = λ e. cc
+atom_front (len i) X k = λ e. cc
+atom_front cards X k = λ e. cc
+atom_front (cards_in i) X k = λ e. cc
+atom_front longest_suit X k = λ e. cc
+atom_front (second_suit w) X k = λ e. cc
+atom_front shortest_suit X k = λ e. cc
+
+value_front : {E : Bound} {L : List Token} {a : Amount} → SpellsValue E L a → (X : List Token) (k : AQuantifier) → front (L ++ X) ≢ Some (Quantifier k)
+value_front (atom h) X k = atom_front h X k
+value_front (plus {L} {R} l r) X k = rw (append_assoc L (Plus ∷ R) X) (value_front l (Plus ∷ (R ++ X)) k)
+
+test_front : {E : Bound} {T : List Token} {t : Form} → SpellsTest E T t → (k : AQuantifier) → front T ≢ Some (Quantifier k)
+test_front (comparison {L} {R} {o} l r) k = value_front l (Relation o ∷ R) k
+test_front (in_range {L} {m} {n} l) k = value_front l (In ∷ Number m ∷ Dash ∷ Number n ∷ []) k
+test_front is_balanced k = λ e. cc
+test_front (has_shape a b c d) k = λ e. cc
+test_front (has_pattern a b c d) k = λ e. cc
+test_front (has_stopper w i) k = λ e. cc
+
+-- a class can be bound there, and the tokens spell a tree with each of its suits
+abbrev pub IsQuantified : Bound → AQuantifier → AClass → List Token → Form → Type 0
+IsQuantified E k c T t = (can_bind E c ≡ true) × AreEach E k c T t
+
+same_each :
+    (E : Bound) (j k : AQuantifier) (c d : AClass) (S T : List Token) (t : Form)
+    → j ≡ k → c ≡ d → S ≡ T → IsQuantified E j c S t → IsQuantified E k d T t
+same_each E j k c d S T t a b e h =
+    subst (λ T. IsQuantified E k d T t) e (subst (λ d. IsQuantified E k d S t) b (subst (λ k. IsQuantified E k c S t) a h))
+
+quantifies :
+    {E : Bound} {A : List Token} {t : Form} → SpellsUnit E A t → (k : AQuantifier) (c : AClass) (T : List Token)
+    → A ≡ Quantifier k ∷ Class c ∷ Open ∷ T ++ Close ∷ [] → IsQuantified E k c T t
+quantifies (negated h) k c T e = absurd (cc)
+quantifies (brackets h) k c T e = absurd (cc)
+quantifies {E} (quantified {k = j} {c = d} {T = S} {t} {ts} w b each) k c T e =
+    let i : j ≡ k = cc in
+    let l : d ≡ c = cc in
+    let m : S ++ Close ∷ [] ≡ T ++ Close ∷ [] = cc in
+    same_each E j k d c S T _ i l (append_cancel_right S T (Close ∷ []) m) (b, (t, ts, each, refl))
+quantifies (test h) k c T e = absurd (test_front h k (ap front e))
+
+pub quantified_is :
+    (E : Bound) (k : AQuantifier) (c : AClass) (T : List Token) (t : Form) → SpellsUnit E (Quantifier k ∷ Class c ∷ Open ∷ T ++ Close ∷ []) t
+    → IsQuantified E k c T t
+quantified_is E k c T t h = quantifies h k c T refl
+
+-- `any major (c)` is c with spades or c with hearts
+abbrev pub InMajors : Bound → List Token → Form → Type 0
+InMajors E T t =
+    (can_bind E Major ≡ true)
+    × ((a : Form) × (b : Form) × SpellsCond (bind E Major Spades) T a × SpellsCond (bind E Major Hearts) T b × (t ≡ any_of a b))
+
+two_each : (E : Bound) (T : List Token) (t u : Form) (us : List Form) → SpellsEach E Major (Spades ∷ Hearts ∷ []) T (u ∷ us) → t ≡ fold (joined Any) u us
+    → (a : Form) × (b : Form) × SpellsCond (bind E Major Spades) T a × SpellsCond (bind E Major Hearts) T b × (t ≡ any_of a b)
+two_each E T t u us (one_more {t = a} h (one_more {t = b} g none)) e = (a, b, h, g, e)
+
+pub majors : (E : Bound) (T : List Token) (t : Form) → SpellsUnit E (Quantifier Any ∷ Class Major ∷ Open ∷ T ++ Close ∷ []) t ↔ InMajors E T t
+majors E T t = (
+  λ h. let q = quantified_is E Any Major T t h in (q.0, two_each E T t q.1.0 q.1.1 q.1.2 q.1.3),
+  λ m. subst (λ t. SpellsUnit E (Quantifier Any ∷ Class Major ∷ Open ∷ T ++ Close ∷ []) t) (sym m.1.4) (quantified tt m.0 (one_more m.1.2 (one_more m.1.3 none))),
+)
+
+-- ---- what it means
+
+or_false : (a : Bool) → a ≡ (a || false)
+or_false true = refl
+or_false false = refl
+
+and_true : (a : Bool) → a ≡ (a && true)
+and_true true = refl
+and_true false = refl
+
+or_assoc : (a b c : Bool) → ((a || b) || c) ≡ (a || (b || c))
+or_assoc true b c = refl
+or_assoc false b c = refl
+
+and_assoc : (a b c : Bool) → ((a && b) && c) ≡ (a && (b && c))
+and_assoc true b c = refl
+and_assoc false b c = refl
+
+pub any_is_some : (t : Form) (ts : List Form) (deal : List ASeat) → holds (fold (joined Any) t ts) deal ≡ list_any (λ t. holds t deal) (t ∷ ts)
+any_is_some t [] deal = or_false (holds t deal)
+any_is_some t (u ∷ us) deal =
+    any_is_some (any_of t u) us deal ∙ or_assoc (holds t deal) (holds u deal) (list_any (λ t. holds t deal) us)
+
+pub every_is_all : (t : Form) (ts : List Form) (deal : List ASeat) → holds (fold (joined Every) t ts) deal ≡ list_all (λ t. holds t deal) (t ∷ ts)
+every_is_all t [] deal = and_true (holds t deal)
+every_is_all t (u ∷ us) deal =
+    every_is_all (all_of t u) us deal ∙ and_assoc (holds t deal) (holds u deal) (list_all (λ t. holds t deal) us)
+
+not_both : (a b c : Bool) → c ≡ not a → (c || not b) ≡ not (a && b)
+not_both true b c e = rw e refl
+not_both false b c e = rw e refl
+
+not_not : (a : Bool) → a ≡ not (not a)
+not_not true = refl
+not_not false = refl
+
+-- none of them fails exactly if all hold
+none_fails :
+    (t u : Form) (ts : List Form) (deal : List ASeat) → holds u deal ≡ not (holds t deal)
+    → holds (fold (joined Every) t ts) deal ≡ not (holds (fold (joined Any) u (map negation ts)) deal)
+none_fails t u [] deal e = not_not (holds t deal) ∙ ap not (sym e)
+none_fails t u (x ∷ xs) deal e = none_fails (all_of t x) (any_of u (negation x)) xs deal (not_both (holds t deal) (holds x deal) (holds u deal) e)
+
+negated_each :
+    {E : Bound} {c : AClass} {ss : List ASuit} {T : List Token} {ts : List Form} → SpellsEach E c ss T ts
+    → SpellsEach E c ss (Not ∷ Open ∷ T ++ Close ∷ []) (map negation ts)
+negated_each none = none
+negated_each (one_more h hs) = one_more (both (unit (negated (brackets h)))) (negated_each hs)
+
+-- `every class (c)` is `not any class (not (c))`
+abbrev pub IsNotAnyNot : Bound → AClass → List Token → Form → Type 0
+IsNotAnyNot E c T t =
+    (u : Form)
+    × SpellsUnit E (Not ∷ Quantifier Any ∷ Class c ∷ Open ∷ (Not ∷ Open ∷ T ++ Close ∷ []) ++ Close ∷ []) u
+    × ((deal : List ASeat) → holds t deal ≡ holds u deal)
+
+pub every_is_not_any_not :
+    (E : Bound) (c : AClass) (T : List Token) (t : Form) → SpellsUnit E (Quantifier Every ∷ Class c ∷ Open ∷ T ++ Close ∷ []) t
+    → IsNotAnyNot E c T t
+every_is_not_any_not E c T t h =
+    let q = quantified_is E Every c T t h in
+    let first : Form = q.1.0 in
+    let more : List Form = q.1.1 in (
+      negation (fold (joined Any) (negation first) (map negation more)),
+      negated (quantified tt q.0 (negated_each q.1.2)),
+      λ deal. ap (λ t. holds t deal) q.1.3 ∙ none_fails first (negation first) more deal refl,
+    )
+
+pub ruleset each_suit = (any_is_some, every_is_all)
