@@ -13,6 +13,8 @@ sys.setrecursionlimit(5_000)
 
 SEATS = ["north", "east", "south", "west"]
 SUITS = ["spades", "hearts", "diamonds", "clubs"]
+# The suits of a class; `other` has those that no class around it stands for.
+CLASSES = {"suit": [0, 1, 2, 3], "major": [0, 1], "minor": [2, 3], "other": [0, 1, 2, 3]}
 RANKS = "akqjt"
 RELATIONS = {
     "==": operator.eq,
@@ -68,6 +70,9 @@ class Reader:
 
     def __init__(self, tokens):
         self.tokens = tokens
+        # The classes around what is read; and, when the condition is asked, the suit that each stands for.
+        self.around = []
+        self.bound = {}
 
     def sees(self, *words):
         return bool(self.tokens) and self.tokens[0] in words
@@ -111,7 +116,57 @@ class Reader:
             return inner
         if self.sees("balanced", "shape", "pattern"):
             return self.shape(self.next())
+        if self.sees("any", "every"):
+            return self.quantified(any if self.next() == "any" else all)
+        if self.sees("stops"):
+            return self.stopper()
         return self.comparison()
+
+    def quantified(self, of):
+        """Whether the bracket is true with some suit of a class, or with each."""
+        name = self.next()
+        if name not in CLASSES or name in self.around or (name == "other" and not self.around):
+            raise ValueError(f"{name!r} for a class")
+        self.around.append(name)
+        self.expect("(")
+        inner = self.condition()
+        self.expect(")")
+        self.around.remove(name)
+
+        def holds(hands):
+            taken = set(self.bound.values()) if name == "other" else set()
+            answers = [self.with_suit(name, suit, inner, hands) for suit in CLASSES[name] if suit not in taken]
+            return of(answers)
+
+        return holds
+
+    def with_suit(self, name, suit, inner, hands):
+        self.bound[name] = suit
+        answer = inner(hands)
+        del self.bound[name]
+        return answer
+
+    def suit(self):
+        """A suit's word, or that of a class around it: a function of nothing."""
+        word = self.next()
+        if word in self.around:
+            return lambda: self.bound[word]
+        found = SUITS.index(word)
+        return lambda: found
+
+    def stopper(self):
+        self.expect("stops")
+        self.expect("(")
+        seat = self.one_of(SEATS)
+        self.expect(",")
+        suit = self.suit()
+        self.expect(")")
+
+        def holds(hands):
+            held = ranks_in(hands[seat], suit())
+            return any(honour in held and len(held) > honour for honour in range(4))
+
+        return holds
 
     def shape(self, word):
         self.expect("(")
@@ -155,25 +210,26 @@ class Reader:
             return lambda hands: int(word)
         self.expect("(")
         seat = self.one_of(SEATS)
-        if word in ("longest", "shortest"):
+        if word in ("longest", "second", "shortest"):
             self.expect(")")
-            choose = max if word == "longest" else min
-            return lambda hands: choose(lengths(hands[seat]))
-        suits = range(4)
+            place = {"longest": 3, "second": 2, "shortest": 0}[word]
+            return lambda hands: sorted(lengths(hands[seat]))[place]
+        suits = lambda: range(4)  # noqa: E731
         if word in ("len", "cards") or self.sees(","):
             self.expect(",")
-            if word != "cards" or self.sees(*SUITS):
-                suits = [self.one_of(SUITS)]
+            if word != "cards" or self.sees(*SUITS, *self.around):
+                suit = self.suit()
+                suits = lambda: [suit()]  # noqa: E731
                 if word == "cards":
                     self.expect(",")
         ranks = {RANKS.index(letter) for letter in self.next()} if word == "cards" else set()
         self.expect(")")
         if word == "cards":
-            return lambda hands: sum(card % 13 in ranks and card // 13 in suits for card in hands[seat])
+            return lambda hands: sum(card % 13 in ranks and card // 13 in suits() for card in hands[seat])
         if word == "len":
-            return lambda hands: sum(card // 13 in suits for card in hands[seat])
+            return lambda hands: sum(card // 13 in suits() for card in hands[seat])
         measure = MEASURES[word]
-        return lambda hands: measure(hands[seat], suits)
+        return lambda hands: measure(hands[seat], suits())
 
 
 def condition(text):

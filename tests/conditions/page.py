@@ -10,13 +10,13 @@ import language
 TOP = pathlib.Path(__file__).resolve().parent.parent.parent
 EXAMPLES = 10
 # What is asked of a hand and has a number: it has a line of its own.
-VALUES = [*language.MEASURES, "cards", "len", "longest", "shortest"]
+VALUES = [*language.MEASURES, "cards", "len", "longest", "second", "shortest"]
 
 
 def words():
     """The words of the language, as the docs list them."""
     text = (TOP / "docs" / "CONDITIONS.md").read_text()
-    listed = re.search(r"^The words are (.*?)\. Ranks\n", text, re.M | re.S).group(1)
+    listed = re.search(r"^The words are (.*?)\. Ranks\s", text, re.M | re.S).group(1)
     return re.findall(r"`([a-z]+)`", listed)
 
 
@@ -39,4 +39,4 @@ def complaint():
     if wide or refused or len(examples) != EXAMPLES:
         return f"wide {wide}, refused {refused}, {len(examples)} examples"
     missing = [word for word in words() if (f"  {word}(north" if word in VALUES else word) not in page]
-    return f"without {missing} of {len(words())} words" if missing or len(words()) < 23 else None
+    return f"without {missing} of {len(words())} words" if missing or len(words()) < 31 else None

@@ -14,15 +14,21 @@ WORDS = {
     "balanced": "balanced",
     "shape": "shape",
     "pattern": "shape",
+    "any": "any",
+    "every": "any",
+    "stops": "stops",
     **dict.fromkeys(language.MEASURES, "measure"),
     "cards": "cards",
     "len": "len",
     "longest": "longest",
+    "second": "longest",
     "shortest": "longest",
     "in": "in",
     "x": "x",
     **dict.fromkeys(["north", "east", "south", "west"], "seat"),
     **dict.fromkeys(["spades", "hearts", "diamonds", "clubs"], "suit"),
+    # A class is a kind of its own: which one may stand depends on those around it.
+    **{word: f"class {word}" for word in language.CLASSES},
 }
 SYMBOLS = {**{sign: sign for sign in "(),-+"}, **dict.fromkeys(["==", "!=", "<=", ">=", "<", ">"], "relation")}
 PIECE = re.compile(rb"[ \t\r\n]+|#[^\n]*|(?P<word>[a-z]+)|(?P<number>[0-9]+)|(?P<symbol>[<>=!]=|[<>]|[(),+-])")
@@ -30,12 +36,16 @@ MOST_BYTES = 1024
 
 VALUES = {"number", "measure", "cards", "len", "longest"}
 # All that begins a condition, and all that begins a value.
-BEGINNING = {"condition": VALUES | {"balanced", "shape", "not", "("}, "value": VALUES}
+INNERMOST = VALUES | {"balanced", "shape", "stops", "not", "("}
+BEGINNING = {"condition": INNERMOST | {"any"}, "innermost": INNERMOST, "value": VALUES}
 # What must follow a word whatever happens, a letter each, and the state behind it: q a seat, s a suit, r ranks, n a
-# number, i a length or x, e a suit or ranks, ? a comma with a suit or a bracket, and signs for themselves.
+# number, i a length or x, e a suit or ranks, ? a comma with a suit or a bracket, c a class, [ the bracket in which it
+# stands for a suit, and signs for themselves.
 OWED = {
     "balanced": ("(q)", "test"),
     "shape": ("(q,i-i-i-i)", "test"),
+    "any": ("c[", "unit"),
+    "stops": ("(q,s)", "test"),
     "in": ("n-n", "test"),
     "measure": ("(q?", "atom"),
     "cards": ("(q,e)", "atom"),
@@ -45,15 +55,19 @@ OWED = {
 MEANT = {
     "q": {"seat"},
     "s": {"suit"},
+    "[": {"("},
     "r": {"ranks"},
     "n": {"number"},
     "i": {"number", "x"},
     "e": {"suit", "ranks"},
     "?": {",", ")"},
 }
+CLASS_KINDS = [f"class {word}" for word in language.CLASSES]
 # How each is named where it could stand, in the order of the line that names them.
 NAMES = {
     "condition": "a condition such as balanced(north)",
+    # Where four classes are bound no more can be.
+    "innermost": '"not", "(", "balanced", "shape", "pattern", "stops" or a value such as hcp(north)',
     "value": "a value such as hcp(north)",
     "+": '"+"',
     "relation": "a comparison such as >=",
@@ -65,6 +79,7 @@ NAMES = {
     ",": '","',
     "seat": "a seat",
     "suit": "a suit",
+    **{f"class {word}": f'"{word}"' for word in language.CLASSES},
     "ranks": "ranks such as akq",
     ")": '")"',
     "and": '"and"',
@@ -81,15 +96,29 @@ class Machine:
     state: str = "unit"
     depth: int = 0
     is_left: bool = True
+    named: str = ""
+    # The classes around what comes next, each with how many brackets were open before its own.
+    around: list = dataclasses.field(default_factory=list)
+
+    def free(self):
+        """The classes that may be bound here."""
+        bound = {name for name, _ in self.around}
+        return set(CLASS_KINDS) - bound - (set() if bound else {"class other"})
+
+    def due(self):
+        """The kinds of tokens of which one must come next."""
+        code = self.owed[0]
+        kinds = self.free() if code == "c" else MEANT.get(code, {code})
+        return kinds | {name for name, _ in self.around} if "suit" in kinds else kinds
 
     def allowed(self):
         """The kinds of tokens that may come next, `condition` and `value` for all that begins one."""
         if self.owed:
-            return MEANT.get(self.owed[0], {self.owed[0]})
+            return self.due()
         after = {"and", "or", ")" if self.depth else "end"}
         match self.state:
             case "unit":
-                return {"condition"}
+                return {"condition" if self.free() else "innermost"}
             case "value":
                 return {"value"}
             case "atom":
@@ -104,10 +133,11 @@ class Machine:
     def take(self, kind):
         """Passes a token that may come next."""
         if self.owed:
-            code, rest = self.owed[0], self.owed[1:]
-            self.owed = {("?", ","): "s)", ("e", "suit"): ",r)"}.get((code, kind), rest)
+            self.pay(kind)
             return
         self.depth += {"(": 1, ")": -1}.get(kind, 0)
+        if kind == ")" and self.around and self.around[-1][1] == self.depth:
+            self.around.pop()
         if kind in OWED:
             self.owed, self.state = OWED[kind]
         elif kind == "number":
@@ -118,6 +148,21 @@ class Machine:
             self.state, self.is_left = "value", self.is_left and kind == "+"
         elif kind in ("and", "or"):
             self.state, self.is_left = "unit", True
+
+
+    def pay(self, kind):
+        """Passes a token that had to come."""
+        code, self.owed = self.owed[0], self.owed[1:]
+        if code == "c":
+            self.named = kind
+        elif code == "[":
+            self.around.append((self.named, self.depth))
+            self.depth += 1
+            self.is_left = True
+        elif code == "?" and kind == ",":
+            self.owed = "s)"
+        elif code == "e" and kind != "ranks":
+            self.owed = ",r)"
 
 
 def said(kinds):

@@ -23,7 +23,8 @@ fn line_of(value: u32) -> ArrayVec<u8, 11>
 /// Writes the first `count` values of a seed (POSIX `nrand48` after `srand48`), in decimal, a line
 /// each.
 ///
-/// On a fault of the sink a proper prefix of that text is written.
+/// # Errors
+/// `SinkFault` if the sink failed: a proper prefix of that text was written.
 pub fn stream<S: Sink>(seed: u32, count: u64, sink: &mut S) -> Result<(), SinkFault>
     requires faults { S.faults sink.old < 2 ^ 64 - 1 }
     requires count { count ≤ 2 ^ 40 }

@@ -1,18 +1,16 @@
 //! The program `deals`: its words and standard streams, and its status.
 //!
 //! What is said on standard error of a refusal is one line, or clap's text, for programs to read.
-//! For a person more is said below it (`person.rt`), and while a run lasts its boards are passed on
-//! as they are found, and its counts are shown (`streams.rt`).
+//! For a person more is said below it, and while a run lasts its boards are passed on as they are
+//! found, and its counts are shown (`streams.rt`).
 #![tactic(auto)]
 
-mod person;
 mod refused_words;
 mod streams;
 
 ghost use Rattle.std.specs.Prelude.{◌-◌, ◌<◌, ◌^◌};
 
-use crate::person::{Reasons, help, hints_of, is_time, note};
-use crate::streams::{Given, Said, open};
+use crate::streams::{Given, Reasons, Said, help, hints_of, is_time, note, open};
 use deals_cli::{perform, prepare, read_words};
 use picking::Reader;
 use requests::{Failure, Report};

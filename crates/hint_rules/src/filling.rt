@@ -34,6 +34,7 @@ use std::alloc::{AllocError, Global};
 /// What stands behind a word and a seat, where it isn't the bracket.
 static BEHIND_SEATS: &[(&str, &str)] = &[
     ("len", ",spades)"),
+    ("stops", ",spades)"),
     ("cards", ",akq)"),
     ("shape", ",5-3-3-2)"),
     ("pattern", ",5-3-3-2)"),

@@ -26,7 +26,7 @@ use crate::rule::Want::{
     Word, Zeros,
 };
 use crate::rule::{Rule, one, rules};
-use cond_lang::Kind;
+use cond_lang::{Class, Kind};
 use std::alloc::Global;
 
 /// Words in whose brackets lengths stand.

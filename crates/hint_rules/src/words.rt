@@ -41,13 +41,20 @@ pub(crate) fn token_of(part: &[u8]) -> Option<Token> {
 pub(crate) fn is_measure(part: &[u8]) -> bool {
     matches!(
         token_of(part),
-        Some(Token::Measure(_) | Token::Cards | Token::Len | Token::Longest | Token::Shortest)
+        Some(
+            Token::Measure(_)
+                | Token::Cards
+                | Token::Len
+                | Token::Longest
+                | Token::Second
+                | Token::Shortest
+        )
     )
 }
 
 /// Whether the part is a word behind which a seat stands in brackets.
 pub(crate) fn is_call(part: &[u8]) -> bool {
-    is_measure(part) || is_one_of(part, "balanced shape pattern")
+    is_measure(part) || is_one_of(part, "balanced shape pattern stops")
 }
 
 pub(crate) fn is_seat(part: &[u8]) -> bool {

@@ -7,6 +7,7 @@ use Rattle.std.proofs.lemmas.List.FromFn.{fill_by_all}
 use Rattle.std.proofs.lemmas.List.Sums.{sum_by-cons}
 use Rattle.cards.specs.declared.seat.Seat.{Seat}
 use Rattle.cards.specs.declared.suit.Suit.TheVariants.{Spades, Hearts, Diamonds, Clubs}
+use Rattle.cards.specs.Counts.{greatest_of_two}
 use Rattle.cards.specs.Deals.{IsPartition}
 use Rattle.cards.specs.Hands.{hand_of, holds_card, length_of}
 use Rattle.cards.specs.Pack.{seat_number}
@@ -91,6 +92,21 @@ longest_least a b c d all = omega (arith, all)
 
 pub longest_most : (a b c d : ℕ) → a ≤ 13 → b ≤ 13 → c ≤ 13 → d ≤ 13 → max (max a b) (max c d) ≤ 13
 longest_most a b c d w x y z = omega (arith, w, x, y, z)
+
+-- of two of them the shorter is at most six
+two_most : (a b : ℕ) → a + b ≤ 13 → min a b ≤ 6
+two_most a b all = omega (arith, all)
+
+most_of_two : (a b n : ℕ) → a ≤ n → b ≤ n → max a b ≤ n
+most_of_two a b n h i = omega (arith, h, i)
+
+pub second_most : (a b c d : ℕ) → a + b + c + d ≡ 13 → greatest_of_two a b c d ≤ 6
+second_most a b c d all =
+    most_of_two (max (min a b) (min c d)) (max (max (min a c) (min a d)) (max (min b c) (min b d))) 6
+    (most_of_two (min a b) (min c d) 6 (two_most a b (omega (arith, all))) (two_most c d (omega (arith, all))))
+    (most_of_two (max (min a c) (min a d)) (max (min b c) (min b d)) 6
+    (most_of_two (min a c) (min a d) 6 (two_most a c (omega (arith, all))) (two_most a d (omega (arith, all))))
+    (most_of_two (min b c) (min b d) 6 (two_most b c (omega (arith, all))) (two_most b d (omega (arith, all)))))
 
 pub shortest_most : (a b c d : ℕ) → a + b + c + d ≡ 13 → min (min a b) (min c d) ≤ 3
 shortest_most a b c d all = omega (arith, all)

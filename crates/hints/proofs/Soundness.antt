@@ -9,7 +9,7 @@ use Rattle.cards.specs.declared.seat.Seat.{Seat}
 use Rattle.cards.specs.Deals.{IsPartition}
 use Rattle.cards.specs.Hands.{hand_of, is_rearrangement, is_same, shape_of}
 use Rattle.cards.proofs.Rearranging.{rearrangement_is_permutation}
-use Rattle.cond_lang.specs.Form.{Form, all_of, any_of, balanced, compare, loose_pattern, loose_shape, negation, pattern, shape, within}
+use Rattle.cond_lang.specs.Form.{Form, all_of, any_of, balanced, compare, loose_pattern, loose_shape, negation, pattern, shape, stops, within}
 use Rattle.cond_lang.specs.Meaning.{holds, is_related, value_in}
 use Rattle.conditions.specs.declared.tree.Op.{Op}
 use Rattle.conditions.specs.declared.tree.Op.TheVariants.{AtLeast, AtMost, Equal, Less, More, NotEqual}
@@ -123,3 +123,4 @@ sound (shape q ns) never deal ok = no_shape deal q ns ok never
 sound (pattern q ns) never deal ok = no_pattern deal q ns ok never
 sound (loose_shape q items) never deal ok = absurd (cc never)
 sound (loose_pattern q items) never deal ok = absurd (cc never)
+sound (stops q s) never deal ok = absurd (cc never)

@@ -10,7 +10,7 @@ use Rattle.cards.specs.Hands.{hand_of, is_same, length_of, points_in, points_of}
 use Rattle.cards.specs.Counts.{longest_of, shortest_of, total_in, total_of}
 use Rattle.cards.specs.Measures.{measure_back, measure_of_number}
 use Rattle.cards.specs.Pack.{seat_number, suit_number}
-use Rattle.cond_lang.specs.Form.{Amount, Form, all_of, any_of, balanced, cards_held, compare, longest, loose_pattern, loose_shape, negation, number, pattern, points, shape, shortest, suit_cards_held, suit_length, suit_points, suit_total, total, within}
+use Rattle.cond_lang.specs.Form.{Amount, Form, all_of, any_of, balanced, cards_held, compare, longest, loose_pattern, loose_shape, negation, number, pattern, points, second, shape, shortest, stops, suit_cards_held, suit_length, suit_points, suit_total, total, within}
 use Rattle.cond_lang.specs.Form.{sum as plus}
 use Rattle.cond_lang.specs.Meaning.{holds, is_related, value_in}
 use Rattle.conditions.specs.declared.tree.Op.{Op}
@@ -62,6 +62,7 @@ by_code deal (cards_held q h) e = absurd (cc e)
 by_code deal (suit_cards_held q s h) e = absurd (cc e)
 by_code deal (suit_length q s) h = ap (λ t. length_of (hand_of deal q) t) (suit_back s)
 by_code deal (longest q) h = refl
+by_code deal (second q) e = absurd (cc e)
 by_code deal (shortest q) h = refl
 
 equal_lists : (xs ys : List ℕ) → is_same xs ys ≡ true → xs ≡ ys
@@ -147,6 +148,7 @@ low deal ok (shape q ns) v h = omega arith
 low deal ok (pattern q ns) v h = omega arith
 low deal ok (loose_shape q items) v h = omega arith
 low deal ok (loose_pattern q items) v h = omega arith
+low deal ok (stops q s) v h = omega arith
 
 high : (deal : List Seat) → IsPartition deal → (f : Form) (v : Amount) → holds f deal ≡ true → value_in deal v ≤ greatest_with f v
 high deal ok (any_of a b) v h =
@@ -185,6 +187,7 @@ high deal ok (shape q ns) v h = at_most deal ok v
 high deal ok (pattern q ns) v h = at_most deal ok v
 high deal ok (loose_shape q items) v h = at_most deal ok v
 high deal ok (loose_pattern q items) v h = at_most deal ok v
+high deal ok (stops q s) v h = at_most deal ok v
 
 -- ---- nothing left
 
@@ -215,3 +218,4 @@ torn deal ok f (shape q ns) e h = absurd (cc e)
 torn deal ok f (pattern q ns) e h = absurd (cc e)
 torn deal ok f (loose_shape q items) e h = absurd (cc e)
 torn deal ok f (loose_pattern q items) e h = absurd (cc e)
+torn deal ok f (stops q s) e h = absurd (cc e)

@@ -7,11 +7,11 @@ use Rattle.cards.specs.declared.suit.Suit.TheVariants.{Spades, Hearts, Diamonds,
 use Rattle.cards.specs.Deals.{IsPartition}
 use Rattle.cards.specs.Hands.{hand_of}
 use Rattle.cards.proofs.MaskCounts.{length_of-le}
-use Rattle.cond_lang.specs.Form.{Amount, cards_held, longest, number, points, shortest, suit_cards_held, suit_length, suit_points, suit_total, total}
+use Rattle.cond_lang.specs.Form.{Amount, cards_held, longest, number, points, second, shortest, suit_cards_held, suit_length, suit_points, suit_total, total}
 use Rattle.cond_lang.specs.Form.{sum as plus}
 use Rattle.cond_lang.specs.Meaning.{value_in}
 use Rattle.hints.specs.Limits.{greatest_of, least_of}
-use Rattle.hints.proofs.Bounds.{lengths_add, longest_least, longest_most, shortest_most}
+use Rattle.hints.proofs.Bounds.{lengths_add, longest_least, longest_most, second_most, shortest_most}
 use Rattle.hints.proofs.Measured.{cards_most, measure_most, suit_cards_most, suit_measure_most}
 
 -- ---- values
@@ -27,6 +27,7 @@ at_least deal ok (cards_held q h) = omega arith
 at_least deal ok (suit_cards_held q s h) = omega arith
 at_least deal ok (suit_length q s) = omega arith
 at_least deal ok (longest q) = longest_least _ _ _ _ (lengths_add deal q ok)
+at_least deal ok (second q) = omega arith
 at_least deal ok (shortest q) = omega arith
 
 pub at_most : (deal : List Seat) → IsPartition deal → (a : Amount) → value_in deal a ≤ greatest_of a
@@ -42,6 +43,7 @@ at_most deal ok (suit_length q s) = length_of-le (hand_of deal q) s
 at_most deal ok (longest q) =
     let hand = hand_of deal q in
     longest_most _ _ _ _ (length_of-le hand Spades) (length_of-le hand Hearts) (length_of-le hand Diamonds) (length_of-le hand Clubs)
+at_most deal ok (second q) = second_most _ _ _ _ (lengths_add deal q ok)
 at_most deal ok (shortest q) = shortest_most _ _ _ _ (lengths_add deal q ok)
 
 -- ---- relations

@@ -4,6 +4,8 @@ use Rattle.std.specs.Prelude.{codes, length, map, if◌then◌else◌}
 use Rattle.std.specs.List.{filter, list_all}
 use Rattle.cond_lang.specs.Cut.{measure_word}
 use Rattle.cond_lang.specs.Kinds.{all_kinds}
+use Rattle.cond_lang.specs.declared.classes.Class.TheVariants.{Suit, Major, Minor, Other}
+use Rattle.cond_lang.specs.declared.classes.Quantifier.TheVariants.{Any, Every}
 use Rattle.cond_lang.specs.declared.words.Kind.{Kind}
 use Rattle.cond_lang.specs.declared.words.Kind.TheVariants as kind
 use Rattle.hints.specs.declared.expected.Part.{Part}
@@ -20,6 +22,8 @@ begins_test kind.Open = true
 begins_test kind.Balanced = true
 begins_test kind.Shape = true
 begins_test kind.Pattern = true
+begins_test (kind.Quantifier k) = true
+begins_test kind.Stops = true
 begins_test _ = false
 
 -- the kinds that begin a value
@@ -29,6 +33,7 @@ begins_value (kind.Measure m) = true
 begins_value kind.Cards = true
 begins_value kind.Len = true
 begins_value kind.Longest = true
+begins_value kind.Second = true
 begins_value kind.Shortest = true
 begins_value _ = false
 
@@ -70,11 +75,15 @@ kind_name kind.Open = codes "("
 kind_name kind.Balanced = codes "balanced"
 kind_name kind.Shape = codes "shape"
 kind_name kind.Pattern = codes "pattern"
+kind_name (kind.Quantifier Any) = codes "any"
+kind_name (kind.Quantifier Every) = codes "every"
+kind_name kind.Stops = codes "stops"
 kind_name kind.Number = codes "a number"
 kind_name (kind.Measure m) = measure_word m
 kind_name kind.Cards = codes "cards"
 kind_name kind.Len = codes "len"
 kind_name kind.Longest = codes "longest"
+kind_name kind.Second = codes "second"
 kind_name kind.Shortest = codes "shortest"
 kind_name kind.Plus = codes "+"
 kind_name kind.Relation = codes "a comparison such as >="
@@ -84,6 +93,10 @@ kind_name kind.X = codes "x"
 kind_name kind.Comma = codes ","
 kind_name kind.Seat = codes "a seat"
 kind_name kind.Suit = codes "a suit"
+kind_name (kind.Class Suit) = codes "suit"
+kind_name (kind.Class Major) = codes "major"
+kind_name (kind.Class Minor) = codes "minor"
+kind_name (kind.Class Other) = codes "other"
 kind_name kind.Ranks = codes "ranks such as akq"
 kind_name kind.Close = codes ")"
 kind_name kind.And = codes "and"

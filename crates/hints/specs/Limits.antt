@@ -5,8 +5,8 @@ use Rattle.std.specs.Prelude.{sum, unwrap_or}
 use Rattle.cards.specs.declared.honours.Honours.{Honours}
 use Rattle.cards.specs.declared.hand.Measure.{Measure}
 use Rattle.cards.specs.Measures.{weights_of}
-use Rattle.cond_lang.specs.Form.{Amount, cards_held, longest, number, points, shortest}
-use Rattle.cond_lang.specs.Form.{suit_cards_held, suit_length, suit_points, suit_total, total}
+use Rattle.cond_lang.specs.Form.{Amount, cards_held, longest, number, points, second}
+use Rattle.cond_lang.specs.Form.{shortest, suit_cards_held, suit_length, suit_points, suit_total, total}
 use Rattle.cond_lang.specs.Form.{sum as plus}
 
 -- how many ranks these are
@@ -46,4 +46,5 @@ greatest_of (cards_held q h) = 4 * rank_count h
 greatest_of (suit_cards_held q s h) = rank_count h
 greatest_of (suit_length q s) = 13
 greatest_of (longest q) = 13
+greatest_of (second q) = 6
 greatest_of (shortest q) = 3

@@ -14,7 +14,7 @@ use Rattle.hints.specs.Limits.{greatest_of, least_of}
 -- ---- the same value
 
 -- what a value asks of a hand, by numbers: what, whose, in which suit and by which measure; the
--- first is 0 of a number, a sum and cards of some ranks
+-- first is 0 of a number, a sum, cards of some ranks and the second longest suit
 abbrev pub code_of : Amount → List ℕ
 code_of (points q) = 1 ∷ seat_number q ∷ 0 ∷ 0 ∷ []
 code_of (suit_points q s) = 2 ∷ seat_number q ∷ suit_number s ∷ 0 ∷ []

@@ -7,7 +7,7 @@ ghost use Rattle.hints.specs.Expected.{separator, term_text, terms};
 ghost use Rattle.hints.specs.internal.Kinds.{in_set};
 
 use crate::kinds::KindSet;
-use cond_lang::{Kind, measure_word};
+use cond_lang::{Class, Kind, Quantifier, measure_word};
 use std::alloc::{AllocError, Global};
 
 /// What a person is told could stand there: a kind, or all kinds that begin a value or a condition.
@@ -35,6 +35,7 @@ fn begins_test(kind: Kind) -> bool
 {
     match kind {
         Kind::Not | Kind::Open | Kind::Balanced | Kind::Shape | Kind::Pattern => true,
+        Kind::Quantifier(_) | Kind::Stops => true,
         _ => false,
     }
 }
@@ -45,7 +46,7 @@ fn begins_value(kind: Kind) -> bool
 {
     match kind {
         Kind::Number | Kind::Measure(_) | Kind::Cards => true,
-        Kind::Len | Kind::Longest | Kind::Shortest => true,
+        Kind::Len | Kind::Longest | Kind::Second | Kind::Shortest => true,
         _ => false,
     }
 }
@@ -187,11 +188,15 @@ fn kind_name(kind: Kind) -> &'static str
         Kind::Balanced => "balanced",
         Kind::Shape => "shape",
         Kind::Pattern => "pattern",
+        Kind::Quantifier(Quantifier::Any) => "any",
+        Kind::Quantifier(Quantifier::Every) => "every",
+        Kind::Stops => "stops",
         Kind::Number => "a number",
         Kind::Measure(measure) => measure_word(measure),
         Kind::Cards => "cards",
         Kind::Len => "len",
         Kind::Longest => "longest",
+        Kind::Second => "second",
         Kind::Shortest => "shortest",
         Kind::Plus => "+",
         Kind::Relation => "a comparison such as >=",
@@ -201,6 +206,10 @@ fn kind_name(kind: Kind) -> &'static str
         Kind::Comma => ",",
         Kind::Seat => "a seat",
         Kind::Suit => "a suit",
+        Kind::Class(Class::Suit) => "suit",
+        Kind::Class(Class::Major) => "major",
+        Kind::Class(Class::Minor) => "minor",
+        Kind::Class(Class::Other) => "other",
         Kind::Ranks => "ranks such as akq",
         Kind::Close => ")",
         Kind::And => "and",

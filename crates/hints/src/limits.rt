@@ -39,6 +39,7 @@ pub(crate) fn greatest(value: &Value) -> u32
         Value::Cards(_, ranks) => 4 * rank_count(*ranks),
         Value::SuitCards(_, _, ranks) => rank_count(*ranks),
         Value::Length(..) | Value::Longest(_) => 13,
+        Value::Second(_) => 6,
         Value::Shortest(_) => 3,
     }
 }

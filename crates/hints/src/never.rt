@@ -49,7 +49,7 @@ pub(crate) fn is_never_met(tree: &Tree) -> bool
             )
         }
         Tree::Shape(_, lengths) | Tree::Pattern(_, lengths) => total(lengths) != 13,
-        Tree::Negation(_) | Tree::Balanced(_) => false,
+        Tree::Negation(_) | Tree::Balanced(_) | Tree::Stops(..) => false,
         Tree::LooseShape(..) | Tree::LoosePattern(..) => false,
     }
 }

@@ -158,5 +158,6 @@ fn code_of(value: &Value) -> [u8; 4]
         Value::Longest(seat) => [6, *seat as u8, 0, 0],
         Value::Shortest(seat) => [7, *seat as u8, 0, 0],
         Value::Number(_) | Value::Sum(..) | Value::Cards(..) | Value::SuitCards(..) => [0; 4],
+        Value::Second(_) => [0; 4],
     }
 }

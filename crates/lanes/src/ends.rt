@@ -104,8 +104,10 @@ impl Model for LaneOut {
         ≡ without_last (length l.block) (received l.consumer) ++ l.block };
 }
 
-/// Makes a lane that holds at most `capacity` verdicts, and returns its two ends. It returns
-/// `Capacity` exactly if that is not 1 to 4,096, and `Memory` if there is none for the ring.
+/// Makes a lane that holds at most `capacity` verdicts, and returns its two ends.
+///
+/// # Errors
+/// `Capacity` unless that is 1 to 4,096; `Memory` if the allocation of the ring failed.
 pub fn lane(alloc: Global, capacity: u32) -> Result<(LaneIn, LaneOut), LaneError>
     ensures capacity { IsErrOf result Capacity ↔ ((capacity ≡ 0) ⊎ (4096 < capacity)) }
     ensures ring { IfOk result (λ r. r.0.ring ≡ r.1.ring) }
@@ -122,6 +124,9 @@ pub fn lane(alloc: Global, capacity: u32) -> Result<(LaneIn, LaneOut), LaneError
 /// A block is a quarter of the capacity, at most 16 verdicts, and none below a capacity of 4. The
 /// ring is smaller by the two blocks, so that a worker with blocks is never more than `capacity`
 /// candidates ahead of the writer.
+///
+/// # Errors
+/// Those of `lane`.
 pub fn lane_in_blocks(
     alloc: Global,
     capacity: u32,
@@ -175,7 +180,10 @@ fn ends_with_blocks(
 }
 
 impl LaneIn {
-    /// Sends a verdict, or hands it back if the lane is full. Never blocks.
+    /// Sends a verdict. Never blocks.
+    ///
+    /// # Errors
+    /// The verdict is handed back if the lane is full.
     pub fn try_send(&mut self, verdict: Verdict) -> Result<(), Verdict>
         ensures ring { self.new.ring ≡ self.old.ring }
         ensures sent { OnOk result (self.new.sent ≡ self.old.sent ++ verdict ∷ []) }

@@ -44,7 +44,7 @@ pub enum Pace {
 }
 
 impl Pace {
-    /// The pace of a run with so many workers on so many cores: its ends spin exactly if there is a
+    /// The pace of a run with so many workers on so many cores: its ends yield unless there is a
     /// core for each worker and one for the writer.
     pub fn of(workers: u32, cores: usize) -> Pace
         ensures { (result ≡ Spins) ↔ (workers + 1 ≤ cores) }

@@ -23,6 +23,7 @@ use std::sync::{Arc, Wait};
 /// is sent; `false` stops the whole run. By then a worker may have judged the candidate and up to
 /// 15 after it. It is shared between the workers' threads, and may wait.
 pub trait Gate {
+    /// Returns whether this worker may go on with the candidate of this number.
     fn pass(&self, worker: u32, number: u64) -> bool;
 }
 

@@ -27,7 +27,8 @@ pub trait Source {
     /// Gives its next bytes into the front of a piece, and returns how many: none at its end alone.
     /// A source gives at most 2^50 bytes; one that has more fails there.
     ///
-    /// At `Err` nothing is given, and the faults rise by one.
+    /// # Errors
+    /// `SourceFault` if it couldn't: nothing is given, and the faults rise by one.
     fn read(&mut self, piece: &mut [u8]) -> Result<usize, SourceFault>
         requires room { 0 < length piece.old }
         requires faults { faults self.old < 2 ^ 64 - 1 }

@@ -143,7 +143,10 @@ impl Plan {
         })
     }
 
-    /// The plan with a limit of boards. `Boards` if and only if it is 0.
+    /// Returns the plan with a limit of boards.
+    ///
+    /// # Errors
+    /// `Boards` if the limit is 0.
     pub fn limited(self, most: u32) -> Result<Plan, PlanError>
         ensures some { IsErr result ↔ (most ≡ 0) }
         ensures made { IfOk result (λ p. p ≡ record self { limit = Some most }) }
@@ -158,8 +161,10 @@ impl Plan {
         })
     }
 
-    /// The plan with boards from this number on. `FirstBoard` if and only if it
-    /// isn't 1 to 2^40.
+    /// Returns the plan with boards from this number on.
+    ///
+    /// # Errors
+    /// `FirstBoard` unless the number is 1 to 2^40.
     pub fn numbered(self, first_board: u64) -> Result<Plan, PlanError>
         ensures in_range { IsOk result ↔ ((0 < first_board) × (first_board ≤ 2 ^ 40)) }
         ensures made { IfOk result (λ p. p ≡ record self { first_board = first_board }) }
@@ -195,6 +200,7 @@ impl Plan {
         Plan { fixed, ..self }
     }
 
+    /// The seed.
     pub fn seed(&self) -> u32
         ensures { result ≡ self.now.seed }
     {
@@ -217,6 +223,7 @@ impl Plan {
         self.count
     }
 
+    /// How many workers judge the candidates.
     pub fn workers(&self) -> u32
         ensures value { result ≡ self.now.workers }
         ensures range { (0 < result) × (result ≤ 16) }

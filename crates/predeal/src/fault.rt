@@ -30,8 +30,8 @@ pub enum HandFault {
 }
 
 impl PredealtHands<'_> {
-    /// What is wrong with the seat's text, or `None` exactly if it is a hand without a card of an
-    /// earlier one, or isn't given.
+    /// What is wrong with the seat's text, or `None` if it isn't given, or is a hand without a card
+    /// of an earlier one.
     pub fn fault_at(&self, seat: Seat) -> Option<HandFault>
         ensures refused { is_some result ≡ is_refused_at (given_by self.now) seat }
         ensures named { IfSome result (λ fault. (text : List ℕ)

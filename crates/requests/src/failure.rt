@@ -191,6 +191,9 @@ impl Failure {
     }
 
     /// Says it to the user: one line, or the text of a refused command line.
+    ///
+    /// # Errors
+    /// `SinkFault` if the sink failed.
     pub fn say<E: Sink>(&self, err: &mut E) -> Result<(), SinkFault>
         requires { E.faults err.old < 2 ^ 64 - 1 }
         ensures text { OnOk result

@@ -128,6 +128,9 @@ impl Report {
     }
 
     /// Says it to the user: how many boards from which candidates, and where to go on.
+    ///
+    /// # Errors
+    /// `SinkFault` if the sink failed.
     pub fn say<E: Sink>(&self, err: &mut E) -> Result<(), SinkFault>
         requires { E.faults err.old < 2 ^ 64 - 1 }
         ensures text { OnOk result (AppendsAll (E.bytes err.old) (E.bytes err.new)

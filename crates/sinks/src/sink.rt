@@ -23,14 +23,18 @@ pub trait Sink {
 
     /// Takes the first bytes of a piece, at least one unless it is empty, and returns how many.
     ///
-    /// At `Err` nothing is taken, and the faults rise by one.
+    /// # Errors
+    /// `SinkFault` if it couldn't: nothing was taken, and the faults rise by one.
     fn write(&mut self, piece: &[u8]) -> Result<usize, SinkFault>
         requires { faults self.old < 2 ^ 64 - 1 }
         ensures count { IfOk result (λ n. IsTakenLength n piece.now) }
         ensures bytes { AppendsTaken (bytes self.old) (bytes self.new) result piece.now }
         ensures faults { CountsFault (faults self.old) (faults self.new) result };
 
-    /// Passes on all that was taken. At `Err` the faults rise by one.
+    /// Passes on all that was taken.
+    ///
+    /// # Errors
+    /// `SinkFault` if it couldn't: the faults rise by one.
     fn flush(&mut self) -> Result<(), SinkFault>
         requires { faults self.old < 2 ^ 64 - 1 }
         ensures passed_on { IfOk result (λ _. is_flushed self.new) }
@@ -51,7 +55,10 @@ pub trait Sink {
     }
 }
 
-/// Writes the whole piece. After a fault a proper prefix of it is written, and nothing more.
+/// Writes the whole piece.
+///
+/// # Errors
+/// `SinkFault` if the sink failed: a proper prefix of the piece was written, and nothing more.
 pub fn put_all<S: Sink>(sink: &mut S, piece: &[u8]) -> Result<(), SinkFault>
     requires { S.faults sink.old < 2 ^ 64 - 1 }
     ensures bytes { AppendsOrBreaksOff (S.bytes sink.old) (S.bytes sink.new) result piece.now }

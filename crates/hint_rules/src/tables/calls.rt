@@ -23,8 +23,8 @@ static RULES: [Rule; 20] = rules! {
 
     [Can(Kind::Comma), Cannot(Kind::Close)] [Suit] [Is(")")] =>
         "name ranks too, as in cards(north,%b1,akq)";
-    [Can(Kind::Comma), Cannot(Kind::Close), In("len")] [] [Is(")")] =>
-        "name a suit too, as in len(%b1%e0";
+    [Can(Kind::Comma), Cannot(Kind::Close), In("len stops")] [] [Is(")")] =>
+        "name a suit too, as in %w0(%b1%e0";
     [Can(Kind::Comma), Cannot(Kind::Close), In("cards")] [] [Is(")")] =>
         "name ranks too, as in cards(%b1%e0";
     [Can(Kind::Comma), Cannot(Kind::Close)] [] [Is(")")] =>

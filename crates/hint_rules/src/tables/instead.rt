@@ -13,7 +13,7 @@ const BIDDING: &str = "there is no bidding: say what the hand has, as in hcp(nor
 const SINGLE: &str =
     "for single cards write cards with a suit and ranks, as in cards(north,spades,a)";
 
-static RULES: [Rule; 16] = rules! {
+static RULES: [Rule; 15] = rules! {
     [] [Seat] [Is("unbalanced")] => "in the language's own words write: not balanced(%b1)";
     [] [] [Is("unbalanced")] => "in the language's own words write: not balanced(%u2)";
     [] [] [Is("void")] => "in the language's own words write: shortest(%u2)==0";
@@ -23,13 +23,12 @@ static RULES: [Rule; 16] = rules! {
     [] [Nothing, Number] [Named(BIDS)] => BIDDING;
     [] [] [OneOf("dealer vul vulnerable vulnerability")] =>
         "a condition asks of the four hands alone, and not of the board";
-    [] [] [OneOf("major majors minor minors")] =>
-        "name a suit in each of two tests, and join them with \"or\"";
-    [] [] [Is("suit")] => "a suit is named with len or cards, as in len(north,spades)";
     [] [] [Is("quality")] =>
         "for a suit's quality count its honours, as in cards(north,spades,akq)";
-    [] [] [OneOf("stopper stoppers stop stops")] =>
-        "for a stopper count a suit's honours, as in cards(north,spades,akq)";
+    [] [] [OneOf("stopper stop stopped guard"), Is("("), Seat, Is(","), Suit, Is(")")] =>
+        "in the language's own words write: stops(%n2,%n4)";
+    [] [] [OneOf("stopper stoppers stop stopped guard guards")] =>
+        "for a stopper write \"stops\", as in stops(north,spades)";
     [] [] [Is("tricks")] => "count losers, as in losers(north), or controls";
     [] [] [Is("fit")] =>
         "for a fit add lengths up, as in len(north,spades)+len(south,spades)";

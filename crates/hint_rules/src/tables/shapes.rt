@@ -10,7 +10,7 @@ const FEW: &str = "name four lengths, as in 5-3-3-2";
 
 const APART: &str = "part the lengths with \"-\", as in 5-3-3-2";
 
-static RULES: [Rule; 10] = rules! {
+static RULES: [Rule; 12] = rules! {
     [In(SHAPES)] [Seat, Is(","), Digits(4)] [OneOf(ALSO), Digits(4), Is(")")] =>
         "with one shape in each test write: %w0(%b3,%d1) or %w0(%b3,%g1)";
     [In(SHAPES)] [Seat, Is(","), Digits(4)] [OneOf(ALSO), Digits(4)] => TWO;
@@ -27,6 +27,11 @@ static RULES: [Rule; 10] = rules! {
     [In("pattern")] [Seat, Is(","), Number] [
         Is("+"), Is("-"), Is("x"), Is("-"), Is("x"), Is("-"), Is("x"), Is(")")
     ] => "for %b1 or more write: longest(%b3)>=%b1";
+    [In(SHAPES)] [Seat, Is(",")] [
+        Is("any"), Digits(4), OneOf(ALSO), Is("any"), Digits(4), Is(")")
+    ] => "with one pattern in each test write: pattern(%b2,%g1) or pattern(%b2,%g4)";
+    [In(SHAPES)] [Except("(")] [Named("any")] =>
+        "for any order write \"pattern\", as in pattern(north,5-3-3-2)";
     [In(SHAPES)] [Number] [Is("+")] => LONG;
     [In(SHAPES)] [Length] [OneOf(" ) -")] => FEW;
     [In(SHAPES)] [Length] [] => APART;

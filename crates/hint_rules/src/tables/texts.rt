@@ -17,13 +17,13 @@ static RULES: [Rule; 13] = rules! {
         "write the condition alone, as in hcp(north)>=15";
     [] [Nothing] [OneOf("condition where if")] =>
         "leave out \"%n0\", and write the condition alone";
-    [] [Nothing] [Is("any"), Digits(4), Is("+"), Is("any"), Digits(4), Nothing] =>
-        "with one pattern in each test write: pattern(north,%g1) or pattern(north,%g4)";
-    [] [Nothing] [Is("any"), Digits(4)] =>
+    [] [Nothing, Is("any")] [Digits(4), Is("+"), Is("any"), Digits(4), Nothing] =>
+        "with one pattern in each test write: pattern(north,%g0) or pattern(north,%g3)";
+    [] [Nothing, Is("any")] [Digits(4)] =>
         "for any order write \"pattern\", as in pattern(north,5-3-3-2)";
-    [] [] [OneOf("any some"), OneOf("suit major minor")] =>
-        "the longest suit is longest(north); for one of some suits join tests with \"or\"";
-    [] [Any] [OneOf("any some"), Suit] => "a suit is named alone, as in len(north,%n1)";
+    [] [OneOf("any a"), Number, Is("-")] [OneOf("card cards"), OneOf("suit major minor")] =>
+        "for some %n1 write: any %n1 (len(north,%n1)>=%b2)";
+    [] [] [OneOf("any some"), Suit] => "a suit is named alone, as in len(north,%n1)";
 };
 
 pub(crate) fn hint(alloc: Global, parts: &Parts) -> Said {

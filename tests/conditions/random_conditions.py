@@ -1,0 +1,63 @@
+"""Random conditions of the whole language, mostly true of some deals and not of all."""
+
+import language
+
+RELATIONS = list(language.RELATIONS)
+# What each value of a hand, and of a suit, is about.
+HANDS = {"hcp": 10, "controls": 4, "losers": 7, "longest": 5, "second": 4, "shortest": 2}
+SUITS = {"hcp": 3, "controls": 1, "losers": 2, "len": 3}
+HONOURS = ["a", "k", "akq", "qjt", "akqjt", "aj"]
+DEEPEST = 4
+
+
+def test(dice, around, depth=0):
+    """A test; `around` are the classes that are bound around it."""
+    free = [name for name in language.CLASSES if name not in around and (name != "other" or around)]
+    kind = dice.randrange(10 if depth < DEEPEST else 5)
+    if kind < 5 or (kind < 7 and not free):
+        return single(dice, around)
+    if kind < 7:
+        name = dice.choice(free)
+        return f"{dice.choice(['any', 'every'])} {name} ({test(dice, [*around, name], depth + 1)})"
+    if kind == 7:
+        return f"not {test(dice, around, DEEPEST)}"
+    joined = dice.choice([" and ", " or "]).join(test(dice, around, depth + 1) for _ in range(2))
+    return f"({joined})"
+
+
+def single(dice, around):
+    seat = dice.choice(language.SEATS)
+    match dice.randrange(8):
+        case 0:
+            return f"balanced({seat})"
+        case 1:
+            return f"{dice.choice(['shape', 'pattern'])}({seat},{dice.choice(['4-3-x-x', '5-x-x-2', 'x-4-x-3', '4-4-3-2'])})"
+        case 2:
+            return f"stops({seat},{suit(dice, around)})"
+        case 3:
+            value, about = of_hand(dice, around)
+            return f"{value} in {max(0, about - dice.randrange(3))}-{about + dice.randrange(4)}"
+    value, about = of_hand(dice, around)
+    if dice.randrange(3) == 0:
+        other, more = of_hand(dice, around)
+        return f"{value}{dice.choice(RELATIONS)}{other}" if dice.randrange(2) else f"{value}+{other}>={about + more}"
+    return f"{value}{dice.choice(RELATIONS)}{about + dice.randrange(3)}"
+
+
+def of_hand(dice, around):
+    """A value, and what it is about."""
+    seat = dice.choice(language.SEATS)
+    match dice.randrange(3):
+        case 0:
+            word = dice.choice(list(HANDS))
+            return f"{word}({seat})", HANDS[word]
+        case 1:
+            word = dice.choice(list(SUITS))
+            return f"{word}({seat},{suit(dice, around)})", SUITS[word]
+    within = f"{suit(dice, around)}," if dice.randrange(2) else ""
+    return f"cards({seat},{within}{dice.choice(HONOURS)})", 1
+
+
+def suit(dice, around):
+    """A suit's word, or that of a class around it."""
+    return dice.choice(around) if around and dice.randrange(4) else dice.choice(language.SUITS)
