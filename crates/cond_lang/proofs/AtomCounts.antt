@@ -14,6 +14,7 @@ use Rattle.conditions.specs.Form.{Amount, measured, suit_measured, Form, any_of,
 use Rattle.std.specs.Prelude.{fold}
 use Rattle.std.specs.List.{AllByRecursion, list_any}
 use Rattle.conditions.specs.declared.tree.Item.{Item}
+use Rattle.cond_lang.specs.Classes.{unbound}
 use Rattle.cond_lang.specs.Grammar.{SpellsAtom, SpellsValue, atom, plus, a_number, measure, measure_in, len, cards, cards_in, longest_suit, second_suit, shortest_suit, four, SpellsCond, both, or, SpellsBoth, unit, and, SpellsUnit, not, brackets, quantified, SpellsEach, none, one_more, joined, test, comparison, in_range, is_balanced, has_shape, has_pattern, has_stopper, Spells}
 use Rattle.conditions.specs.Limits.{atoms_of, HasAtMostAtoms}
 
@@ -117,3 +118,7 @@ mutual
 -- Each value of a tree that n tokens spell has at most n atoms.
 pub few_atoms : (n : ℕ) (T : List Token) (t : Form) → length T ≤ n → Spells T t → HasAtMostAtoms n t
 few_atoms n T t h s = more_atoms (length T) n t h (cond_count s)
+
+-- A value that n tokens spell has at most n atoms.
+pub few_atoms_of_value : (n : ℕ) (T : List Token) (a : Amount) → length T ≤ n → SpellsValue unbound T a → atoms_of a ≤ n
+few_atoms_of_value n T a h s = omega (arith, value_count s)

@@ -38,7 +38,7 @@ up_to_fault : (T : List Token) (n : ℕ) → IsFirstFault T n → IsLongestViabl
 up_to_fault T n f = record { within = f.within; viable = f.before; no_more = f.with_it }
 
 -- there is but one such length
-one_longest : (T : List Token) (n m : ℕ) → IsLongestViable T n → IsLongestViable T m → n ≡ m
+pub one_longest : (T : List Token) (n m : ℕ) → IsLongestViable T n → IsLongestViable T m → n ≡ m
 one_longest T n m f g =
     elim (cases_lt n m) [
       | inl lt ↦ absurd (f.no_more (omega (arith, lt, g.within)) (viable_part (n + 1) m T (omega (arith, lt)) g.viable))

@@ -15,7 +15,7 @@ use Rattle.cond_lang.specs.declared.scanner.Token.{Token}
 use Rattle.cond_lang.specs.declared.scanner.Token.TheVariants.{Not, Quantifier, Class, Open, Close, Plus, Relation, In, Number, Dash}
 use Rattle.conditions.specs.Form.{Amount, Form, any_of, all_of, negation}
 use Rattle.conditions.specs.Meaning.{holds}
-use Rattle.cond_lang.specs.Classes.{bind, can_bind, members}
+use Rattle.cond_lang.specs.Classes.{bind, can_bind}
 use Rattle.cond_lang.specs.Grammar.{SpellsAtom, SpellsValue, atom, plus, a_number, measure, measure_in, len, cards, cards_in, longest_suit, second_suit, shortest_suit, SpellsCond, both, unit, SpellsUnit, not as negated, brackets, quantified, test, SpellsEach, none, one_more, joined, SpellsTest, comparison, in_range, is_balanced, has_shape, has_pattern, has_stopper}
 use Rattle.cond_lang.specs.internal.Reading.{front}
 use Rattle.cond_lang.proofs.Quantified.{AreEach}

@@ -23,6 +23,7 @@ use Rattle.cond_lang.specs.Cut.{words, symbols, decimal, IsPiece, blank, comment
 use Rattle.conditions.specs.Form.{Amount, Form, measured, suit_measured, shape, pattern, loose_shape, loose_pattern, is_any, number_of, shaped, patterned}
 use Rattle.conditions.specs.declared.tree.Item.{Item}
 use Rattle.conditions.specs.declared.tree.Item.TheVariants.{Length, Any}
+use Rattle.cond_lang.specs.Classes.{unbound}
 use Rattle.cond_lang.specs.Grammar.{SpellsAtom, SpellsValue, atom, plus, a_number, measure, measure_in, len, cards, cards_in, longest_suit, second_suit, shortest_suit, item_token, SpellsCond, both, or, SpellsBoth, unit, and, SpellsUnit, not, brackets, quantified, SpellsEach, none, one_more, joined, test, comparison, in_range, is_balanced, has_shape, has_pattern, has_stopper, Spells}
 use Rattle.conditions.specs.Limits.{AddsNumbersUpTo, HasNumbersUpTo}
 use Rattle.cond_lang.specs.Text.{kinds}
@@ -208,3 +209,9 @@ mutual
 -- The numbers of a text's tree are at most 9,999.
 pub small_numbers : (text : List ℕ) (ts us : List Placed) (t : Form) → HasTokens text ts → us ≡ ts → Spells (kinds us) t → HasNumbersUpTo 9999 t
 small_numbers text ts us t h e s = small_cond s (subst (λ L. AreSmall (kinds L)) (sym e) (small_tokens text ts h))
+
+-- The numbers of a text's value are at most 9,999.
+pub small_value_numbers :
+    (text : List ℕ) (ts us : List Placed) (a : Amount) → HasTokens text ts → us ≡ ts → SpellsValue unbound (kinds us) a
+    → AddsNumbersUpTo 9999 a
+small_value_numbers text ts us a h e s = small_value s (subst (λ L. AreSmall (kinds L)) (sym e) (small_tokens text ts h))

@@ -36,7 +36,7 @@ atom_reads longest_suit B = refl
 atom_reads (second_suit w) B = refl
 atom_reads shortest_suit B = refl
 
-value_reads : {E : Bound} {A : List Token} {a : Amount} → SpellsValue E A a → (B : List Token) → reading E a_value (A ++ B) ≡ reading E (sums a) B
+pub value_reads : {E : Bound} {A : List Token} {a : Amount} → SpellsValue E A a → (B : List Token) → reading E a_value (A ++ B) ≡ reading E (sums a) B
 value_reads {E} (atom {T} {a} h) B = reads E a_value (T ++ B) ∙ ap (λ o. after o (λ a R. reading E (sums a) R)) (atom_reads h B)
 value_reads {E} (plus {L} {R} {a} {b} l r) B =
     ap (reading E a_value) (append_assoc L (Plus ∷ R) B)
@@ -45,7 +45,7 @@ value_reads {E} (plus {L} {R} {a} {b} l r) B =
     ∙ ap (λ o. after o (λ b R. reading E (sums (sum a b)) R)) (atom_reads r B)
 
 -- a chain of `+` ends if none follows
-sums_stop : (E : Bound) (a : Amount) (B : List Token) → front B ≢ Some Plus → reading E (sums a) B ≡ got a B
+pub sums_stop : (E : Bound) (a : Amount) (B : List Token) → front B ≢ Some Plus → reading E (sums a) B ≡ got a B
 sums_stop E a [] h = reads E (sums a) []
 sums_stop E a (Plus ∷ B) h = absurd (h refl)
 sums_stop E a (c ∷ B) h = reads E (sums a) (c ∷ B)
@@ -78,7 +78,7 @@ atom_compares longest_suit X = refl
 atom_compares (second_suit w) X = refl
 atom_compares shortest_suit X = refl
 
-unit_compares : {E : Bound} {L : List Token} {a : Amount} → SpellsValue E L a → (X : List Token) → unit_by reading E (L ++ X) ≡ comparing_by reading E (L ++ X)
+pub unit_compares : {E : Bound} {L : List Token} {a : Amount} → SpellsValue E L a → (X : List Token) → unit_by reading E (L ++ X) ≡ comparing_by reading E (L ++ X)
 unit_compares (atom h) X = atom_compares h X
 unit_compares (plus {L} {R} l r) X = rw (append_assoc L (Plus ∷ R) X) (unit_compares l (Plus ∷ (R ++ X)))
 

@@ -89,8 +89,8 @@ piece_too_long text r e i h few =
 pub piece_refused : (text : List ℕ) (r : Result Form CondError) (e : CondError) → r ≡ Err e → HasFault text e → IfErr r (IsDue text)
 piece_refused text r e i h = rw i (fault_due text e h)
 
-pub piece_fault : (text : List ℕ) (r : Result Form CondError) (e f : CondError) → r ≡ Err e → HasFault text e → HasFault text f → r ≡ Err f
-piece_fault text r e f i h k = i ∙ ap (λ x. Err x) (one_fault text e f h k)
+pub piece_fault : {A : Type 0} (text : List ℕ) (r : Result A CondError) (e f : CondError) → r ≡ Err e → HasFault text e → HasFault text f → r ≡ Err f
+piece_fault {A} text r e f i h k = i ∙ ap (λ x. Err x) (one_fault text e f h k)
 
 pub piece_spelled :
     (text : List ℕ) (r : Result Form CondError) (e : CondError) (t : Form) → HasFault text e → SpellsTree text t

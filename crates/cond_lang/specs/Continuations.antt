@@ -1,4 +1,4 @@
--- What could stand behind the tokens that a condition can begin with.
+-- What could stand behind the tokens that a condition, or what other rules spell, can begin with.
 use Rattle.std.specs.Prelude.{◌≡◌, ◌⊎◌, ◌+◌, ◌<◌, ◌≤◌, ℕ, List, [], ◌∷◌, ◌++◌, length, take}
 use Rattle.cond_lang.specs.declared.words.Kind.{Kind}
 use Rattle.cond_lang.specs.declared.words.Kind.TheVariants as kind
@@ -6,8 +6,7 @@ use Rattle.cond_lang.specs.declared.scanner.Placed.{Placed}
 use Rattle.cond_lang.specs.declared.scanner.Token.{Token}
 use Rattle.cond_lang.specs.declared.scanner.Token.TheVariants.{Or, And, Not, Balanced, Shape, Pattern, Quantifier, Stops, Measure, Cards, Len, Longest, Second, Shortest, In, X, Seat, Suit, Class, Ranks, Number, Open, Close, Comma, Dash, Plus, Relation}
 use Rattle.cond_lang.specs.Cut.{HasTokens}
-use Rattle.cond_lang.specs.Faults.{IsViable}
-use Rattle.conditions.specs.Form.{Form}
+use Rattle.cond_lang.specs.Faults.{IsViableIn}
 use Rattle.cond_lang.specs.Grammar.{Spells}
 use Rattle.cond_lang.specs.Text.{kinds}
 
@@ -41,22 +40,35 @@ kind_of Close = kind.Close
 kind_of And = kind.And
 kind_of Or = kind.Or
 
--- Behind T the list may end, since T is a condition, or some token of the kind goes on to one.
-abbrev pub CanFollow : List Token → Kind → Type 0
-CanFollow T k =
-    ((k ≡ kind.End) × ((t : Form) × Spells T t))
-    ⊎ ((c : Token) × (kind_of c ≡ k) × IsViable (T ++ c ∷ []))
+-- Behind T the list may end, since T spells something by the rules S, or some token of the kind
+-- goes on to what does.
+abbrev pub CanFollowIn : {A : Type 0} → (List Token → A → Type 0) → List Token → Kind → Type 0
+CanFollowIn {A} S T k =
+    ((k ≡ kind.End) × ((t : A) × S T t))
+    ⊎ ((c : Token) × (kind_of c ≡ k) × IsViableIn S (T ++ c ∷ []))
 
--- n tokens begin a condition, and no more of them do
-pub record IsLongestViable (T : List Token) (n : ℕ) : Type 0 where
+-- n tokens begin what S spells, and no more of them do
+pub record IsLongestViableIn {A : Type 0} (S : List Token → A → Type 0) (T : List Token) (n : ℕ)
+    : Type 0 where
   pub within : n ≤ length T
-  pub viable : IsViable (take n T)
-  pub no_more : n < length T → IsViable (take (n + 1) T) → ⊥
+  pub viable : IsViableIn S (take n T)
+  pub no_more : n < length T → IsViableIn S (take (n + 1) T) → ⊥
 
--- T is the longest beginning of the text's tokens that a condition goes on with
-pub record IsBeginning (text : List ℕ) (T : List Token) : Type 0 where
+-- T is the longest beginning of the text's tokens that goes on to what S spells
+pub record IsBeginningIn {A : Type 0} (S : List Token → A → Type 0) (text : List ℕ)
+    (T : List Token) : Type 0 where
   pub tokens : List Placed
   pub whole : HasTokens text tokens
   pub count : ℕ
-  pub longest : IsLongestViable (kinds tokens) count
+  pub longest : IsLongestViableIn S (kinds tokens) count
   pub is : T ≡ take count (kinds tokens)
+
+-- the same of conditions
+abbrev pub CanFollow : List Token → Kind → Type 0
+CanFollow T k = CanFollowIn Spells T k
+
+abbrev pub IsLongestViable : List Token → ℕ → Type 0
+IsLongestViable T n = IsLongestViableIn Spells T n
+
+abbrev pub IsBeginning : List ℕ → List Token → Type 0
+IsBeginning text T = IsBeginningIn Spells text T

@@ -7,8 +7,7 @@ use Rattle.cond_lang.specs.declared.scanner.Piece.{Piece}
 use Rattle.conditions.specs.declared.error.CondError.{CondError}
 use Rattle.conditions.specs.declared.error.CondError.TheVariants.{TooLong, Byte, Word, Number, Syntax, Memory}
 use Rattle.cond_lang.specs.Cut.{Pieces, IsCut, IsSound, fault_at, HasTokens}
-use Rattle.conditions.specs.Form.{Form}
-use Rattle.cond_lang.specs.Grammar.{Forms, Spells}
+use Rattle.cond_lang.specs.Grammar.{Spells}
 use Rattle.cond_lang.specs.Text.{kinds}
 
 -- ---- faulty pieces
@@ -26,19 +25,20 @@ pub record HasFault (text : List ℕ) (fault : CondError) : Type 0 where
   pub clean : All IsSound before
   pub found : fault_at (bytes_of before) faulty.1 ≡ Some fault
 
--- ---- tokens that spell no tree
+-- ---- tokens that spell nothing
 
--- some list that begins with it spells a tree by the rules S
-abbrev pub IsViableIn : Forms → List Token → Type 0
-IsViableIn S T = (more : List Token) × (t : Form) × S (T ++ more) t
+-- some list that begins with it spells something by the rules S
+abbrev pub IsViableIn : {A : Type 0} → (List Token → A → Type 0) → List Token → Type 0
+IsViableIn {A} S T = (more : List Token) × (t : A) × S (T ++ more) t
 
 -- n is the first fault by the rules S: the n tokens before it are viable, and with the next one
 -- they aren't; or there is no next one, and the whole list spells nothing
-pub record IsFirstFaultIn (S : Forms) (T : List Token) (n : ℕ) : Type 0 where
+pub record IsFirstFaultIn {A : Type 0} (S : List Token → A → Type 0) (T : List Token) (n : ℕ)
+    : Type 0 where
   pub within : n ≤ length T
   pub before : IsViableIn S (take n T)
   pub with_it : n < length T → IsViableIn S (take (n + 1) T) → ⊥
-  pub at_end : n ≡ length T → (t : Form) → S T t → ⊥
+  pub at_end : n ≡ length T → (t : A) → S T t → ⊥
 
 -- the same by the rules of this language
 abbrev pub IsViable : List Token → Type 0
@@ -56,21 +56,35 @@ offset_or (Some s) end = s.at
 abbrev pub offset_of : List Placed → ℕ → ℕ → ℕ
 offset_of placed end n = offset_or (slice_get placed n) end
 
--- at is the offset of the first token that no condition goes on with, or the end
-abbrev pub IsPlace : List Placed → ℕ → ℕ → Type 0
-IsPlace placed end at = (n : ℕ) × IsFirstFault (kinds placed) n × (at ≡ offset_of placed end n)
+-- at is the offset of the first fault by the rules S
+abbrev pub IsPlaceIn : {A : Type 0} → (List Token → A → Type 0) → List Placed → ℕ → ℕ → Type 0
+IsPlaceIn S placed end at =
+    (n : ℕ) × IsFirstFaultIn S (kinds placed) n × (at ≡ offset_of placed end n)
 
--- the text has no faulty piece, its tokens spell no tree, and this is where they go wrong
-pub record HasSyntaxFault (text : List ℕ) (at : ℕ) : Type 0 where
+-- the text has no faulty piece, its tokens spell nothing by the rules S, and this is where they go
+-- wrong
+pub record HasSyntaxFaultIn {A : Type 0} (S : List Token → A → Type 0) (text : List ℕ) (at : ℕ)
+    : Type 0 where
   pub tokens : List Placed
   pub cut : HasTokens text tokens
-  pub place : IsPlace tokens (length text) at
+  pub place : IsPlaceIn S tokens (length text) at
 
 -- a refusal is given only when it is due; memory can run out at any text
+abbrev pub IsDueIn : {A : Type 0} → (List Token → A → Type 0) → List ℕ → CondError → Type 0
+IsDueIn S text TooLong = 1024 < length text
+IsDueIn S text (Byte at) = HasFault text (Byte at)
+IsDueIn S text (Word at) = HasFault text (Word at)
+IsDueIn S text (Number at) = HasFault text (Number at)
+IsDueIn S text (Syntax at) = HasSyntaxFaultIn S text at
+IsDueIn S text Memory = Unit {0}
+
+-- The same of conditions: at is the offset of the first token that no condition goes on with, or
+-- the end.
+abbrev pub IsPlace : List Placed → ℕ → ℕ → Type 0
+IsPlace placed end at = IsPlaceIn Spells placed end at
+
+abbrev pub HasSyntaxFault : List ℕ → ℕ → Type 0
+HasSyntaxFault text at = HasSyntaxFaultIn Spells text at
+
 abbrev pub IsDue : List ℕ → CondError → Type 0
-IsDue text TooLong = 1024 < length text
-IsDue text (Byte at) = HasFault text (Byte at)
-IsDue text (Word at) = HasFault text (Word at)
-IsDue text (Number at) = HasFault text (Number at)
-IsDue text (Syntax at) = HasSyntaxFault text at
-IsDue text Memory = Unit {0}
+IsDue text e = IsDueIn Spells text e

@@ -2,11 +2,15 @@
 
 ghost use Rattle.std.specs.Prelude.{◌≡◌, ◌≢◌, ◌≤◌, ◌↔◌, ℕ, ◌++◌, ◌∷◌, [], length};
 ghost use Rattle.std.specs.Prelude.{Err, IfOk, IfErr, IsTrue};
+ghost use Rattle.conditions.specs.Form.{Amount};
+ghost use Rattle.cond_lang.specs.Asking.{CanFollowAsking};
+ghost use Rattle.cond_lang.specs.Classes.{unbound};
 ghost use Rattle.cond_lang.specs.Continuations.{CanFollow, IsBeginning};
 ghost use Rattle.cond_lang.specs.Faults.{IsDue};
+ghost use Rattle.cond_lang.specs.Grammar.{SpellsValue};
 ghost use Rattle.cond_lang.specs.Text.{kinds};
 
-use crate::parser::read_as_far;
+use crate::parser::{read_as_far, read_value};
 use crate::scanner::{MAX_BYTES, Placed, Token, scan};
 use crate::words::Kind;
 use arrayvec::ArrayVec;
@@ -15,7 +19,8 @@ use std::alloc::{AllocError, Global};
 use std::marker::Model;
 
 /// The longest beginning of a text that some condition goes on with, which contracts see as its
-/// tokens.
+/// tokens. It is also the longest that some question goes on with, by the law
+/// `same_beginning_as_a_condition`.
 #[derive(Drop)]
 pub struct Beginning {
     alloc: Global,
@@ -78,6 +83,31 @@ impl Beginning {
                 Ok(read_as_far(self.alloc, longer.as_slice())?.count == longer.len())
             }
         }
+    }
+
+    /// Returns whether some token of the kind could stand next in a question: what may stand in a
+    /// condition may, and the end may if the tokens are a value too.
+    ///
+    /// # Errors
+    /// `Memory` if an allocation failed.
+    pub fn allows_in_question(&self, kind: Kind) -> Result<bool, CondError>
+        ensures allowed { IfOk result (λ b. IsTrue b ↔ CanFollowAsking self.now kind) }
+        ensures memory { IfErr result (λ e. e ≡ CondError.Memory) }
+    {
+        match kind {
+            Kind::End => Ok(self.is_value()? || self.allows(Kind::End)?),
+            _ => self.allows(kind),
+        }
+    }
+
+    /// Whether the tokens are a whole value. The only error is `Memory`.
+    fn is_value(&self) -> Result<bool, CondError>
+        ensures value { IfOk result (λ b. IsTrue b
+            ↔ ((a : Amount) × SpellsValue unbound self.now a)) }
+        ensures memory { IfErr result (λ e. e ≡ CondError.Memory) }
+    {
+        let tokens = &self.tokens.as_slice()[..self.count];
+        Ok(read_value(self.alloc, tokens)?.is_some())
     }
 }
 

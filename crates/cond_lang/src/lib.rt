@@ -2,8 +2,9 @@
 //! the trees that they spell.
 //!
 //! `parse` cuts the whole text into pieces first (`scanner`), and then reads the tokens from the
-//! left, one in sight (`parser`). The trees and what they mean of a deal stand in `conditions`, and
-//! have their names here too. `language` has all of it on a page.
+//! left, one in sight (`parser`). `parse_question` takes a whole value too, such as
+//! `hcp(north)+hcp(south)`. The trees and what they mean of a deal stand in `conditions`, and have
+//! their names here too. `language` has all of it on a page.
 #![tactic(auto)]
 
 mod beginning;
@@ -12,13 +13,15 @@ mod condition;
 mod language;
 pub mod laws;
 mod parser;
+mod question;
 mod scanner;
 mod words;
 
 pub use beginning::Beginning;
 pub use classes::{Class, Quantifier};
 pub use condition::parse;
-pub use conditions::{Cond, CondError, Item, Op, Tree, Value};
+pub use conditions::{Cond, CondError, Item, Op, Question, Tree, Value};
 pub use language::LANGUAGE;
+pub use question::parse_question;
 pub use scanner::{Token, digit_run_len, letter_run_len};
 pub use words::{Kind, WORDS, measure_word};

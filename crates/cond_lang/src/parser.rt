@@ -2,10 +2,12 @@
 //! it goes.
 
 ghost use Rattle.std.specs.Prelude.{◌≡◌, ◌≢◌, ◌≤◌, ◌⊎◌, ◌↔◌, ℕ, List, ◌∷◌, length};
-ghost use Rattle.std.specs.Prelude.{IfOk, IfErr, Err, IsTrue, option_map};
+ghost use Rattle.std.specs.Prelude.{IfOk, IfErr, Err, IsTrue, MatchOption, option_map};
 ghost use Rattle.cond_lang.specs.declared.scanner.Token.{Token as AToken};
-ghost use Rattle.conditions.specs.Form.{Form, amount_of, form_of, any_of, all_of, negation};
-ghost use Rattle.cond_lang.specs.Grammar.{Spells, joined};
+ghost use Rattle.conditions.specs.Form.{Amount, Form, amount_of, form_of, any_of, all_of};
+ghost use Rattle.conditions.specs.Form.{negation};
+ghost use Rattle.cond_lang.specs.Classes.{unbound};
+ghost use Rattle.cond_lang.specs.Grammar.{Spells, SpellsValue, joined};
 ghost use Rattle.cond_lang.specs.Text.{kinds};
 ghost use Rattle.cond_lang.specs.Continuations.{IsLongestViable};
 ghost use Rattle.cond_lang.specs.Faults.{offset_of, IsPlace};
@@ -448,6 +450,26 @@ pub(crate) fn parse_tokens(alloc: Global, tokens: &[Placed], end: usize) -> Resu
                 at: offset_of(tokens, end, index),
             })
         }
+    }
+}
+
+/// The value that the tokens are, if they are one and no more. The only error is `Memory`.
+pub(crate) fn read_value(alloc: Global, tokens: &[Placed]) -> Result<Option<Value>, CondError>
+    ensures value { IfOk result (λ found. MatchOption found
+        ((a : Amount) → SpellsValue unbound (kinds tokens.now) a → ⊥)
+        (λ v. SpellsValue unbound (kinds tokens.now) (amount_of v))) }
+    ensures memory { IfErr result (λ e. e ≡ CondError.Memory) }
+{
+    let mut parser = Parser::new(alloc, tokens);
+    match parser.value(Bound::none()) {
+        Ok(value) => {
+            if parser.left() > 0 {
+                return Ok(None);
+            }
+            Ok(Some(value))
+        }
+        Err(Refusal::Syntax) => Ok(None),
+        Err(Refusal::Memory) => Err(CondError::Memory),
     }
 }
 

@@ -1,2 +1,5 @@
 pub mod SomeAtom
 pub mod Loose
+pub mod HandBounds
+pub mod Measured
+pub mod ValueBounds

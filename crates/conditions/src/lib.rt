@@ -4,12 +4,15 @@
 //! boxes. The language that people write conditions in stands above this crate.
 #![tactic(auto)]
 
+mod bounds;
 mod condition;
 mod error;
 pub mod laws;
 mod meaning;
+mod question;
 mod tree;
 
 pub use condition::Cond;
 pub use error::CondError;
+pub use question::Question;
 pub use tree::{Item, Op, Tree, Value};

@@ -13,12 +13,13 @@ use Rattle.cond_lang.specs.Form.{Form, all_of, any_of, balanced, compare, loose_
 use Rattle.cond_lang.specs.Meaning.{holds, is_related, value_in}
 use Rattle.conditions.specs.declared.tree.Op.{Op}
 use Rattle.conditions.specs.declared.tree.Op.TheVariants.{AtLeast, AtMost, Equal, Less, More, NotEqual}
-use Rattle.hints.specs.Limits.{greatest_of, least_of}
+use Rattle.cond_lang.specs.Bounds.{greatest_of, least_of}
 use Rattle.hints.specs.Never.{is_never, is_never_related}
 use Rattle.hints.specs.Torn.{is_torn}
-use Rattle.hints.proofs.Bounds.{lengths_add}
+use Rattle.conditions.proofs.HandBounds.{lengths_add}
 use Rattle.hints.proofs.TwoTests.{torn}
-use Rattle.hints.proofs.Values.{all_true, apart, at_least, at_most, both_sides, false_unless, less, no_less, no_more, not_more, same, same_number}
+use Rattle.conditions.proofs.ValueBounds.{at_least, at_most}
+use Rattle.hints.proofs.Values.{all_true, apart, both_sides, false_unless, less, no_less, no_more, not_more, same, same_number}
 
 -- ---- relations
 

@@ -15,9 +15,10 @@ use Rattle.cond_lang.specs.Form.{sum as plus}
 use Rattle.cond_lang.specs.Meaning.{holds, is_related, value_in}
 use Rattle.conditions.specs.declared.tree.Op.{Op}
 use Rattle.conditions.specs.declared.tree.Op.TheVariants.{AtLeast, AtMost, Equal, Less, More, NotEqual}
-use Rattle.hints.specs.Limits.{greatest_of, least_of}
+use Rattle.cond_lang.specs.Bounds.{greatest_of, least_of}
 use Rattle.hints.specs.Torn.{code_of, greatest_related, greatest_with, is_same_value, is_torn, is_torn_at, least_related, least_with, turned}
-use Rattle.hints.proofs.Values.{all_true, at_least, at_most, both_sides, less, no_less, not_more, same_number}
+use Rattle.conditions.proofs.ValueBounds.{at_least, at_most}
+use Rattle.hints.proofs.Values.{all_true, both_sides, less, no_less, not_more, same_number}
 
 -- ---- the same value
 

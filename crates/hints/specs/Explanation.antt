@@ -6,8 +6,10 @@ use Rattle.conditions.specs.declared.error.CondError.TheVariants.{TooLong, Byte,
 use Rattle.conditions.specs.declared.error.CondError.TheVariants.{Syntax, Memory}
 use Rattle.cond_lang.specs.declared.words.Kind.{Kind}
 use Rattle.cond_lang.specs.declared.scanner.Token.{Token}
-use Rattle.cond_lang.specs.Continuations.{CanFollow, IsBeginning}
 use Rattle.cond_lang.specs.Faults.{HasFault}
+use Rattle.hints.specs.declared.asked.Asked.{Asked}
+use Rattle.hints.specs.declared.asked.Asked.TheVariants.{Condition, Question}
+use Rattle.hints.specs.Asked.{Begins, CanStand, asked_name}
 use Rattle.hints.specs.Excerpt.{IsExcerpt, shown}
 use Rattle.hints.specs.Expected.{expected_line}
 
@@ -20,11 +22,11 @@ abbrev pub MayHint : List ℕ → Type 0
 MayHint written = (written ≡ []) ⊎ ((bytes : List ℕ) × (written ≡ hint_line bytes))
 
 -- the line of all kinds that can stand behind the longest beginning of the text, and no other
-pub record TellsAll (text written : List ℕ) : Type 0 where
+pub record TellsAll (asked : Asked) (text written : List ℕ) : Type 0 where
   pub beginning : List Token
-  pub begins : IsBeginning text beginning
+  pub begins : Begins asked text beginning
   pub can : Kind → Bool
-  pub all : (k : Kind) → IsTrue (can k) ↔ CanFollow beginning k
+  pub all : (k : Kind) → IsTrue (can k) ↔ CanStand asked beginning k
   pub is : written ≡ expected_line can
 
 -- the text is too long, or has a piece that isn't in the language
@@ -32,8 +34,8 @@ abbrev pub IsFaulty : List ℕ → Type 0
 IsFaulty text = (1024 < length text) ⊎ ((fault : CondError) × HasFault text fault)
 
 -- what could stand there; nothing of a text that has no tokens
-abbrev pub MayTell : List ℕ → List ℕ → Type 0
-MayTell text written = TellsAll text written ⊎ ((written ≡ []) × IsFaulty text)
+abbrev pub MayTell : Asked → List ℕ → List ℕ → Type 0
+MayTell asked text written = TellsAll asked text written ⊎ ((written ≡ []) × IsFaulty text)
 
 -- the excerpt of the text, then what could stand there, then perhaps a hint
 pub record Shows (Expects : List ℕ → Type 0) (text : List ℕ) (at : ℕ) (written : List ℕ)
@@ -51,16 +53,24 @@ abbrev pub Nothing : List ℕ → Type 0
 Nothing written = written ≡ []
 
 -- the hint for a text that is too long
-abbrev pub length_line : List ℕ → List ℕ
-length_line text =
-    codes "  hint: a condition has at most 1024 bytes, and this one has " ++ decimal (length text)
-    ++ codes "\n"
+abbrev pub length_line : Asked → List ℕ → List ℕ
+length_line asked text =
+    codes "  hint: a " ++ asked_name asked ++ codes " has at most 1024 bytes, and this one has "
+    ++ decimal (length text) ++ codes "\n"
 
--- what is written of a text that is refused so
+-- what is written of a text that is refused so, where it was read as what was asked for
+abbrev pub ExplainsAs : Asked → List ℕ → CondError → List ℕ → Type 0
+ExplainsAs asked text TooLong written = written ≡ length_line asked text
+ExplainsAs asked text (Byte at) written = Shows Nothing text at written
+ExplainsAs asked text (Word at) written = Shows Nothing text at written
+ExplainsAs asked text (Number at) written = Shows Nothing text at written
+ExplainsAs asked text (Syntax at) written = Shows (MayTell asked text) text at written
+ExplainsAs asked text Memory written = Nothing written
+
+-- the same of a condition
 abbrev pub Explains : List ℕ → CondError → List ℕ → Type 0
-Explains text TooLong written = written ≡ length_line text
-Explains text (Byte at) written = Shows Nothing text at written
-Explains text (Word at) written = Shows Nothing text at written
-Explains text (Number at) written = Shows Nothing text at written
-Explains text (Syntax at) written = Shows (MayTell text) text at written
-Explains text Memory written = Nothing written
+Explains text error written = ExplainsAs Condition text error written
+
+-- and of a question
+abbrev pub ExplainsQuestion : List ℕ → CondError → List ℕ → Type 0
+ExplainsQuestion text error written = ExplainsAs Question text error written

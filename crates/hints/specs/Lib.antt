@@ -1,8 +1,8 @@
+pub mod Asked
 pub mod Excerpt
 pub mod Expected
 pub mod Explanation
 pub mod internal
-pub mod Limits
 pub mod Never
 pub mod Note
 pub mod Torn

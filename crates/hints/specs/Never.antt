@@ -5,7 +5,7 @@ use Rattle.cond_lang.specs.Form.{Form, all_of, any_of, compare, pattern, shape, 
 use Rattle.conditions.specs.declared.tree.Op.{Op}
 use Rattle.conditions.specs.declared.tree.Op.TheVariants.{AtLeast, AtMost, Equal, Less, More}
 use Rattle.conditions.specs.declared.tree.Op.TheVariants.{NotEqual}
-use Rattle.hints.specs.Limits.{greatest_of, least_of}
+use Rattle.cond_lang.specs.Bounds.{greatest_of, least_of}
 use Rattle.hints.specs.Torn.{is_torn}
 
 -- whether the relation holds of no two numbers, the left from a to b and the right from c to d

@@ -9,7 +9,7 @@ use Rattle.cond_lang.specs.Form.{Amount, Form, all_of, any_of, compare, longest,
 use Rattle.cond_lang.specs.Form.{suit_length, suit_points, suit_total, total, within}
 use Rattle.conditions.specs.declared.tree.Op.{Op}
 use Rattle.conditions.specs.declared.tree.Op.TheVariants.{AtLeast, AtMost, Equal, Less, More}
-use Rattle.hints.specs.Limits.{greatest_of, least_of}
+use Rattle.cond_lang.specs.Bounds.{greatest_of, least_of}
 
 -- ---- the same value
 

@@ -4,9 +4,10 @@ ghost use Rattle.std.specs.Prelude.{◌≡◌, ◌↔◌, ◌<◌, IfOk, IfErr, 
 ghost use Rattle.std.specs.List.{list_all};
 ghost use Rattle.conditions.specs.declared.error.CondError.TheVariants.{Memory};
 ghost use Rattle.cond_lang.specs.declared.words.Kind.{Kind as AKind};
-ghost use Rattle.cond_lang.specs.Continuations.{CanFollow};
+ghost use Rattle.hints.specs.Asked.{CanStand};
 ghost use Rattle.hints.specs.internal.Kinds.{in_set};
 
+use crate::asked::Asked;
 use cond_lang::{Beginning, CondError, Kind};
 use hint_rules::Kinds;
 
@@ -17,15 +18,16 @@ pub(crate) struct KindSet {
 }
 
 impl KindSet {
-    /// The kinds that could stand behind the beginning. The only error is `Memory`.
-    pub(crate) fn of(beginning: &Beginning) -> Result<KindSet, CondError>
+    /// The kinds that could stand behind the beginning of what is asked for. The only error is
+    /// `Memory`.
+    pub(crate) fn of(asked: Asked, beginning: &Beginning) -> Result<KindSet, CondError>
         ensures allowed { IfOk result (λ set. (kind : AKind)
-            → IsTrue (in_set set kind) ↔ CanFollow beginning.now kind) }
+            → IsTrue (in_set set kind) ↔ CanStand asked beginning.now kind) }
         ensures memory { IfErr result (λ e. e ≡ Memory) }
     {
         let mut holds = [false; Kind::COUNT];
         for (i, kind) in Kind::ALL.iter().enumerate() {
-            holds[i] = beginning.allows(*kind)?;
+            holds[i] = asked.allows(beginning, *kind)?;
         }
         Ok(KindSet { holds })
     }

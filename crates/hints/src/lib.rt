@@ -1,11 +1,12 @@
-//! What a person is told of a condition beside the line of a refusal: where it goes wrong, what
-//! could stand there, and what was perhaps meant; and whether no deal meets it.
+//! What a person is told of a condition or a question beside the line of a refusal: where it goes
+//! wrong, what could stand there, and what was perhaps meant; and whether no deal meets a
+//! condition.
 #![tactic(auto)]
 
+mod asked;
 mod excerpt;
 mod expected;
 mod kinds;
-mod limits;
 mod never;
 mod refusal;
 mod shown;
@@ -13,6 +14,6 @@ mod torn;
 mod unmet;
 
 pub use never::is_never;
-pub use refusal::explain;
+pub use refusal::{explain, explain_question};
 pub use shown::put_shown;
 pub use unmet::note;

@@ -8,7 +8,6 @@ ghost use Rattle.cond_lang.specs.Limits.{HasAtMostAtoms};
 ghost use Rattle.cond_lang.specs.Meaning.{holds};
 ghost use Rattle.hints.specs.Never.{is_never, is_never_related};
 
-use crate::limits::{greatest, least};
 use crate::torn::is_torn;
 use cond_lang::{Cond, Op, Tree};
 
@@ -36,14 +35,14 @@ pub(crate) fn is_never_met(tree: &Tree) -> bool
             is_never_met(left) || is_never_met(right) || is_torn(tree, tree)
         }
         Tree::Compare { left, op, right } => {
-            let (a, b) = (least(left), greatest(left));
-            let (c, d) = (least(right), greatest(right));
+            let (a, b) = (left.least(), left.greatest());
+            let (c, d) = (right.least(), right.greatest());
             is_never_related(*op, a, b, c, d)
         }
         Tree::Within(value, first, last) => {
             is_never_within(
-                least(value),
-                greatest(value),
+                value.least(),
+                value.greatest(),
                 u32::from(*first),
                 u32::from(*last),
             )

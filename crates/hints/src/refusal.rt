@@ -2,10 +2,11 @@
 
 ghost use Rattle.std.specs.Prelude.{◌≡◌, ◌++◌, IfOk, MatchOption, OnOk, string_bytes};
 ghost use Rattle.cond_lang.specs.Continuations.{IsBeginning};
-ghost use Rattle.hints.specs.Explanation.{Explains, IsFaulty, MayHint, MayTell, Nothing, Shows};
-ghost use Rattle.hints.specs.Explanation.{length_line};
+ghost use Rattle.hints.specs.Explanation.{Explains, ExplainsAs, ExplainsQuestion, IsFaulty};
+ghost use Rattle.hints.specs.Explanation.{MayHint, MayTell, Nothing, Shows, length_line};
 ghost use Rattle.hints.specs.internal.Appends.{Appends};
 
+use crate::asked::Asked;
 use crate::excerpt::put_excerpt;
 use crate::expected::put_expected;
 use crate::kinds::KindSet;
@@ -30,13 +31,36 @@ use std::alloc::{AllocError, Global};
 pub fn explain(alloc: Global, text: &[u8], error: CondError) -> Result<String, AllocError>
     ensures { IfOk result (λ written. Explains text.now error (string_bytes written)) }
 {
+    explain_as(alloc, Asked::Condition, text, error)
+}
+
+/// Returns what helps a person with a text that is refused as a question: the same lines, of what
+/// could stand in a question.
+///
+/// # Errors
+/// `AllocError` if an allocation failed.
+pub fn explain_question(alloc: Global, text: &[u8], error: CondError) -> Result<String, AllocError>
+    ensures { IfOk result (λ written. ExplainsQuestion text.now error (string_bytes written)) }
+{
+    explain_as(alloc, Asked::Question, text, error)
+}
+
+/// The lines, of a text that was read as what is asked for.
+fn explain_as(
+    alloc: Global,
+    asked: Asked,
+    text: &[u8],
+    error: CondError,
+) -> Result<String, AllocError>
+    ensures { IfOk result (λ written. ExplainsAs asked text.now error (string_bytes written)) }
+{
     let mut out = String::new(alloc);
     match error {
-        CondError::TooLong => put_length(&mut out, text)?,
+        CondError::TooLong => put_length(&mut out, asked, text)?,
         CondError::Byte { at } | CondError::Word { at } | CondError::Number { at } => {
             put_piece(alloc, &mut out, text, at)?
         }
-        CondError::Syntax { at } => put_syntax(alloc, &mut out, text, at)?,
+        CondError::Syntax { at } => put_syntax(alloc, &mut out, asked, text, at)?,
         CondError::Memory => {}
     }
     Ok(out)
@@ -52,15 +76,21 @@ fn put_piece(alloc: Global, out: &mut String, text: &[u8], at: usize) -> Result<
 }
 
 /// Appends what is said of a token that can't stand where it is.
-fn put_syntax(alloc: Global, out: &mut String, text: &[u8], at: usize) -> Result<(), AllocError>
-    ensures { OnOk result (Appends (Shows (MayTell text.now) text.now at)
+fn put_syntax(
+    alloc: Global,
+    out: &mut String,
+    asked: Asked,
+    text: &[u8],
+    at: usize,
+) -> Result<(), AllocError>
+    ensures { OnOk result (Appends (Shows (MayTell asked text.now) text.now at)
         (string_bytes out.old) (string_bytes out.new)) }
 {
     put_excerpt(out, text, at)?;
     let Some(beginning) = beginning_of(alloc, text)? else {
         return Ok(());
     };
-    let Ok(can) = KindSet::of(&beginning) else {
+    let Ok(can) = KindSet::of(asked, &beginning) else {
         return Err(AllocError);
     };
     put_expected(alloc, out, &can)?;
@@ -82,13 +112,15 @@ fn beginning_of(alloc: Global, text: &[u8]) -> Result<Option<Beginning>, AllocEr
 }
 
 /// Appends the hint for a text that is too long.
-fn put_length(out: &mut String, text: &[u8]) -> Result<(), AllocError>
-    ensures { OnOk result (string_bytes out.new ≡ string_bytes out.old ++ length_line text.now) }
+fn put_length(out: &mut String, asked: Asked, text: &[u8]) -> Result<(), AllocError>
+    ensures { OnOk result (string_bytes out.new
+        ≡ string_bytes out.old ++ length_line asked text.now) }
 {
-    out.push_str("  hint: a condition has at most 1024 bytes, and this one has ")?;
+    out.push_str("  hint: a ")?;
+    out.push_str(asked.name())?;
+    out.push_str(" has at most 1024 bytes, and this one has ")?;
     out.push_str(Buffer::new().format(text.len() as u64))?;
-    out.push_str("\n")?;
-    Ok(())
+    out.push_str("\n")
 }
 
 /// Appends the hint, if there is one.

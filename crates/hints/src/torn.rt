@@ -4,11 +4,10 @@ ghost use Rattle.std.specs.Prelude.{◌≡◌, ◌≤◌};
 ghost use Rattle.cards.specs.Hands.{is_same};
 ghost use Rattle.cond_lang.specs.Form.{amount_of, form_of};
 ghost use Rattle.cond_lang.specs.Limits.{HasAtMostAtoms, atoms_of};
-ghost use Rattle.hints.specs.Limits.{greatest_of};
+ghost use Rattle.cond_lang.specs.Bounds.{greatest_of};
 ghost use Rattle.hints.specs.Torn.{code_of, greatest_related, greatest_with, is_same_value};
 ghost use Rattle.hints.specs.Torn.{is_torn, is_torn_at, least_related, least_with, turned};
 
-use crate::limits::{greatest, least};
 use cond_lang::{Op, Tree, Value};
 
 /// Whether the tree leaves no number to a value that a part of it tests.
@@ -45,9 +44,9 @@ fn least_with(tree: &Tree, value: &Value) -> u32
         Tree::AllOf(left, right) => least_with(left, value).max(least_with(right, value)),
         Tree::Compare { left, op, right } => {
             if is_same_value(left, value) {
-                least_related(*op, least(right))
+                least_related(*op, right.least())
             } else if is_same_value(right, value) {
-                least_related(turned(*op), least(left))
+                least_related(turned(*op), left.least())
             } else {
                 0
             }
@@ -63,7 +62,7 @@ fn greatest_with(tree: &Tree, value: &Value) -> u32
     requires value { atoms_of (amount_of value.now) ≤ 1024 }
     ensures { result ≡ greatest_with (form_of tree.now) (amount_of value.now) }
 {
-    greatest_up_to(tree, value, greatest(value))
+    greatest_up_to(tree, value, value.greatest())
 }
 
 /// The greatest that the value is in a deal that meets the tree, if it is `most` in any deal.
@@ -81,9 +80,9 @@ fn greatest_up_to(tree: &Tree, value: &Value, most: u32) -> u32
         }
         Tree::Compare { left, op, right } => {
             if is_same_value(left, value) {
-                greatest_related(*op, greatest(right), most)
+                greatest_related(*op, right.greatest(), most)
             } else if is_same_value(right, value) {
-                greatest_related(turned(*op), greatest(left), most)
+                greatest_related(turned(*op), left.greatest(), most)
             } else {
                 most
             }

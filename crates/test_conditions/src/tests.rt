@@ -3,6 +3,7 @@
 //! tests/mistakes.
 
 mod beginnings;
+mod questions;
 mod trees;
 mod truths;
 mod words;

@@ -2,7 +2,7 @@
 //! and the page of the language are asked of the built program: by tests/mistakes.
 
 use cond_lang::{Cond, CondError, LANGUAGE, parse};
-use hints::{explain, is_never, note, put_shown};
+use hints::{explain, explain_question, is_never, note, put_shown};
 use std::alloc::Global;
 use std::test::Fail;
 
@@ -55,6 +55,50 @@ fn what_is_said(rt: HostRuntime) -> Result<(), Fail> {
     let shown = shown(rt.alloc(), b"a\tb\r\x7f~\xE2\x89\xA5")?;
     assert_eq!(rt; shown.as_str(), "a b??~???");
     assert_eq!(rt; LANGUAGE.len(), 3);
+    Ok(())
+}
+
+/// Texts that are refused as questions, how, and all that is said of that.
+const QUESTIONS: [(&[u8], CondError, &str); 4] = [
+    (
+        b"hcp(north) hcp(south)",
+        CondError::Syntax { at: 11 },
+        "  hcp(north) hcp(south)
+             ^^^
+  expected \"+\", a comparison such as >=, \"in\" or the end
+  hint: to compare it write: hcp(north)>=15
+",
+    ),
+    (
+        b"len(north)",
+        CondError::Syntax { at: 9 },
+        "  len(north)
+           ^
+  expected \",\"
+  hint: name a suit too, as in len(north,spades)
+",
+    ),
+    (
+        b"hcp(nord)",
+        CondError::Word { at: 4 },
+        "  hcp(nord)
+      ^^^^
+  hint: write \"north\"
+",
+    ),
+    (
+        &[0xff; 1025],
+        CondError::TooLong,
+        "  hint: a question has at most 1024 bytes, and this one has 1025\n",
+    ),
+];
+
+#[test]
+fn what_is_said_of_questions(rt: HostRuntime) -> Result<(), Fail> {
+    for (text, error, wanted) in QUESTIONS.iter() {
+        let told = explain_question(rt.alloc(), text, *error)?;
+        assert_eq!(rt; told.as_str(), *wanted);
+    }
     Ok(())
 }
 

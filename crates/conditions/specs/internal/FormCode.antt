@@ -21,6 +21,7 @@ use Rattle.conditions.specs.Form.{suit_total, cards_held, suit_cards_held, longe
 use Rattle.conditions.specs.Form.{shortest}
 use Rattle.conditions.specs.Form.{Form, any_of, all_of, negation, compare, within, balanced}
 use Rattle.conditions.specs.Form.{shape, pattern, loose_shape, loose_pattern, stops}
+use Rattle.conditions.specs.Questions.{Question, asks_condition, asks_value}
 
 abbrev suit_of_number : ℕ → Suit
 suit_of_number zero = Spades
@@ -297,3 +298,22 @@ one_form a b e = sym (form_back a) ∙ ap form_from e ∙ form_back b
 
 abbrev pub form_code : Coded Form
 form_code = record { code = form_stored; inj = one_form }
+
+abbrev question_stored : Question → Gv
+question_stored (asks_condition tree) = gcons (gnum 0) (form_stored tree)
+question_stored (asks_value value) = gcons (gnum 1) (amount_stored value)
+
+abbrev question_from : Gv → Question
+question_from (gcons (gnum zero) tree) = asks_condition (form_from tree)
+question_from (gcons (gnum (suc k)) value) = asks_value (amount_from value)
+question_from _ = asks_value (number 0)
+
+question_back : (q : Question) → question_from (question_stored q) ≡ q
+question_back (asks_condition tree) = ap asks_condition (form_back tree)
+question_back (asks_value value) = ap asks_value (amount_back value)
+
+pub one_question : (a b : Question) → question_stored a ≡ question_stored b → a ≡ b
+one_question a b e = sym (question_back a) ∙ ap question_from e ∙ question_back b
+
+abbrev pub question_code : Coded Question
+question_code = record { code = question_stored; inj = one_question }

@@ -3,7 +3,7 @@ use Rattle.std.proofs.Common.{◌≡◌, length, ◌↔◌, ◌<◌, IsTrue, ari
 use Rattle.std.proofs.lemmas.Grind.{common_steps}
 use Rattle.cond_lang.specs.declared.words.Kind.{Kind}
 use Rattle.cond_lang.specs.declared.words.Kind.TheVariants as kind
-use Rattle.cond_lang.specs.Continuations.{CanFollow}
+use Rattle.hints.specs.Asked.{CanStand}
 use Rattle.cond_lang.specs.Kinds.{all_kinds, place_of}
 use Rattle.cond_lang.proofs.EachKind.{kind_listed}
 use Rattle.hints.proofs.KindLemmas.{one_answer_more}
@@ -13,7 +13,7 @@ pub loop-i-preserved : goal.loop-i-preserved
 loop-i-preserved c = (
   grind (arith, common_steps),
   one_answer_more c.loop-i.holds
-      (λ k. CanFollow c.args.beginning.now (slice_index_or all_kinds k kind.Not)) c.loop-i.i
+      (λ k. CanStand c.args.asked c.args.beginning.now (slice_index_or all_kinds k kind.Not)) c.loop-i.i
       c.in_ok-holds.field-0 (omega arith) c.loop-i.invariant.1 c.in_ok-holds.ensures.allowed,
 )
 
@@ -21,5 +21,5 @@ pub returns-clause-allowed : goal.returns-clause-allowed
 returns-clause-allowed c =
     λ k. let within : place_of k < length all_kinds = slice_get_within all_kinds (place_of k) k (kind_listed k) in
     let there : slice_index_or all_kinds (place_of k) kind.Not ≡ k = get_or_from_slice_get all_kinds (place_of k) k kind.Not (kind_listed k) in
-    let P : Kind → Type 0 = λ q. IsTrue (slice_index_or c.loop-i.holds (place_of k) false) ↔ CanFollow c.args.beginning.now q in
+    let P : Kind → Type 0 = λ q. IsTrue (slice_index_or c.loop-i.holds (place_of k) false) ↔ CanStand c.args.asked c.args.beginning.now q in
     subst P there (c.loop-i.invariant.1 (place_of k) (omega arith))

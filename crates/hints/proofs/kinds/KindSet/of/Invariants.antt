@@ -1,5 +1,5 @@
 use Rattle.std.proofs.Common.{◌≡◌, ◌↔◌, ℕ, ◌<◌, false, IsTrue, length, slice_index_or}
-use Rattle.cond_lang.specs.Continuations.{CanFollow}
+use Rattle.hints.specs.Asked.{CanStand}
 use Rattle.cond_lang.specs.declared.words.Kind.TheVariants as kind
 use Rattle.cond_lang.specs.Kinds.{all_kinds}
 use Rattle.hints.proofs.kinds.KindSet.of.Given as goal
@@ -9,4 +9,4 @@ invariant-loop-i l =
     (length l.holds ≡ length all_kinds)
     × ((k : ℕ) → k < l.i
     → IsTrue (slice_index_or l.holds k false)
-    ↔ CanFollow l.beginning (slice_index_or all_kinds k kind.Not))
+    ↔ CanStand l.asked l.beginning (slice_index_or all_kinds k kind.Not))

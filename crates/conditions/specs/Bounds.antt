@@ -1,13 +1,13 @@
--- The least and the greatest number that a value of any deal is: tables, as the code has them. What
--- they are worth is the clause `sound` of `is_never`.
+-- The least and the greatest number that a value of any deal is: a table, as far as each of its
+-- parts says. The law `values_are_within_bounds` says what they are worth.
 use Rattle.std.specs.Prelude.{ℕ, ◌+◌, ◌-◌, ◌*◌, List, cond, min, option_map, slice_index_or}
 use Rattle.std.specs.Prelude.{sum, unwrap_or}
 use Rattle.cards.specs.declared.honours.Honours.{Honours}
 use Rattle.cards.specs.declared.hand.Measure.{Measure}
 use Rattle.cards.specs.Measures.{weights_of}
-use Rattle.cond_lang.specs.Form.{Amount, cards_held, longest, number, points, second}
-use Rattle.cond_lang.specs.Form.{shortest, suit_cards_held, suit_length, suit_points, suit_total, total}
-use Rattle.cond_lang.specs.Form.{sum as plus}
+use Rattle.conditions.specs.Form.{Amount, cards_held, longest, number, points, second}
+use Rattle.conditions.specs.Form.{shortest, suit_cards_held, suit_length, suit_points, suit_total}
+use Rattle.conditions.specs.Form.{total, sum as plus}
 
 -- how many ranks these are
 abbrev pub rank_count : Honours → ℕ
@@ -28,7 +28,6 @@ most_of m = unwrap_or (option_map (λ w. 4 * sum w - 3 * least_weight w) (weight
 abbrev pub most_in : Measure → ℕ
 most_in m = unwrap_or (option_map sum (weights_of m)) 3
 
--- the least and the greatest that a value is, as far as each of its parts says
 abbrev pub least_of : Amount → ℕ
 least_of (plus a b) = least_of a + least_of b
 least_of (number n) = n
@@ -42,7 +41,7 @@ greatest_of (points q) = 37
 greatest_of (suit_points q s) = 10
 greatest_of (total m q) = most_of m
 greatest_of (suit_total m q s) = most_in m
-greatest_of (cards_held q h) = 4 * rank_count h
+greatest_of (cards_held q h) = min (4 * rank_count h) 13
 greatest_of (suit_cards_held q s h) = rank_count h
 greatest_of (suit_length q s) = 13
 greatest_of (longest q) = 13

@@ -15,8 +15,8 @@ use Rattle.cards.specs.Measures.{four_weights, weights_of}
 use Rattle.cards.specs.Pack.{is_in_suit, rank_of, suit_number}
 use Rattle.cards.specs.Shuffle.{pack}
 use Rattle.cards.proofs.MaskCounts.{both-le, cond-le, sum_by-le}
-use Rattle.hints.specs.Limits.{least_weight, most_in, most_of, rank_count}
-use Rattle.hints.proofs.Bounds.{both, thirteen}
+use Rattle.conditions.specs.Bounds.{least_weight, most_in, most_of, rank_count}
+use Rattle.conditions.proofs.HandBounds.{both, thirteen}
 
 -- ---- weights
 
@@ -138,6 +138,20 @@ cards_most h hand =
       all_ranks h,
       sum_by-le (λ c. cond (has_honour h (rank_of c) && holds_card hand c) 1 0) (λ c. cond (has_honour h (rank_of c)) 1 0)
           (λ c. both-le 1 (has_honour h (rank_of c)) (holds_card hand c)) pack,
+    )
+
+second-le : (a b : Bool) → cond {A = ℕ} (a && b) 1 0 ≤ cond b 1 0
+second-le true b = omega arith
+second-le false true = omega arith
+second-le false false = omega arith
+
+pub cards_thirteen : (h : Honours) (deal : List Seat) (q : Seat) → IsPartition deal → honours_of h (hand_of deal q) ≤ 13
+cards_thirteen h deal q ok =
+    omega (
+      arith,
+      thirteen deal q ok,
+      sum_by-le (λ c. cond (has_honour h (rank_of c) && holds_card (hand_of deal q) c) 1 0) (λ c. cond (holds_card (hand_of deal q) c) 1 0)
+          (λ c. second-le (has_honour h (rank_of c)) (holds_card (hand_of deal q) c)) pack,
     )
 
 suit_ranks : (h : Honours) (suit : Suit) → sum_by (λ c. cond (is_in_suit suit c && has_honour h (rank_of c)) 1 0) pack ≡ rank_count h

@@ -1,0 +1,39 @@
+//! What question a text spells: a condition, or a value.
+
+ghost use Rattle.std.specs.Prelude.{◌≡◌, ◌<◌, ◌≤◌, ◌↔◌, length, IfOk, IfErr, MatchResult};
+ghost use Rattle.conditions.specs.declared.error.CondError.{CondError as Fault};
+ghost use Rattle.conditions.specs.Questions.{Question as AQuestion};
+ghost use Rattle.cond_lang.specs.Asking.{IsDueQuestion, SpellsQuestion};
+ghost use Rattle.cond_lang.specs.Faults.{HasFault};
+
+use crate::parser::{parse_tokens, read_value};
+use crate::scanner::{MAX_BYTES, scan};
+use conditions::{Cond, CondError, Question};
+use std::alloc::Global;
+
+/// Returns the question that a text spells, which is a whole condition or a whole value.
+///
+/// # Errors
+/// Those of `parse`. A text of tokens that are neither is `Syntax`, at the first token that neither
+/// a condition nor a value goes on with, or at the text's length.
+pub fn parse_question(alloc: Global, text: &[u8]) -> Result<Question, CondError>
+    ensures too_long { (result ≡ Err CondError.TooLong) ↔ (1024 < length text.now) }
+    ensures fault { (e : Fault) → length text.now ≤ 1024 → HasFault text.now e → result ≡ Err e }
+    ensures spelled { (q : AQuestion)
+        → length text.now ≤ 1024 → SpellsQuestion text.now q
+        → MatchResult result (λ r. r ≡ q) (λ e. e ≡ CondError.Memory) }
+
+    // What comes back is due: the question is the text's, and each refusal has its reason.
+    ensures question { IfOk result (λ q. SpellsQuestion text.now q) }
+    ensures refused { IfErr result (λ e. IsDueQuestion text.now e) }
+{
+    if text.len() > MAX_BYTES {
+        return Err(CondError::TooLong);
+    }
+    let tokens = scan(text)?;
+    if let Some(value) = read_value(alloc, tokens.as_slice())? {
+        return Ok(Question::of_value(value));
+    }
+    let tree = parse_tokens(alloc, tokens.as_slice(), text.len())?;
+    Ok(Question::of_condition(Cond::of_tree(alloc, tree)))
+}

@@ -1,0 +1,98 @@
+//! The least and the greatest number that a value of any deal is.
+
+ghost use Rattle.std.specs.Prelude.{◌≡◌, ◌*◌, ◌≤◌, sum};
+ghost use Rattle.conditions.specs.Bounds.{greatest_of, least_of, least_weight, most_in, most_of};
+ghost use Rattle.conditions.specs.Bounds.{rank_count};
+ghost use Rattle.conditions.specs.Form.{amount_of};
+ghost use Rattle.conditions.specs.Limits.{atoms_of};
+
+use crate::tree::Value;
+use cards::{Honours, Measure};
+
+impl Value {
+    /// The least that the value can be: no deal has less, and some values never come down to it.
+    pub fn least(&self) -> u32
+        requires { atoms_of (amount_of self.now) ≤ 1024 }
+        ensures value { result ≡ least_of (amount_of self.now) }
+        ensures most { result ≤ 65535 * atoms_of (amount_of self.now) }
+    {
+        match self {
+            Value::Sum(left, right) => left.least() + right.least(),
+            Value::Number(number) => u32::from(*number),
+            Value::Longest(_) => 4,
+            _ => 0,
+        }
+    }
+
+    /// The greatest that the value can be: no deal has more, and some values never reach it.
+    pub fn greatest(&self) -> u32
+        requires { atoms_of (amount_of self.now) ≤ 1024 }
+        ensures value { result ≡ greatest_of (amount_of self.now) }
+        ensures most { result ≤ 65535 * atoms_of (amount_of self.now) }
+    {
+        match self {
+            Value::Sum(left, right) => left.greatest() + right.greatest(),
+            Value::Number(number) => u32::from(*number),
+            Value::Points(_) => 37,
+            Value::SuitPoints(..) => 10,
+            Value::Total(measure, _) => most_of(*measure),
+            Value::SuitTotal(measure, _, _) => most_in(*measure),
+            Value::Cards(_, ranks) => (4 * rank_count(*ranks)).min(13),
+            Value::SuitCards(_, _, ranks) => rank_count(*ranks),
+            Value::Length(..) | Value::Longest(_) => 13,
+            Value::Second(_) => 6,
+            Value::Shortest(_) => 3,
+        }
+    }
+}
+
+/// The most that a hand counts by the measure. Of the sixteen honours it lacks three.
+fn most_of(measure: Measure) -> u32
+    ensures value { result ≡ most_of measure }
+    ensures few { result ≤ 40 }
+{
+    match measure.weights() {
+        Some(weights) => 4 * total_weight(weights) - 3 * least_weight(weights),
+        None => 12,
+    }
+}
+
+/// The most that the cards of one suit count by the measure.
+fn most_in(measure: Measure) -> u32
+    ensures value { result ≡ most_in measure }
+    ensures few { result ≤ 10 }
+{
+    match measure.weights() {
+        Some(weights) => total_weight(weights),
+        None => 3,
+    }
+}
+
+/// The weights of four ranks together.
+fn total_weight(weights: [u8; 4]) -> u32
+    ensures value { result ≡ sum weights }
+{
+    let [ace, king, queen, jack] = weights;
+    u32::from(ace) + u32::from(king) + u32::from(queen) + u32::from(jack)
+}
+
+/// The least of the weights.
+fn least_weight(weights: [u8; 4]) -> u32
+    ensures value { result ≡ least_weight weights }
+    ensures few { result ≤ sum weights }
+{
+    let [ace, king, queen, jack] = weights;
+    u32::from(ace.min(king).min(queen.min(jack)))
+}
+
+/// How many ranks these are.
+fn rank_count(ranks: Honours) -> u32
+    ensures value { result ≡ rank_count ranks }
+    ensures few { result ≤ 5 }
+{
+    u32::from(ranks.ace)
+        + u32::from(ranks.king)
+        + u32::from(ranks.queen)
+        + u32::from(ranks.jack)
+        + u32::from(ranks.ten)
+}

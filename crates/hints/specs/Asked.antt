@@ -1,0 +1,23 @@
+-- What a text was read as: a condition, or a question, which is a condition or a value.
+use Rattle.std.specs.Prelude.{ℕ, List, codes}
+use Rattle.cond_lang.specs.Asking.{CanFollowAsking, IsAskBeginning}
+use Rattle.cond_lang.specs.Continuations.{CanFollow, IsBeginning}
+use Rattle.cond_lang.specs.declared.scanner.Token.{Token}
+use Rattle.cond_lang.specs.declared.words.Kind.{Kind}
+use Rattle.hints.specs.declared.asked.Asked.{Asked}
+use Rattle.hints.specs.declared.asked.Asked.TheVariants.{Condition, Question}
+
+-- what a person calls it
+abbrev pub asked_name : Asked → List ℕ
+asked_name Condition = codes "condition"
+asked_name Question = codes "question"
+
+-- the list is the longest beginning of the text that one goes on with
+abbrev pub Begins : Asked → List ℕ → List Token → Type 0
+Begins Condition text T = IsBeginning text T
+Begins Question text T = IsAskBeginning text T
+
+-- behind the list some token of the kind could stand
+abbrev pub CanStand : Asked → List Token → Kind → Type 0
+CanStand Condition T k = CanFollow T k
+CanStand Question T k = CanFollowAsking T k
