@@ -1,0 +1,17 @@
+pub mod Counting
+pub mod Appending
+pub mod Dividing
+pub mod Roots
+pub mod Widths
+pub mod Boards
+pub mod Parts
+pub mod Most
+pub mod Paging
+pub mod Alike
+pub mod OneTable
+pub mod TwoTable
+pub mod OnePage
+pub mod TwoPage
+pub mod Shading
+pub mod Bodies
+pub mod Adding

@@ -1,0 +1,103 @@
+-- What is counted, and the text that tells of it.
+use Rattle.std.specs.Prelude.{ℕ, ◌*◌, ◌==◌, ◌&&◌, ◌^◌, Bool, List, [], ◌++◌, codes, length, map}
+use Rattle.std.specs.Prelude.{if◌then◌else◌, nat_le, take}
+use Rattle.std.specs.List.{list_all}
+use Rattle.boards.specs.Layouts.{Layout}
+use Rattle.cards.specs.declared.seat.Seat.{Seat}
+use Rattle.conditions.specs.Questions.{Question, answer, is_condition, rows_of}
+use Rattle.statistics.specs.declared.style.Style.{Style}
+use Rattle.statistics.specs.declared.style.Style.TheVariants.{Csv, Html, Table}
+use Rattle.statistics.specs.Answers.{answers_of}
+use Rattle.statistics.specs.Csv.{csv_one, csv_total, csv_two}
+use Rattle.statistics.specs.OneQuestion.{one_table}
+use Rattle.statistics.specs.Page.{page_foot, page_head, page_one, page_two}
+use Rattle.statistics.specs.Sentence.{sentence}
+use Rattle.statistics.specs.TwoQuestions.{Kinds, Pairs, two_table}
+
+-- a question, and the title that it has in a table
+pub record Asked : Type 0 where
+  pub question : Question
+  pub title : List ℕ
+
+-- whether a text can stand in a table: at most 72 bytes of printable ASCII
+abbrev pub is_shown : List ℕ → Bool
+is_shown text = nat_le (length text) 72 && list_all (λ b. nat_le 0x20 b && nat_le b 0x7E) text
+
+-- the title of a question's text: the text, if it can stand in a table
+abbrev pub title_of : List ℕ → List ℕ
+title_of text = if is_shown text then text else codes "value"
+
+-- what is asked of the deals: nothing but how many there are, one question, or two
+pub data Subject : Type 0 where
+  deals_alone : Subject
+  by_one : Asked → Subject
+  by_two : Asked → Asked → Subject
+
+-- how many cells a table of its answers can have
+abbrev pub cells_of : Subject → ℕ
+cells_of deals_alone = 0
+cells_of (by_one asked) = rows_of asked.question
+cells_of (by_two of by) = rows_of of.question * rows_of by.question
+
+-- what each of the deals answers to two questions
+abbrev pub pairs_of : Question → Question → List (List Seat) → Pairs
+pairs_of of by deals = map (λ deal. (answer of deal, answer by deal)) deals
+
+abbrev pub kinds_of : Asked → Asked → Kinds
+kinds_of of by =
+    record { of_condition = is_condition of.question; by_condition = is_condition by.question }
+
+-- the table below the sentence: none if no deal is there
+unfoldable pub table_text : Subject → List (List Seat) → List ℕ
+table_text deals_alone deals = []
+table_text (by_one asked) deals =
+    one_table (is_condition asked.question) asked.title (answers_of asked.question deals)
+table_text (by_two of by) deals =
+    two_table (kinds_of of by) of.title by.title (pairs_of of.question by.question deals)
+
+unfoldable pub csv_text : Subject → List (List Seat) → ℕ → List ℕ
+csv_text deals_alone deals candidates = csv_total (length deals) candidates
+csv_text (by_one asked) deals candidates =
+    csv_one (is_condition asked.question) (answers_of asked.question deals)
+csv_text (by_two of by) deals candidates =
+    csv_two (kinds_of of by) (pairs_of of.question by.question deals)
+
+-- the title of the page, its table, and all of it
+abbrev pub page_title : Subject → List ℕ
+page_title deals_alone = codes "Deals"
+page_title (by_one asked) = asked.title
+page_title (by_two of by) = of.title ++ codes " by " ++ by.title
+
+unfoldable pub page_table : Subject → List (List Seat) → List ℕ
+page_table deals_alone deals = []
+page_table (by_one asked) deals =
+    page_one (is_condition asked.question) (answers_of asked.question deals)
+page_table (by_two of by) deals =
+    page_two (kinds_of of by) (pairs_of of.question by.question deals)
+
+unfoldable pub page_text : Subject → List (List Seat) → ℕ → List ℕ
+page_text subject deals candidates =
+    page_head (page_title subject) (sentence (length deals) candidates)
+    ++ (if length deals == 0 then [] else page_table subject deals)
+    ++ page_foot
+
+-- all that is told of these deals, and of how many candidates were tried
+unfoldable pub count_text : Style → Subject → List (List Seat) → ℕ → List ℕ
+count_text Table subject deals candidates =
+    sentence (length deals) candidates ++ codes "\n"
+    ++ (if length deals == 0 then [] else table_text subject deals)
+count_text Csv subject deals candidates = csv_text subject deals candidates
+count_text Html subject deals candidates = page_text subject deals candidates
+
+-- no plan has more candidates
+abbrev pub most_deals : ℕ
+most_deals = 2 ^ 40
+
+-- as a notation: the boards have no text of their own, and the footer tells of their deals
+abbrev pub counting : Style → Subject → Layout
+counting style subject = record {
+  header = [];
+  board = λ board. [];
+  footer = λ boards tried.
+      count_text style subject (map (λ board. board.deal) (take most_deals boards)) tried;
+}

@@ -1,0 +1,13 @@
+pub mod Answers
+pub mod Columns
+pub mod Rounded
+pub mod Fractions
+pub mod Sentence
+pub mod OneQuestion
+pub mod TwoQuestions
+pub mod Csv
+pub mod PageStyle
+pub mod Page
+pub mod Counting
+pub mod Subjects
+pub mod internal

@@ -1,0 +1,78 @@
+//! What counts the deals of a run.
+
+ghost use Rattle.std.specs.Prelude.{◌≡◌, ◌≤◌, ◌^◌, [], IfOk};
+ghost use Rattle.statistics.specs.Counting.{cells_of, counting};
+ghost use Rattle.statistics.specs.Subjects.{subject_of};
+
+use crate::kept::Kept;
+use crate::style::Style;
+use crate::subject::Subject;
+use boards::{Board, Notation};
+use sinks::{Sink, SinkFault};
+use std::alloc::{AllocError, Global};
+
+/// How many deals are counted at most: no plan has more candidates.
+const MAX_DEALS: u64 = 1 << 40;
+
+/// Counts the deals of boards by their answers. As a notation it writes no board: its footer is the
+/// table.
+///
+/// It takes the memory for the numbers of a table once, when it is created, and none to count.
+#[derive(Drop)]
+pub struct Counter {
+    style: Style,
+    kept: Kept,
+}
+
+impl Counter {
+    /// Returns a counter that has counted nothing, and tells of the subject in this style.
+    ///
+    /// # Errors
+    /// `AllocError` if the allocation of a number for each row or cell failed.
+    pub fn new(alloc: Global, style: Style, subject: Subject) -> Result<Counter, AllocError>
+        requires { cells_of (subject_of subject) ≤ 2 ^ 20 }
+        ensures layout { IfOk result (λ c.
+            ⟦<Counter as Notation>⟧.layout c ≡ counting style (subject_of subject)) }
+        ensures printed { IfOk result (λ c. ⟦<Counter as Notation>⟧.printed c ≡ []) }
+        ensures counted { IfOk result (λ c. ⟦<Counter as Notation>⟧.has_printed c []) }
+    {
+        Ok(Counter {
+            style,
+            kept: Kept::new(alloc, subject)?,
+        })
+    }
+}
+
+impl Notation for Counter {
+    ghost use Rattle.std.specs.Prelude.{[]};
+    ghost use Rattle.statistics.specs.Counting.{counting};
+    ghost use Rattle.statistics.specs.internal.Counters.{Counts, asked_of, deals_of};
+
+    ghost layout = { λ c. counting c.style (asked_of c.kept) };
+
+    ghost printed = { λ _. [] };
+
+    ghost has_printed = { λ c boards. Counts c.kept (deals_of boards) };
+
+    fn header(&self) -> &[u8] {
+        b""
+    }
+
+    fn print(&mut self, board: &Board) {
+        if self.kept.deals() < MAX_DEALS {
+            self.kept.count(&board.deal);
+        }
+    }
+
+    fn text(&self) -> &[u8] {
+        b""
+    }
+
+    fn put_footer<S: Sink>(&self, tried: u64, sink: &mut S) -> Result<(), SinkFault> {
+        match self.style {
+            Style::Table => self.kept.put_table(tried, sink),
+            Style::Csv => self.kept.put_body(Style::Csv, tried, sink),
+            Style::Html => self.kept.put_page(tried, sink),
+        }
+    }
+}

@@ -1,0 +1,45 @@
+//! Laws of tables: functions that do nothing, whose contracts are the laws.
+
+ghost use Rattle.std.specs.Prelude.{◌≡◌, ◌≤◌, ◌<◌, ◌+◌, ◌*◌, ◌^◌, ◌++◌, false, ℕ, List, codes, length, map};
+ghost use Rattle.std.specs.Prelude.{sum};
+ghost use Rattle.cards.specs.declared.seat.Seat.{Seat};
+ghost use Rattle.conditions.specs.Questions.{Question, is_condition};
+ghost use Rattle.statistics.specs.Answers.{answers_of, count_of, rows};
+ghost use Rattle.statistics.specs.Columns.{commas};
+ghost use Rattle.statistics.specs.OneQuestion.{blocks, mean_text, row};
+ghost use Rattle.statistics.specs.Rounded.{whole_root};
+ghost use Rattle.statistics.specs.Sentence.{sentence};
+
+/// A number is no wider than a greater one, so that the greatest of a column tells its width.
+pub fn no_number_is_narrower()
+    ensures { (m n : ℕ) → m ≤ n → n < 2 ^ 64 → length (commas m) ≤ length (commas n) }
+{}
+
+/// The whole square root is the greatest number whose square is not more.
+pub fn roots_are_whole()
+    ensures below { (n : ℕ) → whole_root n * whole_root n ≤ n }
+    ensures above { (n : ℕ) → n < (whole_root n + 1) * (whole_root n + 1) }
+{}
+
+/// Some lines, as they are read.
+pub fn lines_read()
+    ensures sentence { sentence 176 3000 ≡ codes "176 of 3,000 deals: 5.867 %, one in 17" }
+    ensures all { sentence 1 1 ≡ codes "1 of 1 deals: 100.000 %" }
+    ensures none { sentence 0 0 ≡ codes "0 of 0 deals" }
+    ensures row { row false 5 5 54 176 1 20
+        ≡ codes "    1     20   11.36  " ++ blocks 15 ++ codes "\n" }
+    ensures mean { mean_text 4 10 30 ≡ codes "mean 2.500, standard deviation 1.118" }
+{}
+
+/// The tables of two runs add up to that of both.
+pub fn tables_add_up()
+    ensures { (n : ℕ) (xs ys : List ℕ) → count_of n (xs ++ ys) ≡ count_of n xs + count_of n ys }
+{}
+
+/// The rows of a table have all deals, each once.
+pub fn rows_sum_to_all()
+    ensures { (question : Question) (deals : List (List Seat))
+        → let answers = answers_of question deals in
+        sum (map (λ n. count_of n answers) (rows (is_condition question) answers))
+        ≡ length deals }
+{}

@@ -1,0 +1,28 @@
+//! Tables of what the deals of a run answer: how often each number came, and the mean.
+//!
+//! A `Counter` is a notation that writes no board: it counts each, and its footer is the table.
+#![tactic(auto)]
+
+mod cells;
+mod counter;
+mod csv_lines;
+mod deals;
+mod fractions;
+mod kept;
+pub mod laws;
+mod numbers;
+mod one;
+mod one_lines;
+mod page;
+mod pieces;
+mod rows;
+mod sentence;
+mod style;
+mod subject;
+mod sums;
+mod title;
+mod two;
+
+pub use counter::Counter;
+pub use style::{STYLE_HELP, STYLE_WORDS, STYLES, Style};
+pub use subject::{Asked, MAX_CELLS, Subject};

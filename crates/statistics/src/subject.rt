@@ -1,0 +1,70 @@
+//! What is asked of the deals.
+
+ghost use Rattle.std.specs.Prelude.{◌≡◌, nat_lt};
+ghost use Rattle.statistics.specs.Counting.{cells_of, title_of};
+ghost use Rattle.statistics.specs.Subjects.{subject_of};
+
+use crate::title::Title;
+use conditions::Question;
+use std::marker::Model;
+
+/// A question, and the title that it has in a table.
+#[derive(Drop)]
+pub struct Asked {
+    pub(crate) question: Question,
+    pub(crate) title: Title,
+}
+
+impl Model for Asked {
+    ghost use Rattle.statistics.specs.Counting.{Asked as AnAsked};
+    ghost use Rattle.statistics.specs.internal.Codes.{asked_code};
+
+    ghost Value = { AnAsked };
+
+    ghost coded = { asked_code };
+
+    ghost view = { λ a. record { question = a.question; title = a.title } };
+}
+
+impl Asked {
+    /// The question, with its text as its title. A text that has more than 72 bytes, or one that
+    /// isn't printable ASCII, gives the title `value`.
+    pub fn new(question: Question, text: &[u8]) -> Asked
+        ensures question { result.question ≡ question }
+        ensures title { result.title ≡ title_of text.now }
+    {
+        Asked {
+            question,
+            title: Title::of(text),
+        }
+    }
+}
+
+/// What is asked of the deals.
+#[derive(Drop)]
+pub enum Subject {
+    /// Nothing but how many there are.
+    DealsAlone,
+    /// One question.
+    ByOne(Asked),
+    /// Two questions: that of the rows, and that of the columns.
+    ByTwo(Asked, Asked),
+}
+
+/// How many cells a table can have at most.
+pub const MAX_CELLS: u64 = 1_048_576;
+
+impl Subject {
+    /// Whether a table of its answers can have more than `MAX_CELLS` cells.
+    pub fn is_too_large(&self) -> bool
+        ensures { result ≡ nat_lt MAX_CELLS (cells_of (subject_of self.now)) }
+    {
+        match self {
+            Subject::DealsAlone => false,
+            Subject::ByOne(asked) => u64::from(asked.question.rows()) > MAX_CELLS,
+            Subject::ByTwo(of, by) => {
+                u64::from(of.question.rows()) * u64::from(by.question.rows()) > MAX_CELLS
+            }
+        }
+    }
+}
