@@ -24,10 +24,13 @@ const BY_WHERE: &str =
 const HOW_MANY: &str =
     "  hint: --boards 36 says how many boards, --candidates 1000 how many deals are tried\n";
 
+const BY_COUNT: &str =
+    "  hint: deals count tells how often each number comes, and the mean: --of 'hcp(north)'\n";
+
 const FORMS: &str = "  hint: boards are PBN, or what --format says: --format hands, lin or html\n";
 
 /// Options that people try first, and what helps in their place.
-const INSTEAD: [(&str, &str); 16] = [
+const INSTEAD: [(&str, &str); 18] = [
     ("--output", TO_A_FILE),
     ("--out", TO_A_FILE),
     ("--file", TO_A_FILE),
@@ -40,6 +43,8 @@ const INSTEAD: [(&str, &str); 16] = [
     ("--number", HOW_MANY),
     ("--deals", HOW_MANY),
     ("-n", HOW_MANY),
+    ("--average", BY_COUNT),
+    ("--frequency", BY_COUNT),
     ("--pbn", FORMS),
     ("--html", FORMS),
     ("--lin", FORMS),
@@ -59,7 +64,7 @@ fn hint_for(first: &str, refusal: &str) -> Option<&'static str> {
     if first.starts_with('-') {
         return Some(COMMAND_FIRST);
     }
-    if matches!(first, "make" | "find") && refusal.contains(NO_SEED) {
+    if matches!(first, "make" | "find" | "count") && refusal.contains(NO_SEED) {
         return Some(HOW_TO_SEED);
     }
     instead_of(refusal)

@@ -10,8 +10,8 @@ use cond_lang::CondError;
 use console::{Counts, Drawn, GATHERED_MILLIS, OverLine, Prompt, Style, millis};
 use dealrun::Cause;
 use deals_cli::Task;
-use hints::explain;
-use requests::{Failure, Job, Request, Search, When};
+use hints::{explain, explain_question};
+use requests::{Failure, Job, QuestionName, Request, Search, When};
 use sinks::{Piped, Sink};
 use std::alloc::Global;
 use std::cell::Cell;
@@ -82,6 +82,11 @@ fn counts_of(
                 ..
             }
             | Request::Find {
+                search,
+                notices,
+                ..
+            }
+            | Request::Count {
                 search,
                 notices,
                 ..
@@ -170,14 +175,29 @@ pub fn is_time(rt: &HostRuntime, when: When) -> bool {
 pub fn note(alloc: Global, task: &Task) -> Option<String> {
     match task {
         Task::Do(Job::Boards(job)) => hints::note(alloc, &job.condition).unwrap_or(None),
+        Task::Do(Job::Count(job)) => hints::note(alloc, &job.condition).unwrap_or(None),
         _ => None,
     }
 }
 
-/// What helps with a refused condition.
+/// What helps with the text of a condition that is refused.
 fn explanation(alloc: Global, search: &Search<'_>, error: CondError) -> Option<String> {
     explain(alloc, search.where_text?.as_bytes(), error).ok()
 }
+
+/// What helps with the text of a question that is refused.
+fn question_help(
+    alloc: Global,
+    request: &Request<'_>,
+    name: QuestionName,
+    error: CondError,
+) -> Option<String> {
+    explain_question(alloc, request.question(name)?.as_bytes(), error).ok()
+}
+
+/// What helps with a table that could be too large.
+const TOO_LARGE: &str =
+    "  hint: rows of --of times columns of --by: add up fewer values, or ask for a condition\n";
 
 /// The system's reason, by the number of its error.
 fn reason_of(alloc: Global, number: i32) -> Option<String> {
@@ -211,6 +231,10 @@ pub fn help(
             let (search, _) = read.as_ref().ok()?.plans()?;
             explanation(alloc, &search, *error)
         }
+        Failure::Question(name, error) => {
+            question_help(alloc, read.as_ref().ok()?, *name, *error)
+        }
+        Failure::Cells => String::from_str(alloc, TOO_LARGE).ok(),
         Failure::Interrupted(Cause::Output) => {
             let reason = reasons.output?;
             format!(in alloc; "  {reason}\n").ok()

@@ -12,12 +12,12 @@ use Rattle.requests.specs.Failures.{is_refusal, status_of}
 use Rattle.requests.specs.FirstRefusal.{IsDueFor}
 use Rattle.requests.specs.Interruptions.{LeavesFrom}
 use Rattle.requests.specs.Jobs.{IsReady, IsRefused, ReadsInput, Serves}
-use Rattle.requests.specs.Requests.{Wish, conditions, make, pick, stream}
+use Rattle.requests.specs.Requests.{Wish, conditions, count, make, pick, stream}
 use Rattle.requests.specs.Wishes.{AppendsFrom, IsStatusOf}
 use Rattle.requests.specs.declared.failure.Failure.{Failure}
-use Rattle.requests.specs.declared.failure.Failure.TheVariants.{CommandLine, Plan, Label, Hand, Condition, Interrupted, Line, Input}
+use Rattle.requests.specs.declared.failure.Failure.TheVariants.{CommandLine, Plan, Label, Hand, Condition, Question, Cells, Interrupted, Line, Input}
 use Rattle.requests.specs.declared.job.Job.{Job}
-use Rattle.requests.specs.declared.job.Job.TheVariants.{Boards, Conditions, Pick, Stream}
+use Rattle.requests.specs.declared.job.Job.TheVariants.{Boards, Conditions, Count, Pick, Stream}
 use Rattle.requests.specs.declared.report.Report.{Report}
 use Rattle.requests.proofs.FirstDue.{output_due}
 use Rattle.requests.proofs.Statuses.{no_memory, served}
@@ -92,6 +92,8 @@ mistaken words e (Plan error) read because = absurd because
 mistaken words e (Label label) read because = absurd because
 mistaken words e (Hand seat) read because = absurd because
 mistaken words e (Condition error) read because = absurd because
+mistaken words e (Question name error) read because = absurd because
+mistaken words e Cells read because = absurd because
 mistaken words e (Interrupted cause.Output) read because = absurd because
 mistaken words e (Interrupted cause.Spawn) read because = absurd because
 mistaken words e (Interrupted (cause.Stopped worker)) read because = absurd because
@@ -106,6 +108,8 @@ leaves_nothing w (Plan error) before old is = refl
 leaves_nothing w (Label label) before old is = refl
 leaves_nothing w (Hand seat) before old is = refl
 leaves_nothing w (Condition error) before old is = refl
+leaves_nothing w (Question name error) before old is = refl
+leaves_nothing w Cells before old is = refl
 leaves_nothing w (Interrupted cause.Memory) before old is = refl
 leaves_nothing w (Interrupted cause.Output) before old is = absurd cc
 leaves_nothing w (Interrupted cause.Spawn) before old is = absurd cc
@@ -185,9 +189,11 @@ pick_reads : (w : Wish) (job : Job) → IsReady w job → ReadsInput job → IsP
 pick_reads (pick seed hands l hints) (Pick job) ready reads = tt
 pick_reads (make s l notices) (Pick job) ready reads = ready
 pick_reads conditions (Pick job) ready reads = ready
-pick_reads (stream seed count) (Pick job) ready reads = ready
+pick_reads (count s q style notices) (Pick job) ready reads = ready
+pick_reads (stream seed n) (Pick job) ready reads = ready
 pick_reads w (Boards job) ready reads = absurd reads
 pick_reads w Conditions ready reads = absurd reads
+pick_reads w (Count job) ready reads = absurd reads
 pick_reads w (Stream job) ready reads = absurd reads
 
 pub reads_as_asked : (words : List Text) (task : Task) → IsTaskFor words task → ReadsTask task → WantsInput words

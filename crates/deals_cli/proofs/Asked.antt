@@ -18,7 +18,7 @@ use Rattle.clap.specs.declared.parser.matches.ArgMatches.{ArgMatches}
 use Rattle.clap.specs.declared.parser.matches.ArgMatches.TheViews.{out-ArgMatches, out-SubCommand}
 use Rattle.clap.specs.declared.parser.matches.SubCommand.{SubCommand}
 use Rattle.deals_cli.specs.Commands.{deals}
-use Rattle.deals_cli.specs.CommandLine.{asked, end_kinds, further_kinds, has_no_end, has_unknown, kinds_by, kinds_for, made_by, search_in, stream_wish, unless_fault, wish_by, wish_in}
+use Rattle.deals_cli.specs.CommandLine.{asked, further_kinds, has_unknown, kinds_by, kinds_for, lacks_option, made_by, missing_kinds, search_in, stream_wish, unless_fault, wish_by, wish_in}
 use Rattle.requests.specs.Requests.{Wish, conditions}
 use Rattle.deals_cli.specs.internal.Asking.{AsksMake, Chosen, IsRefused}
 use Rattle.deals_cli.proofs.OptionValues.{Makes, Reads, each_reads, read_by}
@@ -104,7 +104,7 @@ by_kinds words p f is =
 asks_make : (words : List Text) (name : Text) (rows : List Row) → Makes name → fault_of deals words ≡ [] → subcommand_of deals words ≡ Some (name, rows) → AsksMake words name rows
 asks_make words name rows makes f is = record {
   ends = λ u e. by_wish words found f is ∙ wishes ∙ ap (λ (k : Kinds). unless_fault k wish) (known u ∙ ending e);
-  no_end = λ u e. record {
+  missing = λ u e. record {
     asked_is = by_wish words found f is ∙ wishes ∙ ap (λ (k : Kinds). unless_fault k wish) (known u ∙ ending e);
     kinds_are = by_kinds words found f is ∙ known u ∙ ending e;
   };
@@ -123,10 +123,10 @@ asks_make words name rows makes f is = record {
     wishes : unless_fault (kinds_by found) (Some (wish_by found)) ≡ unless_fault (kinds_by found) wish
     wishes = rw (makes.0, makes.1) refl
 
-    known : {b : Bool} → has_unknown rows ≡ b → kinds_by found ≡ (if b then InvalidValue ∷ [] else end_kinds name (search_in rows))
-    known {b} u = rw (makes.0, makes.1) (ap (λ (x : Bool). if x then InvalidValue ∷ [] else end_kinds name (search_in rows)) u)
+    known : {b : Bool} → has_unknown name rows ≡ b → kinds_by found ≡ (if b then InvalidValue ∷ [] else missing_kinds name (search_in rows) rows)
+    known {b} u = rw (makes.0, makes.1) (ap (λ (x : Bool). if x then InvalidValue ∷ [] else missing_kinds name (search_in rows) rows) u)
 
-    ending : {b : Bool} → has_no_end name (search_in rows) ≡ b → end_kinds name (search_in rows) ≡ (if b then MissingRequiredArgument ∷ [] else [])
+    ending : {b : Bool} → lacks_option name (search_in rows) rows ≡ b → missing_kinds name (search_in rows) rows ≡ (if b then MissingRequiredArgument ∷ [] else [])
     ending {b} e = ap (λ (x : Bool). if x then MissingRequiredArgument ∷ [] else []) e
 
 abbrev of_pair : List Text → Bor Text × Bor ArgMatches → Type 0

@@ -8,9 +8,9 @@ use Rattle.picking.specs.declared.refusal.RefusedLine.{RefusedLine}
 use Rattle.picking.specs.declared.fault.PickFault.TheVariants.{Refused}
 use Rattle.requests.specs.Failures.{status_of}
 use Rattle.requests.specs.Interruptions.{EndsFor}
-use Rattle.requests.specs.Requests.{Wish, conditions, make, pick, stream}
+use Rattle.requests.specs.Requests.{Wish, conditions, count, make, pick, stream}
 use Rattle.requests.specs.declared.failure.Failure.{Failure}
-use Rattle.requests.specs.declared.failure.Failure.TheVariants.{CommandLine, Plan, Label, Hand, Condition, Interrupted, Line, Input}
+use Rattle.requests.specs.declared.failure.Failure.TheVariants.{CommandLine, Plan, Label, Hand, Condition, Question, Cells, Interrupted, Line, Input}
 use Rattle.requests.specs.Wishes.{IsStatus, IsStatusWithInput}
 use Rattle.deals_cli.specs.Program.{IsStatusOfNone, MayLeave, TellsWhy, TellsWhyFrom}
 
@@ -25,7 +25,8 @@ no_line_ended (pick seed hands l hints) line old new e =
     nothing_refused line (subst (λ (t : List ℕ). (said t).refused ≡ Some line) none e.written.0)
 no_line_ended (make s l notices) line old new e = e
 no_line_ended conditions line old new e = e
-no_line_ended (stream seed count) line old new e = e
+no_line_ended (count s q style notices) line old new e = e
+no_line_ended (stream seed n) line old new e = e
 
 no_seven : (w : Wish) (f : Failure) (old new : Option (List ℕ)) → MayLeave w f (Some []) (Some []) old new → (f ≡ Input → ⊥) → status_of f ≡ 7 → ⊥
 no_seven w (CommandLine text) old new may sound is = cc
@@ -33,6 +34,8 @@ no_seven w (Plan error) old new may sound is = cc
 no_seven w (Label label) old new may sound is = cc
 no_seven w (Hand seat) old new may sound is = cc
 no_seven w (Condition error) old new may sound is = cc
+no_seven w (Question name error) old new may sound is = cc
+no_seven w Cells old new may sound is = cc
 no_seven w (Interrupted cause.Output) old new may sound is = cc
 no_seven w (Interrupted cause.Memory) old new may sound is = cc
 no_seven w (Interrupted cause.Spawn) old new may sound is = cc

@@ -29,17 +29,20 @@ make_built = first_shape (built deals).subs
 abbrev find_built : Shape
 find_built = first_shape (rest_of (built deals).subs)
 
+abbrev count_built : Shape
+count_built = first_shape (rest_of (rest_of (built deals).subs))
+
 abbrev pick_built : Shape
-pick_built = first_shape (rest_of (rest_of (built deals).subs))
+pick_built = first_shape (rest_of (rest_of (rest_of (built deals).subs)))
 
 abbrev conditions_built : Shape
-conditions_built = first_shape (rest_of (rest_of (rest_of (built deals).subs)))
+conditions_built = first_shape (rest_of (rest_of (rest_of (rest_of (built deals).subs))))
 
 abbrev stream_built : Shape
-stream_built = first_shape (rest_of (rest_of (rest_of (rest_of (built deals).subs))))
+stream_built = first_shape (rest_of (rest_of (rest_of (rest_of (rest_of (built deals).subs)))))
 
 abbrev help_built : Shape
-help_built = first_shape (rest_of (rest_of (rest_of (rest_of (rest_of (built deals).subs)))))
+help_built = first_shape (rest_of (rest_of (rest_of (rest_of (rest_of (rest_of (built deals).subs))))))
 
 -- ---- numbers
 
@@ -165,13 +168,16 @@ read_by [] each s bad = absurd bad
 read_by (x ∷ shapes) (first, rest) s (inl same) = subst ReadsBy (sym same) first
 read_by (x ∷ shapes) (first, rest) s (inr later) = read_by shapes rest s later
 
--- the subcommands, and clap's `help`. `find` has no option of the first board, and `pick` none of which candidates are
+-- the subcommands, and clap's `help`. `find` and `count` have no option of the first board, and `pick` none of which candidates are
 -- tried, nor of how
 make_reads : ReadsBy make_built
 make_reads = deals_by make_built (refl, refl) (plain_of make_built.rules refl) refl (inl refl) (inl refl, inl refl, inl refl, inl refl, inl refl, inl refl)
 
 find_reads : ReadsBy find_built
 find_reads = deals_by find_built (refl, refl) (plain_of find_built.rules refl) refl (inl refl) (inl refl, inl refl, inl refl, inl refl, inl refl, inr refl)
+
+count_reads : ReadsBy count_built
+count_reads = deals_by count_built (refl, refl) (plain_of count_built.rules refl) refl (inl refl) (inl refl, inl refl, inl refl, inl refl, inl refl, inr refl)
 
 pick_reads : ReadsBy pick_built
 pick_reads = deals_by pick_built (refl, refl) (plain_of pick_built.rules refl) refl (inl refl) (inr refl, inr refl, inr refl, inr refl, inr refl, inl refl)
@@ -187,4 +193,4 @@ help_reads word rest answers other f = absurd (no_help word answers other)
 
 -- in the order in which they stand
 pub each_reads : EachReads (built deals).subs
-each_reads = (make_reads, (find_reads, (pick_reads, (conditions_reads, (stream_reads, (help_reads, tt))))))
+each_reads = (make_reads, (find_reads, (count_reads, (pick_reads, (conditions_reads, (stream_reads, (help_reads, tt)))))))

@@ -13,12 +13,15 @@ use Rattle.boards.specs.declared.setting.Vul.TheVariants.{Neither, NorthSouth, E
 use Rattle.cards.specs.declared.seat.Seat.{Seat}
 use Rattle.cards.specs.declared.seat.Seat.TheVariants.{North, East, South, West}
 use Rattle.predeal.specs.PredealtHands.{GivenHands}
-use Rattle.requests.specs.Requests.{Look, Search, Wish, conditions, look_as, make, pick, stream}
+use Rattle.requests.specs.Requests.{Look, Questions, Search, Wish, conditions, count, look_as}
+use Rattle.requests.specs.Requests.{make, no_question, one_question, pick, stream, two_questions}
 use Rattle.requests.specs.declared.request.Notices.{Notices}
 use Rattle.notations.specs.Formats.{formats}
 use Rattle.notations.specs.declared.printer.Format.TheVariants.{Pbn}
 use Rattle.requests.specs.declared.when.When.{When}
 use Rattle.requests.specs.declared.when.When.TheVariants.{Auto, Always, Never}
+use Rattle.statistics.specs.declared.style.Style.{Style}
+use Rattle.statistics.specs.declared.style.Style.TheVariants.{Csv, Html, Table}
 
 -- the number that an option was given in decimal, if it was given
 abbrev pub number_in : Text → List Row → Option ℕ
@@ -45,6 +48,9 @@ sides =
 abbrev pub times : List (Text × When)
 times = (codes "auto", Auto) ∷ (codes "always", Always) ∷ (codes "never", Never) ∷ []
 
+abbrev pub styles : List (Text × Style)
+styles = (codes "table", Table) ∷ (codes "csv", Csv) ∷ (codes "html", Html) ∷ []
+
 -- what a word stands for in such a table
 abbrev pub meant_by : {A : Type 0} → List (Text × A) → Text → Option A
 meant_by [] word = None
@@ -59,9 +65,15 @@ abbrev pub is_unknown : {A : Type 0} → List (Text × A) → Text → List Row 
 is_unknown table id rows =
     option_map_or (λ word. not (is_some (meant_by table word))) (first_of id rows) false
 
-abbrev pub has_unknown : List Row → Bool
-has_unknown rows =
-    is_unknown formats (codes "format") rows
+-- the format of `count` is that of a table
+abbrev pub has_unknown_format : Text → List Row → Bool
+has_unknown_format name rows =
+    if bytes_eq name (codes "count") then is_unknown styles (codes "format") rows
+    else is_unknown formats (codes "format") rows
+
+abbrev pub has_unknown : Text → List Row → Bool
+has_unknown name rows =
+    has_unknown_format name rows
     || (is_unknown dealers (codes "dealer") rows
     || (is_unknown sides (codes "vulnerable") rows
     || (is_unknown times (codes "progress") rows
@@ -115,11 +127,26 @@ notices_in rows = record {
   hints = when_in (codes "hints") rows;
 }
 
--- `pick` deals the candidates whose numbers it reads; the others search, and `find` has one look
+-- the texts of the questions that the options were given
+abbrev pub questions_from : Option Text → Option Text → Questions
+questions_from None by = no_question
+questions_from (Some text) None = one_question text
+questions_from (Some text) (Some by) = two_questions text by
+
+abbrev pub questions_in : List Row → Questions
+questions_in rows = questions_from (first_of (codes "of") rows) (first_of (codes "by") rows)
+
+abbrev pub style_in : List Row → Style
+style_in rows = unwrap_or (choice_in styles (codes "format") rows) Table
+
+-- `pick` deals the candidates whose numbers it reads; the others search, `count` has a table, and
+-- `find` one look
 abbrev pub made_by : Text → Search → List Row → Wish
 made_by name s rows =
     if bytes_eq name (codes "pick")
     then pick s.seed s.hands (look_in rows) (when_in (codes "hints") rows)
+    else if bytes_eq name (codes "count")
+    then count s (questions_in rows) (style_in rows) (notices_in rows)
     else make s (option_map_or look_as (meant_by finders name) (look_in rows)) (notices_in rows)
 
 -- by the subcommand's name and what its options were given
@@ -138,13 +165,24 @@ abbrev pub has_no_end : Text → Search → Bool
 has_no_end name s =
     not (bytes_eq name (codes "pick")) && (not (is_some s.candidates) && not (is_some s.boards))
 
-abbrev pub end_kinds : Text → Search → Kinds
-end_kinds name s = if has_no_end name s then MissingRequiredArgument ∷ [] else []
+-- there is a question for the columns of a table, and none for its rows
+abbrev pub has_by_alone : List Row → Bool
+has_by_alone rows =
+    is_some (first_of (codes "by") rows) && not (is_some (first_of (codes "of") rows))
+
+-- an option is missing
+abbrev pub lacks_option : Text → Search → List Row → Bool
+lacks_option name s rows = has_no_end name s || has_by_alone rows
+
+abbrev pub missing_kinds : Text → Search → List Row → Kinds
+missing_kinds name s rows =
+    if lacks_option name s rows then MissingRequiredArgument ∷ [] else []
 
 -- clap reads those words as texts: one that stands for nothing is refused as clap refuses a value
 abbrev pub make_kinds : Text → List Row → Kinds
 make_kinds name rows =
-    if has_unknown rows then InvalidValue ∷ [] else end_kinds name (search_in rows)
+    if has_unknown name rows then InvalidValue ∷ []
+    else missing_kinds name (search_in rows) rows
 
 -- by the subcommand's name and what its options were given
 abbrev pub kinds_by : Text × List Row → Kinds

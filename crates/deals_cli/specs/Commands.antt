@@ -80,6 +80,27 @@ find_app = command_with (codes "find") (
     ∷ option_rule (codes "hints") parsed.String
     ∷ [])
 
+-- `deals count --seed S` and its further options
+abbrev pub count_app : App
+count_app = command_with (codes "count") (
+    required (option_rule (codes "seed") u32_parser)
+    ∷ option_rule (codes "candidates") u64_parser
+    ∷ option_rule (codes "first") u64_parser
+    ∷ option_rule (codes "workers") u32_parser
+    ∷ option_rule (codes "lane") u32_parser
+    ∷ option_rule (codes "north") parsed.String
+    ∷ option_rule (codes "east") parsed.String
+    ∷ option_rule (codes "south") parsed.String
+    ∷ option_rule (codes "west") parsed.String
+    ∷ option_rule (codes "where") parsed.String
+    ∷ option_rule (codes "boards") u32_parser
+    ∷ option_rule (codes "of") parsed.String
+    ∷ option_rule (codes "by") parsed.String
+    ∷ option_rule (codes "format") parsed.String
+    ∷ option_rule (codes "progress") parsed.String
+    ∷ option_rule (codes "hints") parsed.String
+    ∷ [])
+
 -- `deals pick --seed S` and its further options
 abbrev pub pick_app : App
 pick_app = command_with (codes "pick") (
@@ -117,7 +138,8 @@ deals_top = on_top (λ s. record s { has_version = true; subcommand_required = t
 
 -- the subcommands, in the order of the help
 abbrev pub subcommands : List App
-subcommands = make_app ∷ find_app ∷ pick_app ∷ conditions_app ∷ stream_app ∷ []
+subcommands =
+    make_app ∷ find_app ∷ count_app ∷ pick_app ∷ conditions_app ∷ stream_app ∷ []
 
 abbrev pub deals : App
 deals = fold with_subcommand deals_top (map (λ a. a.top) subcommands)

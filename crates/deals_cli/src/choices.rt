@@ -1,12 +1,13 @@
-//! Options that have one of a few words: the format, the dealer, the vulnerability, and when counts
-//! and hints are shown.
+//! Options that have one of a few words: the format of boards or of a table, the dealer, the
+//! vulnerability, and when counts and hints are shown.
 //!
 //! clap knows them as texts. It could compare words with a list of values itself, but the command
 //! would then hold where in memory that list is, and no two commands would be the same to a proof.
 
 ghost use Rattle.std.specs.Prelude.{◌≡◌, is_some, map};
 ghost use Rattle.clap.specs.Words.{found_of, rows_of};
-ghost use Rattle.deals_cli.specs.CommandLine.{choice_in, has_unknown, is_unknown, meant_by};
+ghost use Rattle.deals_cli.specs.CommandLine.{choice_in, has_unknown, has_unknown_format};
+ghost use Rattle.deals_cli.specs.CommandLine.{is_unknown, meant_by};
 ghost use Rattle.deals_cli.specs.internal.Choices.{table_of};
 
 use crate::words::text_in;
@@ -15,6 +16,7 @@ use cards::Seat;
 use clap::ArgMatches;
 use notations::{FORMAT_WORDS, FORMATS, Format};
 use requests::When;
+use statistics::{STYLE_WORDS, STYLES, Style};
 
 /// The words that say when something is shown.
 const TIMES: &[(&str, When)] = &[
@@ -48,6 +50,14 @@ pub static FORMAT: Choice<Format> = Choice {
     shown: "--format <FORMAT>",
     values: FORMAT_WORDS,
     table: FORMATS,
+};
+
+/// The format of `count`.
+pub static STYLE: Choice<Style> = Choice {
+    id: "format",
+    shown: "--format <FORMAT>",
+    values: STYLE_WORDS,
+    table: STYLES,
 };
 
 pub static DEALER: Choice<Seat> = Choice {
@@ -129,12 +139,22 @@ impl<T: Copy + 'static> Choice<T> {
     }
 }
 
-/// The first word that is none of its option's values.
-pub fn unknown_in<'a>(matches: &ArgMatches<'a>) -> Option<Unknown<'a>>
-    ensures { is_some result ≡ has_unknown (rows_of (found_of matches.now)) }
+/// The format, if it is none of those of the subcommand.
+fn unknown_format<'a>(name: &str, matches: &ArgMatches<'a>) -> Option<Unknown<'a>>
+    ensures { is_some result ≡ has_unknown_format name.now (rows_of (found_of matches.now)) }
 {
-    FORMAT
-        .unknown(matches)
+    if name == "count" {
+        STYLE.unknown(matches)
+    } else {
+        FORMAT.unknown(matches)
+    }
+}
+
+/// The first word that is none of its option's values.
+pub fn unknown_in<'a>(name: &str, matches: &ArgMatches<'a>) -> Option<Unknown<'a>>
+    ensures { is_some result ≡ has_unknown name.now (rows_of (found_of matches.now)) }
+{
+    unknown_format(name, matches)
         .or(DEALER.unknown(matches))
         .or(VULNERABLE.unknown(matches))
         .or(PROGRESS.unknown(matches))

@@ -4,13 +4,16 @@ ghost use Rattle.std.specs.Prelude.{◌≡◌, ◌∷◌, [], Some, codes, true}
 ghost use Rattle.boards.specs.declared.setting.Vul.TheVariants.{NorthSouth};
 ghost use Rattle.cards.specs.declared.seat.Seat.TheVariants.{South};
 ghost use Rattle.clap.specs.declared.error.kind.ErrorKind.TheVariants.{InvalidValue};
+ghost use Rattle.clap.specs.declared.error.kind.ErrorKind.TheVariants.{MissingRequiredArgument};
 ghost use Rattle.clap.specs.declared.error.kind.ErrorKind.TheVariants.{UnknownArgument};
 ghost use Rattle.deals_cli.specs.CommandLine.{asked, kinds_for};
 ghost use Rattle.predeal.specs.PredealtHands.{none_given};
-ghost use Rattle.requests.specs.Requests.{conditions, make, numbers_look, pick, stream};
-ghost use Rattle.requests.specs.Requests.{plain_look, plain_notices, plain_search};
+ghost use Rattle.requests.specs.Requests.{conditions, count, make, numbers_look, pick};
+ghost use Rattle.requests.specs.Requests.{plain_look, plain_notices, plain_search, stream};
+ghost use Rattle.requests.specs.Requests.{two_questions};
 ghost use Rattle.notations.specs.declared.printer.Format.TheVariants.{Hands};
 ghost use Rattle.requests.specs.declared.when.When.TheVariants.{Always, Auto, Never};
+ghost use Rattle.statistics.specs.declared.style.Style.TheVariants.{Csv};
 
 /// `deals stream --seed 0 --count 3` asks for the first three values of seed 0.
 pub fn example_of_stream()
@@ -89,6 +92,29 @@ pub fn example_of_find()
         (codes "deals" ∷ codes "find" ∷ codes "--seed" ∷ codes "7"
         ∷ codes "--candidates" ∷ codes "1000" ∷ codes "--first-board" ∷ codes "5" ∷ [])
         ≡ UnknownArgument ∷ [] }
+{}
+
+/// `deals count --seed 7 --candidates 800 --where 'hcp(south)>=18' --of 'hcp(south)' --by
+/// 'second(south)' --format csv` asks for a table of two questions. One for the columns alone is
+/// refused, and so is a format of boards.
+pub fn example_of_count()
+    ensures asked { asked
+        (codes "deals" ∷ codes "count" ∷ codes "--seed" ∷ codes "7"
+        ∷ codes "--candidates" ∷ codes "800" ∷ codes "--where" ∷ codes "hcp(south)>=18"
+        ∷ codes "--of" ∷ codes "hcp(south)" ∷ codes "--by" ∷ codes "second(south)"
+        ∷ codes "--format" ∷ codes "csv" ∷ [])
+        ≡ Some (count (record (plain_search 7) {
+          candidates = Some 800;
+          where_text = Some (codes "hcp(south)>=18");
+        }) (two_questions (codes "hcp(south)") (codes "second(south)")) Csv plain_notices) }
+    ensures alone { kinds_for
+        (codes "deals" ∷ codes "count" ∷ codes "--seed" ∷ codes "7"
+        ∷ codes "--candidates" ∷ codes "800" ∷ codes "--by" ∷ codes "second(south)" ∷ [])
+        ≡ MissingRequiredArgument ∷ [] }
+    ensures refused { kinds_for
+        (codes "deals" ∷ codes "count" ∷ codes "--seed" ∷ codes "7"
+        ∷ codes "--candidates" ∷ codes "800" ∷ codes "--format" ∷ codes "pbn" ∷ [])
+        ≡ InvalidValue ∷ [] }
 {}
 
 /// `deals conditions` asks for the page of the language.

@@ -7,6 +7,7 @@
 
 mod choices;
 mod entry;
+mod helps;
 pub mod laws;
 mod options;
 mod refusals;

@@ -7,13 +7,11 @@ ghost use Rattle.deals_cli.specs.Commands.{flag_rule, option_rule, deals, deals_
 ghost use Rattle.deals_cli.specs.internal.Rows.{rule_for, app_for, top_for};
 
 use self::Takes::{Count, Nothing, Text, U32, U64};
-use crate::texts::{
-    ABOUT, CONDITIONS_EXAMPLES, FIND_EXAMPLES, LANGUAGE_AND_STATUSES, MAKE_EXAMPLES, PICK_EXAMPLES,
-    STREAM_EXAMPLES,
-};
+use crate::helps::{about_of, examples_of, help_of};
+use crate::texts::{ABOUT, LANGUAGE_AND_STATUSES};
 use clap::builder::ValueParser;
 use clap::{Arg, ArgAction, Command, value_parser};
-use notations::{FORMAT_HELP, Format};
+use notations::Format;
 use std::alloc::{AllocError, Global};
 
 /// The most values that `stream` prints: the same as the most candidates of a seed.
@@ -30,12 +28,12 @@ pub(crate) enum Takes {
     Count(&'static str),
 }
 
-/// An option `--id`, with its help.
+/// An option `--id`. What help says of it stands in `helps`: with its text each row would be too
+/// large for the prover, which computes the whole table.
 pub(crate) struct Row {
     pub(crate) id: &'static str,
     pub(crate) takes: Takes,
     pub(crate) is_required: bool,
-    pub(crate) help: &'static str,
 }
 
 /// An option `--id NAME`.
@@ -57,8 +55,8 @@ fn flag<'a>(alloc: Global, id: &'a str) -> Arg<'a>
     Arg::new(alloc, id).long(id).action(ArgAction::SetTrue)
 }
 
-/// The row as `clap` has it.
-fn arg_of<'a>(alloc: Global, row: &Row) -> Arg<'a>
+/// The row as `clap` has it, in the subcommand of this name.
+fn arg_of<'a>(alloc: Global, name: &str, row: &Row) -> Arg<'a>
     ensures rule { rule_of result ≡ rule_for row.entry.now }
     ensures local { result.global ≡ false }
 {
@@ -71,7 +69,7 @@ fn arg_of<'a>(alloc: Global, row: &Row) -> Arg<'a>
             option(alloc, row.id, value_parser!(u64).range(..=MAX_VALUES), name)
         }
     };
-    arg.required(row.is_required).help(row.help)
+    arg.required(row.is_required).help(help_of(name, row.id))
 }
 
 /// The command with one more option.
@@ -85,9 +83,10 @@ fn with_option<'a>(command: Command<'a>, arg: Arg<'a>) -> Result<Command<'a>, Al
     command.arg(arg)
 }
 
-/// The command with an option for each row.
+/// The command of this name with an option for each row.
 pub(crate) fn with_rows<'a>(
     alloc: Global,
+    name: &str,
     command: Command<'a>,
     rows: &[Row],
 ) -> Result<Command<'a>, AllocError>
@@ -98,122 +97,95 @@ pub(crate) fn with_rows<'a>(
 {
     let mut command = command;
     for row in rows {
-        command = with_option(command, arg_of(alloc, row))?;
+        command = with_option(command, arg_of(alloc, name, row))?;
     }
     Ok(command)
 }
 
-/// An option by its id, what it takes, and its help.
+/// An option by its id, and what it takes.
 macro_rules! optional {
-    ($id:literal $takes:expr => $help:expr) => {
+    ($id:literal $takes:expr) => {
         Row {
             id: $id,
             takes: $takes,
             is_required: false,
-            help: $help,
         }
     };
 }
 
 macro_rules! required {
-    ($id:literal $takes:expr => $help:expr) => {
+    ($id:literal $takes:expr) => {
         Row {
             id: $id,
             takes: $takes,
             is_required: true,
-            help: $help,
         }
     };
 }
 
-const SEED: Row = required! { "seed" U32("S") => "The seed, 0 to 4294967295" };
+const SEED: Row = required! { "seed" U32("S") };
 
-const NEW_SEED: Row = required! { "seed" U32("S") =>
-    "The seed, 0 to 4294967295; to draw one: od -An -N4 -tu4 /dev/urandom" };
+const VALUES: Row = required! { "count" Count("N") };
 
-const COUNT: Row = required! { "count" Count("N") => "How many values, 0 to 1099511627776" };
+const CANDIDATES: Row = optional! { "candidates" U64("N") };
 
-const CANDIDATES: Row = optional! { "candidates" U64("N") =>
-    "How many candidates are tried; first + N is at most 1099511627776 \
-    [default: all from the first on, where --boards is given]" };
+const FIRST: Row = optional! { "first" U64("K") };
 
-const FIRST: Row = optional! { "first" U64("K") =>
-    "The number of the first candidate [default: 0]" };
+const WORKERS: Row = optional! { "workers" U32("W") };
 
-const WORKERS: Row = optional! { "workers" U32("W") =>
-    "How many workers, 1 to 16; one fewer than the machine has cores is the \
-    fastest [default: 1]" };
+const LANE: Row = optional! { "lane" U32("C") };
 
-const LANE: Row = optional! { "lane" U32("C") =>
-    "How many verdicts a worker may be ahead of the writer, 1 to 4096; with several \
-    workers 4096 is the fastest [default: 64]" };
+const NORTH: Row = optional! { "north" Text("HAND") };
 
-const NORTH: Row = optional! { "north" Text("HAND") =>
-    "The cards that North holds, as AKQ32.K..A: the spades, hearts, diamonds and \
-    clubs, separated by three dots; the rest is dealt [default: none]" };
+const EAST: Row = optional! { "east" Text("HAND") };
 
-const EAST: Row = optional! { "east" Text("HAND") =>
-    "The cards that East holds, like North's [default: none]" };
+const SOUTH: Row = optional! { "south" Text("HAND") };
 
-const SOUTH: Row = optional! { "south" Text("HAND") =>
-    "The cards that South holds, like North's [default: none]" };
+const WEST: Row = optional! { "west" Text("HAND") };
 
-const WEST: Row = optional! { "west" Text("HAND") =>
-    "The cards that West holds, like North's [default: none]" };
+const WHERE: Row = optional! { "where" Text("TEXT") };
 
-const WHERE: Row = optional! { "where" Text("TEXT") =>
-    "The condition that a deal has to meet [default: every deal]" };
+const BOARDS: Row = optional! { "boards" U32("M") };
 
-const BOARDS: Row = optional! { "boards" U32("M") =>
-    "Stops after M boards, 1 to 4294967295; fewer mean that the candidates held \
-    no more [default: no limit]" };
+const OF: Row = optional! { "of" Text("TEXT") };
 
-const FROM_BOARD: Row = optional! { "first-board" U64("B") =>
-    "The number of the first board, 1 to 1099511627776 [default: 1]" };
+const BY: Row = optional! { "by" Text("TEXT") };
 
-const EVENT: Row = optional! { "event" Text("TEXT") =>
-    "The event, at most 100 characters of ASCII without \" and \\ [default: no line]" };
+const FROM_BOARD: Row = optional! { "first-board" U64("B") };
 
-const SITE: Row = optional! { "site" Text("TEXT") =>
-    "The place, like the event [default: no line]" };
+const EVENT: Row = optional! { "event" Text("TEXT") };
 
-const DATE: Row = optional! { "date" Text("DATE") => "The date, as 2024.05.01 [default: no line]" };
+const SITE: Row = optional! { "site" Text("TEXT") };
 
-const FORMAT: Row = optional! { "format" Text("FORMAT") =>
-    FORMAT_HELP };
+const DATE: Row = optional! { "date" Text("DATE") };
 
-const DEALER: Row = optional! { "dealer" Text("SEAT") =>
-    "The dealer of every board [default: by its number, as Law 2 says] \
-    [possible values: N, E, S, W]" };
+const FORMAT: Row = optional! { "format" Text("FORMAT") };
 
-const VULNERABLE: Row = optional! { "vulnerable" Text("SIDES") =>
-    "The vulnerability of every board [default: by its number, as Law 2 \
-    says] [possible values: None, NS, EW, All]" };
+const DEALER: Row = optional! { "dealer" Text("SEAT") };
 
-const ROTATE: Row = optional! { "rotate" Nothing =>
-    "Turns each deal, so that the hand which the condition calls north is the \
-    dealer's, east's the next one's, and so on" };
+const VULNERABLE: Row = optional! { "vulnerable" Text("SIDES") };
 
-const REPORT: Row = optional! { "report" Nothing =>
-    "Says afterwards how many boards there are, from which candidates, and where \
-    to go on" };
+const ROTATE: Row = optional! { "rotate" Nothing };
 
-const PROGRESS: Row = optional! { "progress" Text("WHEN") =>
-    "When counts are shown while it lasts: on a terminal, also where there is \
-    none, or never [default: auto] [possible values: auto, always, never]" };
+const REPORT: Row = optional! { "report" Nothing };
 
-const HINTS: Row = optional! { "hints" Text("WHEN") =>
-    "When lines that help stand below a refusal: on a terminal, also where there is \
-    none, or never [default: auto] [possible values: auto, always, never]" };
+const PROGRESS: Row = optional! { "progress" Text("WHEN") };
+
+const HINTS: Row = optional! { "hints" Text("WHEN") };
 
 pub(crate) const MAKE: &[Row] = &[
-    NEW_SEED, CANDIDATES, FIRST, WORKERS, LANE, NORTH, EAST, SOUTH, WEST, WHERE, BOARDS,
-    FROM_BOARD, EVENT, SITE, DATE, FORMAT, DEALER, VULNERABLE, ROTATE, REPORT, PROGRESS, HINTS,
+    SEED, CANDIDATES, FIRST, WORKERS, LANE, NORTH, EAST, SOUTH, WEST, WHERE, BOARDS, FROM_BOARD,
+    EVENT, SITE, DATE, FORMAT, DEALER, VULNERABLE, ROTATE, REPORT, PROGRESS, HINTS,
 ];
 
 pub(crate) const FIND: &[Row] = &[
-    NEW_SEED, CANDIDATES, FIRST, WORKERS, LANE, NORTH, EAST, SOUTH, WEST, WHERE, BOARDS, REPORT,
+    SEED, CANDIDATES, FIRST, WORKERS, LANE, NORTH, EAST, SOUTH, WEST, WHERE, BOARDS, REPORT,
     PROGRESS, HINTS,
+];
+
+pub(crate) const COUNT: &[Row] = &[
+    SEED, CANDIDATES, FIRST, WORKERS, LANE, NORTH, EAST, SOUTH, WEST, WHERE, BOARDS, OF, BY,
+    FORMAT, PROGRESS, HINTS,
 ];
 
 pub(crate) const PICK: &[Row] = &[
@@ -221,57 +193,50 @@ pub(crate) const PICK: &[Row] = &[
     ROTATE, HINTS,
 ];
 
-pub(crate) const STREAM: &[Row] = &[SEED, COUNT];
+pub(crate) const STREAM: &[Row] = &[SEED, VALUES];
 
 /// The subcommands that search and write one format alone.
 pub(crate) const FINDERS: &[(&str, Format)] = &[("find", Format::Numbers)];
 
-/// A subcommand, with its help.
+/// A subcommand. What help says of it stands in `helps`.
 pub(crate) struct Subcommand {
     pub(crate) name: &'static str,
     /// The program's name and its own, as `clap` names it in a refusal.
     in_full: &'static str,
-    about: &'static str,
     pub(crate) rows: &'static [Row],
-    examples: &'static str,
 }
 
 /// The subcommands, in the order of the help.
-static SUBCOMMANDS: [Subcommand; 5] = [
+static SUBCOMMANDS: [Subcommand; 6] = [
     Subcommand {
         name: "make",
         in_full: "deals make",
-        about: "Writes bridge deals in Portable Bridge Notation, as hand records, LIN or a page",
         rows: MAKE,
-        examples: MAKE_EXAMPLES,
     },
     Subcommand {
         name: "find",
         in_full: "deals find",
-        about: "Prints the numbers of the deals that make would write, one per line",
         rows: FIND,
-        examples: FIND_EXAMPLES,
+    },
+    Subcommand {
+        name: "count",
+        in_full: "deals count",
+        rows: COUNT,
     },
     Subcommand {
         name: "pick",
         in_full: "deals pick",
-        about: "Writes the boards of the deals whose numbers standard input gives",
         rows: PICK,
-        examples: PICK_EXAMPLES,
     },
     Subcommand {
         name: "conditions",
         in_full: "deals conditions",
-        about: "Prints all that --where understands, with ten examples",
         rows: &[],
-        examples: CONDITIONS_EXAMPLES,
     },
     Subcommand {
         name: "stream",
         in_full: "deals stream",
-        about: "Prints the nrand48 values of a seed, one per line",
         rows: STREAM,
-        examples: STREAM_EXAMPLES,
     },
 ];
 
@@ -281,19 +246,21 @@ fn command_of<'a>(alloc: Global, sub: &Subcommand) -> Result<Command<'a>, AllocE
     ensures local { IfOk result (λ c. (fields_of c).has_globals ≡ false) }
 {
     let command = Command::new(alloc, sub.name)
-        .about(sub.about)
-        .after_help(sub.examples);
-    with_rows(alloc, command, sub.rows)
+        .about(about_of(sub.name))
+        .after_help(examples_of(sub.name));
+    with_rows(alloc, sub.name, command, sub.rows)
 }
 
-/// The command `make`, or `find` or `pick` if it has that name, as `clap` names it in a refusal.
+/// The command `make`, or `find`, `count` or `pick` if it has that name, as `clap` names it in a
+/// refusal.
 ///
 /// # Errors
 /// `AllocError` if an allocation failed.
 pub fn named_command<'a>(alloc: Global, name: &str) -> Result<Command<'a>, AllocError> {
-    let [make, find, pick, ..] = &SUBCOMMANDS;
+    let [make, find, count, pick, ..] = &SUBCOMMANDS;
     let sub = match name {
         "find" => find,
+        "count" => count,
         "pick" => pick,
         _ => make,
     };

@@ -9,15 +9,20 @@ use clap::Error;
 use clap::error::ErrorKind;
 use std::alloc::{AllocError, Global};
 
-const NO_END: &str = "the following required arguments were not provided:
+/// What is missing where no end of a search is given.
+pub const NO_END: &str = "the following required arguments were not provided:
   --candidates <N> or --boards <M>";
 
-/// clap's refusal of a `make` or a `find` whose end is not given.
-pub fn missing_end(alloc: Global, name: &str) -> Result<Error, AllocError>
+/// What is missing where a table has a question for its columns, and none for its rows.
+pub const NO_QUESTION: &str = "the following required arguments were not provided:
+  --of <TEXT>";
+
+/// clap's refusal of words in which an option is missing.
+pub fn missing_option(alloc: Global, name: &str, missing: &str) -> Result<Error, AllocError>
     ensures { IfOk result (λ e. kind_of e ≡ ErrorKind.MissingRequiredArgument) }
 {
     let mut command = named_command(alloc, name)?;
-    command.error(ErrorKind::MissingRequiredArgument, NO_END)
+    command.error(ErrorKind::MissingRequiredArgument, missing)
 }
 
 /// clap's refusal of a word that is none of an option's values.

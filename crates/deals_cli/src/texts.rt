@@ -14,9 +14,9 @@ pub(crate) const LANGUAGE_AND_STATUSES: &str =
   suits spades, hearts, diamonds, clubs; # begins a comment
   deals conditions prints it all, with ten examples.
 
-Exit status: 0 done; 2 the words, the plan, a label or a hand is refused; 3 the condition is
-  refused; 4 the output failed; 5 out of memory; 6 a thread or a worker failed; 7 a line of the
-  input is refused, or the input failed.";
+Exit status: 0 done; 2 the words, the plan, a label or a hand is refused; 3 the condition or a
+  question is refused; 4 the output failed; 5 out of memory; 6 a thread or a worker failed; 7 a
+  line of the input is refused, or the input failed.";
 
 pub(crate) const FIND_EXAMPLES: &str = "Example:
   Where the slam hands are among a thousand million candidates:
@@ -25,6 +25,18 @@ pub(crate) const FIND_EXAMPLES: &str = "Example:
 
 The lines of shards, as of --first 0 and of --first 500000000, stand one behind another as \
     those of one run.";
+
+pub(crate) const COUNT_EXAMPLES: &str = "Examples:
+  How often has partner four spades or more opposite 1NT?
+    deals count --seed 7 --candidates 1000000 \
+    --where 'hcp(north) in 15-17 and balanced(north)' --of 'len(south,spades)>=4'
+  How strong is the hand opposite, by its longest suit?
+    deals count --seed 7 --candidates 1000000 \
+    --where 'hcp(north) in 15-17 and balanced(north)' --of 'hcp(south)' --by 'longest(south)'
+  How rare is a slam zone, and so how many candidates does a lesson of 36 boards need?
+    deals count --seed 7 --candidates 1000000 --where 'hcp(north)+hcp(south)>=33'
+
+The lines of --format csv of shards add up, as of --first 0 and of --first 500000000.";
 
 pub(crate) const PICK_EXAMPLES: &str = "Examples:
   The boards that searches on two machines found, in order:

@@ -1,23 +1,24 @@
 //! From the words of a command line to a request.
 
-ghost use Rattle.std.specs.Prelude.{◌≡◌, List, codes, map, option_map, string_bytes};
+ghost use Rattle.std.specs.Prelude.{◌≡◌, List, codes, is_some, map, option_map, string_bytes};
 ghost use Rattle.clap.specs.Walk.{Text};
 ghost use Rattle.clap.specs.Words.{first_of, found_of, rows_of};
-ghost use Rattle.deals_cli.specs.CommandLine.{hands_in, has_no_end, is_set, look_in, made_by};
-ghost use Rattle.deals_cli.specs.CommandLine.{notices_in, number_in, number_or, search_in};
+ghost use Rattle.deals_cli.specs.CommandLine.{hands_in, has_by_alone, has_no_end, is_set};
+ghost use Rattle.deals_cli.specs.CommandLine.{lacks_option, look_in, made_by, notices_in};
+ghost use Rattle.deals_cli.specs.CommandLine.{number_in, number_or, questions_in, search_in};
 ghost use Rattle.deals_cli.specs.Program.{AreRead};
 ghost use Rattle.deals_cli.specs.internal.Asking.{Chosen, HasValues};
 ghost use Rattle.deals_cli.specs.internal.Readings.{MayGive32, MayGive64, SearchValues};
 ghost use Rattle.deals_cli.specs.internal.Readings.{StreamValues};
 ghost use Rattle.predeal.specs.PredealtHands.{given_by};
-ghost use Rattle.requests.specs.Requests.{look_of, search_of, wish_of};
+ghost use Rattle.requests.specs.Requests.{look_of, questions_of, search_of, wish_of};
 
-use crate::choices::{DEALER, FORMAT, HINTS, PROGRESS, VULNERABLE, look_up, unknown_in};
+use crate::choices::{DEALER, FORMAT, HINTS, PROGRESS, STYLE, VULNERABLE, look_up, unknown_in};
 use crate::options::{FINDERS, command};
-use crate::refusals::{invalid_value, missing_end};
+use crate::refusals::{NO_END, NO_QUESTION, invalid_value, missing_option};
 use clap::{ArgMatches, Error};
 use predeal::PredealtHands;
-use requests::{Format, Look, Notices, Request, Search, StreamRequest, When};
+use requests::{Format, Look, Notices, Questions, Request, Search, StreamRequest, Style, When};
 use std::alloc::Global;
 
 /// What an option of 32 bits was given.
@@ -122,11 +123,44 @@ fn notices_in(matches: &ArgMatches) -> Notices
     }
 }
 
+/// What the options of questions were given. One for the columns counts only beside one for the
+/// rows.
+fn questions_in<'a>(matches: &ArgMatches<'a>) -> Questions<'a>
+    ensures { questions_of result ≡ questions_in (rows_of (found_of matches.now)) }
+{
+    match (text_in(matches, "of"), text_in(matches, "by")) {
+        (None, _) => Questions::None,
+        (Some(text), None) => Questions::One(text),
+        (Some(of), Some(by)) => Questions::Two { of, by },
+    }
+}
+
 /// Whether neither a number of candidates nor a limit of boards was given, where one is needed.
 fn has_no_end(name: &str, search: &Search<'_>) -> bool
     ensures { result ≡ has_no_end name.now (search_of search.now) }
 {
     name != "pick" && search.candidates.is_none() && search.boards.is_none()
+}
+
+/// Whether there is a question for the columns of a table, and none for its rows.
+fn has_by_alone(matches: &ArgMatches) -> bool
+    ensures { result ≡ has_by_alone (rows_of (found_of matches.now)) }
+{
+    text_in(matches, "by").is_some() && text_in(matches, "of").is_none()
+}
+
+/// The options of which one is missing, as clap's refusal names them.
+fn missing_of(name: &str, search: &Search<'_>, matches: &ArgMatches) -> Option<&'static str>
+    ensures { is_some result
+        ≡ lacks_option name.now (search_of search.now) (rows_of (found_of matches.now)) }
+{
+    if has_no_end(name, search) {
+        return Some(NO_END);
+    }
+    if has_by_alone(matches) {
+        return Some(NO_QUESTION);
+    }
+    None
 }
 
 /// What the subcommand of this name asks for, one of those that deal candidates.
@@ -143,6 +177,14 @@ fn request_by<'a>(name: &str, search: Search<'a>, matches: &ArgMatches<'a>) -> R
             hands: search.hands,
             look,
             hints: notices.hints,
+        };
+    }
+    if name == "count" {
+        return Request::Count {
+            search,
+            questions: questions_in(matches),
+            style: STYLE.given(matches).unwrap_or(Style::Table),
+            notices,
         };
     }
     if let Some(format) = look_up(FINDERS, name) {
@@ -185,12 +227,12 @@ fn request_of<'a>(alloc: Global, name: &str, matches: &ArgMatches<'a>) -> Result
     if name == "conditions" {
         return Ok(Request::Conditions);
     }
-    if let Some(unknown) = unknown_in(matches) {
+    if let Some(unknown) = unknown_in(name, matches) {
         return Err(invalid_value(alloc, name, &unknown)?);
     }
     let search = search_in(matches);
-    if has_no_end(name, &search) {
-        return Err(missing_end(alloc, name)?);
+    if let Some(options) = missing_of(name, &search, matches) {
+        return Err(missing_option(alloc, name, options)?);
     }
     Ok(request_by(name, search, matches))
 }

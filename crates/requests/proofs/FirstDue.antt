@@ -12,19 +12,24 @@ use Rattle.plans.specs.Refusals.{refusal_of}
 use Rattle.plans.specs.declared.plan.PlanError.{PlanError}
 use Rattle.plans.specs.declared.plan.PlanError.TheVariants.{Range, Workers, Capacity, Boards, FirstBoard}
 use Rattle.requests.specs.Failures.{failure_of, is_refusal, status_of}
-use Rattle.requests.specs.FirstRefusal.{IsConditionDue, IsDueFor, IsFirstHand, IsFirstOf, IsMakeDue, IsPickDue, IsPlanDue, Meets, of_labels, of_numbers}
+use Rattle.requests.specs.FirstRefusal.{AreRefused, HasCondition, IsConditionDue, IsCountDue, IsDueFor, IsFirstHand, IsFirstOf, IsMakeDue, IsPickDue, IsPlanDue, Meets, of_labels, of_numbers}
 use Rattle.requests.specs.Makings.{HasLabels, HasNumbers, IsPlanned, Means, candidates_of}
-use Rattle.requests.specs.Requests.{Look, Search, Wish, conditions, make, no_search, pick, stream}
+use Rattle.requests.specs.Requests.{Look, Questions, Search, Wish, conditions, count, make, no_search, numbers_look, pick, stream}
 use Rattle.requests.specs.Jobs.{IsRefused}
-use Rattle.requests.specs.Wishes.{IsStatusOf}
+use Rattle.requests.specs.Wishes.{HasMeaning, HasPlan, IsStatusOf}
 use Rattle.requests.proofs.Statuses.{no_memory as out_of_memory, refused_meaning, refused_plan}
 use Rattle.requests.specs.declared.request.Notices.{Notices}
 use Rattle.requests.specs.declared.when.When.{When}
 use Rattle.predeal.specs.PredealtHands.{GivenHands}
 use Rattle.requests.specs.declared.failure.Failure.{Failure}
-use Rattle.requests.specs.declared.failure.Failure.TheVariants.{CommandLine, Plan, Label, Hand, Condition, Interrupted, Line, Input}
+use Rattle.requests.specs.declared.failure.Failure.TheVariants.{CommandLine, Plan, Label, Hand, Condition, Question, Cells, Interrupted, Line, Input}
 use Rattle.requests.specs.declared.failure.LabelName.TheVariants.{Event, Site, Date}
+use Rattle.requests.specs.declared.failure.QuestionName.TheVariants.{Of, By}
+use Rattle.requests.specs.Counting.{IsAsked}
 use Rattle.requests.specs.internal.Conditions.{IsConditionFailure}
+use Rattle.requests.specs.internal.QuestionFailures.{AreFailure}
+use Rattle.statistics.specs.Counting.{Subject}
+use Rattle.statistics.specs.declared.style.Style.{Style}
 
 -- ---- the numbers
 
@@ -99,6 +104,8 @@ hands_due s l (Plan error) n t h = absurd h
 hands_due s l (Label name) n t h = absurd h
 hands_due s l (Hand seat) n t h = (n, t, h)
 hands_due s l (Condition error) n t h = absurd h
+hands_due s l (Question name error) n t h = absurd h
+hands_due s l Cells n t h = absurd h
 hands_due s l (Interrupted cause) n t h = absurd h
 hands_due s l (Line line) n t h = absurd h
 hands_due s l Input n t h = absurd h
@@ -141,9 +148,10 @@ run_due s l (cause.Unclosed worker) plan form means = (plan, (form, means))
 
 -- the output fails after all was done
 pub output_due : (w : Wish) → IsStatusOf w 0 → IsDueFor w (Interrupted cause.Output)
-output_due (stream seed count) status = refl
+output_due (stream seed n) status = refl
 output_due conditions status = refl
 output_due (make s l notices) status = status.accepted (inl refl)
+output_due (count s questions style notices) status = let all = status.accepted (inl refl) in (all.0, all.1.0, all.1.1)
 output_due (pick seed hands l hints) status = (status.accepted (inl refl)).0
 
 -- a refused plan is due for a `make` and for a `pick`
@@ -153,6 +161,8 @@ make_plan_due s l (Plan error) h = h
 make_plan_due s l (Label name) h = h
 make_plan_due s l (Hand seat) h = h
 make_plan_due s l (Condition error) h = absurd h
+make_plan_due s l (Question name error) h = absurd h
+make_plan_due s l Cells h = absurd h
 make_plan_due s l (Interrupted c) h = absurd h
 make_plan_due s l (Line line) h = absurd h
 make_plan_due s l Input h = absurd h
@@ -163,9 +173,62 @@ pick_plan_due s l (Plan error) h = h
 pick_plan_due s l (Label name) h = h
 pick_plan_due s l (Hand seat) h = h
 pick_plan_due s l (Condition error) h = absurd h
+pick_plan_due s l (Question name error) h = absurd h
+pick_plan_due s l Cells h = absurd h
 pick_plan_due s l (Interrupted c) h = absurd h
 pick_plan_due s l (Line line) h = absurd h
 pick_plan_due s l Input h = absurd h
+
+pub count_plan_due : (s : Search) (q : Questions) (f : Failure) → IsPlanDue s numbers_look f → IsCountDue s q f
+count_plan_due s q (CommandLine text) h = h
+count_plan_due s q (Plan error) h = h
+count_plan_due s q (Label name) h = h
+count_plan_due s q (Hand seat) h = h
+count_plan_due s q (Condition error) h = absurd h
+count_plan_due s q (Question name error) h = absurd h
+count_plan_due s q Cells h = absurd h
+count_plan_due s q (Interrupted c) h = absurd h
+count_plan_due s q (Line line) h = absurd h
+count_plan_due s q Input h = absurd h
+
+-- a condition or a question that is refused is due for a `count`
+count_condition_due : (s : Search) (q : Questions) (f : Failure) → IsPlanned s numbers_look → IsConditionFailure s.where_text f → IsCountDue s q f
+count_condition_due s q f plan (inl memory) = rw memory plan
+count_condition_due s q f plan (inr (error, is, due)) = rw is (plan, due)
+
+questions_due : (s : Search) (q : Questions) (f : Failure) → IsPlanned s numbers_look → HasCondition s → AreRefused q f → IsCountDue s q f
+questions_due s q (CommandLine text) plan condition h = absurd h
+questions_due s q (Plan error) plan condition h = absurd h
+questions_due s q (Label name) plan condition h = absurd h
+questions_due s q (Hand seat) plan condition h = absurd h
+questions_due s q (Condition error) plan condition h = absurd h
+questions_due s q (Question Of error) plan condition h = (plan, condition, h)
+questions_due s q (Question By error) plan condition h = (plan, condition, h)
+questions_due s q Cells plan condition h = (plan, condition, h)
+questions_due s q (Interrupted c) plan condition h = absurd h
+questions_due s q (Line line) plan condition h = absurd h
+questions_due s q Input plan condition h = absurd h
+
+questions_refusal : (q : Questions) (f : Failure) → AreRefused q f → is_refusal f ≡ true
+questions_refusal q (CommandLine text) h = absurd h
+questions_refusal q (Plan error) h = absurd h
+questions_refusal q (Label name) h = absurd h
+questions_refusal q (Hand seat) h = absurd h
+questions_refusal q (Condition error) h = absurd h
+questions_refusal q (Question Of error) h = refl
+questions_refusal q (Question By error) h = refl
+questions_refusal q Cells h = refl
+questions_refusal q (Interrupted c) h = absurd h
+questions_refusal q (Line line) h = absurd h
+questions_refusal q Input h = absurd h
+
+-- a `count` that was interrupted
+pub count_run_due : (s : Search) (q : Questions) (c : Cause) → IsPlanned s numbers_look → HasCondition s → (subject : Subject) → IsAsked q subject → IsCountDue s q (Interrupted c)
+count_run_due s q cause.Memory plan condition subject asked = plan
+count_run_due s q cause.Output plan condition subject asked = (plan, condition, (subject, asked))
+count_run_due s q cause.Spawn plan condition subject asked = (plan, condition, (subject, asked))
+count_run_due s q (cause.Stopped worker) plan condition subject asked = (plan, condition, (subject, asked))
+count_run_due s q (cause.Unclosed worker) plan condition subject asked = (plan, condition, (subject, asked))
 
 -- nothing was done before it
 pub plan_refusal : (s : Search) (l : Look) (f : Failure) → IsPlanDue s l f → is_refusal f ≡ true
@@ -174,6 +237,8 @@ plan_refusal s l (Plan error) h = refl
 plan_refusal s l (Label name) h = refl
 plan_refusal s l (Hand seat) h = refl
 plan_refusal s l (Condition error) h = refl
+plan_refusal s l (Question name error) h = refl
+plan_refusal s l Cells h = refl
 plan_refusal s l (Interrupted c) h = absurd h
 plan_refusal s l (Line line) h = absurd h
 plan_refusal s l Input h = absurd h
@@ -194,6 +259,48 @@ pick_refused seed hands l hints f refused due = record {
   status = refused_plan (pick seed hands l hints) (status_of f) refused.0 refused.1;
   nothing_done = plan_refusal (no_search seed hands) l f due;
 }
+
+pub count_refused : (s : Search) (q : Questions) (style : Style) (notices : Notices) (f : Failure) → (status_of f ≡ 2) × (IsPlanned s numbers_look → ⊥) → IsPlanDue s numbers_look f
+    → IsRefused (count s q style notices) f
+count_refused s q style notices f refused due = record {
+  due = count_plan_due s q f due;
+  status = refused_plan (count s q style notices) (status_of f) refused.0 refused.1;
+  nothing_done = plan_refusal s numbers_look f due;
+}
+
+-- the status of what is refused behind the plan
+refused_later : (w : Wish) (f : Failure) → (status_of f ≡ 5) ⊎ (status_of f ≡ 3) → HasPlan w → (HasMeaning w → status_of f ≡ 5) → IsStatusOf w (status_of f)
+refused_later w f (inl is) plan memory = out_of_memory w (status_of f) is
+refused_later w f (inr is) plan memory =
+    refused_meaning w (status_of f) is plan (λ meaning. let five : status_of f ≡ 5 = memory meaning in omega (arith, is, five))
+
+pub count_condition_refused : (s : Search) (q : Questions) (style : Style) (notices : Notices) (f : Failure) → IsPlanned s numbers_look → (status_of f ≡ 5) ⊎ (status_of f ≡ 3)
+    → ((form : Form) → Means s.where_text form → status_of f ≡ 5) → IsConditionFailure s.where_text f → IsRefused (count s q style notices) f
+count_condition_refused s q style notices f plan status memory due = record {
+  due = count_condition_due s q f plan due;
+  status = refused_later (count s q style notices) f status plan (λ meaning. memory meaning.0.0 meaning.0.1);
+  nothing_done = by_failure due;
+}
+  where
+    by_failure : IsConditionFailure s.where_text f → is_refusal f ≡ true
+    by_failure (inl memory) = rw memory refl
+    by_failure (inr (error, is, due)) = rw is refl
+
+pub questions_refused : (s : Search) (q : Questions) (style : Style) (notices : Notices) (f : Failure) → IsPlanned s numbers_look → (form : Form) → Means s.where_text form
+    → (status_of f ≡ 5) ⊎ (status_of f ≡ 3) → ((subject : Subject) → IsAsked q subject → status_of f ≡ 5) → AreFailure q f → IsRefused (count s q style notices) f
+questions_refused s q style notices f plan form means status memory due = record {
+  due = by_failure due;
+  status = refused_later (count s q style notices) f status plan (λ meaning. memory meaning.1.0 meaning.1.1);
+  nothing_done = refusal due;
+}
+  where
+    by_failure : AreFailure q f → IsCountDue s q f
+    by_failure (inl memory) = rw memory plan
+    by_failure (inr refused) = questions_due s q f plan (form, means) refused
+
+    refusal : AreFailure q f → is_refusal f ≡ true
+    refusal (inl memory) = rw memory refl
+    refusal (inr refused) = questions_refusal q f refused
 
 pub meaning_refused : (s : Search) (l : Look) (notices : Notices) (f : Failure) → IsPlanned s l → (status_of f ≡ 5) ⊎ (status_of f ≡ 3) → ((form : Form) → Means s.where_text form → status_of f ≡ 5)
     → IsConditionFailure s.where_text f → IsRefused (make s l notices) f

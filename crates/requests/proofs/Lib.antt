@@ -4,3 +4,5 @@ pub mod Refusals
 pub mod Saying
 pub mod Serving
 pub mod Reporting
+pub mod Asking
+pub mod Counted

@@ -10,7 +10,7 @@ use Rattle.requests.specs.Makings.{Means}
 use Rattle.requests.specs.Wishes.{IsStatusWithInput}
 use Rattle.requests.specs.declared.failure.Failure.{Failure}
 use Rattle.dealrun.specs.declared.cause.Cause.TheVariants as cause
-use Rattle.requests.specs.declared.failure.Failure.TheVariants.{CommandLine, Plan, Label, Hand, Condition, Interrupted, Line, Input}
+use Rattle.requests.specs.declared.failure.Failure.TheVariants.{CommandLine, Plan, Label, Hand, Condition, Question, Cells, Interrupted, Line, Input}
 
 pub refused_status : (e : CondError) → (status_of (failure_of e) ≡ 5) ⊎ (status_of (failure_of e) ≡ 3)
 refused_status TooLong = inr refl
@@ -35,6 +35,8 @@ status_of-status (Plan error) = (1, omega arith, refl)
 status_of-status (Label label) = (1, omega arith, refl)
 status_of-status (Hand seat) = (1, omega arith, refl)
 status_of-status (Condition error) = (2, omega arith, refl)
+status_of-status (Question name error) = (2, omega arith, refl)
+status_of-status Cells = (2, omega arith, refl)
 status_of-status (Interrupted cause.Output) = (3, omega arith, refl)
 status_of-status (Interrupted cause.Memory) = (4, omega arith, refl)
 status_of-status (Interrupted cause.Spawn) = (5, omega arith, refl)

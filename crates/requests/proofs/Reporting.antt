@@ -6,7 +6,7 @@ use Rattle.sinks.specs.Appended.{AppendsAll, append_known}
 use Rattle.requests.specs.Makings.{plan_of}
 use Rattle.requests.specs.Reported.{Counts, Reports, ReportsFor, wants_report}
 use Rattle.requests.specs.Reports.{next_line, report_line, report_of}
-use Rattle.requests.specs.Requests.{Look, Search, Wish, conditions, make, pick, stream}
+use Rattle.requests.specs.Requests.{Look, Search, Wish, conditions, count, make, pick, stream}
 use Rattle.requests.specs.declared.request.Notices.{Notices}
 use Rattle.notations.specs.declared.printer.Format.{Format}
 use Rattle.requests.specs.declared.report.Report.{Report}
@@ -27,7 +27,8 @@ said s l notices r old new h text =
 -- no report is made unless it is asked for
 pub none_made : (o : Option Wish) (r : Report) → ((w : Wish) → o ≡ Some w → ReportsFor w (Some r)) → (o ≡ None → Some r ≡ None) → wants_report o ≡ false → ⊥
 none_made None r some none quiet = let bad : Some r ≡ None = none refl in cc
-none_made (Some (stream seed count)) r some none quiet = let bad : Some r ≡ None = some (stream seed count) refl in cc
+none_made (Some (stream seed n)) r some none quiet = let bad : Some r ≡ None = some (stream seed n) refl in cc
+none_made (Some (count s q style notices)) r some none quiet = let bad : Some r ≡ None = some (count s q style notices) refl in cc
 none_made (Some conditions) r some none quiet = let bad : Some r ≡ None = some conditions refl in cc
 none_made (Some (pick seed hands l hints)) r some none quiet = let bad : Some r ≡ None = some (pick seed hands l hints) refl in cc
 none_made (Some (make s l notices)) r some none quiet = let is = (some (make s l notices) refl).0 in let bad : true ≡ false = sym is ∙ quiet in cc

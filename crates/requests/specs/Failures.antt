@@ -5,7 +5,9 @@ use Rattle.conditions.specs.declared.error.CondError.TheVariants.{Memory as no_m
 use Rattle.dealrun.specs.declared.cause.Cause.TheVariants as cause
 use Rattle.requests.specs.declared.failure.Failure.{Failure}
 use Rattle.requests.specs.declared.failure.Failure.TheVariants.{CommandLine, Plan, Label, Hand}
-use Rattle.requests.specs.declared.failure.Failure.TheVariants.{Condition, Interrupted, Line, Input}
+use Rattle.requests.specs.declared.failure.Failure.TheVariants.{Condition, Question, Cells, Interrupted}
+use Rattle.requests.specs.declared.failure.Failure.TheVariants.{Line, Input}
+use Rattle.requests.specs.declared.failure.QuestionName.{QuestionName}
 
 -- the exit status of a failure
 abbrev pub status_of : Failure → ℕ
@@ -14,6 +16,8 @@ status_of (Plan error) = 2
 status_of (Label label) = 2
 status_of (Hand seat) = 2
 status_of (Condition error) = 3
+status_of (Question name error) = 3
+status_of Cells = 3
 status_of (Interrupted cause.Output) = 4
 status_of (Interrupted cause.Memory) = 5
 status_of (Interrupted cause.Spawn) = 6
@@ -26,6 +30,10 @@ status_of Input = 7
 abbrev pub failure_of : CondError → Failure
 failure_of no_memory = Interrupted cause.Memory
 failure_of error = Condition error
+
+abbrev pub question_failure : QuestionName → CondError → Failure
+question_failure name no_memory = Interrupted cause.Memory
+question_failure name error = Question name error
 
 -- the status of a result
 abbrev pub status_in : {T : Type 0} → Result T Failure → ℕ
@@ -59,5 +67,7 @@ is_refusal (Plan error) = true
 is_refusal (Label label) = true
 is_refusal (Hand seat) = true
 is_refusal (Condition error) = true
+is_refusal (Question name error) = true
+is_refusal Cells = true
 is_refusal (Interrupted cause.Memory) = true
 is_refusal _ = false

@@ -1,6 +1,7 @@
 -- Which failure is told: the first that is due.
 use Rattle.std.specs.Prelude.{◌≡◌, ◌≢◌, ◌≤◌, ◌<◌, ◌^◌, ◌+◌, ◌⊎◌, ℕ, List, [], ◌∷◌, ◌++◌}
 use Rattle.std.specs.Prelude.{Option, Some}
+use Rattle.cond_lang.specs.Asking.{IsDueQuestion}
 use Rattle.cond_lang.specs.Faults.{IsDue}
 use Rattle.cond_lang.specs.Form.{Form}
 use Rattle.conditions.specs.declared.error.CondError.{CondError}
@@ -9,13 +10,19 @@ use Rattle.dealrun.specs.declared.cause.Cause.TheVariants.{Memory, Output}
 use Rattle.predeal.specs.PredealtHands.{first_refused}
 use Rattle.plans.specs.declared.plan.PlanError.TheVariants.{Range, Workers, Capacity, Boards}
 use Rattle.plans.specs.declared.plan.PlanError.TheVariants.{FirstBoard}
+use Rattle.requests.specs.Counting.{Asks, IsAsked, IsQuestion}
 use Rattle.requests.specs.Makings.{CanDate, CanLabel, HasLabels, HasNumbers}
 use Rattle.requests.specs.Makings.{IsPlanned, Means, candidates_of, first_board_of}
-use Rattle.requests.specs.Requests.{Look, Search, Wish, conditions, make, no_search, pick, stream}
+use Rattle.requests.specs.Requests.{Look, Questions, Search, Wish, conditions, count, make}
+use Rattle.requests.specs.Requests.{no_question, no_search, numbers_look, one_question}
+use Rattle.requests.specs.Requests.{pick, stream, two_questions}
 use Rattle.requests.specs.declared.failure.Failure.{Failure}
 use Rattle.requests.specs.declared.failure.Failure.TheVariants.{Plan, Label, Hand}
-use Rattle.requests.specs.declared.failure.Failure.TheVariants.{Condition, Interrupted, Line, Input}
+use Rattle.requests.specs.declared.failure.Failure.TheVariants.{Cells, Condition, Question}
+use Rattle.requests.specs.declared.failure.Failure.TheVariants.{Interrupted, Line, Input}
 use Rattle.requests.specs.declared.failure.LabelName.TheVariants.{Event, Site, Date}
+use Rattle.requests.specs.declared.failure.QuestionName.TheVariants.{Of, By}
+use Rattle.statistics.specs.Counting.{Asked, Subject, cells_of}
 
 -- what a plan has to meet, by the refusal that says that it doesn't
 abbrev pub Meets : Search → Look → Failure → Type 0
@@ -71,6 +78,46 @@ IsMakeDue s l (Interrupted Memory) = IsPlanned s l
 IsMakeDue s l (Interrupted cause) = IsPlanned s l × ((form : Form) × Means s.where_text form)
 IsMakeDue s l failure = IsPlanDue s l failure
 
+-- a question's text is refused so, and not since memory ran out
+pub record IsQuestionDue (text : List ℕ) (error : CondError) : Type 0 where
+  pub due : IsDueQuestion text error
+  pub refused : error ≢ no_memory
+
+-- the text of `of` is refused so; or it is a question, and that of `by` is refused
+abbrev pub IsOfDue : Questions → CondError → Type 0
+IsOfDue no_question error = ⊥
+IsOfDue (one_question text) error = IsQuestionDue text error
+IsOfDue (two_questions rows columns) error = IsQuestionDue rows error
+
+abbrev pub IsByDue : Questions → CondError → Type 0
+IsByDue (two_questions rows columns) error =
+    ((asked : Asked) × IsQuestion rows asked) × IsQuestionDue columns error
+IsByDue questions error = ⊥
+
+-- why questions are refused: the text of one, or else the size of their table
+abbrev pub AreRefused : Questions → Failure → Type 0
+AreRefused questions (Question Of error) = IsOfDue questions error
+AreRefused questions (Question By error) = IsByDue questions error
+AreRefused questions Cells =
+    (subject : Subject) × Asks questions subject × (2 ^ 20 < cells_of subject)
+AreRefused questions failure = ⊥
+
+-- there is a condition
+abbrev pub HasCondition : Search → Type 0
+HasCondition s = (form : Form) × Means s.where_text form
+
+-- why a `count` fails: it has no plan, or its condition is refused, as a `find`; else its questions
+-- are refused, or memory ran out; else how its run was interrupted
+abbrev pub IsCountDue : Search → Questions → Failure → Type 0
+IsCountDue s questions (Question name error) =
+    IsPlanned s numbers_look × HasCondition s × AreRefused questions (Question name error)
+IsCountDue s questions Cells =
+    IsPlanned s numbers_look × HasCondition s × AreRefused questions Cells
+IsCountDue s questions (Interrupted Memory) = IsPlanned s numbers_look
+IsCountDue s questions (Interrupted cause) =
+    IsPlanned s numbers_look × HasCondition s × ((subject : Subject) × IsAsked questions subject)
+IsCountDue s questions failure = IsMakeDue s numbers_look failure
+
 -- why a `pick` fails: it has no plan; else memory ran out, the output, a line of the input, or the
 -- input
 abbrev pub IsPickDue : Search → Look → Failure → Type 0
@@ -82,7 +129,8 @@ IsPickDue s l failure = IsPlanDue s l failure
 
 -- why a wish fails
 abbrev pub IsDueFor : Wish → Failure → Type 0
-IsDueFor (stream seed count) failure = failure ≡ Interrupted Output
+IsDueFor (stream seed n) failure = failure ≡ Interrupted Output
 IsDueFor conditions failure = failure ≡ Interrupted Output
 IsDueFor (make s l notices) failure = IsMakeDue s l failure
+IsDueFor (count s questions style notices) failure = IsCountDue s questions failure
 IsDueFor (pick seed hands l hints) failure = IsPickDue (no_search seed hands) l failure

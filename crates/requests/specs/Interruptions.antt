@@ -12,12 +12,16 @@ use Rattle.picking.specs.declared.fault.PickFault.TheVariants as picks
 use Rattle.plans.specs.Plans.{Planned}
 use Rattle.sinks.specs.Appended.{AppendsPart}
 use Rattle.dealrun.specs.Values.{lines}
+use Rattle.requests.specs.Counting.{IsAsked}
 use Rattle.requests.specs.Formats.{layout_in}
 use Rattle.requests.specs.Makings.{Means, plan_of}
-use Rattle.requests.specs.Requests.{Look, Search, Wish, conditions, make, no_search, pick, stream}
+use Rattle.requests.specs.Requests.{Look, Questions, Search, Wish, conditions, count, make}
+use Rattle.requests.specs.Requests.{no_search, numbers_look, pick, stream}
 use Rattle.requests.specs.Wishes.{language_page}
 use Rattle.requests.specs.declared.failure.Failure.{Failure}
 use Rattle.requests.specs.declared.failure.Failure.TheVariants.{Interrupted, Line, Input}
+use Rattle.statistics.specs.Counting.{Subject, counting}
+use Rattle.statistics.specs.declared.style.Style.{Style}
 
 -- a run was interrupted for this cause: there are lanes as it left them, and the bytes are those
 -- that the verdicts taken from them print
@@ -34,6 +38,16 @@ pub record InterruptsMake (s : Search) (l : Look) (cause : Cause) (old new : Opt
   pub means : Means s.where_text form
   pub run : InterruptsRun (layout_in s l) (plan_of s l) form cause old new
 
+-- the run of a `count` was interrupted: no board is written, and the table stands as far as it was
+-- written
+pub record InterruptsCount (s : Search) (questions : Questions) (style : Style) (cause : Cause)
+    (old new : Option (List ℕ)) : Type 0 where
+  pub form : Form
+  pub means : Means s.where_text form
+  pub subject : Subject
+  pub asked : IsAsked questions subject
+  pub run : InterruptsRun (counting style subject) (plan_of s numbers_look) form cause old new
+
 -- picking ended with this fault
 abbrev pub EndsPick : Search → Look → PickFault → (before behind old new : Option (List ℕ)) → Type 0
 EndsPick s l fault before behind old new =
@@ -42,9 +56,11 @@ EndsPick s l fault before behind old new =
 -- a wish was broken off for this cause: of a text that needs no run a proper prefix is written. The
 -- output of a `pick` may also fail where it passes on what stands before a fault of its input
 abbrev pub BreaksOff : Wish → Cause → (before behind old new : Option (List ℕ)) → Type 0
-BreaksOff (stream seed count) cause before behind old new = AppendsPart old new (lines seed count)
+BreaksOff (stream seed n) cause before behind old new = AppendsPart old new (lines seed n)
 BreaksOff conditions cause before behind old new = AppendsPart old new language_page
 BreaksOff (make s l notices) cause before behind old new = InterruptsMake s l cause old new
+BreaksOff (count s questions style notices) cause before behind old new =
+    InterruptsCount s questions style cause old new
 BreaksOff (pick seed hands l hints) cause before behind old new =
     (fault : PickFault) × EndsPick (no_search seed hands) l fault before behind old new
 

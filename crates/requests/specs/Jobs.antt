@@ -1,27 +1,35 @@
 -- What is ready to be done for a wish, what refuses it, and what is done.
 use Rattle.std.specs.Prelude.{◌≡◌, List, ℕ, true, Option, Result, IfErr, IfOk, OnOk}
 use Rattle.requests.specs.Failures.{is_refusal, is_untouched, status_in, status_of}
+use Rattle.requests.specs.Counting.{IsAsked}
 use Rattle.requests.specs.FirstRefusal.{IsDueFor}
 use Rattle.requests.specs.Interruptions.{LeavesFrom}
 use Rattle.requests.specs.Makings.{IsPlanned, Means, plan_of}
 use Rattle.requests.specs.Reported.{ReportsFor}
-use Rattle.requests.specs.Requests.{Wish, conditions, make, no_search, pick, stream}
+use Rattle.requests.specs.Requests.{Wish, conditions, count, make, no_search}
+use Rattle.requests.specs.Requests.{numbers_look, pick, stream}
 use Rattle.requests.specs.Wishes.{AppendsFrom, IsStatusOf}
 use Rattle.requests.specs.declared.failure.Failure.{Failure}
 use Rattle.requests.specs.declared.job.Job.{Job}
-use Rattle.requests.specs.declared.job.Job.TheVariants.{Boards, Conditions, Pick, Stream}
+use Rattle.requests.specs.declared.job.Job.TheVariants.{Boards, Conditions, Count, Pick, Stream}
 use Rattle.requests.specs.declared.report.Report.{Report}
+use Rattle.statistics.specs.Subjects.{subject_of}
 
--- the job does what is wished for: its plan, its labels, its hands and its condition are accepted
+-- the job does what is wished for: its plan, its labels, its hands, its condition and its questions
+-- are accepted
 abbrev pub IsReady : Wish → Job → Type 0
 IsReady (make s l notices) (Boards job) =
     IsPlanned s l × (job.plan ≡ plan_of s l) × Means s.where_text job.condition
     × (job.format ≡ l.format) × (job.report ≡ notices.report)
+IsReady (count s questions style notices) (Count job) =
+    IsPlanned s numbers_look × (job.plan ≡ plan_of s numbers_look)
+    × Means s.where_text job.condition × IsAsked questions (subject_of job.subject)
+    × (job.style ≡ style)
 IsReady (pick seed hands l hints) (Pick job) =
     IsPlanned (no_search seed hands) l × (job.plan ≡ plan_of (no_search seed hands) l)
     × (job.format ≡ l.format)
 IsReady conditions Conditions = Unit {0}
-IsReady (stream seed count) (Stream r) = (r.seed ≡ seed) × (r.count ≡ count)
+IsReady (stream seed n) (Stream r) = (r.seed ≡ seed) × (r.count ≡ n)
 IsReady _ _ = ⊥
 
 -- the job reads the input

@@ -1,5 +1,6 @@
 pub mod Requests
 pub mod Makings
+pub mod Counting
 pub mod Jobs
 pub mod Formats
 pub mod Wishes

@@ -13,6 +13,8 @@ use Rattle.plans.specs.declared.plan.PlanError.{PlanError}
 use Rattle.plans.specs.declared.plan.PlanError.TheVariants as plan
 use Rattle.requests.specs.declared.failure.Failure.{Failure}
 use Rattle.requests.specs.declared.failure.Failure.TheVariants as failure
+use Rattle.requests.specs.declared.failure.QuestionName.{QuestionName}
+use Rattle.requests.specs.declared.failure.QuestionName.TheVariants.{Of, By}
 use Rattle.requests.specs.declared.failure.LabelName.{LabelName}
 use Rattle.requests.specs.declared.failure.LabelName.TheVariants as label
 
@@ -34,17 +36,26 @@ hand_line seat.East = codes "hand refused: east\n"
 hand_line seat.South = codes "hand refused: south\n"
 hand_line seat.West = codes "hand refused: west\n"
 
--- a condition is refused at a byte, counted from 0
-abbrev pub refused_at : ℕ → List ℕ → List ℕ
-refused_at at why = codes "condition refused at byte " ++ decimal at ++ why
+-- a text of the language is refused at a byte, counted from 0: how the line begins, and the line
+-- of one that is too long
+abbrev pub text_line : (at_byte too_long : List ℕ) → CondError → List ℕ
+text_line at_byte too_long cond.TooLong = too_long
+text_line at_byte too_long (cond.Byte at) = at_byte ++ decimal at ++ codes ": unexpected byte\n"
+text_line at_byte too_long (cond.Word at) = at_byte ++ decimal at ++ codes ": unknown word\n"
+text_line at_byte too_long (cond.Number at) = at_byte ++ decimal at ++ codes ": number too long\n"
+text_line at_byte too_long (cond.Syntax at) = at_byte ++ decimal at ++ codes ": syntax\n"
+text_line at_byte too_long cond.Memory = codes "out of memory\n"
 
 abbrev pub condition_line : CondError → List ℕ
-condition_line cond.TooLong = codes "condition refused: longer than 1024 bytes\n"
-condition_line (cond.Byte at) = refused_at at (codes ": unexpected byte\n")
-condition_line (cond.Word at) = refused_at at (codes ": unknown word\n")
-condition_line (cond.Number at) = refused_at at (codes ": number too long\n")
-condition_line (cond.Syntax at) = refused_at at (codes ": syntax\n")
-condition_line cond.Memory = codes "out of memory\n"
+condition_line =
+    text_line (codes "condition refused at byte ")
+    (codes "condition refused: longer than 1024 bytes\n")
+
+abbrev pub question_line : QuestionName → CondError → List ℕ
+question_line Of =
+    text_line (codes "of refused at byte ") (codes "of refused: longer than 1024 bytes\n")
+question_line By =
+    text_line (codes "by refused at byte ") (codes "by refused: longer than 1024 bytes\n")
 
 abbrev pub cause_line : Cause → List ℕ
 cause_line cause.Memory = codes "out of memory\n"
@@ -70,6 +81,8 @@ line_of (failure.Plan error) = plan_line error
 line_of (failure.Label name) = label_line name
 line_of (failure.Hand holder) = hand_line holder
 line_of (failure.Condition error) = condition_line error
+line_of (failure.Question name error) = question_line name error
+line_of failure.Cells = codes "by refused: more than 1048576 cells\n"
 line_of (failure.Interrupted cause) = cause_line cause
 line_of (failure.Line refused) = input_line refused
 line_of failure.Input = codes "input failed\n"

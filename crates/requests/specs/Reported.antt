@@ -7,7 +7,7 @@ use Rattle.requests.specs.Makings.{Means, plan_of}
 use Rattle.requests.specs.Reports.{report_of}
 use Rattle.sinks.specs.Appended.{AppendsAll}
 use Rattle.notations.specs.declared.printer.Format.{Format}
-use Rattle.requests.specs.Requests.{Look, Search, Wish, conditions, make, pick, stream}
+use Rattle.requests.specs.Requests.{Look, Search, Wish, conditions, count, make, pick, stream}
 use Rattle.requests.specs.declared.request.Notices.{Notices}
 use Rattle.requests.specs.declared.report.Report.{Report}
 
@@ -28,9 +28,10 @@ ReportsOf s l notices (Some report) =
     × ((form : Form) × Means s.where_text form × Counts l.format (plan_of s l) form report)
 
 abbrev pub ReportsFor : Wish → Option Report → Type 0
-ReportsFor (stream seed count) report = report ≡ None
+ReportsFor (stream seed n) report = report ≡ None
 ReportsFor conditions report = report ≡ None
 ReportsFor (make s l notices) report = ReportsOf s l notices report
+ReportsFor (count s questions style notices) report = report ≡ None
 ReportsFor (pick seed hands l hints) report = report ≡ None
 
 abbrev pub wants_report : Option Wish → Bool

@@ -8,10 +8,13 @@ use Rattle.notations.specs.declared.printer.Format.TheVariants.{Numbers, Pbn}
 use Rattle.requests.specs.declared.search.Look as given
 use Rattle.requests.specs.declared.request.Notices.{Notices}
 use Rattle.requests.specs.declared.request.Request.{Request}
-use Rattle.requests.specs.declared.request.Request.TheVariants.{Conditions, Find, Make, Pick, Stream}
+use Rattle.requests.specs.declared.questions.Questions.{Questions as GivenQuestions}
+use Rattle.requests.specs.declared.questions.Questions.TheVariants as questions
+use Rattle.requests.specs.declared.request.Request.TheVariants.{Conditions, Count, Find, Make, Pick, Stream}
 use Rattle.requests.specs.declared.search.Search as asked
 use Rattle.requests.specs.declared.when.When.{When}
 use Rattle.requests.specs.declared.when.When.TheVariants.{Auto}
+use Rattle.statistics.specs.declared.style.Style.{Style}
 
 -- which candidates are tried, and which of them are accepted: what options were given, or their
 -- defaults. A field is named as its option is, and `where` as where_text, since the bare word is
@@ -78,9 +81,17 @@ numbers_look = look_as Numbers
 abbrev pub no_search : ℕ → GivenHands → Search
 no_search seed hands = record (plain_search seed) { candidates = Some 0; lane = 1; hands = hands }
 
+-- the texts of the questions of a `count`: none, that of `of`, or those of `of` and `by`
+pub data Questions : Type 0 where
+  no_question : Questions
+  one_question : List ℕ → Questions
+  two_questions : (rows columns : List ℕ) → Questions
+
 pub data Wish : Type 0 where
   -- `make`, and `find` with the look of its format alone
   make : Search → Look → Notices → Wish
+  -- a table of what the accepted deals answer
+  count : Search → Questions → Style → Notices → Wish
   -- the page of the language
   conditions : Wish
   -- the boards of the candidates of a seed, around these hands, whose numbers the input gives
@@ -113,9 +124,16 @@ look_of l = record {
   rotate = l.rotate;
 }
 
+abbrev pub questions_of : GivenQuestions → Questions
+questions_of questions.None = no_question
+questions_of (questions.One text) = one_question text.now
+questions_of (questions.Two rows columns) = two_questions rows.now columns.now
+
 abbrev pub wish_of : Request → Wish
 wish_of (Make search look notices) = make (search_of search) (look_of look) notices
 wish_of (Find search format notices) = make (search_of search) (look_as format) notices
+wish_of (Count search asked style notices) =
+    count (search_of search) (questions_of asked) style notices
 wish_of (Pick seed hands look hints) = pick seed (given_by hands) (look_of look) hints
 wish_of Conditions = conditions
 wish_of (Stream r) = stream r.seed r.count

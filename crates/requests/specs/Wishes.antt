@@ -6,9 +6,12 @@ use Rattle.cond_lang.specs.declared.language.TheConstants.{LANGUAGE}
 use Rattle.picking.specs.Outcomes.{Picks}
 use Rattle.sinks.specs.Appended.{AppendsAll}
 use Rattle.dealrun.specs.Values.{lines}
+use Rattle.requests.specs.Counting.{IsAsked, table_by}
 use Rattle.requests.specs.Formats.{layout_in, text_as}
 use Rattle.requests.specs.Makings.{IsPlanned, Means, plan_of}
-use Rattle.requests.specs.Requests.{Wish, conditions, make, no_search, pick, stream}
+use Rattle.requests.specs.Requests.{Wish, conditions, count, make, no_search}
+use Rattle.requests.specs.Requests.{numbers_look, pick, stream}
+use Rattle.statistics.specs.Counting.{Subject}
 
 -- the page of the language, of its parts
 abbrev pub language_page : List ℕ
@@ -17,11 +20,15 @@ language_page = flat_map (λ part. part.now) LANGUAGE
 -- what a wish asks for was appended; `before` and `behind` are what the input had to give before
 -- and behind it
 abbrev pub AppendsFrom : Wish → (before behind old new : Option (List ℕ)) → Type 0
-AppendsFrom (stream seed count) before behind old new = AppendsAll old new (lines seed count)
+AppendsFrom (stream seed n) before behind old new = AppendsAll old new (lines seed n)
 AppendsFrom conditions before behind old new = AppendsAll old new language_page
 AppendsFrom (make s l notices) before behind old new =
     (form : Form) × Means s.where_text form
     × AppendsAll old new (text_as l.format (plan_of s l) form)
+AppendsFrom (count s questions style notices) before behind old new =
+    (form : Form) × Means s.where_text form
+    × ((subject : Subject) × IsAsked questions subject
+    × AppendsAll old new (table_by style subject (plan_of s numbers_look) form))
 AppendsFrom (pick seed hands l hints) before behind old new =
     (boards : ℕ)
     × Picks (layout_in (no_search seed hands) l) (plan_of (no_search seed hands) l) (Ok boards)
@@ -31,32 +38,37 @@ AppendsFrom (pick seed hands l hints) before behind old new =
 abbrev pub Appends : Wish → (old new : Option (List ℕ)) → Type 0
 Appends w old new = AppendsFrom w (Some []) (Some []) old new
 
--- the words of a wish have to be accepted, so far as they aren't a condition
+-- the words of a wish have to be accepted, so far as they are neither a condition nor a question
 abbrev pub HasPlan : Wish → Type 0
-HasPlan (stream seed count) = Unit {0}
+HasPlan (stream seed n) = Unit {0}
 HasPlan conditions = Unit {0}
 HasPlan (make s l notices) = IsPlanned s l
+HasPlan (count s questions style notices) = IsPlanned s numbers_look
 HasPlan (pick seed hands l hints) = IsPlanned (no_search seed hands) l
 
--- the condition of a wish has to be accepted
+-- the condition of a wish and its questions have to be accepted
 abbrev pub HasMeaning : Wish → Type 0
-HasMeaning (stream seed count) = Unit {0}
+HasMeaning (stream seed n) = Unit {0}
 HasMeaning conditions = Unit {0}
 HasMeaning (make s l notices) = (form : Form) × Means s.where_text form
+HasMeaning (count s questions style notices) =
+    ((form : Form) × Means s.where_text form) × ((subject : Subject) × IsAsked questions subject)
 HasMeaning (pick seed hands l hints) = Unit {0}
 
 -- a wish that is served by threads
 abbrev pub HasRun : Wish → Type 0
-HasRun (stream seed count) = ⊥
+HasRun (stream seed n) = ⊥
 HasRun conditions = ⊥
 HasRun (make s l notices) = Unit {0}
+HasRun (count s questions style notices) = Unit {0}
 HasRun (pick seed hands l hints) = ⊥
 
 -- a wish that reads the input
 abbrev pub HasInput : Wish → Type 0
-HasInput (stream seed count) = ⊥
+HasInput (stream seed n) = ⊥
 HasInput conditions = ⊥
 HasInput (make s l notices) = ⊥
+HasInput (count s questions style notices) = ⊥
 HasInput (pick seed hands l hints) = Unit {0}
 
 -- a status of the program, and of that with an input
@@ -73,7 +85,7 @@ pub record IsStatusOf (w : Wish) (status : ℕ) : Type 0 where
       → HasPlan w × HasMeaning w
   -- the plan, a label or a hand is refused
   pub unplanned : status ≡ 2 → HasPlan w → ⊥
-  -- the condition is refused, and the plan stands
+  -- the condition or a question is refused, and the plan stands
   pub meaningless : status ≡ 3 → HasPlan w × (HasMeaning w → ⊥)
   -- only a run over lanes has threads and workers
   pub threads : status ≡ 6 → HasRun w

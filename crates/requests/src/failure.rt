@@ -4,9 +4,10 @@ ghost use Rattle.std.specs.Prelude.{◌≡◌, ◌-◌, ◌^◌, ◌<◌, OnOk};
 ghost use Rattle.sinks.specs.Appended.{AppendsAll};
 ghost use Rattle.sinks.specs.Sinks.{CountsFault};
 ghost use Rattle.dealrun.specs.declared.cause.Cause.TheVariants.{Memory, Output};
-ghost use Rattle.requests.specs.Failures.{failure_of, status_of};
+ghost use Rattle.requests.specs.Failures.{failure_of, question_failure, status_of};
 ghost use Rattle.requests.specs.Lines.{cause_line, condition_line, fault_text, hand_line};
 ghost use Rattle.requests.specs.Lines.{input_line, label_line, line_of, plan_line};
+ghost use Rattle.requests.specs.Lines.{question_line, text_line};
 ghost use Rattle.requests.specs.declared.failure.Failure.TheVariants.{Interrupted};
 ghost use Rattle.requests.specs.internal.Messages.{text_of};
 
@@ -27,6 +28,13 @@ pub enum LabelName {
     Date,
 }
 
+/// A question of a `count`, by the option that has its text.
+#[derive(Clone, Copy, Debug, PartialEq, Eq)]
+pub enum QuestionName {
+    Of,
+    By,
+}
+
 /// Why a request is not served, or not all of it.
 #[derive(Debug, Drop)]
 pub enum Failure {
@@ -39,6 +47,10 @@ pub enum Failure {
     Hand(Seat),
     /// The condition is refused, and not since memory ran out.
     Condition(CondError),
+    /// The text of a question is refused, and not since memory ran out.
+    Question(QuestionName, CondError),
+    /// A table of the answers to two questions could have more than 1,048,576 cells.
+    Cells,
     /// The output failed, memory ran out, a thread wasn't started, or a worker ended too soon.
     Interrupted(Cause),
     /// A line of the input is refused.
@@ -110,17 +122,45 @@ fn of_hand(seat: Seat) -> &'static str
     }
 }
 
+/// The line of a text of the language that is refused: how it begins if the fault has a place, and
+/// what it is if the text is too long.
+fn of_text(at_byte: &'static str, too_long: &'static str, error: CondError) -> Message<'static>
+    ensures { text_of result ≡ text_line at_byte.entry.now too_long.entry.now error }
+{
+    match error {
+        CondError::TooLong => Message::plain(too_long),
+        CondError::Byte { at } => Message::with(at_byte, at as u64, ": unexpected byte\n"),
+        CondError::Word { at } => Message::with(at_byte, at as u64, ": unknown word\n"),
+        CondError::Number { at } => Message::with(at_byte, at as u64, ": number too long\n"),
+        CondError::Syntax { at } => Message::with(at_byte, at as u64, ": syntax\n"),
+        CondError::Memory => Message::plain(OUT_OF_MEMORY),
+    }
+}
+
 fn of_condition(error: CondError) -> Message<'static>
     ensures { text_of result ≡ condition_line error }
 {
-    const AT: &str = "condition refused at byte ";
-    match error {
-        CondError::TooLong => Message::plain("condition refused: longer than 1024 bytes\n"),
-        CondError::Byte { at } => Message::with(AT, at as u64, ": unexpected byte\n"),
-        CondError::Word { at } => Message::with(AT, at as u64, ": unknown word\n"),
-        CondError::Number { at } => Message::with(AT, at as u64, ": number too long\n"),
-        CondError::Syntax { at } => Message::with(AT, at as u64, ": syntax\n"),
-        CondError::Memory => Message::plain(OUT_OF_MEMORY),
+    of_text(
+        "condition refused at byte ",
+        "condition refused: longer than 1024 bytes\n",
+        error,
+    )
+}
+
+fn of_question(name: QuestionName, error: CondError) -> Message<'static>
+    ensures { text_of result ≡ question_line name error }
+{
+    match name {
+        QuestionName::Of => of_text(
+            "of refused at byte ",
+            "of refused: longer than 1024 bytes\n",
+            error,
+        ),
+        QuestionName::By => of_text(
+            "by refused at byte ",
+            "by refused: longer than 1024 bytes\n",
+            error,
+        ),
     }
 }
 
@@ -158,6 +198,16 @@ fn of_line(refused: RefusedLine) -> Message<'static>
 }
 
 impl Failure {
+    /// The failure of a question whose text is refused so.
+    pub(crate) fn of_question(name: QuestionName, error: CondError) -> Failure
+        ensures { result ≡ question_failure name error }
+    {
+        match error {
+            CondError::Memory => Failure::Interrupted(Cause::Memory),
+            refused => Failure::Question(name, refused),
+        }
+    }
+
     /// The exit status.
     pub fn status(&self) -> u8
         ensures { result ≡ status_of self.now }
@@ -165,7 +215,7 @@ impl Failure {
         match self {
             Failure::CommandLine(_) | Failure::Plan(_) | Failure::Label(_) => 2,
             Failure::Hand(_) => 2,
-            Failure::Condition(_) => 3,
+            Failure::Condition(_) | Failure::Question(..) | Failure::Cells => 3,
             Failure::Interrupted(cause) => match cause {
                 Cause::Output => 4,
                 Cause::Memory => 5,
@@ -184,6 +234,8 @@ impl Failure {
             Failure::Label(label) => Message::plain(of_label(*label)),
             Failure::Hand(seat) => Message::plain(of_hand(*seat)),
             Failure::Condition(error) => of_condition(*error),
+            Failure::Question(name, error) => of_question(*name, *error),
+            Failure::Cells => Message::plain("by refused: more than 1048576 cells\n"),
             Failure::Interrupted(cause) => of_cause(*cause),
             Failure::Line(refused) => of_line(*refused),
             Failure::Input => Message::plain("input failed\n"),

@@ -2,23 +2,28 @@
 
 ghost use Rattle.std.specs.Prelude.{IfErr, IfOk, ◌≡◌, ◌-◌, ◌+◌, ◌^◌, ◌<◌};
 ghost use Rattle.requests.specs.Jobs.{IsReady, IsRefused, ReadsInput, Serves};
-ghost use Rattle.requests.specs.Requests.{look_of, make, search_of, wish_of, Wish};
+ghost use Rattle.requests.specs.Requests.{count, look_of, make, questions_of, search_of, wish_of};
+ghost use Rattle.requests.specs.Requests.{Wish};
+ghost use Rattle.requests.specs.declared.request.Notices.{Notices as ANotices};
 ghost use Rattle.requests.specs.Failures.{CountsInput, faults_in, status_of};
 ghost use Rattle.requests.specs.Wishes.{language_page};
-ghost use Rattle.requests.specs.internal.Ends.{EndsBoards, EndsPicking, FaultsOfRun};
+ghost use Rattle.requests.specs.internal.Ends.{EndsBoards, EndsCount, EndsPicking, FaultsOfRun};
 ghost use Rattle.sinks.specs.Sinks.{AppendsOrBreaksOff, CountsFault};
 
+use crate::count_job::CountJob;
 use crate::failure::Failure;
+use crate::questions::Questions;
 use crate::report::Report;
 use crate::request::{Notices, Request, StreamRequest};
 use crate::search::{Look, Search, planned};
 use cond_lang::{Cond, LANGUAGE};
-use dealrun::{Cause, run_and_count};
+use dealrun::{Cause, RunFault, run_and_count};
 use lanes::OpenGate;
 use notations::{AnyPrinter, Format};
 use picking::{PickFault, Source, pick};
 use plans::Plan;
 use sinks::{Sink, SinkFault, put_all};
+use statistics::{Counter, Style};
 use std::alloc::Global;
 use std::sync::{Arc, Wait};
 use std::thread::Threads;
@@ -27,6 +32,7 @@ use std::thread::Threads;
 #[derive(Drop)]
 pub enum Job {
     Boards(BoardsJob),
+    Count(CountJob),
     Pick(PickJob),
     Conditions,
     Stream(StreamRequest),
@@ -53,8 +59,8 @@ pub struct PickJob {
 ///
 /// # Errors
 ///
-/// The first refusal that is due: of the plan, the labels, the hands, or the condition; or
-/// `Interrupted` if memory ran out.
+/// The first refusal that is due: of the plan, the labels, the hands, the condition, or the
+/// questions; or `Interrupted` if memory ran out.
 pub fn prepare(alloc: Global, request: &Request<'_>) -> Result<Job, Failure>
     ensures ready { IfOk result (IsReady (wish_of request.now)) }
     ensures refused { IfErr result (IsRefused (wish_of request.now)) }
@@ -70,6 +76,12 @@ pub fn prepare(alloc: Global, request: &Request<'_>) -> Result<Job, Failure>
             format,
             notices,
         } => boards_job(alloc, search, &Look::plain(*format), notices),
+        Request::Count {
+            search,
+            questions,
+            style,
+            ..
+        } => count_job(alloc, search, questions, *style),
         Request::Pick {
             seed,
             hands,
@@ -107,6 +119,29 @@ fn boards_job(
     }))
 }
 
+/// Returns the job of a `count`.
+fn count_job(
+    alloc: Global,
+    search: &Search<'_>,
+    questions: &Questions<'_>,
+    style: Style,
+) -> Result<Job, Failure>
+    ensures ready { (notices : ANotices) → IfOk result
+        (IsReady (count (search_of search.now) (questions_of questions.now) style notices)) }
+    ensures refused { (notices : ANotices) → IfErr result
+        (IsRefused (count (search_of search.now) (questions_of questions.now) style notices)) }
+{
+    let plan = planned(search, &Look::plain(Format::Numbers))?;
+    let condition = search.condition(alloc)?;
+    let subject = questions.subject(alloc)?;
+    Ok(Job::Count(CountJob {
+        plan,
+        condition,
+        style,
+        subject,
+    }))
+}
+
 /// Writes the boards, and counts them.
 fn write_boards<R: Threads + Wait + Clone + Send + 'static, O: Sink>(
     rt: &R,
@@ -138,6 +173,37 @@ fn write_boards<R: Threads + Wait + Clone + Send + 'static, O: Sink>(
             boards: counted.report.boards,
         }),
         Err(fault) => Err(fault.cause),
+    }
+}
+
+/// Writes the table.
+fn write_table<R: Threads + Wait + Clone + Send + 'static, O: Sink>(
+    rt: &R,
+    alloc: Global,
+    job: CountJob,
+    out: &mut O,
+) -> Result<(), Cause>
+    requires { O.faults out.old < 2 ^ 64 - 1 }
+    ensures ends { EndsCount job result (O.bytes out.old) (O.bytes out.new) }
+    ensures faults { FaultsOfRun result (O.faults out.old) (O.faults out.new) }
+{
+    let CountJob {
+        plan,
+        condition,
+        style,
+        subject,
+    } = job;
+    // The plan tells how many deals there are at most.
+    let _count = plan.count();
+    let Ok(mut counter) = Counter::new(alloc, style, subject) else {
+        return Err(Cause::Memory);
+    };
+    let Ok(gate) = Arc::new(alloc, OpenGate) else {
+        return Err(Cause::Memory);
+    };
+    match run_and_count(rt, alloc, &plan, condition, &mut counter, out, gate) {
+        Ok(_) => Ok(()),
+        Err(RunFault { cause, .. }) => Err(cause),
     }
 }
 
@@ -224,6 +290,10 @@ pub fn serve<R: Threads + Wait + Clone + Send + 'static, I: Source, O: Sink>(
                 Err(cause) => Err(Failure::Interrupted(cause)),
             }
         }
+        Job::Count(job) => match write_table(rt, alloc, job, out) {
+            Ok(()) => Ok(None),
+            Err(cause) => Err(Failure::Interrupted(cause)),
+        },
         Job::Pick(job) => match pick_boards(alloc, &job, input, out) {
             Ok(()) => Ok(None),
             Err(failure) => Err(failure),

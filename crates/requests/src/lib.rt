@@ -6,19 +6,24 @@
 //! become a request isn't known here.
 #![tactic(auto)]
 
+mod count_job;
 mod failure;
 mod job;
 pub mod laws;
 mod message;
+mod questions;
 mod report;
 mod request;
 mod search;
 mod when;
 
-pub use failure::{Failure, LabelName};
+pub use count_job::CountJob;
+pub use failure::{Failure, LabelName, QuestionName};
 pub use job::{BoardsJob, Job, PickJob, prepare, serve};
 pub use notations::Format;
+pub use questions::Questions;
 pub use report::Report;
 pub use request::{Notices, Request, StreamRequest};
 pub use search::{Look, Search, planned};
+pub use statistics::Style;
 pub use when::When;

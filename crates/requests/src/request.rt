@@ -2,10 +2,13 @@
 
 ghost use Rattle.std.specs.Prelude.{◌≤◌, ◌^◌};
 
+use crate::failure::QuestionName;
+use crate::questions::Questions;
 use crate::search::{Look, Search};
 use crate::when::When;
 use notations::Format;
 use predeal::PredealtHands;
+use statistics::Style;
 
 /// What a person is told while a run lasts and when it has ended. Nothing else depends on it.
 #[derive(Clone, Copy, Debug)]
@@ -42,6 +45,13 @@ pub enum Request<'a> {
         format: Format,
         notices: Notices,
     },
+    /// A table of what the accepted deals answer.
+    Count {
+        search: Search<'a>,
+        questions: Questions<'a>,
+        style: Style,
+        notices: Notices,
+    },
     /// The boards of the candidates whose numbers the input gives.
     Pick {
         seed: u32,
@@ -60,6 +70,7 @@ impl<'a> Request<'a> {
         match self {
             Request::Make { search, look, .. } => Some((*search, *look)),
             Request::Find { search, format, .. } => Some((*search, Look::plain(*format))),
+            Request::Count { search, .. } => Some((*search, Look::plain(Format::Numbers))),
             Request::Pick {
                 seed,
                 hands,
@@ -70,10 +81,20 @@ impl<'a> Request<'a> {
         }
     }
 
+    /// Returns the text of this question, if the request has it.
+    pub fn question(&self, name: QuestionName) -> Option<&'a str> {
+        match self {
+            Request::Count { questions, .. } => questions.text(name),
+            _ => None,
+        }
+    }
+
     /// Returns when lines that help a person stand below a refusal.
     pub fn hints(&self) -> When {
         match self {
-            Request::Make { notices, .. } | Request::Find { notices, .. } => notices.hints,
+            Request::Make { notices, .. }
+            | Request::Find { notices, .. }
+            | Request::Count { notices, .. } => notices.hints,
             Request::Pick { hints, .. } => *hints,
             Request::Conditions | Request::Stream(_) => When::Auto,
         }

@@ -4,7 +4,7 @@ use Rattle.std.specs.Str.{bytes_eq}
 use Rattle.clap.specs.Walk.{Row, Text}
 use Rattle.clap.specs.declared.error.kind.ErrorKind.{ErrorKind}
 use Rattle.clap.specs.declared.error.kind.ErrorKind.TheVariants.{InvalidValue, MissingRequiredArgument}
-use Rattle.deals_cli.specs.CommandLine.{asked, has_no_end, has_unknown, kinds_for, made_by, search_in, stream_wish}
+use Rattle.deals_cli.specs.CommandLine.{asked, has_unknown, lacks_option, kinds_for, made_by, search_in, stream_wish}
 use Rattle.deals_cli.specs.internal.Readings.{MakeValues, StreamValues}
 use Rattle.requests.specs.Requests.{conditions}
 
@@ -14,13 +14,13 @@ pub record IsRefused (words : List Text) (kind : ErrorKind) : Type 0 where
   pub kinds_are : kinds_for words ≡ kind ∷ []
 
 -- words that name `make` or one of its kind ask for it if each word is one of its option's values
--- and an end is given, and else they are refused
+-- and no option is missing, and else they are refused
 pub record AsksMake (words : List Text) (name : Text) (rows : List Row) : Type 0 where
-  pub ends : has_unknown rows ≡ false → has_no_end name (search_in rows) ≡ false
+  pub ends : has_unknown name rows ≡ false → lacks_option name (search_in rows) rows ≡ false
       → asked words ≡ Some (made_by name (search_in rows) rows)
-  pub no_end : has_unknown rows ≡ false → has_no_end name (search_in rows) ≡ true
+  pub missing : has_unknown name rows ≡ false → lacks_option name (search_in rows) rows ≡ true
       → IsRefused words MissingRequiredArgument
-  pub unknown : has_unknown rows ≡ true → IsRefused words InvalidValue
+  pub unknown : has_unknown name rows ≡ true → IsRefused words InvalidValue
 
 -- the options of the subcommand have the values that are read of them
 pub record HasValues (name : Text) (rows : List Row) : Type 0 where

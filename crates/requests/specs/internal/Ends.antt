@@ -7,15 +7,19 @@ use Rattle.notations.specs.Formats.{layout_of}
 use Rattle.picking.specs.Outcomes.{Picks}
 use Rattle.picking.specs.declared.fault.PickFault.{PickFault}
 use Rattle.picking.specs.declared.fault.PickFault.TheVariants as picks
+use Rattle.requests.specs.Counting.{table_by}
 use Rattle.requests.specs.Formats.{text_as}
 use Rattle.requests.specs.Interruptions.{InterruptsRun}
 use Rattle.requests.specs.Reported.{Counts}
 use Rattle.requests.specs.declared.failure.Failure.{Failure}
 use Rattle.requests.specs.declared.failure.Failure.TheVariants.{Interrupted, Line, Input}
 use Rattle.requests.specs.declared.job.BoardsJob.{BoardsJob}
+use Rattle.requests.specs.declared.count_job.CountJob.{CountJob}
 use Rattle.requests.specs.declared.job.PickJob.{PickJob}
 use Rattle.requests.specs.declared.report.Report.{Report}
 use Rattle.sinks.specs.Appended.{AppendsAll}
+use Rattle.statistics.specs.Counting.{counting}
+use Rattle.statistics.specs.Subjects.{subject_of}
 
 -- a run wrote its text and was counted, or was interrupted
 abbrev pub EndsBoards : BoardsJob → Result Report Cause → (old new : Option (List ℕ)) → Type 0
@@ -24,6 +28,14 @@ EndsBoards job (Ok report) old new =
     × Counts job.format job.plan job.condition report
 EndsBoards job (Err cause) old new =
     InterruptsRun (layout_of job.format job.plan.heading) job.plan job.condition cause old new
+
+-- a run wrote its table, or was interrupted
+abbrev pub EndsCount : {T : Type 0} → CountJob → Result T Cause
+    → (old new : Option (List ℕ)) → Type 0
+EndsCount job (Ok value) old new =
+    AppendsAll old new (table_by job.style (subject_of job.subject) job.plan job.condition)
+EndsCount job (Err cause) old new =
+    InterruptsRun (counting job.style (subject_of job.subject)) job.plan job.condition cause old new
 
 -- the output failed once if the cause is that, and else not
 abbrev pub FaultsOfRun : {T : Type 0} → Result T Cause → ℕ → ℕ → Type 0

@@ -2,7 +2,7 @@ use Rattle.std.proofs.Common.{◌∙◌, ap, ap₂, is_some, sym, Some}
 use Rattle.clap.specs.Words.{found_of, rows_of}
 use Rattle.clap.specs.declared.error.kind.ErrorKind.TheVariants.{InvalidValue, MissingRequiredArgument}
 use Rattle.requests.specs.Requests.{Wish, stream}
-use Rattle.deals_cli.specs.CommandLine.{has_no_end, made_by}
+use Rattle.deals_cli.specs.CommandLine.{lacks_option, made_by}
 use Rattle.deals_cli.proofs.Asked.{refused_asked, refused_kind}
 use Rattle.deals_cli.proofs.words.request_of.Goals as goal
 
@@ -28,19 +28,21 @@ returns-in-Some c words at =
     let unknown = sym c.unknown_in.ensures ∙ ap is_some c.in-Some.is in
     (λ some. refused_asked words InvalidValue (asks.unknown unknown) some, refused_kind words InvalidValue c.in_ok-invalid_value.field-0 (asks.unknown unknown) c.in_ok-invalid_value.ensures)
 
-pub returns-then-has_no_end : goal.returns-then-has_no_end
-returns-then-has_no_end c words at =
+pub returns-in-Some-missing_of : goal.returns-in-Some-missing_of
+returns-in-Some-missing_of c words at =
     let asks = at.make (sym c.if-eq.ensures) (sym c.if-eq-2.ensures) in
     let known = sym c.unknown_in.ensures ∙ ap is_some c.in_default.is in
-    let end = ap (has_no_end c.args.name.now) (sym c.search_in-search.ensures) ∙ sym c.if-has_no_end.ensures in (
-      λ some. refused_asked words MissingRequiredArgument (asks.no_end known end) some,
-      refused_kind words MissingRequiredArgument c.in_ok-missing_end.field-0 (asks.no_end known end) c.in_ok-missing_end.ensures,
+    let rows = rows_of (found_of c.args.matches.now) in
+    let lacks = ap (λ s. lacks_option c.args.name.now s rows) (sym c.search_in-search.ensures) ∙ sym c.missing_of.ensures ∙ ap is_some c.in-Some-missing_of.is in (
+      λ some. refused_asked words MissingRequiredArgument (asks.missing known lacks) some,
+      refused_kind words MissingRequiredArgument c.in_ok-missing_option.field-0 (asks.missing known lacks) c.in_ok-missing_option.ensures,
     )
 
 pub returns : goal.returns
 returns c words at =
     let asks = at.make (sym c.if-eq.ensures) (sym c.if-eq-2.ensures) in
     let known = sym c.unknown_in.ensures ∙ ap is_some c.in_default.is in
-    let end = ap (has_no_end c.args.name.now) (sym c.search_in-search.ensures) ∙ sym c.if-has_no_end.ensures in
-    asks.ends known end ∙ ap (λ s. Some (made_by c.args.name.now s (rows_of (found_of c.args.matches.now)))) (sym c.search_in-search.ensures)
+    let rows = rows_of (found_of c.args.matches.now) in
+    let lacks = ap (λ s. lacks_option c.args.name.now s rows) (sym c.search_in-search.ensures) ∙ sym c.missing_of.ensures ∙ ap is_some c.in_default-missing_of.is in
+    asks.ends known lacks ∙ ap (λ s. Some (made_by c.args.name.now s rows)) (sym c.search_in-search.ensures)
     ∙ ap (λ (w : Wish). Some w) (sym c.request_by.ensures)

@@ -1,0 +1,22 @@
+//! The job of a `count`.
+
+ghost use Rattle.std.specs.Prelude.{◌≡◌, ◌≤◌, ◌^◌};
+ghost use Rattle.boards.specs.Settings.{by_law};
+ghost use Rattle.statistics.specs.Counting.{cells_of};
+ghost use Rattle.statistics.specs.Subjects.{subject_of};
+
+use cond_lang::Cond;
+use plans::Plan;
+use statistics::{Style, Subject};
+
+/// A table of what the accepted ones among a plan's candidates answer.
+#[derive(Drop)]
+pub struct CountJob {
+    pub plan: Plan,
+    pub condition: Cond,
+    pub style: Style,
+    pub subject: Subject,
+    ghost small: { cells_of (subject_of subject) ≤ 2 ^ 20 },
+    // Nothing sets another dealer, and no deal is turned.
+    ghost plain: { plan.setting ≡ by_law },
+}
