@@ -234,8 +234,18 @@ class Reader:
 
 def condition(text):
     """The condition of a text, as a function of four hands, clockwise from North."""
+    return whole(Reader.condition, text)
+
+
+def value(text):
+    """The value of a text, as a function of four hands."""
+    return whole(Reader.value, text)
+
+
+def whole(rule, text):
+    """What a rule makes of the whole text."""
     reader = Reader(tokens_of(text))
-    found = reader.condition()
+    found = rule(reader)
     if reader.tokens:
         raise ValueError(f"{reader.tokens[0]!r} stands behind the end")
     return found

@@ -1,8 +1,13 @@
 """The calls of the program that are made to fail, and what each ends with where nothing fails."""
 
 import dataclasses
+import pathlib
+import sys
 
-import model
+sys.path.append(str(pathlib.Path(__file__).resolve().parent.parent / "counting"))
+
+import counts  # noqa: E402
+import model  # noqa: E402
 
 
 @dataclasses.dataclass
@@ -227,6 +232,40 @@ def of_find():
     yield Case("conditions", ["conditions"], out=None)
 
 
+# Questions, each with what four hands answer.
+QUESTIONS = {"hcp(south)": lambda d: model.points(d[SOUTH]), "longest(north)": lambda d: max(model.lengths(d[NORTH]))}
+
+
+def counted(style, candidates, texts):
+    """What `count` writes of the simple condition's deals among the first of seed 7."""
+    _, accepts = CONDITIONS["simple"]
+    state, answers = model.start(7), []
+    for _ in range(candidates):
+        hands, state = model.hands(state)
+        if accepts(hands):
+            answers.append(tuple(QUESTIONS[text](hands) for text in texts))
+    answers = [answer[0] if len(answer) == 1 else answer for answer in answers]
+    return counts.written(style, texts, ["value"] * len(texts), answers, candidates)
+
+
+def of_count():
+    text, _ = CONDITIONS["simple"]
+    texts = list(QUESTIONS)
+    for workers in (1, 3):
+        for style, asked_for in (("table", texts[:0]), ("csv", texts[:1]), ("table", texts[:1]), ("table", texts), ("html", texts)):
+            words = ["count", "--seed", "7", "--candidates", "300", "--where", text, "--format", style]
+            words += ["--workers", str(workers)]
+            for name, question in zip(["--of", "--by"], asked_for):
+                words += [name, question]
+            out = None if style == "html" else counted(style, 300, asked_for)
+            name = f"count, {style} of {len(asked_for)}, {workers} workers"
+            yield Case(name, words, out=out, workers=workers)
+    words = ["count", "--seed", "7", "--candidates", "300", "--of", "hcp(nord)"]
+    line = b"of refused at byte 4: unknown word\n"
+    yield Case("count, a refused question", [*words, *HINTS], 3, err=None, line=line)
+    yield Case("count, a refused question alone", words, 3, err=line)
+
+
 def every(is_all):
-    chosen = [*of_texts(), *of_make(), *of_find(), *of_pick(), *of_refusals()]
+    chosen = [*of_texts(), *of_make(), *of_find(), *of_count(), *of_pick(), *of_refusals()]
     return [*chosen, *of_more()] if is_all else chosen
