@@ -4,11 +4,13 @@ use Rattle.cards.specs.declared.seat.Seat.{Seat}
 use Rattle.cards.specs.Candidates.{state_before}
 
 -- what contracts see of `Candidates`: the state, how many draws it is from one candidate to the
--- next, and the fixed cards
+-- next, the fixed cards, and how many hands of the next candidate are dealt: West's is the first,
+-- South's the second
 pub record CandidatesView : Type 0 where
   pub state : ℕ
   pub stride : ℕ
   pub fixed : List (Option Seat)
+  pub dealt : ℕ
 
 -- the next deal is that of candidate k around the fixed cards, then come those of k + step,
 -- k + 2 * step, ..

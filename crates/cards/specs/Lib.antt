@@ -4,6 +4,7 @@ pub mod Deals
 pub mod Turning
 pub mod Measures
 pub mod Hands
+pub mod Weights
 pub mod Counts
 pub mod Balanced
 pub mod Ranks

@@ -4,4 +4,6 @@ pub mod MaskBits
 pub mod PackedMasks
 pub mod BalancedInOrder
 pub mod Around
+pub mod Dealings
 pub mod Exchanges
+pub mod WeightMasks

@@ -1,7 +1,7 @@
 //! Dealing around fixed cards: what is prepared of them once, and each deal by exchanges of the
 //! free cards, with each place drawn when it is needed.
 
-ghost use Rattle.std.specs.Prelude.{◌≡◌, ◌≤◌, ℕ, List, Option, ◌+◌, ◌-◌, ◌<◌, ◌^◌, slice_index};
+ghost use Rattle.std.specs.Prelude.{◌≡◌, ◌≤◌, ◌↔◌, ℕ, List, Option, ◌+◌, ◌-◌, ◌<◌, ◌^◌, IsTrue, slice_index};
 ghost use Rattle.lcg48.specs.Sequence.{state_after, step};
 ghost use Rattle.cards.specs.Deals.{IsPartition};
 ghost use Rattle.cards.specs.Fixed.{IsFixed, dealt_around, free_count, is_fixed_at, places_for};
@@ -9,6 +9,8 @@ ghost use Rattle.cards.specs.Fixed.{room};
 ghost use Rattle.cards.specs.declared.seat.Seat.TheVariants.{East, South, West};
 ghost use Rattle.cards.specs.internal.Around.{IsListed, IsSide, draws_around, fixed_mask, AreCards};
 ghost use Rattle.cards.specs.internal.Around.{IsDealingAround, IsSettled};
+ghost use Rattle.cards.specs.internal.Dealings.{IsSouthDealt, IsWestDealt, drawn_deal};
+ghost use Rattle.cards.specs.internal.Masks.{seat_mask};
 ghost use Rattle.cards.specs.declared.seat.Seat.{Seat as ASeat};
 
 use crate::fixed::{Fixed, held_by, is_open};
@@ -128,6 +130,77 @@ impl Around {
         };
         (self.count - rest) as u64
     }
+
+    /// Deals West's hand by the next draws, and returns its mask. Then `cards` is the list of the
+    /// free cards as the exchanges left it.
+    #[inline(always)]
+    pub(crate) fn deal_west(&self, cards: &mut [u8; 52], generator: &mut Lcg48) -> u64
+        ensures { IsWestDealt self.now generator.old generator.new cards.new result }
+    {
+        *cards = self.free;
+        if self.is_whole() {
+            return self.west.mask | settle(cards, generator, 52, 13);
+        }
+        self.west.mask | settle(cards, generator, self.count, self.west.room)
+    }
+
+    /// Deals South's hand by the draws after West's, and returns its mask.
+    #[inline(always)]
+    pub(crate) fn deal_south(&self, cards: &mut [u8; 52], generator: &mut Lcg48) -> u64
+        requires { AreCards cards.old }
+        ensures { (x west : ℕ) → IsWestDealt self.now x generator.old cards.old west
+            → IsSouthDealt self.now x generator.new cards.new west result }
+    {
+        if self.is_whole() {
+            return self.south.mask | settle(cards, generator, 39, 13);
+        }
+        let end = self.count - self.west.room;
+        self.south.mask | settle(cards, generator, end, self.south.room)
+    }
+
+    /// Deals East's hand by the draws after South's, and returns its mask.
+    #[inline(always)]
+    fn deal_east(&self, cards: &mut [u8; 52], generator: &mut Lcg48) -> u64
+        requires { AreCards cards.old }
+        ensures { (x west south : ℕ) → IsSouthDealt self.now x generator.old cards.old west south
+            → result ≡ seat_mask (drawn_deal self.now x) East }
+    {
+        if self.is_whole() {
+            return self.east.mask | settle(cards, generator, 26, 13);
+        }
+        let end = self.count - self.west.room - self.south.room;
+        self.east.mask | settle(cards, generator, end, self.east.room)
+    }
+
+    /// The deal of which West's and South's hands are dealt, by the draws after South's.
+    #[inline(always)]
+    pub(crate) fn deal_rest(
+        &self,
+        cards: &mut [u8; 52],
+        generator: &mut Lcg48,
+        west: u64,
+        south: u64,
+    ) -> Deal
+        requires { (x : ℕ) × IsSouthDealt self.now x generator.old cards.old west south }
+        ensures value { (x : ℕ) → IsSouthDealt self.now x generator.old cards.old west south
+            → result ≡ drawn_deal self.now x }
+        ensures partition { IsPartition result }
+    {
+        if self.north.room == 0 {
+            return Deal::with_rest_to_east(self.north.mask, south, west);
+        }
+        let east = self.deal_east(cards, generator);
+        Deal::with_rest_to_north(east, south, west)
+    }
+
+    /// Whether no card is fixed. Then each hand is dealt with constants in place of the numbers
+    /// that are kept, and its exchanges are compiled without a loop.
+    #[inline(always)]
+    fn is_whole(&self) -> bool
+        ensures { IsTrue result ↔ (free_count self.now ≡ 52) }
+    {
+        self.count == 52
+    }
 }
 
 /// What is fixed at the seat.
@@ -142,7 +215,7 @@ fn side_of(seats: &[Option<Seat>; 52], seat: Seat) -> Side
 }
 
 /// The cards that are fixed at the seat.
-fn mask_fixed(seats: &[Option<Seat>; 52], seat: Seat) -> u64
+pub(crate) fn mask_fixed(seats: &[Option<Seat>; 52], seat: Seat) -> u64
     ensures { result ≡ fixed_mask seats.now seat }
 {
     let mut mask = 0;

@@ -4,10 +4,12 @@ ghost use Rattle.std.specs.Prelude.{◌≡◌, ℕ, List, Option, ◌+◌, ◌-�
 ghost use Rattle.cards.specs.CandidateWalks.{GoesOnAt};
 ghost use Rattle.cards.specs.Deals.{IsPartition};
 ghost use Rattle.cards.specs.Fixed.{candidate_around, none_fixed};
+ghost use Rattle.cards.specs.Hands.{hand_of};
+ghost use Rattle.cards.specs.declared.seat.Seat.TheVariants.{South, West};
 ghost use Rattle.cards.specs.declared.seat.Seat.{Seat as ASeat};
 
 use crate::around::Around;
-use crate::{Deal, Fixed};
+use crate::{Deal, Fixed, Hand};
 use lcg48::{Lcg48, Steps, Stride};
 use std::marker::Model;
 
@@ -21,28 +23,42 @@ pub const MAX_CANDIDATES: u64 = 1 << 40;
 
 /// Every `step`-th candidate of a seed around fixed cards, from one on. Contracts see the
 /// generator's state before the next candidate's draws, how many draws it is from there to those of
-/// the candidate after it, and the fixed cards.
+/// the candidate after it, the fixed cards, and how many hands of the next candidate are dealt:
+/// none, West's, or West's and South's.
 ///
-/// A deal need not take all draws of its candidate. The gap is what it leaves up to the next one.
+/// A deal need not take all draws of its candidate: the gap is what a whole deal leaves up to the
+/// next one. A candidate that isn't dealt whole is left from its start.
 #[derive(Drop)]
 pub struct Candidates {
-    generator: Lcg48,
+    start: Lcg48,
+    stride: Stride,
     gap: Stride,
     around: Around,
+    cards: [u8; 52],
+    generator: Lcg48,
+    west: u64,
+    south: u64,
+    dealt: u8,
 }
 
 impl Model for Candidates {
-    ghost use Rattle.std.specs.Prelude.{◌+◌};
+    ghost use Rattle.std.specs.Prelude.{◌≡◌, ◌+◌};
     ghost use Rattle.cards.specs.CandidateWalks.{CandidatesView};
     ghost use Rattle.cards.specs.internal.Around.{draws_around};
+    ghost use Rattle.cards.specs.internal.Dealings.{IsUnderWay};
 
     ghost Value = { CandidatesView };
 
     ghost view = { λ c. record {
-      state = c.generator;
-      stride = draws_around c.around + c.gap;
+      state = c.start;
+      stride = c.stride;
       fixed = c.around;
+      dealt = c.dealt;
     } };
+
+    ghost invariant = { λ c.
+        IsUnderWay c.around c.start c.generator c.cards c.west c.south c.dealt
+        × (draws_around c.around + c.gap ≡ c.stride) };
 }
 
 impl Candidates {
@@ -65,12 +81,19 @@ impl Candidates {
     {
         let mut steps = Steps::new();
         let jump = Stride::of(DRAWS * first, &mut steps);
+        let start = jump.apply(&Lcg48::seeded(seed));
         let around = Around::of(fixed);
-        let gap = DRAWS * u64::from(step) - around.draws();
+        let stride = DRAWS * u64::from(step);
         Candidates {
-            generator: jump.apply(&Lcg48::seeded(seed)),
-            gap: Stride::of(gap, &mut steps),
+            start,
+            stride: Stride::of(stride, &mut steps),
+            gap: Stride::of(stride - around.draws(), &mut steps),
             around,
+            cards: [0; 52],
+            generator: start,
+            west: 0,
+            south: 0,
+            dealt: 0,
         }
     }
 
@@ -85,8 +108,86 @@ impl Candidates {
             → GoesOnAt self.old fixed seed number step
             → GoesOnAt self.new fixed seed (number + step) step }
     {
-        let deal = self.around.draw(&mut self.generator);
-        self.generator = self.gap.apply(&self.generator);
+        // In one piece, which is quicker than hand by hand.
+        let deal = self.around.draw(&mut self.start);
+        self.start = self.gap.apply(&self.start);
+        self.dealt = 0;
         deal
+    }
+
+    /// Deals West's hand of the next candidate, and no more. What was dealt of it before is dealt
+    /// anew.
+    #[inline(always)]
+    pub fn deal_west(&mut self) -> Hand
+        ensures hand { (fixed : List (Option ASeat)) (seed number step : ℕ)
+            → GoesOnAt self.old fixed seed number step
+            → result ≡ hand_of (candidate_around fixed seed number) West }
+        ensures stays { (fixed : List (Option ASeat)) (seed number step : ℕ)
+            → GoesOnAt self.old fixed seed number step
+            → GoesOnAt self.new fixed seed number step }
+        ensures dealt { self.new.dealt ≡ 1 }
+    {
+        let mut generator = self.start;
+        let west = self.around.deal_west(&mut self.cards, &mut generator);
+        self.generator = generator;
+        self.west = west;
+        self.dealt = 1;
+        Hand::of_mask(west)
+    }
+
+    /// Deals South's hand of the next candidate too, once West's is dealt.
+    #[inline(always)]
+    pub fn deal_south(&mut self) -> Hand
+        requires { self.old.dealt ≡ 1 }
+        ensures hand { (fixed : List (Option ASeat)) (seed number step : ℕ)
+            → GoesOnAt self.old fixed seed number step
+            → result ≡ hand_of (candidate_around fixed seed number) South }
+        ensures stays { (fixed : List (Option ASeat)) (seed number step : ℕ)
+            → GoesOnAt self.old fixed seed number step
+            → GoesOnAt self.new fixed seed number step }
+        ensures dealt { self.new.dealt ≡ 2 }
+    {
+        let mut generator = self.generator;
+        let south = self.around.deal_south(&mut self.cards, &mut generator);
+        self.generator = generator;
+        self.south = south;
+        self.dealt = 2;
+        Hand::of_mask(south)
+    }
+
+    /// Deals the rest of the next candidate, once West's and South's hands are dealt, and goes on
+    /// to the candidate after it.
+    #[inline(always)]
+    pub fn finish(&mut self) -> Deal
+        requires { self.old.dealt ≡ 2 }
+        ensures deal { (fixed : List (Option ASeat)) (seed number step : ℕ)
+            → GoesOnAt self.old fixed seed number step
+            → result ≡ candidate_around fixed seed number }
+        ensures partition { IsPartition result }
+        ensures moved { (fixed : List (Option ASeat)) (seed number step : ℕ)
+            → GoesOnAt self.old fixed seed number step
+            → GoesOnAt self.new fixed seed (number + step) step }
+        ensures dealt { self.new.dealt ≡ 0 }
+    {
+        let mut generator = self.generator;
+        let (west, south) = (self.west, self.south);
+        let deal = self
+            .around
+            .deal_rest(&mut self.cards, &mut generator, west, south);
+        self.dealt = 0;
+        self.skip();
+        deal
+    }
+
+    /// Goes on to the candidate after the next, which nobody needs any more.
+    #[inline(always)]
+    pub fn skip(&mut self)
+        ensures moved { (fixed : List (Option ASeat)) (seed number step : ℕ)
+            → GoesOnAt self.old fixed seed number step
+            → GoesOnAt self.new fixed seed (number + step) step }
+        ensures dealt { self.new.dealt ≡ 0 }
+    {
+        self.start = self.stride.apply(&self.start);
+        self.dealt = 0;
     }
 }

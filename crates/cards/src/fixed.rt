@@ -41,6 +41,14 @@ impl Fixed {
         Some(Fixed { seats })
     }
 
+    /// The fixed cards, of which no seat has more than thirteen.
+    pub(crate) fn of_seats(seats: [Option<Seat>; 52]) -> Fixed
+        requires { IsFixed seats }
+        ensures { result ≡ seats }
+    {
+        Fixed { seats }
+    }
+
     /// No card is fixed.
     pub fn none() -> Fixed
         ensures { result ≡ none_fixed }
@@ -57,7 +65,7 @@ impl Fixed {
     }
 
     /// The seats by card number.
-    pub(crate) fn as_array(&self) -> &[Option<Seat>; 52]
+    pub fn as_array(&self) -> &[Option<Seat>; 52]
         ensures seats { result.now ≡ self.now }
         ensures fixed { IsFixed result.now }
     {

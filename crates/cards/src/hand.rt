@@ -51,6 +51,15 @@ impl Hand {
         Hand { cards }
     }
 
+    /// The cards as a mask of 52 bits.
+    #[inline(always)]
+    pub(crate) fn mask(&self) -> u64
+        ensures cards { cards_of_mask result ≡ self.now }
+        ensures below { result < 2 ^ 52 }
+    {
+        self.cards
+    }
+
     /// The high card points: an ace counts 4, a king 3, a queen 2, a jack 1. At most 40.
     pub fn points(&self) -> u8
         ensures value { result ≡ points_of self.now }

@@ -94,7 +94,7 @@ suit_weight_most (a ∷ k ∷ u ∷ j ∷ x ∷ xs) hand suit four = absurd (ome
 
 -- ---- losers
 
-suit_losers_most : (hand : List Bool) (suit : Suit) → losers_in hand suit ≤ 3
+pub suit_losers_most : (hand : List Bool) (suit : Suit) → losers_in hand suit ≤ 3
 suit_losers_most hand suit =
     let n : ℕ = min (length_of hand suit) 3 in
     omega (
@@ -103,7 +103,7 @@ suit_losers_most hand suit =
       length-range_with_len 0 n,
     )
 
-losers_most : (hand : List Bool) → losers_of hand ≤ 12
+pub losers_most : (hand : List Bool) → losers_of hand ≤ 12
 losers_most hand = omega (arith, suit_losers_most hand Spades, suit_losers_most hand Hearts, suit_losers_most hand Diamonds, suit_losers_most hand Clubs)
 
 -- ---- measures

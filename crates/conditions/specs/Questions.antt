@@ -1,5 +1,5 @@
 -- A question about a deal: whether a condition holds, or what number a value is.
-use Rattle.std.specs.Prelude.{ℕ, ◌+◌, ◌≤◌, Bool, true, false, cond, List}
+use Rattle.std.specs.Prelude.{ℕ, ◌+◌, ◌*◌, ◌≤◌, Bool, true, false, cond, List}
 use Rattle.cards.specs.declared.seat.Seat.{Seat}
 use Rattle.conditions.specs.Bounds.{greatest_of}
 use Rattle.conditions.specs.Form.{Amount, Form}
@@ -23,6 +23,10 @@ answer (asks_value value) deal = value_in deal value
 abbrev pub greatest_answer : Question → ℕ
 greatest_answer (asks_condition tree) = 1
 greatest_answer (asks_value value) = greatest_of value
+
+-- no question has a greater answer: a value adds up 1,024 numbers of at most 9,999
+abbrev pub most_answer : ℕ
+most_answer = 1024 * 9999
 
 -- how many rows a table of the answers can have, that of the answer 0 included
 abbrev pub rows_of : Question → ℕ

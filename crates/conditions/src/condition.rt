@@ -1,6 +1,6 @@
 //! A condition: made of a tree, cloned, and asked whether it holds of a deal.
 
-ghost use Rattle.std.specs.Prelude.{◌≡◌};
+ghost use Rattle.std.specs.Prelude.{◌≡◌, IfSome};
 ghost use Rattle.conditions.specs.declared.tree.Op.TheVariants.{Equal};
 ghost use Rattle.conditions.specs.Form.{form_of, compare, number};
 ghost use Rattle.conditions.specs.Limits.{IsWithinLimits, HasAtMostAtoms, HasNumbersUpTo};
@@ -9,8 +9,9 @@ ghost use Rattle.conditions.specs.Memory.{IsUnlessMemory};
 
 use crate::error::CondError;
 use crate::meaning;
+use crate::screen::Screen;
 use crate::tree::{Op, Tree, Value};
-use cards::Deal;
+use cards::{Deal, Fixed};
 use std::alloc::Global;
 use std::marker::Model;
 
@@ -73,6 +74,15 @@ impl Cond {
             }),
             Err(_) => Err(CondError::Memory),
         }
+    }
+
+    /// The condition's screen, for candidates around these fixed cards. Returns `None` if an
+    /// allocation failed.
+    pub fn screen(&self, fixed: &Fixed) -> Option<Screen>
+        ensures form { IfSome result (λ screen. screen.form ≡ self.now) }
+        ensures fixed { IfSome result (λ screen. screen.fixed ≡ fixed.now) }
+    {
+        Screen::new(self.alloc, self, fixed)
     }
 
     /// Whether the condition is true of the deal.

@@ -1,9 +1,9 @@
 //! A question about a deal: a condition, or a value.
 
-ghost use Rattle.std.specs.Prelude.{◌≡◌, ◌<◌};
+ghost use Rattle.std.specs.Prelude.{◌≡◌, ◌+◌, ◌<◌, ◌≤◌};
 ghost use Rattle.conditions.specs.Form.{amount_of};
 ghost use Rattle.conditions.specs.Questions.{IsSmall, answer, asks_condition, asks_value};
-ghost use Rattle.conditions.specs.Questions.{is_condition, rows_of};
+ghost use Rattle.conditions.specs.Questions.{is_condition, most_answer, rows_of};
 
 use crate::condition::Cond;
 use crate::meaning;
@@ -67,9 +67,12 @@ impl Question {
         matches!(self.asked, Asked::Condition(_))
     }
 
-    /// How many rows a table of the answers can have: 1 more than the greatest answer.
+    /// How many rows a table of the answers can have: 1 more than the greatest answer, so at most
+    /// 10,238,977.
+    #[tactic(auto, using(crate::proofs::FewRows::few_rows))]
     pub fn rows(&self) -> u32
-        ensures { result ≡ rows_of self.now }
+        ensures value { result ≡ rows_of self.now }
+        ensures few { result ≤ most_answer + 1 }
     {
         match &self.asked {
             Asked::Condition(_) => 2,

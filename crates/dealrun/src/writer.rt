@@ -4,7 +4,7 @@ ghost use Rattle.std.specs.Prelude.{◌≡◌, ◌<◌, ◌≤◌, vec_len};
 
 use crate::join::Written;
 use boards::Notation;
-use lanes::{LaneOut, Turns, Verdict};
+use lanes::{LaneOut, Slot, Turns};
 use plans::{Plan, is_full, put_board};
 use sinks::{Sink, SinkFault, put_all};
 use std::sync::Wait;
@@ -29,13 +29,14 @@ impl Progress {
     ghost use Rattle.std.specs.Prelude.{◌≡◌, ◌-◌, ◌+◌, ◌<◌, ◌^◌, ◌++◌, ◌∷◌, [], cond, true};
     ghost use Rattle.std.specs.Prelude.{List, OnErr, OnOk};
     ghost use Rattle.sinks.specs.Appended.{append_known, AppendsPart};
+    ghost use Rattle.lanes.specs.Slots.{verdict_in};
     ghost use Rattle.sinks.specs.Sinks.{CountsFault};
     ghost use Rattle.dealrun.specs.internal.Writing.{board_text};
     ghost use Rattle.boards.specs.declared.board.Board.{Board};
     ghost use Rattle.plans.specs.Text.{board_of};
 
-    /// Counts a verdict that was taken, and writes its board if it is accepted. Now and then the
-    /// sink hears how far that is.
+    /// Counts a verdict that was taken, and writes its board if it is accepted. Only then it asks
+    /// for the deal. Now and then the sink hears how far that is.
     // In line, since to copy a verdict that was made just now takes 10 ns.
     #[inline(always)]
     fn write<N: Notation, S: Sink>(
@@ -43,7 +44,7 @@ impl Progress {
         plan: &Plan,
         notation: &mut N,
         sink: &mut S,
-        verdict: &Verdict,
+        slot: &Slot,
     ) -> Result<(), SinkFault>
         requires taken { self.old.taken < 2 ^ 40 }
         requires faults { S.faults sink.old < 2 ^ 64 - 1 }
@@ -52,24 +53,26 @@ impl Progress {
             × (self.new.turns.workers ≡ self.old.turns.workers) }
         ensures faults { CountsFault (S.faults sink.old) (S.faults sink.new) result }
         ensures boards { OnOk result (self.new.boards
-            ≡ cond verdict.now.accepted (self.old.boards + 1) self.old.boards) }
+            ≡ cond (verdict_in slot.now).accepted (self.old.boards + 1) self.old.boards) }
         ensures bytes { OnOk result (S.bytes sink.new ≡ append_known (S.bytes sink.old)
-            (cond verdict.now.accepted
-            (board_text (N.layout notation.old) plan.now self.old.boards verdict.now) [])) }
+            (cond (verdict_in slot.now).accepted
+            (board_text (N.layout notation.old) plan.now self.old.boards
+            (verdict_in slot.now)) [])) }
         ensures printed { OnOk result ((before : List Board)
             → N.has_printed notation.old before
-            → N.has_printed notation.new (cond verdict.now.accepted (before ++ board_of plan.now
-            self.old.boards verdict.now.number verdict.now.deal ∷ []) before)) }
-        ensures broken { OnErr result ((verdict.now.accepted ≡ true)
+            → N.has_printed notation.new (cond (verdict_in slot.now).accepted
+            (before ++ board_of plan.now self.old.boards
+            (verdict_in slot.now).number (verdict_in slot.now).deal ∷ []) before)) }
+        ensures broken { OnErr result (((verdict_in slot.now).accepted ≡ true)
             × (self.new.boards ≡ self.old.boards)
             × AppendsPart (S.bytes sink.old) (S.bytes sink.new)
-            (board_text (N.layout notation.old) plan.now self.old.boards verdict.now)) }
+            (board_text (N.layout notation.old) plan.now self.old.boards (verdict_in slot.now))) }
     {
         self.turns.advance();
         self.taken += 1;
-        if verdict.accepted {
+        if slot.accepted() {
             let board = self.boards;
-            put_board(plan, notation, board, verdict.number, &verdict.deal, sink)?;
+            put_board(plan, notation, board, slot.number(), &slot.deal(), sink)?;
             self.boards += 1;
         }
         if self.taken % BETWEEN_WATCHES == 0 {
@@ -164,8 +167,8 @@ impl Writer {
                 let _settled = lane.is_settled();
                 return Ok(());
             }
-            let verdict = lane.take_known();
-            self.progress.write(&self.plan, notation, sink, &verdict)?;
+            let slot = lane.take_slot();
+            self.progress.write(&self.plan, notation, sink, &slot)?;
         }
         Ok(())
     }

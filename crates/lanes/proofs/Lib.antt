@@ -6,3 +6,4 @@ pub mod Steps
 pub mod Blocks
 pub mod Fields
 pub mod Runs
+pub mod Screens

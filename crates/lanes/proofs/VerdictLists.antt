@@ -1,16 +1,19 @@
 -- A worker's verdicts, one by one.
-use Rattle.std.proofs.Common.{ℕ, ◌+◌, ◌*◌, ◌%◌, ◌<◌, ◌≡◌, ◌==◌, Bool, List, [], ◌∷◌, ◌++◌, length, take, map, refl, sym, ◌∙◌, ap, arith}
+use Rattle.std.proofs.Common.{ℕ, ◌+◌, ◌*◌, ◌%◌, ◌^◌, ◌<◌, ◌≤◌, ◌≡◌, ◌==◌, Bool, false, List, [], ◌∷◌, ◌++◌, length, take, map, refl, sym, ◌∙◌, ap, arith}
 use Rattle.std.specs.List.{range_with_len}
-use Rattle.std.specs.Prelude.{filter}
+use Rattle.std.specs.Prelude.{Option, filter}
 use Rattle.std.proofs.lemmas.Simd.{map-map}
 use Rattle.std.proofs.lemmas.List.{length-map}
 use Rattle.std.proofs.lemmas.List.FromFn.{map-range_with_len_more, take-map-range_with_len}
 use Rattle.cards.specs.declared.seat.Seat.{Seat}
+use Rattle.cards.specs.Fixed.{candidate_around}
+use Rattle.cards.specs.Packed.{PackedView, undealt}
 use Rattle.conditions.specs.Form.{Form}
 use Rattle.conditions.specs.Meaning.{holds}
 use Rattle.lanes.specs.declared.verdict.Verdict.{Verdict}
+use Rattle.lanes.specs.Slots.{SlotView, verdict_in}
 use Rattle.lanes.specs.Verdicts.{turns, verdicts, verdict_of}
-use Rattle.lanes.proofs.Places.{places, length-places, places-are}
+use Rattle.lanes.proofs.Places.{bounds, length-places, places, places-are, scaled}
 
 pub length-verdicts : (d : ℕ → List Seat) (f n : ℕ) (form : Form) (W w : ℕ) → length (verdicts d f n form W w) ≡ turns W w n
 unfolding verdicts places
@@ -51,3 +54,19 @@ same_verdicts d e f n form W w same = each_same (filter (λ i. i % W == w) (rang
     each_same : (xs : List ℕ) → map (λ i. verdict_of d form (f + i)) xs ≡ map (λ i. verdict_of e form (f + i)) xs
     each_same [] = refl
     each_same (x ∷ xs) = ap (λ v. v ∷ map (λ i. verdict_of d form (f + i)) xs) (one_same (f + x)) ∙ ap (λ vs. verdict_of e form (f + x) ∷ vs) (each_same xs)
+
+-- a share's candidates are among those of a seed
+pub number_below : (W w n first i : ℕ) → w < W → first + n ≤ 2 ^ 40 → i < turns W w n → first + w + i * W < 2 ^ 40
+number_below W w n first i lt within below =
+    let b = bounds W w n lt in
+    let step = scaled W i (turns W w n) below in
+    omega arith
+
+-- the verdict of a candidate that is rejected, by what it is dealt from
+pub rejected_slot : (seed : ℕ) (fixed : List (Option Seat)) (form : Form) (number : ℕ) (source : PackedView) (slot : SlotView)
+    → source ≡ undealt (record { seed = seed; fixed = fixed }) → slot ≡ record { number = number; kept = source }
+    → holds form (candidate_around fixed seed number) ≡ false
+    → verdict_in slot ≡ verdict_of (candidate_around fixed seed) form number
+rejected_slot seed fixed form number source slot source_is slot_is out =
+    ap verdict_in slot_is ∙ ap (λ s. verdict_in (record { number = number; kept = s })) source_is
+    ∙ verdict_made (candidate_around fixed seed) form number number false (candidate_around fixed seed number) refl refl (sym out)

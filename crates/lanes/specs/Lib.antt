@@ -1,4 +1,5 @@
 pub mod Verdicts
+pub mod Slots
 pub mod Views
 pub mod Ends
 pub mod Prefixes

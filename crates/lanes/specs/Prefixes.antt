@@ -1,9 +1,9 @@
--- Beginnings of a list of verdicts.
+-- Beginnings of a list.
 use Rattle.std.specs.Prelude.{◌≡◌, ◌<◌, List, length, take}
 use Rattle.lanes.specs.declared.verdict.Verdict.{Verdict}
 
 -- xs is a beginning of ys
-abbrev pub IsPrefix : List Verdict → List Verdict → Type 0
+abbrev pub IsPrefix : {A : Type 0} → List A → List A → Type 0
 IsPrefix xs ys = xs ≡ take (length xs) ys
 
 -- xs is a beginning of ys, and not the whole

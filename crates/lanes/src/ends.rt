@@ -3,6 +3,7 @@
 ghost use Rattle.std.specs.Prelude.{◌≡◌, ◌+◌, ◌*◌, ◌/◌, ◌<◌, ◌≤◌, ◌↔◌, ◌⊎◌, min, [], ◌∷◌, ◌++◌, length};
 ghost use Rattle.std.specs.Prelude.{IsTrue, IsOk, IsSome, IsErrOf, OnOk, IfOk, IfErr, IfSome, IfNone};
 ghost use Rattle.std.specs.Prelude.{true, false};
+ghost use Rattle.lanes.specs.Slots.{verdict_in};
 ghost use Rattle.lanes.specs.declared.ends.LaneError.TheVariants.{Capacity, Memory};
 
 use crate::limits::MAX_CAPACITY;
@@ -41,12 +42,13 @@ impl Model for LaneIn {
     ghost use Rattle.std.specs.Prelude.{◌≤◌};
     ghost use Rattle.rtrb.specs.Ring.{sent, known_free};
     ghost use Rattle.lanes.specs.Ends.{InView};
+    ghost use Rattle.lanes.specs.Slots.{verdicts_in};
     ghost use Rattle.lanes.specs.internal.Rings.{ring_of_producer};
 
     ghost Value = { InView };
 
     ghost view = { λ l. record {
-      sent = sent l.producer;
+      sent = verdicts_in (sent l.producer);
       room = known_free l.producer;
       ring = ring_of_producer l.producer;
     } };
@@ -63,12 +65,13 @@ pub struct Closed {
 impl Model for Closed {
     ghost use Rattle.rtrb.specs.Ring.{all_sent};
     ghost use Rattle.lanes.specs.Ends.{ClosedView};
+    ghost use Rattle.lanes.specs.Slots.{verdicts_in};
     ghost use Rattle.lanes.specs.internal.Rings.{ring_of_finished};
 
     ghost Value = { ClosedView };
 
     ghost view = { λ c. record {
-      sent = all_sent c.finished;
+      sent = verdicts_in (all_sent c.finished);
       ring = ring_of_finished c.finished;
     } };
 }
@@ -86,6 +89,7 @@ pub struct LaneOut {
 impl Model for LaneOut {
     ghost use Rattle.std.specs.Prelude.{◌≡◌, ◌++◌, cond, [], length};
     ghost use Rattle.rtrb.specs.Ring.{received, known_items};
+    ghost use Rattle.lanes.specs.Slots.{verdicts_in};
     ghost use Rattle.lanes.specs.Views.{OutView};
     ghost use Rattle.lanes.specs.internal.Rings.{ring_of_consumer, without_last};
 
@@ -93,11 +97,11 @@ impl Model for LaneOut {
 
     // The block's verdicts are out of the ring and not yet taken.
     ghost view = { λ l. record {
-      taken = without_last (length l.block) (received l.consumer);
+      taken = verdicts_in (without_last (length l.block) (received l.consumer));
       known = length (l.block ++ known_items l.consumer);
       ring = ring_of_consumer l.consumer;
       settled = l.settled;
-      left = cond l.settled (l.block ++ known_items l.consumer) [];
+      left = cond l.settled (verdicts_in (l.block ++ known_items l.consumer)) [];
     } };
 
     ghost invariant = { λ l. received l.consumer
@@ -235,7 +239,7 @@ impl LaneIn {
     pub(crate) fn send_slot(&mut self, verdict: Slot)
         requires { 0 < self.old.room }
         ensures ring { self.new.ring ≡ self.old.ring }
-        ensures sent { self.new.sent ≡ self.old.sent ++ verdict ∷ [] }
+        ensures sent { self.new.sent ≡ self.old.sent ++ verdict_in verdict ∷ [] }
         ensures room { self.old.room ≡ self.new.room + 1 }
     {
         // A push is the core's Send.
@@ -339,9 +343,20 @@ impl LaneOut {
         ensures known { self.old.known ≡ self.new.known + 1 }
         ensures left { TakesOfLeft self.old result self.new }
     {
+        self.take_slot().verdict()
+    }
+
+    /// Takes the next verdict, which is known to wait, as the lane keeps it. Never blocks.
+    pub fn take_slot(&mut self) -> Slot
+        requires { 0 < self.old.known }
+        ensures same { (self.new.ring ≡ self.old.ring) × (self.new.settled ≡ self.old.settled) }
+        ensures taken { self.new.taken ≡ self.old.taken ++ verdict_in result ∷ [] }
+        ensures known { self.old.known ≡ self.new.known + 1 }
+        ensures left { TakesOfLeft self.old (verdict_in result) self.new }
+    {
         // This is the core's Take while the run goes on, and no event afterwards.
         if self.block.is_empty() {
-            return self.consumer.pop_known().verdict();
+            return self.consumer.pop_known();
         }
         self.block.take_first()
     }

@@ -6,10 +6,13 @@
 //! So the writer takes what is there out of the ring at once, up to a block.
 
 ghost use Rattle.std.specs.Prelude.{◌≡◌, ◌<◌, ◌≤◌, ◌↔◌, [], ◌∷◌, ◌++◌, length, IsTrue};
+ghost use Rattle.cards.specs.Deals.{IsPartition};
+ghost use Rattle.cards.specs.Packed.{HasNumber};
 ghost use Rattle.rtrb.specs.Ring.{received, known_items, SameConsumer};
 ghost use Rattle.lanes.specs.Prefixes.{IsPrefix};
+ghost use Rattle.lanes.specs.Slots.{verdict_in};
 
-use cards::{Deal, PackedDeal, Places};
+use cards::{Deal, Packed, Places};
 use lcg48::Lcg48;
 use rtrb::Consumer;
 use std::marker::Model;
@@ -33,59 +36,82 @@ impl Verdict {
     }
 }
 
-/// A verdict, with whether it is accepted in one word with a part of its deal.
+/// A verdict as a lane keeps it: of a rejected candidate it may have only what the candidate is
+/// dealt from, whose deal is drawn when somebody asks for it.
 #[derive(Clone, Copy, Drop)]
-pub(crate) struct Slot {
+pub struct Slot {
     number: u64,
-    deal: PackedDeal,
+    packed: Packed,
 }
 
 impl Model for Slot {
     ghost use Rattle.std.specs.Prelude.{refl};
-    ghost use Rattle.lanes.specs.declared.verdict.Verdict.{Verdict};
+    ghost use Rattle.cards.specs.Packed.{HasNumber};
+    ghost use Rattle.lanes.specs.Slots.{SlotView};
 
-    ghost Value = { Verdict };
+    ghost Value = { SlotView };
 
-    ghost view = { λ s. record {
-      number = s.number;
-      accepted = s.deal.flag;
-      deal = s.deal.deal;
-    } };
+    ghost view = { λ s. record { number = s.number; kept = s.packed } };
 
-    ghost inverse = { λ v. record {
-      number = v.number;
-      deal = record { deal = v.deal; flag = v.accepted };
-    } };
+    ghost invariant = { λ s. HasNumber s.packed s.number };
+
+    ghost inverse = { λ v. record { number = v.number; packed = v.kept } };
 
     ghost inverse_ok = { λ s ok. refl };
 }
 
 impl Slot {
-    /// The slot of a verdict.
+    /// The slot of a verdict, with its deal.
     pub(crate) fn of(verdict: &Verdict) -> Slot
-        ensures { result ≡ verdict.now }
+        ensures { verdict_in result ≡ verdict.now }
     {
         Slot {
             number: verdict.number,
-            deal: PackedDeal::new(&verdict.deal, verdict.accepted),
+            packed: Packed::of_deal(&verdict.deal, verdict.accepted),
+        }
+    }
+
+    /// The slot of a rejected candidate, with what it is dealt from.
+    pub(crate) fn rejected(number: u64, source: &Packed) -> Slot
+        requires { HasNumber source.now number }
+        ensures { result ≡ record { number = number; kept = source.now } }
+    {
+        Slot {
+            number,
+            packed: *source,
         }
     }
 
     /// The number of the verdict's candidate.
-    pub(crate) fn number(&self) -> u64
-        ensures { result ≡ self.now.number }
+    pub fn number(&self) -> u64
+        ensures { result ≡ (verdict_in self.now).number }
     {
         self.number
     }
 
-    /// The verdict.
-    pub(crate) fn verdict(&self) -> Verdict
-        ensures { result ≡ self.now }
+    /// Whether the candidate is accepted.
+    pub fn accepted(&self) -> bool
+        ensures { result ≡ (verdict_in self.now).accepted }
+    {
+        self.packed.flag()
+    }
+
+    /// The candidate's deal. It is drawn now if the slot has only what it is dealt from.
+    pub fn deal(&self) -> Deal
+        ensures value { result ≡ (verdict_in self.now).deal }
+        ensures partition { IsPartition result }
+    {
+        self.packed.deal(self.number)
+    }
+
+    /// The verdict, whose deal is drawn now if the slot has only what it is dealt from.
+    pub fn verdict(&self) -> Verdict
+        ensures { result ≡ verdict_in self.now }
     {
         Verdict {
             number: self.number,
-            accepted: self.deal.flag(),
-            deal: self.deal.deal(),
+            accepted: self.accepted(),
+            deal: self.deal(),
         }
     }
 }
@@ -93,7 +119,7 @@ impl Slot {
 /// The most verdicts that an end of a lane keeps beside its ring.
 pub(crate) const MAX_BLOCK: usize = 16;
 
-/// Up to `most` verdicts, which contracts see as the list of them, oldest first.
+/// Up to `most` verdicts, which contracts see as the list of their slots, oldest first.
 #[derive(Drop)]
 pub(crate) struct Block {
     slots: [Slot; 16],
@@ -104,9 +130,9 @@ pub(crate) struct Block {
 
 impl Model for Block {
     ghost use Rattle.std.specs.Prelude.{◌≡◌, ◌≤◌, List, length, take, drop};
-    ghost use Rattle.lanes.specs.declared.verdict.Verdict.{Verdict};
+    ghost use Rattle.lanes.specs.Slots.{SlotView};
 
-    ghost Value = { List Verdict };
+    ghost Value = { List SlotView };
 
     ghost view = { λ b. drop b.start (take b.end b.slots) };
 
@@ -146,13 +172,13 @@ impl Block {
     }
 
     /// Takes the oldest verdict.
-    pub(crate) fn take_first(&mut self) -> Verdict
+    pub(crate) fn take_first(&mut self) -> Slot
         requires { 0 < length self.old }
         ensures { self.old ≡ result ∷ self.new }
     {
-        let verdict = self.slots[self.start].verdict();
+        let slot = self.slots[self.start];
         self.start += 1;
-        verdict
+        slot
     }
 
     /// Takes out of the ring what is there, up to a block. Never blocks.

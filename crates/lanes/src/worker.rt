@@ -4,17 +4,22 @@
 ghost use Rattle.std.specs.Prelude.{◌≡◌, ◌+◌, ◌*◌, ◌^◌, ◌<◌, ◌≤◌, [], ◌∷◌, ◌++◌, List, MatchBool};
 ghost use Rattle.std.specs.Prelude.{MatchResult, length, true, false, take};
 ghost use Rattle.cards.specs.CandidateWalks.{GoesOnAt};
+ghost use Rattle.cards.specs.Fixed.{candidate_around};
+ghost use Rattle.cards.specs.Packed.{undealt};
 ghost use Rattle.lanes.specs.Jobs.{verdicts_around, verdicts_of};
 ghost use Rattle.lanes.specs.Prefixes.{IsProperPrefix};
-ghost use Rattle.lanes.specs.Verdicts.{turns};
+ghost use Rattle.lanes.specs.Slots.{verdict_in, verdicts_in};
+ghost use Rattle.lanes.specs.Verdicts.{turns, verdict_of};
 ghost use Rattle.lanes.specs.Work.{Ends};
 ghost use Rattle.lanes.specs.declared.verdict.Verdict.{Verdict as AVerdict};
+ghost use Rattle.lanes.specs.internal.Screens.{DealsNext, IsScreenOf};
 
 use crate::ends::{Closed, LaneIn};
+use crate::screening::Screening;
 use crate::share::{Job, JobAround};
 use crate::verdict::{MAX_BLOCK, Slot, Verdict};
 use crate::wait::{Raised, raise};
-use cards::{Candidates, Fixed};
+use cards::{Candidates, Deal, Fixed, Packed};
 use std::alloc::Global;
 use std::sync::atomic::{AtomicBool, Ordering};
 use std::sync::{Arc, Wait};
@@ -136,6 +141,8 @@ fn send_all<R: Wait, G: Gate>(
 {
     let first = job.share.first + u64::from(job.share.worker);
     let mut candidates = Candidates::around(job.seed, first, job.share.workers, &job.fixed);
+    let source = Packed::of_source(job.seed, &job.fixed);
+    let mut screening = Screening::new(&job.cond, &job.fixed);
     // As the lane keeps them: to copy a verdict that was made just now takes 9 ns.
     let mut verdicts = [Slot::of(&Verdict::of_no_candidate()); MAX_BLOCK];
     let count = job.share.len();
@@ -143,7 +150,7 @@ fn send_all<R: Wait, G: Gate>(
     while place < count {
         let ahead = (count - place).min(lane.ahead() as u64);
         let block = &mut verdicts[..ahead as usize];
-        judge(job, &mut candidates, place, block);
+        judge(job, &mut candidates, &mut screening, &source, place, block);
         if !send_block(rt, job, lane, gate, stop, block) {
             return false;
         }
@@ -153,7 +160,17 @@ fn send_all<R: Wait, G: Gate>(
 }
 
 /// Judges the share's candidates from this place on, as many as the block has verdicts.
-fn judge(job: &JobAround, candidates: &mut Candidates, place: u64, block: &mut [Slot])
+fn judge(
+    job: &JobAround,
+    candidates: &mut Candidates,
+    screening: &mut Screening,
+    source: &Packed,
+    place: u64,
+    block: &mut [Slot],
+)
+    requires source { source.now
+        ≡ undealt (record { seed = job.now.seed; fixed = job.now.fixed }) }
+    requires screening { IsScreenOf screening.old job.now.cond job.now.fixed }
     requires fits { place + length block.old < 2 ^ 64 }
     requires within { place + length block.old
         ≤ turns job.now.share.workers job.now.share.worker job.now.share.count }
@@ -161,20 +178,100 @@ fn judge(job: &JobAround, candidates: &mut Candidates, place: u64, block: &mut [
         (job.now.share.first + job.now.share.worker + place * job.now.share.workers)
         job.now.share.workers }
     ensures len { length block.new ≡ length block.old }
+    ensures screening { IsScreenOf screening.new job.now.cond job.now.fixed }
     ensures at { GoesOnAt candidates.new job.now.fixed job.now.seed
         (job.now.share.first + job.now.share.worker
         + (place + length block.old) * job.now.share.workers)
         job.now.share.workers }
-    ensures block { take place (verdicts_around job.now) ++ block.new
+    ensures block { take place (verdicts_around job.now) ++ verdicts_in block.new
         ≡ take (place + length block.old) (verdicts_around job.now) }
 {
     for i in 0..block.len() {
-        let deal = candidates.next();
-        block[i] = Slot::of(&Verdict {
-            number: job.share.at(place + i as u64),
-            accepted: job.cond.holds(&deal),
+        let number = job.share.at(place + i as u64);
+        block[i] = judge_next(job, candidates, screening, source, number);
+    }
+}
+
+/// Judges the next candidate, which has this number.
+#[inline(always)]
+fn judge_next(
+    job: &JobAround,
+    candidates: &mut Candidates,
+    screening: &mut Screening,
+    source: &Packed,
+    number: u64,
+) -> Slot
+    requires source { source.now
+        ≡ undealt (record { seed = job.now.seed; fixed = job.now.fixed }) }
+    requires screening { IsScreenOf screening.old job.now.cond job.now.fixed }
+    requires number { number < 2 ^ 40 }
+    requires at { GoesOnAt candidates.old job.now.fixed job.now.seed number
+        job.now.share.workers }
+    ensures screening { IsScreenOf screening.new job.now.cond job.now.fixed }
+    ensures at { GoesOnAt candidates.new job.now.fixed job.now.seed
+        (number + job.now.share.workers) job.now.share.workers }
+    ensures slot { verdict_in result
+        ≡ verdict_of (candidate_around job.now.fixed job.now.seed) job.now.cond number }
+{
+    match deal_next(job, candidates, screening) {
+        Some(deal) => Slot::of(&Verdict {
+            number,
+            accepted: true,
             deal,
-        });
+        }),
+        None => Slot::rejected(number, source),
+    }
+}
+
+/// Deals the next candidate, and returns its deal if it is accepted.
+#[inline(always)]
+fn deal_next(
+    job: &JobAround,
+    candidates: &mut Candidates,
+    screening: &mut Screening,
+) -> Option<Deal>
+    requires { IsScreenOf screening.old job.now.cond job.now.fixed }
+    ensures screening { IsScreenOf screening.new job.now.cond job.now.fixed }
+    ensures next { DealsNext job.now.cond job.now.fixed candidates.old candidates.new result }
+{
+    if screening.is_on() {
+        return deal_by_hand(job, candidates, screening);
+    }
+    let deal = candidates.next();
+    if job.cond.holds(&deal) {
+        Some(deal)
+    } else {
+        None
+    }
+}
+
+/// Deals the next candidate hand by hand, and no further once it is known to be rejected. Returns
+/// its deal if it is accepted.
+#[inline(always)]
+fn deal_by_hand(
+    job: &JobAround,
+    candidates: &mut Candidates,
+    screening: &mut Screening,
+) -> Option<Deal>
+    requires { IsScreenOf screening.old job.now.cond job.now.fixed }
+    ensures screening { IsScreenOf screening.new job.now.cond job.now.fixed }
+    ensures next { DealsNext job.now.cond job.now.fixed candidates.old candidates.new result }
+{
+    let west = candidates.deal_west();
+    if screening.gives_up_west(&west) {
+        candidates.skip();
+        return None;
+    }
+    let south = candidates.deal_south();
+    if screening.gives_up_south(&west, &south) {
+        candidates.skip();
+        return None;
+    }
+    let deal = candidates.finish();
+    if job.cond.holds(&deal) {
+        Some(deal)
+    } else {
+        None
     }
 }
 
@@ -189,8 +286,9 @@ fn send_block<R: Wait, G: Gate>(
     block: &[Slot],
 ) -> bool
     ensures ring { lane.new.ring ≡ lane.old.ring }
-    ensures all { result ≡ true → lane.new.sent ≡ lane.old.sent ++ block.now }
-    ensures some { result ≡ false → IsProperPrefix lane.new.sent (lane.old.sent ++ block.now) }
+    ensures all { result ≡ true → lane.new.sent ≡ lane.old.sent ++ verdicts_in block.now }
+    ensures some { result ≡ false → IsProperPrefix lane.new.sent
+        (lane.old.sent ++ verdicts_in block.now) }
 {
     for i in 0..block.len() {
         let verdict = &block[i];
@@ -210,7 +308,7 @@ fn send_block<R: Wait, G: Gate>(
 fn send<R: Wait>(rt: &R, lane: &mut LaneIn, verdict: &Slot, stop: &AtomicBool) -> bool
     ensures ring { lane.new.ring ≡ lane.old.ring }
     ensures sent { MatchBool result
-        (lane.new.sent ≡ lane.old.sent ++ verdict.now ∷ [])
+        (lane.new.sent ≡ lane.old.sent ++ verdict_in verdict.now ∷ [])
         (lane.new.sent ≡ lane.old.sent) }
 {
     if !lane.has_room() && !lane.wait_for_room(rt, stop) {

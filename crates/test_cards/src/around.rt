@@ -2,7 +2,7 @@
 
 use crate::support::{deal_of, same};
 use cards::testing::fixed_in;
-use cards::{Candidates, Card, Deal, Fixed, MAX_CANDIDATES, Places, Seat};
+use cards::{Candidates, Card, Deal, Fixed, MAX_CANDIDATES, Packed, Places, Seat};
 use lcg48::Lcg48;
 use std::process::Abort;
 
@@ -84,6 +84,29 @@ fn worked_deals(rt: HostRuntime) {
             around(*seed, *candidate, hands),
             Some(deal_of(&rt, wanted)),
         );
+    }
+}
+
+/// The deal of the undealt candidate of the seed around the fixed cards, and its flag.
+fn undealt(seed: u32, candidate: u64, hands: &[u8]) -> Option<(Deal, bool)> {
+    let packed = Packed::of_source(seed, &Fixed::new(fixed_in(hands))?);
+    Some((packed.deal(candidate % MAX_CANDIDATES), packed.flag()))
+}
+
+#[test]
+fn undealt_candidates(rt: HostRuntime) {
+    for (seed, candidate, hands, wanted) in AROUND.iter() {
+        same(
+            &rt,
+            undealt(*seed, *candidate, hands),
+            Some((deal_of(&rt, wanted), false)),
+        );
+    }
+    for seed in [1, 4095, 4096, 0x1234_5678, u32::MAX] {
+        for hands in [b"" as &[u8], b"AKQ32.K..A", b"... A.A.A.A ... K.K.K.K"] {
+            let dealt = around(seed, 1_234_567, hands).map(|deal| (deal, false));
+            same(&rt, undealt(seed, 1_234_567, hands), dealt);
+        }
     }
 }
 
@@ -175,4 +198,54 @@ fn ten_thousand_sets_by_a_plain_program(rt: HostRuntime) {
             }
         }
     }
+}
+
+/// Deals the next candidate hand by hand, and returns the deal. Each hand that is dealt early must
+/// be that of the deal.
+fn by_hands(rt: &impl Abort, candidates: &mut Candidates) -> Deal {
+    let west = candidates.deal_west();
+    let south = candidates.deal_south();
+    let deal = candidates.finish();
+    same(
+        rt,
+        (west, south),
+        (deal.hand(Seat::West), deal.hand(Seat::South)),
+    );
+    deal
+}
+
+/// Two walks through the same candidates: one by whole deals, and one by hands that passes over
+/// each third candidate, at West's hand or before it.
+#[test]
+fn hand_by_hand(rt: HostRuntime) {
+    for (_, _, hands, _) in AROUND.iter() {
+        let fixed = Fixed::new(fixed_in(hands)).expect(&rt, "no more than thirteen");
+        let mut whole = Candidates::around(24, 7, 5, &fixed);
+        let mut parts = Candidates::around(24, 7, 5, &fixed);
+        for _ in 0..300 {
+            same(&rt, by_hands(&rt, &mut parts), whole.next());
+            same(&rt, parts.next(), whole.next());
+            let given_up = whole.next();
+            if given_up.hand(Seat::East).points() % 2 == 0 {
+                same(&rt, parts.deal_west(), given_up.hand(Seat::West));
+            }
+            parts.skip();
+        }
+    }
+}
+
+/// West's hand can be dealt again, at any time.
+#[test]
+fn dealt_anew(rt: HostRuntime) {
+    let mut candidates = Candidates::new(0, 0, 1);
+    let west = candidates.deal_west();
+    candidates.deal_south();
+    same(&rt, candidates.deal_west(), west);
+    same(
+        &rt,
+        by_hands(&rt, &mut candidates),
+        deal_of(&rt, AROUND[0].3),
+    );
+    candidates.deal_west();
+    same(&rt, candidates.next(), Candidates::new(0, 1, 1).next());
 }

@@ -2,9 +2,7 @@
 
 use crate::support::{deal_of, same};
 use cards::testing::{IN_ORDER, WORKED, seats_of};
-use cards::{
-    Candidates, Card, Deal, MAX_CANDIDATES, Measure, PackedDeal, Places, Seat, Suit, laws,
-};
+use cards::{Candidates, Card, Deal, MAX_CANDIDATES, Measure, Packed, Places, Seat, Suit, laws};
 use lcg48::{Lcg48, Steps, Stride};
 use std::process::Abort;
 
@@ -108,8 +106,8 @@ fn deals_of_seats(rt: HostRuntime) {
 fn packed_deals(rt: HostRuntime) {
     for deal in [deal_of(&rt, IN_ORDER), deal_of(&rt, WORKED)] {
         for flag in [false, true] {
-            let packed = PackedDeal::new(&deal, flag);
-            same(&rt, (packed.deal(), packed.flag()), (deal, flag));
+            let packed = Packed::of_deal(&deal, flag);
+            same(&rt, (packed.deal(0), packed.flag()), (deal, flag));
         }
     }
 }

@@ -4,6 +4,7 @@
 
 mod beginnings;
 mod questions;
+mod screens;
 mod trees;
 mod truths;
 mod words;

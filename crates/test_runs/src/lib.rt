@@ -9,6 +9,8 @@ mod events;
 #[cfg(test)]
 mod picks;
 #[cfg(test)]
+mod rejected;
+#[cfg(test)]
 mod shares;
 #[cfg(test)]
 mod showing;

@@ -233,7 +233,7 @@ amount_back (shortest q) = ap shortest (seat_back q)
 amount_back (second q) = ap second (seat_back q)
 
 -- and so each kind of tree
-abbrev form_stored : Form → Gv
+abbrev pub form_stored : Form → Gv
 form_stored (any_of a b) = gcons (gnum 0) (gcons (form_stored a) (form_stored b))
 form_stored (all_of a b) = gcons (gnum 1) (gcons (form_stored a) (form_stored b))
 form_stored (negation a) = gcons (gnum 2) (form_stored a)
@@ -247,7 +247,7 @@ form_stored (loose_pattern q items) = gcons (gnum 8) (gcons (seat_stored q) (ite
 form_stored (within a m n) = gcons (gnum 9) (gcons (amount_stored a) (gcons (gnum m) (gnum n)))
 form_stored (stops q s) = gcons (gnum 10) (gcons (seat_stored q) (suit_stored s))
 
-abbrev form_from : Gv → Form
+abbrev pub form_from : Gv → Form
 form_from (gcons (gnum zero) (gcons a b)) = any_of (form_from a) (form_from b)
 form_from (gcons (gnum (suc zero)) (gcons a b)) = all_of (form_from a) (form_from b)
 form_from (gcons (gnum (suc (suc zero))) a) = negation (form_from a)
@@ -271,7 +271,7 @@ form_from
     stops (seat_from q) (suit_from s)
 form_from _ = balanced North
 
-form_back : (t : Form) → form_from (form_stored t) ≡ t
+pub form_back : (t : Form) → form_from (form_stored t) ≡ t
 form_back (any_of a b) =
     ap (λ x. any_of x (form_from (form_stored b))) (form_back a) ∙ ap (any_of a) (form_back b)
 form_back (all_of a b) =

@@ -12,6 +12,7 @@ loop-place-init g c =
     record {
       ring = refl;
       sent = c.requires;
+      screening = c.new-screening.ensures;
       next = subst (λ n. GoesOnAt c.around-candidates.result j.fixed j.seed n s.workers) first c.around-candidates.ensures;
       count = c.len-count.ensures ∙ sym (length-verdicts (candidate_around j.fixed j.seed) s.first s.count j.cond s.workers s.worker);
       turns = c.len-count.ensures;

@@ -2,7 +2,7 @@ use Rattle.std.proofs.Common.{◌∙◌, ap}
 use Rattle.cards.specs.Candidates.{state_before}
 use Rattle.cards.specs.Fixed.{dealt_around, free_count, places_for}
 use Rattle.cards.specs.internal.Around.{draws_around}
-use Rattle.cards.proofs.Jumps.{past}
+use Rattle.cards.proofs.Jumps.{past_draws}
 use Rattle.cards.proofs.candidates.Candidates.next.Goals as goal
 
 pub returns-clause-deal : goal.returns-clause-deal
@@ -13,5 +13,5 @@ returns-clause-deal c fixed seed k step at =
 
 pub returns-clause-moved : goal.returns-clause-moved
 returns-clause-moved c fixed seed k step at =
-    past fixed seed k step c.args.self.now c.self.inside.generator c.draw-deal.new.generator c.apply-self-inside.result (draws_around c.self.inside.around) c.self.inside.gap c.self.inside.around at
-    (ap (λ v. v.state) c.self.view_is) (ap (λ v. v.stride) c.self.view_is) (ap (λ v. v.fixed) c.self.view_is) c.draw-deal.ensures.stepped c.apply-self-inside.ensures
+    past_draws fixed seed k step c.args.self.now c.self.inside.start c.draw-deal.new.generator c.apply-self-inside.result (draws_around c.self.inside.around) c.self.inside.gap c.self.inside.stride 0 c.self.inside.around at
+    (ap (λ v. v.state) c.self.view_is) (ap (λ v. v.stride) c.self.view_is) (ap (λ v. v.fixed) c.self.view_is) c.self.invariant.1 c.draw-deal.ensures.stepped c.apply-self-inside.ensures

@@ -2,6 +2,7 @@ use Rattle.std.proofs.Common.{◌≡◌, ◌≢◌, ◌<◌, ◌%◌, ◌++◌, 
 use Rattle.std.proofs.lemmas.Bool.{iff_false}
 use Rattle.std.proofs.lemmas.Result.{MatchResult-from_err}
 use Rattle.std.proofs.Math.Seq.{map-set_same}
+use Rattle.lanes.specs.Slots.{verdict_in}
 use Rattle.dealrun.specs.MergedVerdicts.{verdicts_for}
 use Rattle.dealrun.specs.internal.Joins.{AllWhole}
 use Rattle.dealrun.proofs.Advance.{on_to, broken_to}
@@ -40,8 +41,8 @@ returns-then-not-wait_for_verdict-clause-end g c base form h =
 pub returns-in_err-write-clause-lanes : goal.returns-in_err-write-clause-lanes
 returns-in_err-write-clause-lanes g c =
     let e = c.if-not-wait_for_verdict.ensures in
-    let t = c.take_known-verdict.ensures in
-    keeps_taken c.args.self.now.lanes.items c.loop-taken.self.lanes.items c.lane.result c.index_mut-lane.result.now c.wait_for_verdict.new.self c.take_known-verdict.new.self c.take_known-verdict.result c.loop-taken.invariant.lanes c.index_mut-lane.ensures.value e.same e.taken e.left t.same t.taken t.left
+    let t = c.take_slot-slot.ensures in
+    keeps_taken c.args.self.now.lanes.items c.loop-taken.self.lanes.items c.lane.result c.index_mut-lane.result.now c.wait_for_verdict.new.self c.take_slot-slot.new.self (verdict_in c.take_slot-slot.result) c.loop-taken.invariant.lanes c.index_mut-lane.ensures.value e.same e.taken e.left t.same t.taken t.left
 
 pub returns-in_err-write-clause-wrote : goal.returns-in_err-write-clause-wrote
 returns-in_err-write-clause-wrote g c base h =
@@ -51,8 +52,8 @@ returns-in_err-write-clause-wrote g c base h =
     let place : c.lane.result ≡ w.progress.taken % w.plan.workers = c.lane.ensures.lane ∙ ap (λ n. n % w.progress.turns.workers) w.progress.turn ∙ ap (λ k. w.progress.taken % k) w.workers in
     let less : w.plan.limit ≢ Some w.progress.boards = iff_false c.is_full.ensures c.if-is_full.false in
     let broke =
-    broken_to (g.N.Notation.layout c.args.notation.now) (g.N.Notation.layout c.loop-taken.notation) (g.N.Notation.has_printed c.loop-taken.notation) w.plan w.lanes.items w.progress.taken w.progress.boards base (g.S.Sink.bytes c.loop-taken.sink) c.take_known-verdict.result c.index_mut-lane.result.now c.take_known-verdict.new.self c.lane.result c.write.new.self.taken c.write.new.self.boards (g.S.Sink.bytes c.write.new.sink)
-    (omega (arith, c.lane.ensures.below, w.workers)) (i.wrote base h) less place c.index_mut-lane.ensures.value (c.take_known-verdict.ensures.taken ∙ ap (λ vs. vs ++ c.take_known-verdict.result ∷ []) c.if-not-wait_for_verdict.ensures.taken) c.in_err-write.ensures.taken.0 b.0 b.1 i.layout b.2 in
+    broken_to (g.N.Notation.layout c.args.notation.now) (g.N.Notation.layout c.loop-taken.notation) (g.N.Notation.has_printed c.loop-taken.notation) w.plan w.lanes.items w.progress.taken w.progress.boards base (g.S.Sink.bytes c.loop-taken.sink) (verdict_in c.take_slot-slot.result) c.index_mut-lane.result.now c.take_slot-slot.new.self c.lane.result c.write.new.self.taken c.write.new.self.boards (g.S.Sink.bytes c.write.new.sink)
+    (omega (arith, c.lane.ensures.below, w.workers)) (i.wrote base h) less place c.index_mut-lane.ensures.value (c.take_slot-slot.ensures.taken ∙ ap (λ vs. vs ++ (verdict_in c.take_slot-slot.result) ∷ []) c.if-not-wait_for_verdict.ensures.taken) c.in_err-write.ensures.taken.0 b.0 b.1 i.layout b.2 in
     MatchResult-from_err c.from_residual.result _ _ c.from_residual.ensures.0 (λ _. broke)
 
 pub loop-taken-preserved : goal.loop-taken-preserved
@@ -60,7 +61,7 @@ loop-taken-preserved g c =
     let i = c.loop-taken.invariant in
     let w = c.loop-taken.self in
     let e = c.if-not-wait_for_verdict.ensures in
-    let t = c.take_known-verdict.ensures in
+    let t = c.take_slot-slot.ensures in
     let place : c.lane.result ≡ w.progress.taken % w.plan.workers = c.lane.ensures.lane ∙ ap (λ n. n % w.progress.turns.workers) w.progress.turn ∙ ap (λ k. w.progress.taken % k) w.workers in
     let less : w.plan.limit ≢ Some w.progress.boards = iff_false c.is_full.ensures c.if-is_full.false in
     record {
@@ -68,9 +69,9 @@ loop-taken-preserved g c =
       layout = c.in_ok-write.ensures.layout ∙ i.layout;
       plan = i.plan;
       taken = c.in_ok-write.ensures.taken.0 ∙ ap (λ n. n + 1) i.taken;
-      lanes = keeps_taken c.args.self.now.lanes.items w.lanes.items c.lane.result c.index_mut-lane.result.now c.wait_for_verdict.new.self c.take_known-verdict.new.self c.take_known-verdict.result i.lanes c.index_mut-lane.ensures.value e.same e.taken e.left t.same t.taken t.left;
+      lanes = keeps_taken c.args.self.now.lanes.items w.lanes.items c.lane.result c.index_mut-lane.result.now c.wait_for_verdict.new.self c.take_slot-slot.new.self (verdict_in c.take_slot-slot.result) i.lanes c.index_mut-lane.ensures.value e.same e.taken e.left t.same t.taken t.left;
       open_then = λ _. i.open_then less;
       wrote = λ base h.
-          on_to (g.N.Notation.layout c.args.notation.now) (g.N.Notation.layout c.loop-taken.notation) (g.N.Notation.has_printed c.loop-taken.notation) (g.N.Notation.has_printed c.write.new.notation) w.plan w.lanes.items w.progress.taken w.progress.boards base (g.S.Sink.bytes c.loop-taken.sink) c.take_known-verdict.result c.index_mut-lane.result.now c.take_known-verdict.new.self c.lane.result c.write.new.self.taken c.write.new.self.boards (g.S.Sink.bytes c.write.new.sink)
-          (omega (arith, c.lane.ensures.below, w.workers)) (i.wrote base h) less place c.index_mut-lane.ensures.value (t.taken ∙ ap (λ vs. vs ++ c.take_known-verdict.result ∷ []) e.taken) c.in_ok-write.ensures.taken.0 c.in_ok-write.ensures.boards i.layout c.in_ok-write.ensures.bytes c.in_ok-write.ensures.printed;
+          on_to (g.N.Notation.layout c.args.notation.now) (g.N.Notation.layout c.loop-taken.notation) (g.N.Notation.has_printed c.loop-taken.notation) (g.N.Notation.has_printed c.write.new.notation) w.plan w.lanes.items w.progress.taken w.progress.boards base (g.S.Sink.bytes c.loop-taken.sink) (verdict_in c.take_slot-slot.result) c.index_mut-lane.result.now c.take_slot-slot.new.self c.lane.result c.write.new.self.taken c.write.new.self.boards (g.S.Sink.bytes c.write.new.sink)
+          (omega (arith, c.lane.ensures.below, w.workers)) (i.wrote base h) less place c.index_mut-lane.ensures.value (t.taken ∙ ap (λ vs. vs ++ (verdict_in c.take_slot-slot.result) ∷ []) e.taken) c.in_ok-write.ensures.taken.0 c.in_ok-write.ensures.boards i.layout c.in_ok-write.ensures.bytes c.in_ok-write.ensures.printed;
     }

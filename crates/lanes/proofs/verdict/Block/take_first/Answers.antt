@@ -1,4 +1,4 @@
-use Rattle.std.proofs.Common.{◌<◌, ◌∙◌, length, sym, ap, arith}
+use Rattle.std.proofs.Common.{◌<◌, ◌∙◌, length, refl, sym, ap, arith}
 use Rattle.lanes.proofs.Blocks.{length_part, part_from}
 use Rattle.lanes.proofs.verdict.Block.take_first.Goals as goal
 
@@ -10,4 +10,4 @@ returns c =
     let some : 0 < length c.args.self.now = c.requires in
     let count = length_part b.start b.end b.slots (omega (arith, all, end)) in
     let lt : b.start < b.end = omega (arith, some, count, ap length view) in
-    sym view ∙ part_from b.start b.end b.slots c.verdict-verdict.result _ lt (omega (arith, all, end)) c.verdict-verdict.ensures
+    sym view ∙ part_from b.start b.end b.slots _ c.index-self-self.result lt (omega (arith, all, end)) refl
