@@ -48,8 +48,8 @@ impl<'a> Questions<'a> {
         }
     }
 
-    /// Returns what the texts ask. The first that is refused is told, and then that a table of the
-    /// answers could have too many cells.
+    /// Returns what the texts ask. The first that is refused is told, and then that a table of two
+    /// questions could have too many cells.
     pub(crate) fn subject(&self, alloc: Global) -> Result<Subject, Failure>
         ensures asked { IfOk result (λ s. IsAsked (questions_of self.now) (subject_of s)) }
         ensures refused { IfErr result (AreFailure (questions_of self.now)) }

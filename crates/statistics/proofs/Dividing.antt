@@ -11,8 +11,8 @@ divided_in_parts m s d some =
     ∙ ap (λ n. m * n) (div-add-mod s d) in
     sym (mul-add-div some (m * (s / d)) (m * (s % d))) ∙ ap (λ n. n / d) e
 
--- millionths of a fraction of at most 2^40
-pub millionths_fit : (s d : ℕ) → s ≤ d * 2 ^ 40 → 1000000 * s / d < 2 ^ 62
+-- millionths of a fraction of at most 2^47
+pub millionths_fit : (s d : ℕ) → s ≤ d * 2 ^ 47 → 1000000 * s / d < 2 ^ 68
 millionths_fit s d whole =
-    let h : 1000000 * s ≤ d * (1000000 * 2 ^ 40) = omega arith in
+    let h : 1000000 * s ≤ d * (1000000 * 2 ^ 47) = omega arith in
     omega (arith, div-le_of_le-mul d h)

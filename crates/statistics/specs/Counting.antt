@@ -33,10 +33,10 @@ pub data Subject : Type 0 where
   by_one : Asked → Subject
   by_two : Asked → Asked → Subject
 
--- how many cells a table of its answers can have
+-- how many cells a table of two questions can have. One of a single question has rows alone
 abbrev pub cells_of : Subject → ℕ
 cells_of deals_alone = 0
-cells_of (by_one asked) = rows_of asked.question
+cells_of (by_one asked) = 0
 cells_of (by_two of by) = rows_of of.question * rows_of by.question
 
 -- what each of the deals answers to two questions

@@ -91,12 +91,12 @@ pub(crate) fn put_fraction(text: &mut TextBuffer, digits: Digits, a: u128, b: u1
 }
 
 /// Returns the whole square root: the greatest number whose square is at most `n`.
-pub(crate) fn whole_root(n: u64) -> u64
-    requires { n < 2 ^ 62 }
+pub(crate) fn whole_root(n: u128) -> u64
+    requires { n < 2 ^ 68 }
     ensures { result ≡ whole_root n }
 {
     let mut low = 0;
-    let mut high = 1 << 31;
+    let mut high = 1 << 34;
     while low + 1 < high {
         let middle = (low + high) / 2;
         if middle * middle <= n {
@@ -105,5 +105,5 @@ pub(crate) fn whole_root(n: u64) -> u64
             high = middle;
         }
     }
-    low
+    low as u64
 }

@@ -3,6 +3,7 @@
 ghost use Rattle.std.specs.Prelude.{◌≡◌, ◌≤◌, ◌<◌, ◌+◌, ◌*◌, ◌/◌, ◌^◌, [], ◌++◌, codes};
 ghost use Rattle.std.specs.Prelude.{length};
 ghost use Rattle.boards.specs.declared.buffer.TheConstants.{CAPACITY};
+ghost use Rattle.conditions.specs.Questions.{most_answer};
 ghost use Rattle.statistics.specs.Columns.{commas, label, right};
 ghost use Rattle.statistics.specs.OneQuestion.{bar, bar_len, blocks, deviation, line, mean_text};
 ghost use Rattle.statistics.specs.OneQuestion.{row};
@@ -156,8 +157,8 @@ fn put_blocks(text: &mut TextBuffer, count: usize)
 pub(crate) fn put_mean(text: &mut TextBuffer, deals: u64, total: u64, squared: u128)
     requires some { 0 < deals }
     requires deals { deals ≤ 2 ^ 40 }
-    requires total { total ≤ deals * 2 ^ 20 }
-    requires squared { squared ≤ deals * 2 ^ 40 }
+    requires total { total ≤ deals * most_answer }
+    requires squared { squared ≤ deals * 2 ^ 47 }
     requires room { length text.old + 200 ≤ CAPACITY }
     ensures text { text.new ≡ text.old ++ mean_text deals total squared }
     ensures most { length text.new ≤ length text.old + 106 }
@@ -177,8 +178,8 @@ pub(crate) fn put_mean(text: &mut TextBuffer, deals: u64, total: u64, squared: u
 fn deviation(deals: u128, total: u128, squared: u128) -> u64
     requires some { 0 < deals }
     requires deals { deals ≤ 2 ^ 40 }
-    requires total { total ≤ deals * 2 ^ 20 }
-    requires squared { squared ≤ deals * 2 ^ 40 }
+    requires total { total ≤ deals * most_answer }
+    requires squared { squared ≤ deals * 2 ^ 47 }
     ensures { result ≡ deviation deals total squared }
 {
     let spread = (deals * squared).saturating_sub(total * total);
@@ -186,13 +187,13 @@ fn deviation(deals: u128, total: u128, squared: u128) -> u64
 }
 
 /// Returns a million times the spread, divided by the divisor and rounded down.
-fn millionths(spread: u128, divisor: u128) -> u64
+fn millionths(spread: u128, divisor: u128) -> u128
     requires divisor { 0 < divisor }
     requires below { divisor ≤ 2 ^ 80 }
-    requires whole { spread ≤ divisor * 2 ^ 40 }
+    requires whole { spread ≤ divisor * 2 ^ 47 }
     ensures value { result ≡ 10 ^ 6 * spread / divisor }
-    ensures most { result < 2 ^ 62 }
+    ensures most { result < 2 ^ 68 }
 {
     let whole = 1_000_000 * (spread / divisor);
-    (whole + 1_000_000 * (spread % divisor) / divisor) as u64
+    whole + 1_000_000 * (spread % divisor) / divisor
 }

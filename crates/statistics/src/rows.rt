@@ -15,7 +15,7 @@ pub(crate) struct Rows {
 /// Returns the numbers that have a row: of a condition 0 and 1, of a value those from the least to
 /// the greatest that came.
 pub(crate) fn rows_shown(is_condition: bool, sums: &Sums) -> Rows
-    requires { sums.now.greatest < 2 ^ 20 }
+    requires { sums.now.greatest < 2 ^ 24 }
     ensures { result ≡ rows_shown is_condition sums.now }
 {
     if is_condition {

@@ -51,17 +51,17 @@ pub enum Subject {
     ByTwo(Asked, Asked),
 }
 
-/// How many cells a table can have at most.
+/// How many cells a table of two questions can have at most.
 pub const MAX_CELLS: u64 = 1_048_576;
 
 impl Subject {
-    /// Whether a table of its answers can have more than `MAX_CELLS` cells.
+    /// Whether there are two questions, and a table of their answers can have more than `MAX_CELLS`
+    /// cells.
     pub fn is_too_large(&self) -> bool
         ensures { result ≡ nat_lt MAX_CELLS (cells_of (subject_of self.now)) }
     {
         match self {
-            Subject::DealsAlone => false,
-            Subject::ByOne(asked) => u64::from(asked.question.rows()) > MAX_CELLS,
+            Subject::DealsAlone | Subject::ByOne(_) => false,
             Subject::ByTwo(of, by) => {
                 u64::from(of.question.rows()) * u64::from(by.question.rows()) > MAX_CELLS
             }

@@ -5,4 +5,4 @@ use Rattle.statistics.proofs.one_lines.deviation.Goals as goal
 
 pub millionths-requires-clause-whole : goal.millionths-requires-clause-whole
 millionths-requires-clause-whole c =
-    omega (arith, mul-le-mul_left c.args.deals c.requires.squared, mul_assoc c.args.deals c.args.deals (2 ^ 40))
+    omega (arith, mul-le-mul_left c.args.deals c.requires.squared, mul_assoc c.args.deals c.args.deals (2 ^ 47))
