@@ -10,7 +10,8 @@ import packages
 
 HERE = pathlib.Path(__file__).resolve().parent
 LABELS = ["--event", "Pairs & <Teams>'s final", "--site", "a&lt;b" * 16, "--date", "2026.11.22"]
-PHONE, DESKTOP = 390, 1280
+# The screens that it is looked at on, with how many boards stand side by side there.
+SCREENS = [("small phone", 320, {1}), ("phone", 360, {1}), ("wide phone", 390, {1, 2}), ("desktop", 1280, {3, 4})]
 
 
 def checked(make, folder):
@@ -50,6 +51,9 @@ def faults_on_screen(measures, columns):
         yield f"signs in {measures['red']} and {measures['black']}"
     if not measures["seated"]:
         yield "a hand is not in its seat"
+    for fault in ("cut", "wrapped", "touching"):
+        if measures[fault]:
+            yield fault
 
 
 def shown(make, folder):
@@ -57,7 +61,7 @@ def shown(make, folder):
     packages.need("chromium", "chromium")
     file = folder / "shown.html"
     file.write_bytes(make("--seed", "7", "--candidates", "16", "--format", "html", *LABELS))
-    for name, width, columns in (("phone", PHONE, {1, 2}), ("desktop", DESKTOP, {3, 4})):
+    for name, width, columns in SCREENS:
         found = list(faults_on_screen(measured(folder, file, width), columns))
         yield f"chromium, {name}", "; ".join(found) or None
         picture = folder / f"page-{name}.png"
@@ -76,12 +80,24 @@ def faults_on_paper(sheets, count):
     boards = [len(re.findall(r"Board \d", sheet)) for sheet in sheets]
     if sum(boards) != count:
         yield f"{sum(boards)} boards"
-    if any(number < 6 for number in boards[:-1]):
-        yield f"fewer than six boards on a sheet: {boards}"
+    if any(number < (8 if sheet else 6) for sheet, number in enumerate(boards[:-1])):
+        yield f"few boards on a sheet: {boards}"
     for sheet, number in zip(sheets, boards):
         parts = [len(re.findall(part, sheet)) for part in (r"Dealer\s", r"Vul\s", "♠", "♥", "♦", "♣", r"\d\s+HCP")]
         if parts != [number] * 2 + [4 * number] * 5:
             yield "a board is broken over two sheets"
+
+
+def faults_of_margins(pdf):
+    """The borders of the boards are as far from the left edge as from the right one, so none is cut off."""
+    packages.need("poppler-utils", "pdftoppm")
+    picture = subprocess.run(["pdftoppm", "-r", "100", "-gray", "-f", "1", "-l", "1", pdf], capture_output=True, check=True)
+    _, size, _, grays = picture.stdout.split(b"\n", 3)
+    width, height = map(int, size.split())
+    # Rows in the middle of the sheet have boards and no heading.
+    dark = [x for y in range(height // 3, height // 2) for x in range(width) if grays[y * width + x] < 230]
+    if not dark or abs(min(dark) - (width - 1 - max(dark))) > 4:
+        yield f"borders {min(dark, default=0)} from the left and {width - 1 - max(dark, default=0)} from the right"
 
 
 def printed(make, folder):
@@ -95,7 +111,9 @@ def printed(make, folder):
             file.write_bytes(text.replace(b"</style>", f"@page{{size:{name}}}\n</style>".encode()))
             chromium(folder, "--no-pdf-header-footer", f"--print-to-pdf={pdf}", file.as_uri())
             info = subprocess.run(["pdfinfo", pdf], capture_output=True, text=True, check=True).stdout
-            found = list(faults_on_paper(paper(pdf), 36))
+            found = [*faults_on_paper(paper(pdf), 36), *faults_of_margins(pdf)]
+            if labels and not all("Pairs & <Teams>'s final" in sheet for sheet in paper(pdf)):
+                found.append("a sheet without the title")
             points = re.search(r"Page size: +([\d.]+) x ([\d.]+)", info).groups()
             if tuple(round(float(point)) for point in points) != size:
                 found.append(f"sheets of {points}")

@@ -1,7 +1,8 @@
-"""What `make` writes in each format, worked out from the pages that define them (docs/HANDS.md, docs/LIN.md,
-docs/PAGE.md, PBN 2.1) and from the deals of tests/faults/model.py. Nothing here is taken from the program."""
+"""What `make` writes in each format, worked out from the page that defines them (docs/FORMATS.md, PBN 2.1) and from the
+deals of tests/faults/model.py. Nothing here is taken from the program."""
 
 import html
+import json
 import pathlib
 import re
 
@@ -45,6 +46,13 @@ def line(number, dealer, sides, hands):
     )
 
 
+def json_line(number, dealer, sides, hands, candidate):
+    """A line of JSON, whose names stand in this order and without blanks."""
+    board = {"board": number, "dealer": model.SEATS[dealer], "vulnerable": sides}
+    board |= {"deal": "N:" + " ".join(model.spelled(hand) for hand in hands), "number": candidate}
+    return json.dumps(board, separators=(",", ":")) + "\n"
+
+
 def game(number, dealer, sides, hands, labels):
     """A game of PBN."""
     tags = [*labels, ("Board", number), ("Dealer", model.SEATS[dealer]), ("Vulnerable", sides)]
@@ -64,10 +72,13 @@ def section(number, dealer, sides, hands):
 
 
 def frame(part, labels):
-    """The header of a page, part 0, or its footer, part 1: as docs/PAGE.md has it, under these labels."""
-    text = re.findall(r"^```html\n(.*?)^```$", (DOCS / "PAGE.md").read_text(), re.M | re.S)[part]
+    """The header of a page, part 0, or its footer, part 1: as docs/FORMATS.md has it, under these labels."""
+    text = re.findall(r"^```html\n(.*?)^```$", (DOCS / "FORMATS.md").read_text(), re.M | re.S)[part]
     title = ", ".join(value for _, value in labels if value.strip(" ")) or "Boards"
-    return text.replace("Boards", html.escape(title, quote=False))
+    escaped = html.escape(title, quote=False)
+    first, *rest = text.split("Boards")
+    # It stands as the title, as a string of CSS, and as the heading.
+    return first + "".join(put + piece for put, piece in zip([escaped, title.replace("<", "\\3C "), escaped], rest))
 
 
 def header(form, labels):
@@ -94,6 +105,8 @@ def text(seed, count, form="pbn", dealer=None, sides=None, rotate=False, accepts
         dealt = turned(hands, by) if rotate else hands
         if form == "pbn":
             parts.append(game(number, by, vulnerable, dealt, labels))
+        elif form == "json":
+            parts.append(json_line(number, by, vulnerable, dealt, candidate))
         else:
             parts.append({"hands": record, "lin": line, "html": section}[form](number, by, vulnerable, dealt))
         number += 1

@@ -18,11 +18,17 @@ import time
 
 import harness
 
-FORMATS = ("pbn", "hands", "lin", "html")
+FORMATS = ("pbn", "hands", "lin", "html", "json")
 # How a board begins in each format.
-BOARDS = {"pbn": rb"^\[Deal ", "hands": rb"^Board \d", "lin": rb"^qx\|", "html": rb'<section class="board"'}
+BOARDS = {
+    "pbn": rb"^\[Deal ",
+    "hands": rb"^Board \d",
+    "lin": rb"^qx\|",
+    "html": rb'<section class="board"',
+    "json": rb'^\{"board":',
+}
 # How one ends.
-ENDS = {"pbn": b"\n\n", "hands": b"\n\n", "lin": b"\n", "html": b"</section>\n"}
+ENDS = {"pbn": b"\n\n", "hands": b"\n\n", "lin": b"\n", "html": b"</section>\n", "json": b"\n"}
 EVERY = ["--candidates", "1000000000"]
 # So rare that what is gathered between two looks at the clock goes into a pipe in one piece: up to 4,096 bytes.
 RARE = [*EVERY, "--where", "hcp(north)>=30"]

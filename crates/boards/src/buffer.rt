@@ -13,7 +13,7 @@ use std::alloc::{AllocError, Global};
 use std::marker::Model;
 
 /// How many bytes a text has room for.
-pub const CAPACITY: usize = 4_096;
+pub const CAPACITY: usize = 5_120;
 
 /// A text of at most `CAPACITY` bytes, which contracts see as the list of these bytes.
 #[derive(Drop)]

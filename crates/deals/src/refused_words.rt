@@ -27,10 +27,11 @@ const HOW_MANY: &str =
 const BY_COUNT: &str =
     "  hint: deals count tells how often each number comes, and the mean: --of 'hcp(north)'\n";
 
-const FORMS: &str = "  hint: boards are PBN, or what --format says: --format hands, lin or html\n";
+const FORMS: &str =
+    "  hint: boards are PBN, or what --format says: --format hands, lin, html or json\n";
 
 /// Options that people try first, and what helps in their place.
-const INSTEAD: [(&str, &str); 18] = [
+const INSTEAD: [(&str, &str); 19] = [
     ("--output", TO_A_FILE),
     ("--out", TO_A_FILE),
     ("--file", TO_A_FILE),
@@ -48,6 +49,7 @@ const INSTEAD: [(&str, &str); 18] = [
     ("--pbn", FORMS),
     ("--html", FORMS),
     ("--lin", FORMS),
+    ("--json", FORMS),
     ("--hands", FORMS),
 ];
 

@@ -1,5 +1,6 @@
 pub mod Names
 pub mod Lin
+pub mod Json
 pub mod Numbers
 pub mod Columns
 pub mod Records

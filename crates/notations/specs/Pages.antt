@@ -66,7 +66,7 @@ unfoldable pub header_text : HeadingView → List ℕ
 header_text heading =
     opening
     ++ codes "<title>" ++ escaped (title_of heading) ++ codes "</title>\n<style>\n"
-    ++ style ++ codes "</style>\n</head>\n<body>\n<main>\n<h1>"
+    ++ style (title_of heading) ++ codes "</style>\n</head>\n<body>\n<main>\n<h1>"
     ++ escaped (title_of heading) ++ codes "</h1>\n"
 
 unfoldable pub footer_text : List ℕ

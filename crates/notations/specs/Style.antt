@@ -1,24 +1,26 @@
 -- How the page looks, on a screen and on paper, in CSS.
-use Rattle.std.specs.Prelude.{ℕ, List, ◌++◌, codes}
+use Rattle.std.specs.Prelude.{ℕ, ◌==◌, List, [], ◌∷◌, ◌++◌, codes, flat_map, if◌then◌else◌}
 
 -- boards stand side by side, as many as there is room for, below the heading
 unfoldable pub page_style : List ℕ
 page_style =
-    codes "html{font:1rem/1.25 system-ui,sans-serif;color:#111;background:#fff}\n"
-    ++ codes "body{margin:1rem}\n"
+    codes "html{font:clamp(.8rem,4.2vw,1rem)/1.25 system-ui,sans-serif;color:#111;"
+    ++ codes "background:#fff}\n"
+    ++ codes "body{margin:clamp(.4rem,2vw,1rem)}\n"
     ++ codes "main{display:grid;gap:1rem;"
-    ++ codes "grid-template-columns:repeat(auto-fill,minmax(min(22rem,100%),1fr))}\n"
+    ++ codes "grid-template-columns:repeat(auto-fill,minmax(min(23rem,100%),1fr))}\n"
     ++ codes "h1,h2,h3,p{margin:0}\n"
     ++ codes "h1{grid-column:1/-1;font-size:1.5rem;overflow-wrap:anywhere}\n"
 
 -- a board is no part of two pages; its middle is the table, green
 unfoldable pub board_style : List ℕ
 board_style =
-    codes ".board{display:grid;grid-template:auto auto auto/1fr 6.5rem 1fr;gap:.5rem .75rem;"
-    ++ codes "padding:.75rem;border:1px solid #bbb;border-radius:.5rem;"
-    ++ codes "overflow-wrap:anywhere;break-inside:avoid}\n"
-    ++ codes "h2{grid-area:2/2;padding:1rem .2rem;font-size:1rem;text-align:center;"
-    ++ codes "border:.3rem solid #2e7d4f;background:#e8f3ec;print-color-adjust:exact}\n"
+    codes ".board{display:grid;grid-template:auto auto auto/1fr auto 1fr;gap:.6rem;"
+    ++ codes "padding:.75rem;border:1px solid #bbb;border-radius:.5rem;box-sizing:border-box;"
+    ++ codes "white-space:nowrap;overflow:auto;break-inside:avoid}\n"
+    ++ codes "h2{grid-area:2/2;place-self:center;min-width:4rem;padding:.7rem .3rem;"
+    ++ codes "font-size:1.25rem;text-align:center;border:.3rem solid #2e7d4f;background:#e8f3ec;"
+    ++ codes "print-color-adjust:exact}\n"
     ++ codes "p{grid-area:1/1;font-size:.9rem}\n"
 
 -- the table's sides are red where they are vulnerable
@@ -31,25 +33,49 @@ vulnerable_style =
 -- the hands are around the table, each in its seat; what is in <b> is red
 unfoldable pub hand_style : List ℕ
 hand_style =
-    codes ".North{grid-area:1/2}\n"
-    ++ codes ".East{grid-area:1/3/4;align-self:center}\n"
-    ++ codes ".South{grid-area:3/2}\n"
-    ++ codes ".West{grid-area:1/1/4;place-self:center end}\n"
+    codes ".North{grid-area:1/2/2/4}\n"
+    ++ codes ".East{grid-area:2/3;align-self:center}\n"
+    ++ codes ".South{grid-area:3/2/4/4}\n"
+    ++ codes ".West{grid-area:2/1;place-self:center end}\n"
     ++ codes "h3{font-size:.9rem}\n"
     ++ codes "small{font-weight:400;color:#555}\n"
     ++ codes "i,b{display:inline-block;width:1.2em;font-style:normal;font-weight:400;"
     ++ codes "font-variant-emoji:text}\n"
     ++ codes "b{color:#c8102e}\n"
 
--- on paper, A4 or Letter, two boards stand side by side, at least six on a page
+-- on paper, A4 or Letter, two boards stand side by side, eight on a sheet
 unfoldable pub paper_style : List ℕ
 paper_style =
-    codes "@page{margin:10mm}\n"
-    ++ codes "@media print{\n"
-    ++ codes "html{font-size:9pt}\n"
+    codes "@media print{\n"
+    ++ codes "html{font-size:8.5pt}\n"
     ++ codes "body{margin:0}\n"
-    ++ codes "main{grid-template-columns:1fr 1fr;gap:3mm}\n"
+    ++ codes "main{grid-template-columns:1fr 1fr;gap:3mm;padding-inline:1px}\n"
+    ++ codes ".board{padding:.3rem .6rem;gap:.1rem .6rem}\n"
+    ++ codes "h2{padding:.3rem}\n"
     ++ codes "}\n"
 
-unfoldable pub style : List ℕ
-style = page_style ++ board_style ++ vulnerable_style ++ hand_style ++ paper_style
+-- in a string of CSS: `<` is escaped, so that no text ends the style
+unfoldable pub css_byte : ℕ → List ℕ
+css_byte byte = if byte == 0x3C then codes "\\3C " else byte ∷ []
+
+abbrev pub css_string : List ℕ → List ℕ
+css_string text = flat_map css_byte text
+
+-- on paper the title stands at the top of each sheet
+unfoldable pub title_style : List ℕ → List ℕ
+title_style title =
+    codes "@page{margin:13mm 9mm 10mm;@top-left{content:\"" ++ css_string title
+    ++ codes "\";font:bold 9pt system-ui,sans-serif}"
+
+-- but the first, which has the heading, and the number of the sheet at the bottom of each
+unfoldable pub number_style : List ℕ
+number_style =
+    codes "@bottom-right{content:counter(page) \"/\" counter(pages);"
+    ++ codes "font:8pt system-ui,sans-serif}}\n"
+    ++ codes "@page:first{@top-left{content:\"\"}}\n"
+
+-- that of a page with this title
+unfoldable pub style : List ℕ → List ℕ
+style title =
+    page_style ++ board_style ++ vulnerable_style ++ hand_style
+    ++ title_style title ++ number_style ++ paper_style

@@ -13,7 +13,8 @@ mod header;
 mod parts;
 mod style;
 
-use crate::page::parts::{put_suits, seat_name, vulnerable_name};
+use crate::names::{seat_name, vulnerable_name};
+use crate::page::parts::put_suits;
 use boards::{Board, SuitLetters, TextBuffer, Vul};
 use cards::{Deal, Seat};
 pub(crate) use header::put_header;

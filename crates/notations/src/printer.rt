@@ -3,7 +3,7 @@
 ghost use Rattle.std.specs.Prelude.{◌≡◌, [], ⊤, IfOk};
 ghost use Rattle.notations.specs.Formats.{IsUnder, format_of, layout_of, numbers_boards, text_of};
 
-use crate::{hands, lin, numbers, page};
+use crate::{hands, json, lin, numbers, page};
 use boards::{Board, Heading, Notation, SuitLetters, TextBuffer};
 use pbn_text::{HEADER, Printer};
 use sinks::{Sink, SinkFault, put_all};
@@ -21,6 +21,8 @@ pub enum Format {
     Lin,
     /// One page of HTML, to look at and to print.
     Html,
+    /// Lines of JSON, for programs.
+    Json,
     /// The numbers of the candidates, which is what `find` prints.
     Numbers,
 }
@@ -31,14 +33,16 @@ pub const FORMATS: &[(&str, Format)] = &[
     ("hands", Format::Hands),
     ("lin", Format::Lin),
     ("html", Format::Html),
+    ("json", Format::Json),
 ];
 
 /// Their names, as help lists them.
-pub const FORMAT_WORDS: &str = "pbn, hands, lin, html";
+pub const FORMAT_WORDS: &str = "pbn, hands, lin, html, json";
 
 /// What help says of the option that asks for one.
 pub const FORMAT_HELP: &str = "The notation: Portable Bridge Notation, hand records for print, \
-    LIN, or a page of HTML [default: pbn] [possible values: pbn, hands, lin, html]";
+    LIN, a page of HTML, or lines of JSON [default: pbn] \
+    [possible values: pbn, hands, lin, html, json]";
 
 impl Format {
     /// Whether the boards have numbers of their own.
@@ -46,7 +50,7 @@ impl Format {
         ensures { result ≡ numbers_boards self }
     {
         match self {
-            Format::Pbn | Format::Hands | Format::Lin | Format::Html => true,
+            Format::Pbn | Format::Hands | Format::Lin | Format::Html | Format::Json => true,
             Format::Numbers => false,
         }
     }
@@ -73,6 +77,7 @@ enum Pen {
     Hands(SuitLetters),
     Lin(SuitLetters),
     Html(SuitLetters),
+    Json(SuitLetters),
     Numbers,
 }
 
@@ -133,6 +138,7 @@ impl Notation for AnyPrinter {
             Pen::Hands(letters) => hands::put_record(text, letters, board),
             Pen::Lin(letters) => lin::put_line(text, letters, board),
             Pen::Html(letters) => page::put_board(text, letters, board),
+            Pen::Json(letters) => json::put_line(text, letters, board),
             Pen::Numbers => numbers::put_line(text, board),
         }
     }
@@ -148,7 +154,7 @@ impl Notation for AnyPrinter {
     fn put_footer<S: Sink>(&self, _tried: u64, sink: &mut S) -> Result<(), SinkFault> {
         let footer = match &self.pen {
             Pen::Html(_) => page::FOOTER,
-            Pen::Pbn(_) | Pen::Hands(_) | Pen::Lin(_) | Pen::Numbers => b"",
+            Pen::Pbn(_) | Pen::Hands(_) | Pen::Lin(_) | Pen::Json(_) | Pen::Numbers => b"",
         };
         put_all(sink, footer)
     }
@@ -166,6 +172,7 @@ impl Pen {
             Format::Hands => Ok(Pen::Hands(SuitLetters::new(alloc)?)),
             Format::Lin => Ok(Pen::Lin(SuitLetters::new(alloc)?)),
             Format::Html => Ok(Pen::Html(SuitLetters::new(alloc)?)),
+            Format::Json => Ok(Pen::Json(SuitLetters::new(alloc)?)),
             Format::Numbers => Ok(Pen::Numbers),
         }
     }
@@ -180,6 +187,6 @@ fn put_header(text: &mut TextBuffer, format: Format, heading: &Heading)
         Format::Pbn => text.put(&HEADER),
         Format::Hands => hands::put_header(text, heading),
         Format::Html => page::put_header(text, heading),
-        Format::Lin | Format::Numbers => {}
+        Format::Lin | Format::Json | Format::Numbers => {}
     }
 }

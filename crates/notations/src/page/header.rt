@@ -19,7 +19,7 @@ pub(crate) fn put_header(text: &mut TextBuffer, heading: &Heading)
     text.put(b"<title>");
     put_escaped(text, title.as_bytes());
     text.put(b"</title>\n<style>\n");
-    put_style(text);
+    put_style(text, title.as_bytes());
     text.put(b"</style>\n</head>\n<body>\n<main>\n<h1>");
     put_escaped(text, title.as_bytes());
     text.put(b"</h1>\n");

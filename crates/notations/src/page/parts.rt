@@ -1,12 +1,11 @@
-//! The parts of a board: names, and the suits of a hand.
+//! The suits of a hand.
 
 ghost use Rattle.std.specs.Prelude.{◌≡◌, ◌≤◌, ◌+◌, ◌++◌, length};
 ghost use Rattle.boards.specs.declared.buffer.TheConstants.{CAPACITY};
-ghost use Rattle.notations.specs.Names.{seat_name, vulnerable_name};
 ghost use Rattle.notations.specs.Pages.{sign, suit_text, suits_text};
 
-use boards::{SuitLetters, TextBuffer, Vul};
-use cards::{Hand, Seat, Suit};
+use boards::{SuitLetters, TextBuffer};
+use cards::{Hand, Suit};
 
 /// Appends the four suits of the hand, each on a line of its own.
 #[inline(always)]
@@ -45,32 +44,5 @@ fn sign(suit: Suit) -> [u8; 10]
         Suit::Hearts => *b"<b>\xE2\x99\xA5</b>",
         Suit::Diamonds => *b"<b>\xE2\x99\xA6</b>",
         Suit::Clubs => *b"<i>\xE2\x99\xA3</i>",
-    }
-}
-
-/// The name of the seat.
-#[inline(always)]
-pub(crate) fn seat_name(seat: Seat) -> &'static [u8]
-    ensures value { result.now ≡ seat_name seat }
-    ensures most { length result.now ≤ 5 }
-{
-    match seat {
-        Seat::North => b"North",
-        Seat::East => b"East",
-        Seat::South => b"South",
-        Seat::West => b"West",
-    }
-}
-
-/// The name of the vulnerable sides.
-pub(crate) fn vulnerable_name(sides: Vul) -> &'static [u8]
-    ensures value { result.now ≡ vulnerable_name sides }
-    ensures most { length result.now ≤ 4 }
-{
-    match sides {
-        Vul::Neither => b"None",
-        Vul::NorthSouth => b"NS",
-        Vul::EastWest => b"EW",
-        Vul::Both => b"All",
     }
 }

@@ -1,23 +1,26 @@
 //! How the page looks, in CSS.
 
-ghost use Rattle.std.specs.Prelude.{◌≡◌, ◌≤◌, ◌+◌, ◌++◌, length};
+ghost use Rattle.std.specs.Prelude.{◌≡◌, ◌≤◌, ◌+◌, ◌*◌, ◌++◌, length};
 ghost use Rattle.boards.specs.declared.buffer.TheConstants.{CAPACITY};
 ghost use Rattle.notations.specs.Style.{board_style, hand_style, page_style, paper_style, style};
 ghost use Rattle.notations.specs.Style.{vulnerable_style};
+ghost use Rattle.notations.specs.Style.{css_byte, css_string, number_style, title_style};
 
 use boards::TextBuffer;
 
-/// Appends the style.
+/// Appends the style of a page with this title.
 #[tactic(auto, unfolding(crate::specs::Style::style))]
-pub(crate) fn put_style(text: &mut TextBuffer)
-    requires { length text.old + 1600 ≤ CAPACITY }
-    ensures text { text.new ≡ text.old ++ style }
-    ensures most { length text.new ≤ length text.old + 1600 }
+pub(crate) fn put_style(text: &mut TextBuffer, title: &[u8])
+    requires { length text.old + 1580 + 4 * length title.now ≤ CAPACITY }
+    ensures text { text.new ≡ text.old ++ style title.now }
+    ensures most { length text.new ≤ length text.old + 1580 + 4 * length title.now }
 {
     text.put(page_style());
     text.put(board_style());
     text.put(vulnerable_style());
     text.put(hand_style());
+    put_title_style(text, title);
+    text.put(number_style());
     text.put(paper_style());
 }
 
@@ -25,12 +28,12 @@ pub(crate) fn put_style(text: &mut TextBuffer)
 #[tactic(auto, unfolding(crate::specs::Style::page_style))]
 fn page_style() -> &'static [u8]
     ensures value { result.now ≡ page_style }
-    ensures most { length result.now ≤ 300 }
+    ensures most { length result.now ≤ 310 }
 {
-    b"html{font:1rem/1.25 system-ui,sans-serif;color:#111;background:#fff}\n\
-    body{margin:1rem}\n\
+    b"html{font:clamp(.8rem,4.2vw,1rem)/1.25 system-ui,sans-serif;color:#111;background:#fff}\n\
+    body{margin:clamp(.4rem,2vw,1rem)}\n\
     main{display:grid;gap:1rem;\
-    grid-template-columns:repeat(auto-fill,minmax(min(22rem,100%),1fr))}\n\
+    grid-template-columns:repeat(auto-fill,minmax(min(23rem,100%),1fr))}\n\
     h1,h2,h3,p{margin:0}\n\
     h1{grid-column:1/-1;font-size:1.5rem;overflow-wrap:anywhere}\n"
 }
@@ -39,13 +42,14 @@ fn page_style() -> &'static [u8]
 #[tactic(auto, unfolding(crate::specs::Style::board_style))]
 fn board_style() -> &'static [u8]
     ensures value { result.now ≡ board_style }
-    ensures most { length result.now ≤ 400 }
+    ensures most { length result.now ≤ 420 }
 {
-    b".board{display:grid;grid-template:auto auto auto/1fr 6.5rem 1fr;gap:.5rem .75rem;\
-    padding:.75rem;border:1px solid #bbb;border-radius:.5rem;\
-    overflow-wrap:anywhere;break-inside:avoid}\n\
-    h2{grid-area:2/2;padding:1rem .2rem;font-size:1rem;text-align:center;\
-    border:.3rem solid #2e7d4f;background:#e8f3ec;print-color-adjust:exact}\n\
+    b".board{display:grid;grid-template:auto auto auto/1fr auto 1fr;gap:.6rem;padding:.75rem;\
+    border:1px solid #bbb;border-radius:.5rem;box-sizing:border-box;white-space:nowrap;\
+    overflow:auto;break-inside:avoid}\n\
+    h2{grid-area:2/2;place-self:center;min-width:4rem;padding:.7rem .3rem;font-size:1.25rem;\
+    text-align:center;border:.3rem solid #2e7d4f;background:#e8f3ec;\
+    print-color-adjust:exact}\n\
     p{grid-area:1/1;font-size:.9rem}\n"
 }
 
@@ -64,12 +68,12 @@ fn vulnerable_style() -> &'static [u8]
 #[tactic(auto, unfolding(crate::specs::Style::hand_style))]
 fn hand_style() -> &'static [u8]
     ensures value { result.now ≡ hand_style }
-    ensures most { length result.now ≤ 400 }
+    ensures most { length result.now ≤ 310 }
 {
-    b".North{grid-area:1/2}\n\
-    .East{grid-area:1/3/4;align-self:center}\n\
-    .South{grid-area:3/2}\n\
-    .West{grid-area:1/1/4;place-self:center end}\n\
+    b".North{grid-area:1/2/2/4}\n\
+    .East{grid-area:2/3;align-self:center}\n\
+    .South{grid-area:3/2/4/4}\n\
+    .West{grid-area:2/1;place-self:center end}\n\
     h3{font-size:.9rem}\n\
     small{font-weight:400;color:#555}\n\
     i,b{display:inline-block;width:1.2em;font-style:normal;font-weight:400;\
@@ -77,16 +81,64 @@ fn hand_style() -> &'static [u8]
     b{color:#c8102e}\n"
 }
 
-/// On paper, A4 or Letter, two boards stand side by side, at least six on a page.
+/// On paper the title stands at the top of each sheet.
+#[tactic(auto, unfolding(crate::specs::Style::title_style))]
+fn put_title_style(text: &mut TextBuffer, title: &[u8])
+    requires { length text.old + 100 + 4 * length title.now ≤ CAPACITY }
+    ensures text { text.new ≡ text.old ++ title_style title.now }
+    ensures most { length text.new ≤ length text.old + 100 + 4 * length title.now }
+{
+    text.put(b"@page{margin:13mm 9mm 10mm;@top-left{content:\"");
+    put_string(text, title);
+    text.put(b"\";font:bold 9pt system-ui,sans-serif}");
+}
+
+/// But the first, which has the heading; and the number of the sheet stands at the bottom of each.
+#[tactic(auto, unfolding(crate::specs::Style::number_style))]
+fn number_style() -> &'static [u8]
+    ensures value { result.now ≡ number_style }
+    ensures most { length result.now ≤ 130 }
+{
+    b"@bottom-right{content:counter(page) \"/\" counter(pages);font:8pt system-ui,sans-serif}}\n\
+    @page:first{@top-left{content:\"\"}}\n"
+}
+
+/// Appends the text as a string of CSS. A label has no quote and no backslash; `<` is escaped, so
+/// that no text ends the style.
+fn put_string(text: &mut TextBuffer, title: &[u8])
+    requires { length text.old + 4 * length title.now ≤ CAPACITY }
+    ensures text { text.new ≡ text.old ++ css_string title.now }
+    ensures most { length text.new ≤ length text.old + 4 * length title.now }
+{
+    for byte in title {
+        put_css_byte(text, *byte);
+    }
+}
+
+/// Appends a byte of a string of CSS.
+#[tactic(auto, unfolding(crate::specs::Style::css_byte))]
+fn put_css_byte(text: &mut TextBuffer, byte: u8)
+    requires { length text.old + 4 ≤ CAPACITY }
+    ensures text { text.new ≡ text.old ++ css_byte byte }
+    ensures most { length text.new ≤ length text.old + 4 }
+{
+    match byte {
+        b'<' => text.put(b"\\3C "),
+        _ => text.put(&[byte]),
+    }
+}
+
+/// On paper, A4 or Letter, two boards stand side by side, eight on a sheet.
 #[tactic(auto, unfolding(crate::specs::Style::paper_style))]
 fn paper_style() -> &'static [u8]
     ensures value { result.now ≡ paper_style }
-    ensures most { length result.now ≤ 200 }
+    ensures most { length result.now ≤ 190 }
 {
-    b"@page{margin:10mm}\n\
-    @media print{\n\
-    html{font-size:9pt}\n\
+    b"@media print{\n\
+    html{font-size:8.5pt}\n\
     body{margin:0}\n\
-    main{grid-template-columns:1fr 1fr;gap:3mm}\n\
+    main{grid-template-columns:1fr 1fr;gap:3mm;padding-inline:1px}\n\
+    .board{padding:.3rem .6rem;gap:.1rem .6rem}\n\
+    h2{padding:.3rem}\n\
     }\n"
 }

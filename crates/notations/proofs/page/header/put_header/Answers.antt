@@ -10,11 +10,12 @@ returns c =
     let between : List ℕ = codes "</title>\n<style>\n" in
     let behind : List ℕ = codes "</style>\n</head>\n<body>\n<main>\n<h1>" in
     let first = ap (λ xs. c.put.new.self ++ escaped xs) (c.as_bytes.ensures.value ∙ c.put_title.ensures.text) in
-    let second = ap (λ xs. c.put-3.new.self ++ escaped xs) (c.as_bytes-2.ensures.value ∙ c.put_title.ensures.text) in
+    let shown = ap (λ xs. c.put-2.new.self ++ style xs) (c.as_bytes-2.ensures.value ∙ c.put_title.ensures.text) in
+    let second = ap (λ xs. c.put-3.new.self ++ escaped xs) (c.as_bytes-3.ensures.value ∙ c.put_title.ensures.text) in
     let opened = c.put.ensures.text ∙ ap (λ xs. xs ++ codes "<title>") c.put_opening.ensures.text in
     let titled = c.put_escaped.ensures.text ∙ first ∙ ap (λ xs. xs ++ escaped title) opened in
     let begun = c.put-2.ensures.text ∙ ap (λ xs. xs ++ between) titled in
-    let styled = c.put_style.ensures.text ∙ ap (λ xs. xs ++ style) begun in
+    let styled = c.put_style.ensures.text ∙ shown ∙ ap (λ xs. xs ++ style title) begun in
     let closed = c.put-3.ensures.text ∙ ap (λ xs. xs ++ behind) styled in
     let headed = c.put_escaped-2.ensures.text ∙ second ∙ ap (λ xs. xs ++ escaped title) closed in
     c.put-4.ensures.text ∙ ap (λ xs. xs ++ codes "</h1>\n") headed
