@@ -15,6 +15,7 @@ use std::test::Fail;
 
 /// The seed of the candidates, and how many there are: more than a test of hands is asked at first.
 const SEED: u32 = 7;
+
 const COUNT: u64 = 2500;
 
 /// Conditions, and what is fixed. Tests of hands give up most candidates of some of them, and a few
@@ -54,7 +55,9 @@ fn are_verdicts(rt: &impl Abort, taker: &mut LaneOut, cond: &Cond, fixed: &Fixed
     let mut candidates = Candidates::around(SEED, 1, 2, fixed);
     for place in 0..COUNT {
         let deal = candidates.next();
-        let taken = taker.take().map(|taken| (taken.number, taken.accepted, taken.deal));
+        let taken = taker
+            .take()
+            .map(|taken| (taken.number, taken.accepted, taken.deal));
         equals(rt, &taken, &Some((2 * place + 1, cond.holds(&deal), deal)));
     }
     holds(rt, "no more", taker.take().is_none());
