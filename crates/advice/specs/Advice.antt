@@ -12,7 +12,7 @@ use Rattle.predeal.specs.declared.fault.HandFault.{HandFault}
 use Rattle.hints.specs.Excerpt.{shown}
 use Rattle.plans.specs.declared.plan.PlanError.{PlanError}
 use Rattle.plans.specs.declared.plan.PlanError.TheVariants as plan
-use Rattle.requests.specs.Makings.{candidates_of, first_board_of}
+use Rattle.requests.specs.Makings.{candidates_of, first_board_of, lane_of, workers_in}
 use Rattle.requests.specs.Requests.{Look, Search}
 use Rattle.requests.specs.declared.failure.Failure.{Failure}
 use Rattle.requests.specs.declared.failure.Failure.TheVariants.{Plan, Label, Hand}
@@ -35,8 +35,9 @@ candidates_advice s =
 -- the range that a plan's number is out of
 abbrev pub plan_advice : Search → Look → PlanError → List ℕ
 plan_advice s l plan.Range = candidates_advice s
-plan_advice s l plan.Workers = range_line (codes "workers") s.workers 1 16 (codes " workers")
-plan_advice s l plan.Capacity = range_line (codes "lane") s.lane 1 4096 (codes " verdicts")
+plan_advice s l plan.Workers =
+    range_line (codes "workers") (workers_in s.workers) 1 16 (codes " workers")
+plan_advice s l plan.Capacity = range_line (codes "lane") (lane_of s) 1 4096 (codes " verdicts")
 plan_advice s l plan.Boards =
     range_line (codes "boards") (unwrap_or s.boards 0) 1 (2 ^ 32 - 1) (codes " boards")
 plan_advice s l plan.FirstBoard =
@@ -78,7 +79,7 @@ seat_option seat.East = codes "east"
 seat_option seat.South = codes "south"
 seat_option seat.West = codes "west"
 
--- a line that names a fault of the text that is given for a seat's hand
+-- a line that names a fault of the text given for a seat's hand
 pub record IsHandAdvice (s : Search) (holder : Seat) (line : List ℕ) : Type 0 where
   pub text : List ℕ
   pub given : given_at s.hands holder ≡ Some text

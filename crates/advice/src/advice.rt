@@ -22,7 +22,7 @@ const WHOLE: usize = 72;
 
 const PART: usize = 70;
 
-/// Returns what helps a person with a request that is refused so, to stand below the line that
+/// Returns what helps a person with a request that is refused so, to be printed below the line that
 /// names the refusal: a line with the option, what it was given, and what it takes. There is none
 /// unless a plan, a label or a hand is refused.
 ///
@@ -60,7 +60,7 @@ fn of_plan(
     match error {
         PlanError::Range => of_candidates(alloc, search),
         PlanError::Workers => {
-            let workers = u64::from(search.workers);
+            let workers = u64::from(search.workers());
             of_number(
                 alloc,
                 "workers",
@@ -71,7 +71,7 @@ fn of_plan(
             )
         }
         PlanError::Capacity => {
-            let lane = u64::from(search.lane);
+            let lane = u64::from(search.lane());
             of_number(alloc, "lane", lane, 1, u64::from(MAX_CAPACITY), " verdicts")
         }
         PlanError::Boards => {

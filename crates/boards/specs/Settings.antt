@@ -1,4 +1,4 @@
--- What stands in place of Law 2, and whether deals are turned.
+-- What replaces Law 2, and whether deals are turned.
 use Rattle.std.specs.Prelude.{ℕ, List, None, false, unwrap_or, if◌then◌else◌}
 use Rattle.boards.specs.declared.board.Board.{Board}
 use Rattle.boards.specs.declared.setting.Vul.{Vul}

@@ -40,7 +40,7 @@ abbrev pub free_index : List (Option Seat) → ℕ → ℕ
 free_index fixed c = count_by is_free (take c fixed)
 
 -- the places for a shuffle of m items by the draws after the state x, j = m with the first; what
--- stands above stays
+-- is above stays
 unfoldable pub places_for : ℕ → ℕ → List ℕ
 places_for m x =
     map

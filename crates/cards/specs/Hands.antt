@@ -51,7 +51,7 @@ abbrev pub put_anywhere : ℕ → List ℕ → List (List ℕ)
 put_anywhere x [] = (x ∷ []) ∷ []
 put_anywhere x (y ∷ ys) = (x ∷ y ∷ ys) ∷ map (λ zs. y ∷ zs) (put_anywhere x ys)
 
--- the orders in which the numbers can stand
+-- the orders in which the numbers may come
 abbrev pub orders_of : List ℕ → List (List ℕ)
 orders_of [] = [] ∷ []
 orders_of (x ∷ xs) = flat_map (put_anywhere x) (orders_of xs)

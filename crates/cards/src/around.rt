@@ -249,7 +249,7 @@ fn is_at(fixed: Option<Seat>, seat: Seat) -> bool
     fixed == Some(seat)
 }
 
-/// Runs the exchanges for so many positions below `end`, and returns the mask of the cards left
+/// Runs the exchanges for this many positions below `end`, and returns the mask of the cards left
 /// there, which no later exchange touches. Two draws at a time are quicker than one after the
 /// other.
 #[inline(always)]

@@ -234,8 +234,8 @@ impl Hand {
         ranks
     }
 
-    /// The suit's thirteen ranks as 13 bits: a bit is 1 exactly if the hand has the rank. Bit 0 is
-    /// the ace, bit 12 the two.
+    /// The suit's thirteen ranks as 13 bits: a bit is 1 if and only if the hand has the rank. Bit 0
+    /// is the ace, bit 12 the two.
     pub fn rank_set(&self, suit: Suit) -> u16
         ensures bits { (rank : ℕ)
             → rank < 13

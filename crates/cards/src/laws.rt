@@ -16,7 +16,7 @@ ghost use Rattle.cards.specs.declared.seat.Seat.{Seat as ASeat};
 
 use crate::Deal;
 
-/// One list of numbers is a rearrangement of another exactly if it is a permutation of it.
+/// One list of numbers is a rearrangement of another if and only if it is a permutation of it.
 pub fn rearrangement()
     ensures { (xs ys : List ℕ) → IsTrue (is_rearrangement xs ys) ↔ IsPermutation xs ys }
 {}
@@ -32,7 +32,7 @@ pub fn positions()
     ensures { (places : List ℕ) → IsPlaces places → IsPermutation pack (map (card_at places) pack) }
 {}
 
-/// Two deals are equal exactly if each card has the same seat in both.
+/// Two deals are equal if and only if each card has the same seat in both.
 pub fn equality(a: &Deal, b: &Deal) -> bool
     ensures { IsTrue result ↔ (a.now ≡ b.now) }
 {

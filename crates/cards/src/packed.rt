@@ -10,21 +10,21 @@ use crate::around::mask_fixed;
 use crate::{Candidates, Deal, Fixed, Seat};
 use std::marker::Model;
 
-/// What stands above a mask of 52 cards begins here.
+/// What is above a mask of 52 cards begins here.
 const ABOVE: u64 = 1 << 52;
 
 /// The first word of an undealt candidate is not below this.
 const UNDEALT: u64 = 2 * ABOVE;
 
-/// The part of a seed that stands above one mask.
+/// The part of a seed that is above one mask.
 const PART: u64 = 1 << 12;
 
 /// A candidate: its deal and a flag, or the seed and the fixed cards that it is dealt from, whose
 /// flag is not set.
 ///
-/// Of a deal West has the cards that nobody else has, and the flag stands above North's. Of fixed
+/// Of a deal West has the cards that nobody else has, and the flag is above North's. Of fixed
 /// cards the first mask has North's and West's, the second East's and West's, and the third
-/// South's; the seed stands above the three.
+/// South's; the seed is above the three.
 #[derive(Clone, Copy)]
 pub struct Packed {
     first: u64,

@@ -1,4 +1,4 @@
--- The classes of suits that `any` and `every` go through, and the suits that they stand for.
+-- The classes of suits that `any` and `every` go through, and the suits that they mean.
 use Rattle.std.specs.Prelude.{◌≡◌, ◌==◌, ◌&&◌, ◌||◌, Bool, true, false, not, List, [], ◌∷◌, Option, Some, None, is_some}
 use Rattle.std.specs.List.{filter}
 use Rattle.cards.specs.declared.suit.Suit.{Suit as ASuit}
@@ -10,7 +10,7 @@ use Rattle.cond_lang.specs.declared.classes.Class.TheVariants.{Suit as AnySuit, 
 use Rattle.cond_lang.specs.declared.scanner.Token.{Token}
 use Rattle.cond_lang.specs.declared.scanner.Token.TheVariants.{Suit, Class}
 
--- the suit that a class stands for, where the class is bound
+-- the suit that a class means, where the class is bound
 abbrev pub bound_to : Bound → AClass → Option ASuit
 bound_to E AnySuit = E.suit
 bound_to E Major = E.major
@@ -24,7 +24,7 @@ is_bound E c = is_some (bound_to E c)
 abbrev pub unbound : Bound
 unbound = record { suit = None; major = None; minor = None; other = None }
 
--- inside the brackets of a class its word stands for one suit of the class
+-- inside the brackets of a class its word means one suit of the class
 abbrev pub bind : Bound → AClass → ASuit → Bound
 bind E AnySuit s = record E { suit = Some s }
 bind E Major s = record E { major = Some s }
@@ -46,11 +46,11 @@ abbrev pub is_this : Option ASuit → ASuit → Bool
 is_this None s = false
 is_this (Some t) s = suit_number t == suit_number s
 
--- whether an enclosing class stands for the suit
+-- whether an enclosing class means the suit
 abbrev pub is_taken : Bound → ASuit → Bool
 is_taken E s = is_this E.suit s || (is_this E.major s || is_this E.minor s)
 
--- whether the suit is one of the class: `other` has the suits that no enclosing class stands for
+-- whether the suit is one of the class: `other` has the suits that no enclosing class means
 abbrev pub is_member : Bound → AClass → ASuit → Bool
 is_member E AnySuit s = true
 is_member E Major s = is_major s
@@ -64,7 +64,7 @@ all_suits = Spades ∷ Hearts ∷ Diamonds ∷ Clubs ∷ []
 abbrev pub members : Bound → AClass → List ASuit
 members E c = filter (is_member E c) all_suits
 
--- a suit's word names the suit, and a bound class's word the suit that the class stands for
+-- a suit's word names the suit, and a bound class's word the suit that the class means
 pub data Names (E : Bound) : Token → ASuit → Type 0 where
   by_suit : {s : ASuit} → Names E (Suit s) s
   by_class : {c : AClass} {s : ASuit} → bound_to E c ≡ Some s → Names E (Class c) s

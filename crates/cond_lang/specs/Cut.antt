@@ -80,7 +80,7 @@ symbols =
 abbrev pub is_separator : ℕ → Bool
 is_separator c = c == 32 || (c == 9 || (c == 10 || c == 13))
 
--- a comment goes from its sign `#` to the next line feed, which is no part of it, or to the end
+-- a comment goes from its sign `#` to the next line feed, which isn't part of it, or to the end
 abbrev pub is_comment_sign : ℕ → Bool
 is_comment_sign c = c == 35
 

@@ -98,7 +98,7 @@ IsFirstCut text pieces = CutOf IsFirstPiece text pieces
 abbrev pub HasFirstBytes : List ℕ → Type 0
 HasFirstBytes text = (Contains text 35 → ⊥) × (Contains text 13 → ⊥)
 
--- the piece is no later word, no ranks and no `+`
+-- the piece isn't a later word, ranks or `+`
 abbrev pub IsOldestPiece : Piece → Type 0
 IsOldestPiece (TokenPiece t) = IsOldest t
 IsOldestPiece k = Unit {0}

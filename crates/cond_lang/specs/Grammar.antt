@@ -12,7 +12,7 @@
 --           | "cards" "(" seat [ "," suit ] "," ranks ")" | "len" "(" seat "," suit ")"
 --           | ( "longest" | "second" | "shortest" ) "(" seat ")"
 -- Chains group to the left, and brackets leave no node. Inside the brackets of a class its word
--- stands wherever a suit's does: the tree is that of each suit of the class in the word's place,
+-- is wherever a suit's does: the tree is that of each suit of the class in the word's place,
 -- joined by `or` for `any` and by `and` for `every`.
 --
 -- The rules of the words that came last, `any`, `every`, `second` and `stops`, want a W: where W is

@@ -52,7 +52,7 @@ place_of kind.And = 28 + length measures
 place_of kind.Or = 29 + length measures
 place_of kind.End = 30 + length measures
 
--- the kind stands in the list of all at its place, and nowhere else
+-- the kind is in the list of all at its place, and nowhere else
 abbrev pub IsListedOnce : Kind → Type 0
 IsListedOnce k =
     (slice_get all_kinds (place_of k) ≡ Some k)

@@ -100,7 +100,7 @@ pub data FirstTestOf (V : Amounts) : List Token → Form → Type 0 where
 abbrev pub SpellsInFirstWords : List Token → Form → Type 0
 SpellsInFirstWords T t = CondOf ⊥ (λ E. FirstTestOf (ValueOf SpellsFirstAtom)) unbound T t
 
--- the token was there first: it is no measure but hcp, and none of the later words
+-- the token was there first: it isn't a measure but hcp, and none of the later words
 abbrev pub IsFirst : Token → Type 0
 IsFirst (Measure Hcp) = Unit {0}
 IsFirst (Measure m) = ⊥

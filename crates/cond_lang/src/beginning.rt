@@ -1,4 +1,4 @@
-//! What could stand where a condition goes wrong.
+//! What may come where a condition goes wrong.
 
 ghost use Rattle.std.specs.Prelude.{◌≡◌, ◌≢◌, ◌≤◌, ◌↔◌, ℕ, ◌++◌, ◌∷◌, [], length};
 ghost use Rattle.std.specs.Prelude.{Err, IfOk, IfErr, IsTrue};
@@ -64,8 +64,8 @@ impl Beginning {
         })
     }
 
-    /// Returns whether some token of the kind could stand next: some condition begins with these
-    /// tokens and that one. The end may stand if the tokens are a condition.
+    /// Returns whether some token of the kind may come next: some condition begins with these
+    /// tokens and that one. The end may come if the tokens are a condition.
     ///
     /// # Errors
     /// `Memory` if an allocation failed.
@@ -85,7 +85,7 @@ impl Beginning {
         }
     }
 
-    /// Returns whether some token of the kind could stand next in a question: what may stand in a
+    /// Returns whether some token of the kind may come next in a question: what may come in a
     /// condition may, and the end may if the tokens are a value too.
     ///
     /// # Errors

@@ -1,4 +1,4 @@
-//! Classes of suits, the quantifiers that go through them, and the suits that they stand for.
+//! Classes of suits, the quantifiers that go through them, and the suits that they mean.
 
 ghost use Rattle.std.specs.Prelude.{◌≡◌};
 ghost use Rattle.cond_lang.specs.Classes.{bind, bound_to, can_bind, is_bound, is_major, is_member};
@@ -25,11 +25,11 @@ pub enum Class {
     Major,
     /// Diamonds and clubs.
     Minor,
-    /// The suits that no enclosing class stands for.
+    /// The suits that no enclosing class means.
     Other,
 }
 
-/// The suit that each class stands for, where the class is bound.
+/// The suit that each class means, where the class is bound.
 #[derive(Clone, Copy)]
 pub(crate) struct Bound {
     suit: Option<Suit>,
@@ -51,7 +51,7 @@ impl Bound {
         }
     }
 
-    /// The suit that the class stands for.
+    /// The suit that the class means.
     pub(crate) fn suit_of(self, class: Class) -> Option<Suit>
         ensures { result ≡ bound_to self class }
     {
@@ -122,7 +122,7 @@ impl Bound {
         }
     }
 
-    /// Whether an enclosing class stands for the suit.
+    /// Whether an enclosing class means the suit.
     fn is_taken(self, suit: Suit) -> bool
         ensures { result ≡ is_taken self suit }
     {

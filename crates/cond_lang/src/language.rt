@@ -2,7 +2,7 @@
 
 use crate::words::MEASURE_LINES;
 
-/// The language of conditions on one page, in parts that stand one behind another, each of whole
+/// The language of conditions on one page, in parts that follow one another, each of whole
 /// lines: plain text of ASCII, 80 columns at most, with ten examples, each on a line of its own
 /// that begins with four spaces.
 pub const LANGUAGE: [&str; 3] = [BEFORE_MEASURES, MEASURE_LINES, BEHIND_MEASURES];

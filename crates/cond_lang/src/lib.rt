@@ -3,7 +3,7 @@
 //!
 //! `parse` cuts the whole text into pieces first (`scanner`), and then reads the tokens from the
 //! left, one in sight (`parser`). `parse_question` takes a whole value too, such as
-//! `hcp(north)+hcp(south)`. The trees and what they mean of a deal stand in `conditions`, and have
+//! `hcp(north)+hcp(south)`. The trees and what they mean of a deal are in `conditions`, and have
 //! their names here too. `language` has all of it on a page.
 #![tactic(auto)]
 

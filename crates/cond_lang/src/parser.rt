@@ -1,28 +1,26 @@
 //! The parser: it reads the tokens from the left, with one token in sight, and builds the tree as
 //! it goes.
 
-ghost use Rattle.std.specs.Prelude.{◌≡◌, ◌≢◌, ◌≤◌, ◌⊎◌, ◌↔◌, ℕ, List, ◌∷◌, length};
-ghost use Rattle.std.specs.Prelude.{IfOk, IfErr, Err, IsTrue, MatchOption, option_map};
+ghost use Rattle.std.specs.Prelude.{◌≡◌, ◌≢◌, ◌≤◌, ℕ, List, ◌∷◌, length, option_map, IfOk};
 ghost use Rattle.cond_lang.specs.declared.scanner.Token.{Token as AToken};
-ghost use Rattle.conditions.specs.Form.{Amount, Form, amount_of, form_of, any_of, all_of};
+ghost use Rattle.conditions.specs.Form.{amount_of, form_of, any_of, all_of};
 ghost use Rattle.conditions.specs.Form.{negation};
-ghost use Rattle.cond_lang.specs.Classes.{unbound};
-ghost use Rattle.cond_lang.specs.Grammar.{Spells, SpellsValue, joined};
+ghost use Rattle.cond_lang.specs.Grammar.{joined};
 ghost use Rattle.cond_lang.specs.Text.{kinds};
-ghost use Rattle.cond_lang.specs.Continuations.{IsLongestViable};
-ghost use Rattle.cond_lang.specs.Faults.{offset_of, IsPlace};
 ghost use Rattle.cond_lang.specs.internal.Reading.{Gives, front, rest_of_measure, rest_of_cards};
 ghost use Rattle.cond_lang.specs.internal.Reading.{suit_and_ranks};
 ghost use Rattle.cond_lang.specs.internal.Reading.{atom_of, reading, a_value, comparing_by};
 ghost use Rattle.cond_lang.specs.internal.Reading.{test_by, a_unit, a_both, a_cond};
 ghost use Rattle.cond_lang.specs.internal.Reading.{whole, behind, with_suit_by, quantified_by};
 
+mod lists;
 mod terminals;
 
 use crate::classes::{Bound, Class, Quantifier};
 use crate::scanner::{Placed, Token};
 use cards::{Measure, Seat, Suit};
-use conditions::{CondError, Tree, Value};
+use conditions::{Tree, Value};
+pub(crate) use lists::{parse_tokens, read_as_far, read_value};
 use std::alloc::{AllocFailed, Global};
 use std::marker::Model;
 
@@ -428,87 +426,5 @@ impl<'a> Parser<'a> {
             return Err(Refusal::Syntax);
         }
         Ok(Box::into_inner(tree))
-    }
-}
-
-/// The tree that the tokens spell, which are those of a text of `end` bytes.
-pub(crate) fn parse_tokens(alloc: Global, tokens: &[Placed], end: usize) -> Result<Tree, CondError>
-    ensures spelled { IfOk result (λ t. Spells (kinds tokens.now) (form_of t)) }
-    ensures found { (t : Form)
-        → Spells (kinds tokens.now) t → IfErr result (λ e. e ≡ CondError.Memory) }
-    ensures place { (at : ℕ) → result ≡ Err (CondError.Syntax at) → IsPlace tokens.now end at }
-    ensures errors { IfErr result (λ e.
-        (e ≡ CondError.Memory) ⊎ ((at : ℕ) × (e ≡ CondError.Syntax at))) }
-{
-    let mut parser = Parser::new(alloc, tokens);
-    match parser.whole() {
-        Ok(tree) => Ok(tree),
-        Err(Refusal::Memory) => Err(CondError::Memory),
-        Err(Refusal::Syntax) => {
-            let index = tokens.len() - parser.left();
-            Err(CondError::Syntax {
-                at: offset_of(tokens, end, index),
-            })
-        }
-    }
-}
-
-/// The value that the tokens are, if they are one and no more. The only error is `Memory`.
-pub(crate) fn read_value(alloc: Global, tokens: &[Placed]) -> Result<Option<Value>, CondError>
-    ensures value { IfOk result (λ found. MatchOption found
-        ((a : Amount) → SpellsValue unbound (kinds tokens.now) a → ⊥)
-        (λ v. SpellsValue unbound (kinds tokens.now) (amount_of v))) }
-    ensures memory { IfErr result (λ e. e ≡ CondError.Memory) }
-{
-    let mut parser = Parser::new(alloc, tokens);
-    match parser.value(Bound::none()) {
-        Ok(value) => {
-            if parser.left() > 0 {
-                return Ok(None);
-            }
-            Ok(Some(value))
-        }
-        Err(Refusal::Syntax) => Ok(None),
-        Err(Refusal::Memory) => Err(CondError::Memory),
-    }
-}
-
-/// How far some tokens go, and whether they end there.
-#[derive(Clone, Copy)]
-pub(crate) struct Reach {
-    /// How many of the tokens, at most, begin a condition.
-    pub count: usize,
-    /// Whether all of them together are one.
-    pub is_whole: bool,
-}
-
-/// How many of the tokens a condition can begin with. The only error is `Memory`.
-pub(crate) fn read_as_far(alloc: Global, tokens: &[Placed]) -> Result<Reach, CondError>
-    ensures count { IfOk result (λ r. IsLongestViable (kinds tokens.now) r.count) }
-    ensures whole { IfOk result (λ r.
-        IsTrue r.is_whole ↔ ((t : Form) × Spells (kinds tokens.now) t)) }
-    ensures memory { IfErr result (λ e. e ≡ CondError.Memory) }
-{
-    let mut parser = Parser::new(alloc, tokens);
-    match parser.whole() {
-        Ok(_) => Ok(Reach {
-            count: tokens.len(),
-            is_whole: true,
-        }),
-        Err(Refusal::Syntax) => Ok(Reach {
-            count: tokens.len() - parser.left(),
-            is_whole: false,
-        }),
-        Err(Refusal::Memory) => Err(CondError::Memory),
-    }
-}
-
-/// The offset of the token at the index, or `end` if there is none.
-fn offset_of(tokens: &[Placed], end: usize, index: usize) -> usize
-    ensures { result ≡ offset_of tokens.now end index }
-{
-    match tokens.get(index) {
-        Some(token) => token.at,
-        None => end,
     }
 }

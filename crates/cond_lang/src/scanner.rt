@@ -131,7 +131,7 @@ fn is_separator(byte: u8) -> bool
     byte == b' ' || byte == b'\t' || byte == b'\n' || byte == b'\r'
 }
 
-/// How many bytes stand before the next line feed, or before the end.
+/// How many bytes are before the next line feed, or before the end.
 fn comment_len(text: &[u8]) -> usize
     ensures value { result ≡ run is_in_comment text.now }
     ensures within { result ≤ length text.now }
@@ -166,7 +166,7 @@ fn ranks_piece(letters: &[u8]) -> Piece
     }
 }
 
-/// Whether the letters are ranks, and none of them stands twice.
+/// Whether the letters are ranks, and none of them occurs twice.
 fn are_ranks(letters: &[u8]) -> bool
     ensures { result ≡ are_ranks letters.now }
 {
@@ -181,7 +181,7 @@ fn is_rank(letter: u8) -> bool
     letter == b'a' || letter == b'k' || letter == b'q' || letter == b'j' || letter == b't'
 }
 
-/// How often a letter stands there.
+/// How often the letter occurs.
 fn count(letters: &[u8], wanted: u8) -> usize
     ensures { result ≡ count_by (λ d. d == wanted) letters.now }
 {

@@ -17,7 +17,7 @@ atoms_of (longest q) = 1
 atoms_of (second q) = 1
 atoms_of (shortest q) = 1
 
--- each value in the tree has at most so many atoms
+-- each value in the tree has at most this many atoms
 abbrev pub HasAtMostAtoms : ℕ → Form → Type 0
 HasAtMostAtoms n (any_of a b) = HasAtMostAtoms n a × HasAtMostAtoms n b
 HasAtMostAtoms n (all_of a b) = HasAtMostAtoms n a × HasAtMostAtoms n b

@@ -25,7 +25,7 @@ value_in deal (longest q) = longest_of (hand_of deal q)
 value_in deal (second q) = second_of (hand_of deal q)
 value_in deal (shortest q) = shortest_of (hand_of deal q)
 
--- whether two numbers stand in the relation
+-- whether two numbers are in the relation
 abbrev pub is_related : Op → ℕ → ℕ → Bool
 is_related Equal a b = a == b
 is_related NotEqual a b = not (a == b)

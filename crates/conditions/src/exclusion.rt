@@ -285,7 +285,7 @@ impl Test {
     }
 }
 
-/// The relation that holds exactly if the other one has this truth.
+/// The relation that holds if and only if the other one has this truth.
 fn op_of_truth(op: Op, truth: bool) -> Op
     ensures { (m n : ℕ) → is_related result m n ≡ has_truth truth (is_related op m n) }
 {

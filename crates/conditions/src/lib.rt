@@ -1,7 +1,7 @@
 //! Conditions on a deal, as trees of tests, and what these mean.
 //!
 //! Contracts see a `Cond` as its tree's `Form`, which is the tree without the addresses of its
-//! boxes. The language that people write conditions in stands above this crate.
+//! boxes. The language that people write conditions in is above this crate.
 #![tactic(auto)]
 
 mod bounds;

@@ -85,7 +85,7 @@ impl<E: Write> Counts<E> {
         Ok(())
     }
 
-    /// Wipes the line, if one stands.
+    /// Wipes the line, if one is drawn.
     pub(crate) fn wipe(&mut self) {
         self.drawn.wipe(&mut self.err);
     }
@@ -94,14 +94,14 @@ impl<E: Write> Counts<E> {
 /// Back to the first column, and the line empty from there on.
 const WIPE: &[u8] = b"\r\x1b[K";
 
-/// Whether a line of counts stands on the terminal. Its clones tell the same.
+/// Whether a line of counts is on the terminal. Its clones tell the same.
 #[derive(Drop)]
 pub struct Drawn {
     stands: Arc<AtomicBool, Global>,
 }
 
 impl Drawn {
-    /// No line stands.
+    /// No line is drawn.
     ///
     /// # Errors
     ///
@@ -123,17 +123,17 @@ impl Drawn {
         })
     }
 
-    /// Whether a line stands.
+    /// Whether a line is drawn.
     pub(crate) fn stands(&self) -> bool {
         self.stands.load(Ordering::SeqCst)
     }
 
-    /// Notes that a line stands.
+    /// Notes that a line is drawn.
     pub(crate) fn note(&self) {
         self.stands.store(true, Ordering::SeqCst);
     }
 
-    /// Wipes the line, if one stands, on the output that it was drawn on.
+    /// Wipes the line, if one is drawn, on the output that it was drawn on.
     pub(crate) fn wipe<E: Write>(&self, err: &mut E) {
         if self.stands.swap(false, Ordering::SeqCst) {
             let _ = err.write_all(WIPE);
@@ -147,12 +147,12 @@ impl Drawn {
 pub struct OverLine<W, E> {
     writer: W,
     err: E,
-    /// None where the writer's bytes don't come to the terminal that the line stands on.
+    /// None where the writer's bytes don't come to the terminal that the line is on.
     drawn: Option<Drawn>,
 }
 
 impl<W: Write, E: Write> OverLine<W, E> {
-    /// A writer over a line that may stand on `err`.
+    /// A writer over a line that may be on `err`.
     pub fn new(writer: W, err: E, drawn: Option<Drawn>) -> OverLine<W, E> {
         OverLine { writer, err, drawn }
     }

@@ -22,9 +22,9 @@ pub fn millis(clock: &impl Clock) -> Option<u64> {
 /// A sink over a writer that gathers, for a person who may watch. It tells the bytes that the
 /// writer tells, as a `Piped` does.
 ///
-/// When the run says how far it is, whatever was gathered for so many milliseconds is passed on; so
-/// is all that was gathered before counts are shown, and no board is missing that they count. They
-/// are wiped when the sink is flushed or fails.
+/// When the run says how far it is, whatever was gathered for this many milliseconds is passed on;
+/// so is all that was gathered before counts are shown, and no board is missing that they count.
+/// They are wiped when the sink is flushed or fails.
 ///
 /// Any error of the writer is a fault, and so is a count of 0 for a piece that isn't empty. If
 /// passing on fails, the next `write` or `flush` is a fault.
@@ -49,7 +49,7 @@ pub struct Prompt<W: Write, C, E> {
 }
 
 impl<W: Write, C: Clock, E: Write> Prompt<W, C, E> {
-    /// A sink over `writer` that gathers for so many milliseconds, with no fault so far.
+    /// A sink over `writer` that gathers for this many milliseconds, with no fault so far.
     pub fn new(writer: W, clock: C, counts: Counts<E>, gathered_millis: u64) -> Prompt<W, C, E>
         ensures bytes { ⟦<Prompt<W, C, E> as Sink>⟧.bytes result ≡ W.contents writer }
         ensures faults { ⟦<Prompt<W, C, E> as Sink>⟧.faults result ≡ 0 }

@@ -12,7 +12,7 @@ pub enum Style {
 }
 
 impl Style {
-    /// For how many milliseconds a line stands, before the next is drawn.
+    /// For how many milliseconds a line stays, before the next is drawn.
     pub(crate) fn interval(self) -> u64 {
         match self {
             Style::Redrawn => 250,

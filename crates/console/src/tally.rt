@@ -36,7 +36,7 @@ fn grouped(alloc: Global, number: u64) -> Result<String, AllocError> {
     Ok(text)
 }
 
-/// So many a second, with a tenth of a thousand or of a million.
+/// A number a second, with a tenth of a thousand or of a million.
 fn rate_text(alloc: Global, rate: u64) -> Result<String, AllocError> {
     let (unit, name) = match rate {
         0..=999 => return format!(in alloc; "{rate} /s"),

@@ -1,4 +1,4 @@
--- What holds however a run ends: what stands of one that was interrupted, by its cause.
+-- What holds however a run ends: what remains of one that was interrupted, by its cause.
 use Rattle.std.specs.Prelude.{ℕ, ◌+◌, ◌-◌, ◌≡◌, ◌≢◌, ◌<◌, ◌≤◌, ◌⊎◌, List, [], ◌++◌, length}
 use Rattle.std.specs.Prelude.{map, Option, Some, Result, Ok, Err, MatchResult, true, false}
 use Rattle.std.specs.Prelude.{slice_get}

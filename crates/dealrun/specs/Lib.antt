@@ -1,4 +1,4 @@
--- The first six stand in the crates below, and have their names here too.
+-- The first six are in the crates below, and have their names here too.
 pub use Rattle.sinks.specs.Appended
 pub use Rattle.sinks.specs.Sinks
 pub use Rattle.sinks.specs.Fuses

@@ -104,7 +104,7 @@ pub(crate) enum Written {
     Open,
 }
 
-/// Why the run is interrupted, if it is. That a worker was stopped is no cause once the limit of
+/// Why the run is interrupted, if it is. That a worker was stopped isn't a cause once the limit of
 /// boards is met.
 pub(crate) fn cause_of(written: Written, joined: Joined) -> Option<Cause>
     ensures { result ≡ cause_by written joined.stopped joined.unclosed }

@@ -128,7 +128,7 @@ pub fn run_and_count<
         TakesWhatIsOwed plan.now cond r.report.lanes.items r.report.boards) }
     ensures text { IfOk result (λ r. WritesTextIn (N.layout notation.old) plan.now cond
         r.report.boards (S.bytes sink.old) (S.bytes sink.new)) }
-    // So many candidates are needed.
+    // This many candidates are needed.
     ensures candidates { IfOk result (λ r. r.candidates ≡ end_of plan.now cond) }
     ensures few { IfOk result (λ r.
         (r.report.boards ≤ r.candidates) × (r.candidates ≤ plan.now.count)) }

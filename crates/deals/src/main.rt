@@ -5,50 +5,23 @@
 //! found, and its counts are shown (`streams.rt`).
 #![tactic(auto)]
 
+mod endings;
+mod notes;
 mod refused_words;
 mod streams;
 
-ghost use Rattle.std.specs.Prelude.{◌-◌, ◌<◌, ◌^◌};
-
-use crate::streams::{Given, Reasons, Said, help, hints_of, is_time, note, open};
+use crate::endings::{cut_off, for_person, say, say_more};
+use crate::notes::note;
+use crate::streams::{Given, Reasons, help, hints_of, is_time, open};
 use deals_cli::{perform, prepare, read_words};
 use picking::Reader;
-use requests::{Failure, Report};
-use sinks::{Piped, Sink, put_all};
+use sinks::{Piped, put_all};
 use std::cell::Cell;
 use std::io::ErrorKind;
 use std::process::ExitCode;
 use std::{env, io};
 
-/// Says how it ended, as a program reads it: the report if one was asked for, or what failed.
-/// Returns the status.
-fn say(ended: &Result<Option<Report>, Failure>, err: &mut Said) -> u8
-    requires { ⟦<Said as Sink>⟧.faults err.old < 2 ^ 64 - 1 }
-{
-    match ended {
-        Ok(None) => 0,
-        Ok(Some(report)) => {
-            let _ = report.say(err);
-            0
-        }
-        Err(failure) => {
-            let _ = failure.say(err);
-            failure.status()
-        }
-    }
-}
-
-/// Says it to a person, if there is something to say.
-fn say_more(text: Option<String>, err: &mut Said) {
-    if err.fault_count() > 0 {
-        return;
-    }
-    if let Some(text) = text {
-        let _ = put_all(err, text.as_bytes());
-    }
-}
-
-/// Notes it for a person, before a line of counts stands.
+/// Notes it for a person, before a line of counts is drawn.
 fn put_note(rt: &HostRuntime, text: Option<String>) {
     if let Some(text) = text {
         let _ = put_all(&mut Piped::new(rt.stderr()), text.as_bytes());
@@ -82,16 +55,20 @@ fn main(rt: HostRuntime) -> ExitCode {
     };
     let hints = is_time(&rt, hints_of(words, &read));
     let reason = Cell::new(None);
-    let mut input = Reader::new(Given::new(rt.stdin(), &reason));
+    let mut input = Reader::new(Given::new(&rt, &read, &reason));
     let ended = match prepare(rt.alloc(), words, &read) {
         Ok(task) => {
             if hints {
-                put_note(&rt, note(rt.alloc(), &task));
+                put_note(&rt, note(rt.alloc(), words, &read, &task));
             }
             perform(&rt, rt.alloc(), task, &mut input, &mut out)
         }
         Err(failure) => Err(failure),
     };
+    if hints && let Some(status) = cut_off(&rt, &ended, out.reason()) {
+        return ExitCode::from(status);
+    }
+    let ended = if hints { for_person(&rt, ended) } else { ended };
     let status = say(&ended, &mut err);
     if let Err(failure) = &ended
         && hints
@@ -100,8 +77,7 @@ fn main(rt: HostRuntime) -> ExitCode {
             output: out.reason(),
             input: reason.get(),
         };
-        let text = help(rt.alloc(), words, &read, failure, reasons);
-        say_more(text, &mut err);
+        say_more(help(rt.alloc(), words, &read, failure, reasons), &mut err);
     }
     ExitCode::from(status)
 }

@@ -1,80 +1,121 @@
 //! What helps a person with words that are refused, below what clap says of them.
+//!
+//! `refused` reads what is refused; each other file has the hints of one kind, as tables where it
+//! can. `tips` takes clap's own tips away where they lead astray.
 
+mod hyphens;
+mod instead;
+mod missing;
+mod numbers;
+mod options;
+mod quotes;
+mod refused;
+mod tips;
+mod values;
+
+use self::refused::Refused;
+pub use self::tips::without_far_tips;
 use std::alloc::Global;
 
-/// clap's line that a seed is missing.
-const NO_SEED: &str = "\n  --seed <S>\n";
+const COMMAND_FIRST: &str = "the command comes first: deals make --seed 7 --boards 36";
 
-/// How clap begins with an option that isn't there, whose name then stands in quotes.
-const UNEXPECTED: &str = "error: unexpected argument '";
-
-/// How to come to a seed for new boards.
-const HOW_TO_SEED: &str = "  hint: for a lesson any number is a good seed: --seed 7
-  hint: for a club draw one that nobody can guess: od -An -N4 -tu4 /dev/urandom
-";
-
-const COMMAND_FIRST: &str = "  hint: the command comes first: deals make --seed 7 --boards 36\n";
-
-const TO_A_FILE: &str =
-    "  hint: boards go to standard output, and so into a file: deals make .. > boards.pbn\n";
-
-const BY_WHERE: &str =
-    "  hint: a condition stands behind --where, in quotes: --where 'hcp(north)>=15'\n";
-
-const HOW_MANY: &str =
-    "  hint: --boards 36 says how many boards, --candidates 1000 how many deals are tried\n";
-
-const BY_COUNT: &str =
-    "  hint: deals count tells how often each number comes, and the mean: --of 'hcp(north)'\n";
-
-const FORMS: &str =
-    "  hint: boards are PBN, or what --format says: --format hands, lin, html or json\n";
-
-/// Options that people try first, and what helps in their place.
-const INSTEAD: [(&str, &str); 19] = [
-    ("--output", TO_A_FILE),
-    ("--out", TO_A_FILE),
-    ("--file", TO_A_FILE),
-    ("-o", TO_A_FILE),
-    ("--condition", BY_WHERE),
-    ("--conditions", BY_WHERE),
-    ("--filter", BY_WHERE),
-    ("--if", BY_WHERE),
-    ("--count", HOW_MANY),
-    ("--number", HOW_MANY),
-    ("--deals", HOW_MANY),
-    ("-n", HOW_MANY),
-    ("--average", BY_COUNT),
-    ("--frequency", BY_COUNT),
-    ("--pbn", FORMS),
-    ("--html", FORMS),
-    ("--lin", FORMS),
-    ("--json", FORMS),
-    ("--hands", FORMS),
-];
+/// How a line of help begins.
+const HINT: &str = "  hint: ";
 
 /// What helps with words that clap refuses with this text, if anything does; none where memory runs
 /// out.
 pub fn hint(alloc: Global, words: &[String], refusal: &str) -> Option<String> {
-    let hint = hint_for(words.get(1)?.as_str(), refusal)?;
-    String::from_str(alloc, hint).ok()
+    let text = match hyphens::hint(alloc, words) {
+        Some(text) => text,
+        None => hint_for(alloc, words, refused::read(refusal)?)?,
+    };
+    let text = text.as_str();
+    // Two hints stand as the lines that they are.
+    if text.starts_with(HINT) {
+        return String::from_str(alloc, text).ok();
+    }
+    format!(in alloc; "{HINT}{text}\n").ok()
 }
 
-/// What helps behind this first word. For `pick` no seed helps but the one that its numbers come
-/// from.
-fn hint_for(first: &str, refusal: &str) -> Option<&'static str> {
-    if first.starts_with('-') {
-        return Some(COMMAND_FIRST);
+/// What helps with what is refused.
+fn hint_for(alloc: Global, words: &[String], refused: Refused<'_>) -> Option<String> {
+    let command = words.get(1).map_or("", |word| word.as_str());
+    match refused {
+        Refused::Argument(word) => of_argument(alloc, words, command, word),
+        Refused::Command(name) => owned(alloc, instead::of_command(alloc, name)?),
+        Refused::Value { word, option } => of_value(alloc, command, option, word),
+        Refused::NoValue(option) => missing::of_value(alloc, option),
+        Refused::Twice(option) => missing::of_repeat(alloc, option),
+        Refused::Flag(option) => format!(in alloc; "write {option} alone").ok(),
+        Refused::Missing(options) => owned(alloc, missing::of_options(command, options)?),
+        Refused::NoCommand => owned(alloc, missing::NO_COMMAND),
     }
-    if matches!(first, "make" | "find" | "count") && refusal.contains(NO_SEED) {
-        return Some(HOW_TO_SEED);
-    }
-    instead_of(refusal)
 }
 
-/// What helps in the place of an option that isn't there.
-fn instead_of(refusal: &str) -> Option<&'static str> {
-    let (option, _) = refusal.strip_prefix(UNEXPECTED)?.split_once('\'')?;
-    let (_, hint) = INSTEAD.iter().find(|(tried, _)| *tried == option)?;
-    Some(*hint)
+fn owned(alloc: Global, text: &str) -> Option<String> {
+    String::from_str(alloc, text).ok()
+}
+
+/// What helps with a word that isn't expected.
+fn of_argument(alloc: Global, words: &[String], command: &str, word: &str) -> Option<String> {
+    if command.starts_with('-') {
+        return owned(
+            alloc,
+            instead::of_first(alloc, command).unwrap_or(COMMAND_FIRST),
+        );
+    }
+    if let Some(text) = quotes::hint(alloc, words, word) {
+        return Some(text);
+    }
+    if word.starts_with('-') {
+        return of_option(alloc, word);
+    }
+    if is_behind_tricks(words, word) {
+        return format!(in alloc; "the lines come from its input: --tricks < {word}").ok();
+    }
+    owned(alloc, instead::of_word(word))
+}
+
+/// Whether the word is behind the flag `--tricks`, as if that took a file.
+fn is_behind_tricks(words: &[String], word: &str) -> bool {
+    let mut follows = false;
+    for given in words {
+        if follows && given.as_str() == word {
+            return true;
+        }
+        follows = given.as_str() == "--tricks";
+    }
+    false
+}
+
+/// What helps with an option that isn't there.
+fn of_option(alloc: Global, word: &str) -> Option<String> {
+    if let Some(text) = numbers::hint_of_sign(alloc, word) {
+        return Some(text);
+    }
+    let name = word.to_ascii_lowercase(alloc).ok()?;
+    if let Some(text) = instead::of_option(name.as_str()) {
+        return owned(alloc, text);
+    }
+    let known = options::named(name.as_str())?;
+    if known.option == word || known.letter == word {
+        return None;
+    }
+    format!(in alloc; "write {name} in small letters").ok()
+}
+
+/// What helps with the value of an option.
+fn of_value(alloc: Global, command: &str, option: &str, word: &str) -> Option<String> {
+    if let Some(text) = values::hint(alloc, command, option, word) {
+        return Some(text);
+    }
+    let known = options::named(option)?;
+    if let options::Takes::Number { most } = known.takes {
+        return numbers::hint(alloc, option, most, word);
+    }
+    if !word.is_empty() {
+        return None;
+    }
+    let sample = known.sample;
+    format!(in alloc; "write {option} {sample}").ok()
 }

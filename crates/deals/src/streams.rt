@@ -1,5 +1,4 @@
-//! The program's standard streams, and what is said on them for a person: below a refusal what
-//! helps, and before a search that no deal meets its condition.
+//! The program's standard streams, and what is said on them for a person below a refusal.
 
 ghost use Rattle.std.specs.Prelude.{◌≡◌, IfOk};
 
@@ -9,12 +8,12 @@ use clap::Error;
 use cond_lang::CondError;
 use console::{Counts, Drawn, GATHERED_MILLIS, OverLine, Prompt, Style, millis};
 use dealrun::Cause;
-use deals_cli::Task;
 use hints::{explain, explain_question};
-use requests::{Failure, Job, QuestionName, Request, Search, When};
+use requests::{Failure, QuestionName, Request, Search, When};
 use sinks::{Piped, Sink};
 use std::alloc::Global;
 use std::cell::Cell;
+use std::fs::File;
 use std::io;
 use std::io::{BufWriter, IsTerminal, Read};
 
@@ -25,31 +24,73 @@ const BUFFER: usize = 64 * 1024;
 /// The number of the error that a descriptor isn't open: EBADF.
 const NOT_OPEN: i32 = 9;
 
-/// Standard input, which is empty if it is closed.
+/// Where a seed is drawn from.
+const RANDOM: &str = "/dev/urandom";
+
+/// Where the input comes from.
+#[derive(Drop)]
+enum Origin {
+    /// Standard input, which is empty if it is closed.
+    Stdin(io::Stdin),
+    /// What the kernel draws.
+    Random(File),
+    /// There is none, which reading tells.
+    Missing,
+}
+
+/// The input of a request: standard input, and for a seed what the kernel draws.
 #[derive(Drop)]
 pub struct Given<'a> {
-    stdin: io::Stdin,
+    origin: Origin,
     /// The number of the system's error, once reading failed.
     reason: &'a Cell<Option<i32>>,
 }
 
 impl<'a> Given<'a> {
-    /// Standard input that notes there why it couldn't be read.
-    pub fn new(stdin: io::Stdin, reason: &'a Cell<Option<i32>>) -> Given<'a> {
-        Given { stdin, reason }
+    /// The input of this request, which notes there why it couldn't be read.
+    pub fn new(
+        rt: &HostRuntime,
+        read: &Result<Request<'_>, Error>,
+        reason: &'a Cell<Option<i32>>,
+    ) -> Given<'a> {
+        let origin = match read {
+            Ok(Request::Seed) => random(rt, reason),
+            _ => Origin::Stdin(rt.stdin()),
+        };
+        Given { origin, reason }
     }
+}
+
+/// What the kernel draws, if it can be opened.
+fn random(rt: &HostRuntime, reason: &Cell<Option<i32>>) -> Origin {
+    match File::open(rt, RANDOM) {
+        Ok(file) => Origin::Random(file),
+        Err(error) => {
+            reason.set(error.raw_os_error());
+            Origin::Missing
+        }
+    }
+}
+
+/// The error of an input that there isn't.
+fn missing() -> io::Error {
+    io::Error::from(io::ErrorKind::NotFound)
 }
 
 impl Read for Given<'_> {
     fn read(&mut self, piece: &mut [u8]) -> io::Result<usize> {
-        match self.stdin.read(piece) {
-            Err(error) if error.raw_os_error() == Some(NOT_OPEN) => Ok(0),
-            Err(error) => {
-                self.reason.set(error.raw_os_error());
-                Err(error)
-            }
-            ended => ended,
+        let ended = match &mut self.origin {
+            Origin::Stdin(stdin) => match stdin.read(piece) {
+                Err(error) if error.raw_os_error() == Some(NOT_OPEN) => Ok(0),
+                ended => ended,
+            },
+            Origin::Random(file) => file.read(piece),
+            Origin::Missing => return Err(missing()),
+        };
+        if let Err(error) = &ended {
+            self.reason.set(error.raw_os_error());
         }
+        ended
     }
 }
 
@@ -129,7 +170,7 @@ pub fn open(rt: &HostRuntime, read: &Result<Request<'_>, Error>) -> io::Result<(
     Ok((out, Piped::new(stderr)))
 }
 
-/// When hints are said, by the option `--hints`: also where it stands among words that are refused.
+/// When hints are said, by the option `--hints`: also where it is among words that are refused.
 pub fn hints_of(words: &[String], read: &Result<Request<'_>, Error>) -> When {
     match read {
         Ok(request) => request.hints(),
@@ -171,15 +212,6 @@ pub fn is_time(rt: &HostRuntime, when: When) -> bool {
     }
 }
 
-/// What there is to note of a run before its search begins; none where memory runs out.
-pub fn note(alloc: Global, task: &Task) -> Option<String> {
-    match task {
-        Task::Do(Job::Boards(job)) => hints::note(alloc, &job.condition).unwrap_or(None),
-        Task::Do(Job::Count(job)) => hints::note(alloc, &job.condition).unwrap_or(None),
-        _ => None,
-    }
-}
-
 /// What helps with the text of a condition that is refused.
 fn explanation(alloc: Global, search: &Search<'_>, error: CondError) -> Option<String> {
     explain(alloc, search.where_text?.as_bytes(), error).ok()
@@ -213,7 +245,7 @@ pub struct Reasons<'a> {
     pub input: Option<i32>,
 }
 
-/// What helps with a failure, to stand below the line that names it; none where memory runs out.
+/// What helps with a failure, below the line that names it; none where memory runs out.
 pub fn help(
     alloc: Global,
     words: &[String],
@@ -240,6 +272,6 @@ pub fn help(
             format!(in alloc; "  {reason}\n").ok()
         }
         Failure::Input => reason_of(alloc, reasons.input?),
-        Failure::Interrupted(_) | Failure::Line(_) => None,
+        Failure::Interrupted(_) | Failure::Line(_) | Failure::EndOfInput => None,
     }
 }

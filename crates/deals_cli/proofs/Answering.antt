@@ -12,17 +12,17 @@ use Rattle.requests.specs.Failures.{is_refusal, status_of}
 use Rattle.requests.specs.FirstRefusal.{IsDueFor}
 use Rattle.requests.specs.Interruptions.{LeavesFrom}
 use Rattle.requests.specs.Jobs.{IsReady, IsRefused, ReadsInput, Serves}
-use Rattle.requests.specs.Requests.{Wish, conditions, count, make, pick, stream}
-use Rattle.requests.specs.Wishes.{AppendsFrom, IsStatusOf}
+use Rattle.requests.specs.Requests.{Wish, conditions, count, draw, make, make_with_tricks, pick, stream}
+use Rattle.requests.specs.Wishes.{AppendsFrom, HasInput, IsStatusOf}
 use Rattle.requests.specs.declared.failure.Failure.{Failure}
-use Rattle.requests.specs.declared.failure.Failure.TheVariants.{CommandLine, Plan, Label, Hand, Condition, Question, Cells, Interrupted, Line, Input}
+use Rattle.requests.specs.declared.failure.Failure.TheVariants.{CommandLine, Plan, Label, Hand, Condition, Question, Cells, Interrupted, Line, Input, EndOfInput}
 use Rattle.requests.specs.declared.job.Job.{Job}
-use Rattle.requests.specs.declared.job.Job.TheVariants.{Boards, Conditions, Count, Pick, Stream}
+use Rattle.requests.specs.declared.job.Job.TheVariants.{Boards, Conditions, Count, Pick, Seed, Stream, WithTricks}
 use Rattle.requests.specs.declared.report.Report.{Report}
 use Rattle.requests.proofs.FirstDue.{output_due}
 use Rattle.requests.proofs.Statuses.{no_memory, served}
 use Rattle.deals_cli.specs.CommandLine.{asked, kinds_for}
-use Rattle.deals_cli.specs.Program.{Answers, AreRead, AreRefused, IsPick, IsStatusFor, IsTaskFor, MayShow, ReadsTask, WantsInput, is_shown}
+use Rattle.deals_cli.specs.Program.{Answers, AreRead, AreRefused, IsStatusFor, IsTaskFor, MayShow, ReadsTask, WantsInput, is_shown}
 use Rattle.deals_cli.specs.declared.task.Task.{Task}
 use Rattle.deals_cli.specs.declared.task.Task.TheVariants.{Do, Show}
 use Rattle.deals_cli.specs.internal.Kinds.{RefusesError}
@@ -100,6 +100,7 @@ mistaken words e (Interrupted (cause.Stopped worker)) read because = absurd beca
 mistaken words e (Interrupted (cause.Unclosed worker)) read because = absurd because
 mistaken words e (Line line) read because = absurd because
 mistaken words e Input read because = absurd because
+mistaken words e EndOfInput read because = absurd because
 
 -- what is left of it: nothing was written
 leaves_nothing : (w : Wish) (f : Failure) (before old : Option (List ℕ)) → is_refusal f ≡ true → LeavesFrom w f before before old old
@@ -117,6 +118,7 @@ leaves_nothing w (Interrupted (cause.Stopped worker)) before old is = absurd cc
 leaves_nothing w (Interrupted (cause.Unclosed worker)) before old is = absurd cc
 leaves_nothing w (Line line) before old is = absurd cc
 leaves_nothing w Input before old is = absurd cc
+leaves_nothing w EndOfInput before old is = absurd cc
 
 pub answers_refused : (words : List Text) (f : Failure) (before old : Option (List ℕ)) → AreRefused words f → Answers words (Err f) before before old old
 answers_refused words f before old r = record {
@@ -184,21 +186,43 @@ breaks_text words before behind old new (none, may) = record {
 
 -- ---- the input
 
--- a job that reads the input is one of a `pick`
-pick_reads : (w : Wish) (job : Job) → IsReady w job → ReadsInput job → IsPick w
-pick_reads (pick seed hands l hints) (Pick job) ready reads = tt
-pick_reads (make s l notices) (Pick job) ready reads = ready
-pick_reads conditions (Pick job) ready reads = ready
-pick_reads (count s q style notices) (Pick job) ready reads = ready
-pick_reads (stream seed n) (Pick job) ready reads = ready
-pick_reads w (Boards job) ready reads = absurd reads
-pick_reads w Conditions ready reads = absurd reads
-pick_reads w (Count job) ready reads = absurd reads
-pick_reads w (Stream job) ready reads = absurd reads
+-- a job that reads the input is one of a wish that has one
+input_read : (w : Wish) (job : Job) → IsReady w job → ReadsInput job → HasInput w
+input_read (pick seed hands l hints) job ready reads = tt
+input_read (make_with_tricks s l notices) job ready reads = tt
+input_read draw job ready reads = tt
+input_read (make s l notices) (Pick job) ready reads = ready
+input_read (make s l notices) (WithTricks job) ready reads = ready
+input_read (make s l notices) Seed ready reads = ready
+input_read (make s l notices) (Boards job) ready reads = reads
+input_read (make s l notices) Conditions ready reads = reads
+input_read (make s l notices) (Count job) ready reads = reads
+input_read (make s l notices) (Stream job) ready reads = reads
+input_read conditions (Pick job) ready reads = ready
+input_read conditions (WithTricks job) ready reads = ready
+input_read conditions Seed ready reads = ready
+input_read conditions (Boards job) ready reads = reads
+input_read conditions Conditions ready reads = reads
+input_read conditions (Count job) ready reads = reads
+input_read conditions (Stream job) ready reads = reads
+input_read (count s q style notices) (Pick job) ready reads = ready
+input_read (count s q style notices) (WithTricks job) ready reads = ready
+input_read (count s q style notices) Seed ready reads = ready
+input_read (count s q style notices) (Boards job) ready reads = reads
+input_read (count s q style notices) Conditions ready reads = reads
+input_read (count s q style notices) (Count job) ready reads = reads
+input_read (count s q style notices) (Stream job) ready reads = reads
+input_read (stream seed n) (Pick job) ready reads = ready
+input_read (stream seed n) (WithTricks job) ready reads = ready
+input_read (stream seed n) Seed ready reads = ready
+input_read (stream seed n) (Boards job) ready reads = reads
+input_read (stream seed n) Conditions ready reads = reads
+input_read (stream seed n) (Count job) ready reads = reads
+input_read (stream seed n) (Stream job) ready reads = reads
 
 pub reads_as_asked : (words : List Text) (task : Task) → IsTaskFor words task → ReadsTask task → WantsInput words
 reads_as_asked words (Show text) is reads = absurd reads
-reads_as_asked words (Do job) (w, asks, ready) reads = (w, asks, pick_reads w job ready reads)
+reads_as_asked words (Do job) (w, asks, ready) reads = (w, asks, input_read w job ready reads)
 
 -- ---- the flush
 

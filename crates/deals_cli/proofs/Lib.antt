@@ -5,6 +5,7 @@ pub mod Help
 pub mod Entered
 pub mod OptionValues
 pub mod Numbers
+pub mod Numerals
 pub mod Asked
 pub mod Statuses
 pub mod Answering

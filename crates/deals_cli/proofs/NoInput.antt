@@ -1,4 +1,4 @@
--- Without an input no status is 7.
+-- Without an input no status is 7, but of words that ask for what needs one.
 use Rattle.std.proofs.Common.{◌≡◌, ◌∙◌, ℕ, zero, suc, List, [], Option, None, Some, refl, sym, subst, inl, inr, arith}
 use Rattle.std.proofs.lemmas.List.{append-nil}
 use Rattle.clap.specs.Walk.{Text}
@@ -8,42 +8,56 @@ use Rattle.picking.specs.declared.refusal.RefusedLine.{RefusedLine}
 use Rattle.picking.specs.declared.fault.PickFault.TheVariants.{Refused}
 use Rattle.requests.specs.Failures.{status_of}
 use Rattle.requests.specs.Interruptions.{EndsFor}
-use Rattle.requests.specs.Requests.{Wish, conditions, count, make, pick, stream}
+use Rattle.requests.specs.Requests.{Wish, conditions, count, draw, make, make_with_tricks, pick, stream}
 use Rattle.requests.specs.declared.failure.Failure.{Failure}
-use Rattle.requests.specs.declared.failure.Failure.TheVariants.{CommandLine, Plan, Label, Hand, Condition, Question, Cells, Interrupted, Line, Input}
+use Rattle.requests.specs.declared.failure.Failure.TheVariants.{CommandLine, Plan, Label, Hand, Condition, Question, Cells, Interrupted, Line, Input, EndOfInput}
 use Rattle.requests.specs.Wishes.{IsStatus, IsStatusWithInput}
-use Rattle.deals_cli.specs.Program.{IsStatusOfNone, MayLeave, TellsWhy, TellsWhyFrom}
+use Rattle.deals_cli.specs.Program.{IsStatusOfNone, MayFail, MayLeave, NeedsBytes, TellsWhy, TellsWhyFrom}
 
 nothing_refused : (line : RefusedLine) → (said []).refused ≡ Some line → ⊥
 unfolding said
 nothing_refused line is = cc
 
 -- an input without bytes has no line that is refused
-no_line_ended : (w : Wish) (line : RefusedLine) (old new : Option (List ℕ)) → EndsFor w (Refused line) (Some []) (Some []) old new → ⊥
-no_line_ended (pick seed hands l hints) line old new e =
+no_line_ended : (w : Wish) (line : RefusedLine) (old new : Option (List ℕ)) → (NeedsBytes w → ⊥) → EndsFor w (Refused line) (Some []) (Some []) old new → ⊥
+no_line_ended (pick seed hands l hints) line old new other e =
     let none : e.given ≡ [] = sym (e.consumed ∙ append-nil e.given) in
     nothing_refused line (subst (λ (t : List ℕ). (said t).refused ≡ Some line) none e.written.0)
-no_line_ended (make s l notices) line old new e = e
-no_line_ended conditions line old new e = e
-no_line_ended (count s q style notices) line old new e = e
-no_line_ended (stream seed n) line old new e = e
+no_line_ended (make s l notices) line old new other e = e
+no_line_ended (make_with_tricks s l notices) line old new other e = other tt
+no_line_ended draw line old new other e = other tt
+no_line_ended conditions line old new other e = e
+no_line_ended (count s q style notices) line old new other e = e
+no_line_ended (stream seed n) line old new other e = e
 
-no_seven : (w : Wish) (f : Failure) (old new : Option (List ℕ)) → MayLeave w f (Some []) (Some []) old new → (f ≡ Input → ⊥) → status_of f ≡ 7 → ⊥
-no_seven w (CommandLine text) old new may sound is = cc
-no_seven w (Plan error) old new may sound is = cc
-no_seven w (Label label) old new may sound is = cc
-no_seven w (Hand seat) old new may sound is = cc
-no_seven w (Condition error) old new may sound is = cc
-no_seven w (Question name error) old new may sound is = cc
-no_seven w Cells old new may sound is = cc
-no_seven w (Interrupted cause.Output) old new may sound is = cc
-no_seven w (Interrupted cause.Memory) old new may sound is = cc
-no_seven w (Interrupted cause.Spawn) old new may sound is = cc
-no_seven w (Interrupted (cause.Stopped worker)) old new may sound is = cc
-no_seven w (Interrupted (cause.Unclosed worker)) old new may sound is = cc
-no_seven w (Line line) old new (inl leaves) sound is = no_line_ended w line old new leaves
-no_seven w (Line line) old new (inr flushed) sound is = let bad = flushed.0 in cc
-no_seven w Input old new may sound is = sound refl
+-- nor does it end before what such words ask for
+no_end : (w : Wish) → (NeedsBytes w → ⊥) → MayFail w EndOfInput → ⊥
+no_end w other (inl memory) = cc
+no_end (pick seed hands l hints) other (inr due) = due
+no_end (make s l notices) other (inr due) = due
+no_end (make_with_tricks s l notices) other (inr due) = other tt
+no_end draw other (inr due) = other tt
+no_end conditions other (inr due) = cc
+no_end (count s q style notices) other (inr due) = due
+no_end (stream seed n) other (inr due) = cc
+
+no_seven : (w : Wish) (f : Failure) (old new : Option (List ℕ)) → (NeedsBytes w → ⊥) → MayFail w f → MayLeave w f (Some []) (Some []) old new → (f ≡ Input → ⊥) → status_of f ≡ 7 → ⊥
+no_seven w (CommandLine text) old new other due may sound is = cc
+no_seven w (Plan error) old new other due may sound is = cc
+no_seven w (Label label) old new other due may sound is = cc
+no_seven w (Hand seat) old new other due may sound is = cc
+no_seven w (Condition error) old new other due may sound is = cc
+no_seven w (Question name error) old new other due may sound is = cc
+no_seven w Cells old new other due may sound is = cc
+no_seven w (Interrupted cause.Output) old new other due may sound is = cc
+no_seven w (Interrupted cause.Memory) old new other due may sound is = cc
+no_seven w (Interrupted cause.Spawn) old new other due may sound is = cc
+no_seven w (Interrupted (cause.Stopped worker)) old new other due may sound is = cc
+no_seven w (Interrupted (cause.Unclosed worker)) old new other due may sound is = cc
+no_seven w (Line line) old new other due (inl leaves) sound is = no_line_ended w line old new other leaves
+no_seven w (Line line) old new other due (inr flushed) sound is = let bad = flushed.0 in cc
+no_seven w Input old new other due may sound is = sound refl
+no_seven w EndOfInput old new other due may sound is = no_end w other due
 
 -- the first six of the statuses
 six_of : (s : ℕ) → IsStatusWithInput s → (s ≡ 7 → ⊥) → IsStatus s
@@ -57,14 +71,15 @@ six_of s (suc (suc (suc (suc (suc (suc zero))))), below, is) other = absurd (oth
 six_of s (suc (suc (suc (suc (suc (suc (suc n)))))), below, is) other = absurd (omega arith)
 
 pub six : (words : List Text) (o : Option Wish) (s : ℕ) (old new : Option (List ℕ)) (took_all : Type 0) (err_old err_new : Option (List ℕ)) → IsStatusWithInput s
-    → ((w : Wish) → o ≡ Some w → (s ≡ 0 → ⊥) → TellsWhy w s old new took_all err_old err_new) → (o ≡ None → IsStatusOfNone words s) → IsStatus s
-six words None s old new took_all err_old err_new is some none = six_of s is (λ seven. (none refl).neither (inr (inr seven)))
-six words (Some w) s old new took_all err_old err_new is some none = six_of s is refused
+    → ((w : Wish) → o ≡ Some w → (s ≡ 0 → ⊥) → TellsWhy w s old new took_all err_old err_new) → (o ≡ None → IsStatusOfNone words s)
+    → ((w : Wish) → o ≡ Some w → NeedsBytes w → ⊥) → IsStatus s
+six words None s old new took_all err_old err_new is some none other = six_of s is (λ seven. (none refl).neither (inr (inr seven)))
+six words (Some w) s old new took_all err_old err_new is some none other = six_of s is refused
   where
     refused : s ≡ 7 → ⊥
     refused seven =
         let why = some w refl (λ zero. omega (arith, seven, zero)) in
-        no_seven w why.failure old new why.stands why.input (sym why.status_is ∙ seven)
+        no_seven w why.failure old new (other w refl) why.due why.stands why.input (sym why.status_is ∙ seven)
 
 -- an input that can't fail didn't
 pub without : (w : Wish) (s : ℕ) (failed : Type 0) (old new : Option (List ℕ)) (took_all : Type 0) (err_old err_new : Option (List ℕ)) → (failed → ⊥)

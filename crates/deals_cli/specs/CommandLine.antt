@@ -1,11 +1,13 @@
 -- The command line: what the program's words ask for, by clap's own functions of the words.
-use Rattle.std.specs.Prelude.{◌&&◌, ◌||◌, ℕ, Bool, false, not, List, [], ◌∷◌, Option, Some, None, is_some, codes, option_map, unwrap_or, if◌then◌else◌}
+use Rattle.std.specs.Prelude.{◌&&◌, ◌||◌, ◌==◌, ℕ, Bool, false, not, List, [], ◌∷◌, Option, Some, None, is_some, codes, get_or, length, nat_lt, option_map, unwrap_or, if◌then◌else◌}
 use Rattle.std.specs.Option.{option_and_then, option_map_or}
 use Rattle.std.specs.Str.{bytes_eq}
 use Rattle.std.specs.Str.Parse.{digits_value, without_leading_plus}
+use Rattle.std.specs.Char.{digit_value}
+use Rattle.std.specs.List.{list_all}
 use Rattle.clap.specs.Words.{Kinds, Row, Text, fault_of, first_of, one_of, subcommand_of}
 use Rattle.clap.specs.Kinds.{or_else}
-use Rattle.clap.specs.declared.error.kind.ErrorKind.TheVariants.{InvalidValue}
+use Rattle.clap.specs.declared.error.kind.ErrorKind.TheVariants.{InvalidValue, ValueValidation}
 use Rattle.clap.specs.declared.error.kind.ErrorKind.TheVariants.{MissingRequiredArgument}
 use Rattle.deals_cli.specs.Commands.{deals, finders}
 use Rattle.boards.specs.declared.setting.Vul.{Vul}
@@ -13,11 +15,18 @@ use Rattle.boards.specs.declared.setting.Vul.TheVariants.{Neither, NorthSouth, E
 use Rattle.cards.specs.declared.seat.Seat.{Seat}
 use Rattle.cards.specs.declared.seat.Seat.TheVariants.{North, East, South, West}
 use Rattle.predeal.specs.PredealtHands.{GivenHands}
-use Rattle.requests.specs.Requests.{Look, Questions, Search, Wish, conditions, count, look_as}
-use Rattle.requests.specs.Requests.{make, no_question, one_question, pick, stream, two_questions}
+use Rattle.requests.specs.Requests.{Look, Questions, Search, Wish, conditions, count, draw}
+use Rattle.requests.specs.Requests.{look_as, make, make_with_tricks, no_question, one_question, pick, stream, two_questions}
 use Rattle.requests.specs.declared.request.Notices.{Notices}
 use Rattle.notations.specs.Formats.{formats}
+use Rattle.notations.specs.declared.printer.Format.{Format}
 use Rattle.notations.specs.declared.printer.Format.TheVariants.{Pbn}
+use Rattle.notations.specs.declared.show.Show.{Show}
+use Rattle.notations.specs.declared.show.Show.TheVariants.{All, Dealer}
+use Rattle.notations.specs.declared.show.Show.TheVariants as shown
+use Rattle.requests.specs.declared.workers.Workers.{Workers}
+use Rattle.requests.specs.declared.workers.Workers.TheVariants.{Number}
+use Rattle.requests.specs.declared.workers.Workers.TheVariants as workers
 use Rattle.requests.specs.declared.when.When.{When}
 use Rattle.requests.specs.declared.when.When.TheVariants.{Auto, Always, Never}
 use Rattle.statistics.specs.declared.style.Style.{Style}
@@ -30,15 +39,21 @@ number_in id rows = option_map (λ t. digits_value 10 (without_leading_plus t)) 
 abbrev pub number_or : ℕ → Text → List Row → ℕ
 number_or default id rows = unwrap_or (number_in id rows) default
 
--- clap reads a flag as the text `true` if it stands, and else as `false`
+-- clap reads a flag as the text `true` if it is given, and else as `false`
 abbrev pub is_set : Text → List Row → Bool
 is_set id rows = option_map_or (λ t. bytes_eq t (codes "true")) (first_of id rows) false
 
 -- the options that have one of a few words, as `formats` of the notations, and what each word
--- stands for, in just this case
+-- means, in just this case
 abbrev pub dealers : List (Text × Seat)
 dealers =
     (codes "N", North) ∷ (codes "E", East) ∷ (codes "S", South) ∷ (codes "W", West) ∷ []
+
+abbrev pub shows : List (Text × Show)
+shows =
+    (codes "all", All) ∷ (codes "dealer", Dealer) ∷ (codes "north", shown.North)
+    ∷ (codes "east", shown.East) ∷ (codes "south", shown.South) ∷ (codes "west", shown.West)
+    ∷ (codes "ns", shown.NorthSouth) ∷ (codes "ew", shown.EastWest) ∷ []
 
 abbrev pub sides : List (Text × Vul)
 sides =
@@ -51,16 +66,16 @@ times = (codes "auto", Auto) ∷ (codes "always", Always) ∷ (codes "never", Ne
 abbrev pub styles : List (Text × Style)
 styles = (codes "table", Table) ∷ (codes "csv", Csv) ∷ (codes "html", Html) ∷ []
 
--- what a word stands for in such a table
+-- what a word means in such a table
 abbrev pub meant_by : {A : Type 0} → List (Text × A) → Text → Option A
 meant_by [] word = None
 meant_by (p ∷ table) word = if bytes_eq word p.0 then Some p.1 else meant_by table word
 
--- what the word stands for that an option was given
+-- what the word means that an option was given
 abbrev pub choice_in : {A : Type 0} → List (Text × A) → Text → List Row → Option A
 choice_in table id rows = option_and_then (meant_by table) (first_of id rows)
 
--- an option was given a word that stands for nothing
+-- an option was given a word that means nothing
 abbrev pub is_unknown : {A : Type 0} → List (Text × A) → Text → List Row → Bool
 is_unknown table id rows =
     option_map_or (λ word. not (is_some (meant_by table word))) (first_of id rows) false
@@ -74,10 +89,33 @@ has_unknown_format name rows =
 abbrev pub has_unknown : Text → List Row → Bool
 has_unknown name rows =
     has_unknown_format name rows
+    || (is_unknown shows (codes "show") rows
     || (is_unknown dealers (codes "dealer") rows
     || (is_unknown sides (codes "vulnerable") rows
     || (is_unknown times (codes "progress") rows
-    || is_unknown times (codes "hints") rows)))
+    || is_unknown times (codes "hints") rows))))
+
+-- the number of 32 bits that a text writes in digits, perhaps behind a +
+abbrev pub number32 : Text → Option ℕ
+number32 text =
+    let ds = without_leading_plus text in
+    if nat_lt 0 (length ds) && (list_all (λ d. nat_lt (digit_value d) 10) ds
+    && nat_lt (digits_value 10 ds) 4294967296) then Some (digits_value 10 ds) else None
+
+-- what a text of `--workers` means
+abbrev pub workers_meant : Text → Option Workers
+workers_meant text =
+    if bytes_eq text (codes "auto") then Some workers.Auto else option_map Number (number32 text)
+
+-- how many workers were asked for, one if the option was not given
+abbrev pub workers_in : List Row → Workers
+workers_in rows =
+    unwrap_or (option_and_then workers_meant (first_of (codes "workers") rows)) (Number 1)
+
+-- the option was given a text that is neither a number nor `auto`
+abbrev pub has_bad_workers : List Row → Bool
+has_bad_workers rows = option_map_or (λ text. not (is_some (workers_meant text)))
+    (first_of (codes "workers") rows) false
 
 abbrev pub stream_wish : List Row → Wish
 stream_wish rows = stream (number_or 0 (codes "seed") rows) (number_or 0 (codes "count") rows)
@@ -97,8 +135,8 @@ search_in rows = record {
   seed = number_or 0 (codes "seed") rows;
   candidates = number_in (codes "candidates") rows;
   first = number_or 0 (codes "first") rows;
-  workers = number_or 1 (codes "workers") rows;
-  lane = number_or 64 (codes "lane") rows;
+  workers = workers_in rows;
+  lane = number_in (codes "lane") rows;
   where_text = first_of (codes "where") rows;
   boards = number_in (codes "boards") rows;
   hands = hands_in rows;
@@ -108,6 +146,7 @@ search_in rows = record {
 abbrev pub look_in : List Row → Look
 look_in rows = record {
   format = unwrap_or (choice_in formats (codes "format") rows) Pbn;
+  show = unwrap_or (choice_in shows (codes "show") rows) All;
   first_board = number_in (codes "first-board") rows;
   event = first_of (codes "event") rows;
   site = first_of (codes "site") rows;
@@ -139,22 +178,29 @@ questions_in rows = questions_from (first_of (codes "of") rows) (first_of (codes
 abbrev pub style_in : List Row → Style
 style_in rows = unwrap_or (choice_in styles (codes "format") rows) Table
 
--- `pick` deals the candidates whose numbers it reads; the others search, `count` has a table, and
--- `find` one look
+-- `find` has one look; the boards of `make` have their tricks if the flag is given
+abbrev pub boards_made_by : Option Format → Search → List Row → Wish
+boards_made_by (Some format) s rows = make s (look_as format) (notices_in rows)
+boards_made_by None s rows =
+    if is_set (codes "tricks") rows then make_with_tricks s (look_in rows) (notices_in rows)
+    else make s (look_in rows) (notices_in rows)
+
+-- `pick` deals the candidates whose numbers it reads; the others search, and `count` has a table
 abbrev pub made_by : Text → Search → List Row → Wish
 made_by name s rows =
     if bytes_eq name (codes "pick")
     then pick s.seed s.hands (look_in rows) (when_in (codes "hints") rows)
     else if bytes_eq name (codes "count")
     then count s (questions_in rows) (style_in rows) (notices_in rows)
-    else make s (option_map_or look_as (meant_by finders name) (look_in rows)) (notices_in rows)
+    else boards_made_by (meant_by finders name) s rows
 
 -- by the subcommand's name and what its options were given
 abbrev pub wish_by : Text × List Row → Wish
 wish_by p =
     if bytes_eq p.0 (codes "stream") then stream_wish p.1
     else (if bytes_eq p.0 (codes "conditions") then conditions
-    else made_by p.0 (search_in p.1) p.1)
+    else (if bytes_eq p.0 (codes "seed") then draw
+    else made_by p.0 (search_in p.1) p.1))
 
 -- the wish of the subcommand that the words name, by clap's function of the words
 abbrev pub wish_in : List Text → Option Wish
@@ -178,17 +224,19 @@ abbrev pub missing_kinds : Text → Search → List Row → Kinds
 missing_kinds name s rows =
     if lacks_option name s rows then MissingRequiredArgument ∷ [] else []
 
--- clap reads those words as texts: one that stands for nothing is refused as clap refuses a value
+-- clap reads those words as texts: one that means nothing is refused as clap refuses a value
 abbrev pub make_kinds : Text → List Row → Kinds
 make_kinds name rows =
     if has_unknown name rows then InvalidValue ∷ []
-    else missing_kinds name (search_in rows) rows
+    else (if has_bad_workers rows then ValueValidation ∷ []
+    else missing_kinds name (search_in rows) rows)
 
 -- by the subcommand's name and what its options were given
 abbrev pub kinds_by : Text × List Row → Kinds
 kinds_by p =
     if bytes_eq p.0 (codes "stream") then []
-    else (if bytes_eq p.0 (codes "conditions") then [] else make_kinds p.0 p.1)
+    else (if bytes_eq p.0 (codes "conditions") then []
+    else (if bytes_eq p.0 (codes "seed") then [] else make_kinds p.0 p.1))
 
 -- the kinds of error in words that clap takes
 abbrev pub further_kinds : List Text → Kinds
@@ -199,11 +247,22 @@ abbrev pub unless_fault : Kinds → Option Wish → Option Wish
 unless_fault [] wish = wish
 unless_fault (k ∷ kinds) wish = None
 
--- the kinds of error of which one is given for these words, clap's first: none if they ask for
--- something
+-- of words that clap reads: clap's first
+abbrev pub read_kinds : List Text → Kinds
+read_kinds words = or_else (fault_of deals words) (further_kinds words)
+
+-- `deals help conditions` asks for the page of the language, and not for how to call the command
+-- that prints it
+abbrev pub asks_page : List Text → Bool
+asks_page words =
+    length words == 3 && (bytes_eq (get_or words 1 []) (codes "help")
+    && bytes_eq (get_or words 2 []) (codes "conditions"))
+
+-- the kinds of error of which one is given for these words: none if they ask for something
 unfoldable pub kinds_for : List Text → Kinds
-kinds_for words = or_else (fault_of deals words) (further_kinds words)
+kinds_for words = if asks_page words then [] else read_kinds words
 
 -- what the words ask for, if their parse can't fail unless memory runs out
 unfoldable pub asked : List Text → Option Wish
-asked words = unless_fault (kinds_for words) (wish_in words)
+asked words =
+    if asks_page words then Some conditions else unless_fault (read_kinds words) (wish_in words)

@@ -16,7 +16,8 @@ use Rattle.requests.specs.Interruptions.{LeavesFrom}
 use Rattle.requests.specs.Lines.{line_of}
 use Rattle.requests.specs.Reported.{Reports, ReportsFor, wants_report}
 use Rattle.requests.specs.Jobs.{IsReady, ReadsInput}
-use Rattle.requests.specs.Requests.{Look, Search, Wish, make, pick, wish_of}
+use Rattle.requests.specs.Requests.{Look, Search, Wish, draw, make, make_with_tricks, wish_of}
+use Rattle.requests.specs.Wishes.{HasInput}
 use Rattle.requests.specs.declared.report.Report.{Report}
 use Rattle.requests.specs.declared.request.Notices.{Notices}
 use Rattle.requests.specs.declared.request.Request.{Request}
@@ -84,17 +85,22 @@ abbrev pub IsTaskFor : List Text → Task → Type 0
 IsTaskFor words (Show text) = (asked words ≡ None) × MayShow words
 IsTaskFor words (Do job) = (w : Wish) × (asked words ≡ Some w) × IsReady w job
 
--- the task reads the input, and the words ask for what does: a `pick`
+-- the task reads the input, and the words ask for what does: a `pick`, a seed, boards with tricks
 abbrev pub ReadsTask : Task → Type 0
 ReadsTask (Show text) = ⊥
 ReadsTask (Do job) = ReadsInput job
 
-abbrev pub IsPick : Wish → Type 0
-IsPick (pick seed hands l hints) = Unit {0}
-IsPick _ = ⊥
-
 abbrev pub WantsInput : List Text → Type 0
-WantsInput words = (w : Wish) × (asked words ≡ Some w) × IsPick w
+WantsInput words = (w : Wish) × (asked words ≡ Some w) × HasInput w
+
+-- the words ask for what can't be done without bytes of the input: a seed, or boards with tricks
+abbrev pub NeedsBytes : Wish → Type 0
+NeedsBytes (make_with_tricks s l notices) = Unit {0}
+NeedsBytes draw = Unit {0}
+NeedsBytes _ = ⊥
+
+abbrev pub WantsBytes : List Text → Type 0
+WantsBytes words = (w : Wish) × (asked words ≡ Some w) × NeedsBytes w
 
 -- where all was done, or the input failed, what was written is passed on
 abbrev pub IsFlushedAfter : ℕ → Type 0 → Type 0

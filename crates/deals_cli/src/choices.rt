@@ -1,5 +1,5 @@
-//! Options that have one of a few words: the format of boards or of a table, the dealer, the
-//! vulnerability, and when counts and hints are shown.
+//! Options that have one of a few words: the format of boards or of a table, which hands are shown,
+//! the dealer, the vulnerability, and when counts and hints are shown.
 //!
 //! clap knows them as texts. It could compare words with a list of values itself, but the command
 //! would then hold where in memory that list is, and no two commands would be the same to a proof.
@@ -14,7 +14,7 @@ use crate::words::text_in;
 use boards::Vul;
 use cards::Seat;
 use clap::ArgMatches;
-use notations::{FORMAT_WORDS, FORMATS, Format};
+use notations::{FORMAT_WORDS, FORMATS, Format, Show};
 use requests::When;
 use statistics::{STYLE_WORDS, STYLES, Style};
 
@@ -60,6 +60,22 @@ pub static STYLE: Choice<Style> = Choice {
     table: STYLES,
 };
 
+pub static SHOW: Choice<Show> = Choice {
+    id: "show",
+    shown: "--show <WHO>",
+    values: "all, dealer, north, east, south, west, ns, ew",
+    table: &[
+        ("all", Show::All),
+        ("dealer", Show::Dealer),
+        ("north", Show::North),
+        ("east", Show::East),
+        ("south", Show::South),
+        ("west", Show::West),
+        ("ns", Show::NorthSouth),
+        ("ew", Show::EastWest),
+    ],
+};
+
 pub static DEALER: Choice<Seat> = Choice {
     id: "dealer",
     shown: "--dealer <SEAT>",
@@ -98,7 +114,7 @@ pub static HINTS: Choice<When> = Choice {
     table: TIMES,
 };
 
-/// What a word stands for in such a table.
+/// What a word means in such a table.
 pub(crate) fn look_up<T: Copy>(mut table: &[(&str, T)], word: &str) -> Option<T>
     ensures { result ≡ meant_by (map (λ p. (p.0.now, p.1)) table.entry.now) word.now }
 {
@@ -112,7 +128,7 @@ pub(crate) fn look_up<T: Copy>(mut table: &[(&str, T)], word: &str) -> Option<T>
 }
 
 impl<T: Copy + 'static> Choice<T> {
-    /// What the word stands for that was given, if it stands for anything.
+    /// What the word means that was given, if it means anything.
     pub fn given(&self, matches: &ArgMatches) -> Option<T>
         ensures { result
             ≡ choice_in (table_of self.now) self.now.id.now (rows_of (found_of matches.now)) }
@@ -123,7 +139,7 @@ impl<T: Copy + 'static> Choice<T> {
         }
     }
 
-    /// The word that was given, if it stands for nothing.
+    /// The word that was given, if it means nothing.
     fn unknown<'a>(&self, matches: &ArgMatches<'a>) -> Option<Unknown<'a>>
         ensures { is_some result
             ≡ is_unknown (table_of self.now) self.now.id.now (rows_of (found_of matches.now)) }
@@ -155,6 +171,7 @@ pub fn unknown_in<'a>(name: &str, matches: &ArgMatches<'a>) -> Option<Unknown<'a
     ensures { is_some result ≡ has_unknown name.now (rows_of (found_of matches.now)) }
 {
     unknown_format(name, matches)
+        .or(SHOW.unknown(matches))
         .or(DEALER.unknown(matches))
         .or(VULNERABLE.unknown(matches))
         .or(PROGRESS.unknown(matches))

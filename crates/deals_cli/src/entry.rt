@@ -4,7 +4,7 @@ ghost use Rattle.std.specs.Prelude.{◌≡◌, ◌≢◌, ◌⊎◌, ◌+◌, �
 ghost use Rattle.std.specs.Prelude.{Some, if◌then◌else◌, map, string_bytes};
 ghost use Rattle.deals_cli.specs.CommandLine.{asked};
 ghost use Rattle.deals_cli.specs.Program.{Answers, HasReport, IsFlushedAfter, IsStatusFor};
-ghost use Rattle.deals_cli.specs.Program.{TellsWhy, TellsWhyFrom, WantsInput};
+ghost use Rattle.deals_cli.specs.Program.{TellsWhy, TellsWhyFrom, WantsBytes, WantsInput};
 ghost use Rattle.requests.specs.Failures.{CountsInput, faults_in, status_in};
 ghost use Rattle.requests.specs.Requests.{Wish};
 ghost use Rattle.requests.specs.Wishes.{Appends, AppendsFrom, IsStatus, IsStatusWithInput};
@@ -18,7 +18,7 @@ use std::alloc::Global;
 use std::sync::Wait;
 use std::thread::Threads;
 
-/// Does what the words ask for. Of the subcommands `pick` alone reads the input.
+/// Does what the words ask for. `pick`, `seed` and `make --tricks` alone read the input.
 fn answer<R: Threads + Wait + Clone + Send + 'static, I: Source, O: Sink>(
     rt: &R,
     alloc: Global,
@@ -43,11 +43,11 @@ fn answer<R: Threads + Wait + Clone + Send + 'static, I: Source, O: Sink>(
     }
 }
 
-/// Runs the program over an input, and returns its exit status. Of the subcommands `pick` alone
-/// reads the input.
+/// Runs the program over an input, and returns its exit status. `pick`, `seed` and `make --tricks`
+/// alone read the input.
 ///
 /// The statuses are those of `program`, and one more. 7: a line of the input is refused, or the
-/// input couldn't be read; what stands on `out` is flushed. It may wait for its workers and its
+/// input couldn't be read; what is on `out` is flushed. It may wait for its workers and its
 /// input.
 #[tactic(auto, using(crate::proofs::Reporting::reporting))]
 pub fn program_with_input<R: Threads + Wait + Clone + Send + 'static, I: Source, O: Sink, E: Sink>(
@@ -82,7 +82,8 @@ pub fn program_with_input<R: Threads + Wait + Clone + Send + 'static, I: Source,
         → O.bytes out.new ≡ O.bytes out.old }
     // The status is 4 if and only if the output failed, once.
     ensures output { O.faults out.new ≡ O.faults out.old + (if result == 4 then 1 else 0) }
-    // The input failed with status 7 alone, or before the output did; only a `pick` reads it.
+    // The input failed with status 7 alone, or before the output did; only words that want it have
+    // it read.
     ensures input { result ≢ 4 → result ≢ 7 → I.faults input.new ≡ I.faults input.old }
     ensures unread { (WantsInput (map string_bytes words.now) → ⊥)
         → (I.rest input.new ≡ I.rest input.old) × (I.faults input.new ≡ I.faults input.old) }
@@ -115,7 +116,7 @@ pub fn program_with_input<R: Threads + Wait + Clone + Send + 'static, I: Source,
 /// plan, a label or a hand is refused; 3: the condition is refused; 4: the output failed; 5: out
 /// of memory; 6: a thread couldn't be started, or a worker stopped or wasn't closed. What went
 /// wrong is said on `err`, in one line but for clap's texts, and a report if that is asked for;
-/// faults of `err` are ignored. It may wait for its workers.
+/// faults of `err` are ignored. It may wait for its workers. Words that need an input end with 7.
 pub fn program<R: Threads + Wait + Clone + Send + 'static, O: Sink, E: Sink>(
     rt: &R,
     alloc: Global,
@@ -136,8 +137,10 @@ pub fn program<R: Threads + Wait + Clone + Send + 'static, O: Sink, E: Sink>(
     ensures told { (w : Wish) → asked (map string_bytes words.now) ≡ Some w → result ≢ 0
         → TellsWhy w result (O.bytes out.old) (O.bytes out.new)
         (E.faults err.new ≡ E.faults err.old) (E.bytes err.old) (E.bytes err.new) }
-    // There are six statuses.
-    ensures status { IsStatus result }
+    // There are six statuses. Words that ask for what can't be done without an input have one more:
+    // 7, that there is none.
+    ensures status { (WantsBytes (map string_bytes words.now) → ⊥) → IsStatus result }
+    ensures statuses { IsStatusWithInput result }
     // Nothing was written if something is refused or memory ran out.
     ensures untouched { (result ≡ 2) ⊎ (result ≡ 3) ⊎ (result ≡ 5)
         → O.bytes out.new ≡ O.bytes out.old }

@@ -1,38 +1,54 @@
-//! What help says of each command and option, as tables.
+//! What help says of each command and option, as tables. A line of them has at most 80 columns,
+//! with what help puts before it.
 
 use crate::choices::look_up;
 use crate::texts::{
     CONDITIONS_EXAMPLES, COUNT_EXAMPLES, FIND_EXAMPLES, MAKE_EXAMPLES, PICK_EXAMPLES,
-    STREAM_EXAMPLES,
+    SEED_EXAMPLES, STREAM_EXAMPLES,
 };
-use notations::FORMAT_HELP;
-use statistics::STYLE_HELP;
+
+/// What help says of an option: the heading that it is under, and the text.
+pub(crate) type Help = (&'static str, &'static str);
+
+const WHICH: &str = "Which deals";
+
+const COUNTED: &str = "What is counted";
+
+const LOOK: &str = "How they look";
+
+const SPEED: &str = "Speed";
+
+const SAID: &str = "What is said";
+
+/// Where a command has few options.
+const OPTIONS: &str = "Options";
 
 /// What a subcommand does.
 static ABOUTS: &[(&str, &str)] = &[
     (
         "make",
-        "Writes bridge deals in Portable Bridge Notation, as hand records, LIN or a page",
+        "Deals boards and writes them: PBN, hand records, pages, LIN, JSON",
     ),
     (
         "find",
-        "Prints the numbers of the deals that make would write, one per line",
+        "Prints the numbers of the deals that make would write",
     ),
     (
         "count",
-        "Counts the deals that make would write, by what a value or a condition of each is",
+        "Counts deals: how often something comes, and how much on average",
     ),
     (
         "pick",
-        "Writes the boards of the deals whose numbers standard input gives",
+        "Writes the boards of the deals whose numbers it reads",
     ),
     (
         "conditions",
-        "Prints all that --where understands, with ten examples",
+        "Explains all that --where understands, with ten examples",
     ),
+    ("seed", "Draws a seed that nobody can guess"),
     (
         "stream",
-        "Prints the nrand48 values of a seed, one per line",
+        "Prints the random numbers of a seed, to compare with nrand48",
     ),
 ];
 
@@ -43,112 +59,265 @@ static EXAMPLES: &[(&str, &str)] = &[
     ("count", COUNT_EXAMPLES),
     ("pick", PICK_EXAMPLES),
     ("conditions", CONDITIONS_EXAMPLES),
+    ("seed", SEED_EXAMPLES),
     ("stream", STREAM_EXAMPLES),
 ];
 
-/// What an option does, in every subcommand that has no text of its own for it.
-static OPTIONS: &[(&str, &str)] = &[
+const PRINT_HELP: &str = "Print help";
+
+/// What help says of an option, in every subcommand that has no text of its own for it.
+static TEXTS: &[(&str, Help)] = &[
     (
         "seed",
-        "The seed, 0 to 4294967295; to draw one: od -An -N4 -tu4 /dev/urandom",
-    ),
-    ("count", "How many values, 0 to 1099511627776"),
-    (
-        "candidates",
-        "How many candidates are tried; first + N is at most 1099511627776 \
-    [default: all from the first on, where --boards is given]",
-    ),
-    ("first", "The number of the first candidate [default: 0]"),
-    (
-        "workers",
-        "How many workers, 1 to 16; one fewer than the machine has cores is the \
-    fastest [default: 1]",
-    ),
-    (
-        "lane",
-        "How many verdicts a worker may be ahead of the writer, 1 to 4096; with several \
-    workers 4096 is the fastest [default: 64]",
-    ),
-    (
-        "north",
-        "The cards that North holds, as AKQ32.K..A: the spades, hearts, diamonds and \
-    clubs, separated by three dots; the rest is dealt [default: none]",
-    ),
-    (
-        "east",
-        "The cards that East holds, like North's [default: none]",
-    ),
-    (
-        "south",
-        "The cards that South holds, like North's [default: none]",
-    ),
-    (
-        "west",
-        "The cards that West holds, like North's [default: none]",
+        (
+            WHICH,
+            "A number from 0 to 4294967295: the same one gives the\n\
+            same deals again. Any number will do for a lesson;\n\
+            for a club draw one by deals seed",
+        ),
     ),
     (
         "where",
-        "The condition that a deal has to meet [default: every deal]",
+        (
+            WHICH,
+            "What each deal has to meet, in quotes, as\n\
+            'hcp(north)>=15'; deals help conditions explains it\n\
+            [default: every deal]",
+        ),
     ),
     (
         "boards",
-        "Stops after M boards, 1 to 4294967295; fewer mean that the candidates held \
-    no more [default: no limit]",
+        (
+            WHICH,
+            "How many boards, 1 to 4294967295; fewer come if no more\n\
+            of the deals that are tried match [default: no limit]",
+        ),
+    ),
+    (
+        "candidates",
+        (
+            WHICH,
+            "How many deals are tried, with --first together at most\n\
+            1099511627776 [default: all, if --boards is given]",
+        ),
+    ),
+    (
+        "first",
+        (
+            WHICH,
+            "Where to begin: at deal K, to go on after an earlier\n\
+            run [default: 0]",
+        ),
+    ),
+    (
+        "north",
+        (
+            WHICH,
+            "Cards that North gets, as AKQ32.K..A: spades, hearts,\n\
+            diamonds and clubs, with dots between; the rest is\n\
+            dealt [default: none]",
+        ),
+    ),
+    (
+        "east",
+        (
+            WHICH,
+            "Cards that East gets, in the same form [default: none]",
+        ),
+    ),
+    (
+        "south",
+        (
+            WHICH,
+            "Cards that South gets, in the same form [default: none]",
+        ),
+    ),
+    (
+        "west",
+        (
+            WHICH,
+            "Cards that West gets, in the same form [default: none]",
+        ),
     ),
     (
         "of",
-        "What is counted of each deal: a value, or a condition [default: only how many \
-    deals there are]",
+        (
+            COUNTED,
+            "What is counted of each deal: a value, as\n\
+            'hcp(south)', or a condition [default: only how many\n\
+            deals there are]",
+        ),
     ),
     (
         "by",
-        "A second value or condition, which has the columns of the table [default: none]",
+        (
+            COUNTED,
+            "A second value or condition, for the columns of the\n\
+            table [default: none]",
+        ),
     ),
     (
-        "first-board",
-        "The number of the first board, 1 to 1099511627776 [default: 1]",
+        "format",
+        (
+            LOOK,
+            "How the boards are written: pbn for dealing machines\n\
+            and bridge programs, hands for text to print, html\n\
+            for a page to look at and print, sheet for 18 boards\n\
+            on each page, lin for BBO, json for programs of your\n\
+            own [default: pbn]\n\
+            [possible values: pbn, hands, lin, html, sheet,\n\
+            json]",
+        ),
     ),
     (
-        "event",
-        "The event, at most 100 characters of ASCII without \" and \\ [default: no line]",
+        "show",
+        (
+            LOOK,
+            "Which hands are written, for a page without the\n\
+            answers; dealer: the dealer's alone [default: all]\n\
+            [possible values: all, dealer, north, east, south,\n\
+            west, ns, ew]",
+        ),
     ),
-    ("site", "The place, like the event [default: no line]"),
-    ("date", "The date, as 2024.05.01 [default: no line]"),
-    ("format", FORMAT_HELP),
+    (
+        "tricks",
+        (
+            LOOK,
+            "Writes what can be made on each board, as standard\n\
+            input tells it: a line for each, from deals-tricks",
+        ),
+    ),
     (
         "dealer",
-        "The dealer of every board [default: by its number, as Law 2 says] \
-    [possible values: N, E, S, W]",
+        (
+            LOOK,
+            "The dealer of every board [default: by the board's\n\
+            number, as in duplicate bridge]\n\
+            [possible values: N, E, S, W]",
+        ),
     ),
     (
         "vulnerable",
-        "The vulnerability of every board [default: by its number, as Law 2 \
-    says] [possible values: None, NS, EW, All]",
+        (
+            LOOK,
+            "Who is vulnerable on every board [default: by the\n\
+            board's number, as in duplicate bridge]\n\
+            [possible values: None, NS, EW, All]",
+        ),
     ),
     (
         "rotate",
-        "Turns each deal, so that the hand which the condition calls north is the \
-    dealer's, east's the next one's, and so on",
+        (
+            LOOK,
+            "The dealer gets the hand that the condition calls\n\
+            north, the next player east's, and so on",
+        ),
+    ),
+    (
+        "first-board",
+        (
+            LOOK,
+            "The number of the first board, 1 to 1099511627776;\n\
+            give --first too to go on with new deals\n\
+            [default: 1]",
+        ),
+    ),
+    (
+        "event",
+        (
+            LOOK,
+            "The event, at most 100 characters of ASCII without\n\
+            \" and \\ [default: no line]",
+        ),
+    ),
+    (
+        "site",
+        (LOOK, "The place, like the event [default: no line]"),
+    ),
+    ("date", (LOOK, "The date, as 2024.05.01 [default: no line]")),
+    (
+        "workers",
+        (
+            SPEED,
+            "How many threads search, 1 to 16; auto: as many as\n\
+            suit this computer [default: 1]",
+        ),
+    ),
+    (
+        "lane",
+        (
+            SPEED,
+            "How far a worker may search ahead, 1 to 4096 deals\n\
+            [default: 64, and 4096 with --workers auto]",
+        ),
     ),
     (
         "report",
-        "Says afterwards how many boards there are, from which candidates, and where \
-    to go on",
+        (
+            SAID,
+            "Says afterwards how many boards there are, and how\n\
+            to go on with the next deals",
+        ),
     ),
     (
         "progress",
-        "When counts are shown while it lasts: on a terminal, also where there is \
-    none, or never [default: auto] [possible values: auto, always, never]",
+        (
+            SAID,
+            "When to show how far the search is; auto: on a\n\
+            terminal [default: auto]\n\
+            [possible values: auto, always, never]",
+        ),
     ),
     (
         "hints",
-        "When lines that help stand below a refusal: on a terminal, also where there is \
-    none, or never [default: auto] [possible values: auto, always, never]",
+        (
+            SAID,
+            "When to say below a refusal what helps; auto: on a\n\
+            terminal [default: auto]\n\
+            [possible values: auto, always, never]",
+        ),
     ),
+    ("help", (SAID, PRINT_HELP)),
 ];
 
-/// The seed where no new one has to be drawn.
-const SEED_HELP: &str = "The seed, 0 to 4294967295";
+/// What help says of options that are others in these subcommands.
+const OF_COUNT: &[(&str, Help)] = &[(
+    "format",
+    (
+        COUNTED,
+        "How the table is written: table for people, csv for\n\
+        spreadsheets and programs, html for a page\n\
+        [default: table] [possible values: table, csv, html]",
+    ),
+)];
+
+const OF_PICK: &[(&str, Help)] = &[(
+    "seed",
+    (
+        WHICH,
+        "The seed of the search that found the numbers, 0 to\n\
+        4294967295",
+    ),
+)];
+
+const OF_STREAM: &[(&str, Help)] = &[
+    ("seed", (OPTIONS, "The seed, 0 to 4294967295")),
+    ("count", (OPTIONS, "How many numbers, 0 to 1099511627776")),
+    ("help", (OPTIONS, PRINT_HELP)),
+];
+
+const OF_OTHERS: &[(&str, Help)] = &[("help", (OPTIONS, PRINT_HELP))];
+
+/// The texts that a subcommand has of its own.
+fn own_texts(name: &str) -> &'static [(&'static str, Help)] {
+    match name {
+        "count" => OF_COUNT,
+        "pick" => OF_PICK,
+        "stream" => OF_STREAM,
+        "make" | "find" => &[],
+        _ => OF_OTHERS,
+    }
+}
 
 /// What help says of a subcommand.
 pub(crate) fn about_of(name: &str) -> &'static str {
@@ -161,10 +330,12 @@ pub(crate) fn examples_of(name: &str) -> &'static str {
 }
 
 /// What help says of an option of a subcommand.
-pub(crate) fn help_of(name: &str, id: &str) -> &'static str {
-    match (name, id) {
-        ("count", "format") => STYLE_HELP,
-        ("pick", "seed") | ("stream", "seed") => SEED_HELP,
-        _ => look_up(OPTIONS, id).unwrap_or(""),
+pub(crate) fn help_of(name: &str, id: &str) -> Help {
+    if let Some(help) = look_up(own_texts(name), id) {
+        return help;
+    }
+    match look_up(TEXTS, id) {
+        Some(help) => help,
+        None => (OPTIONS, ""),
     }
 }

@@ -6,12 +6,16 @@ ghost use Rattle.cards.specs.declared.seat.Seat.TheVariants.{South};
 ghost use Rattle.clap.specs.declared.error.kind.ErrorKind.TheVariants.{InvalidValue};
 ghost use Rattle.clap.specs.declared.error.kind.ErrorKind.TheVariants.{MissingRequiredArgument};
 ghost use Rattle.clap.specs.declared.error.kind.ErrorKind.TheVariants.{UnknownArgument};
+ghost use Rattle.clap.specs.declared.error.kind.ErrorKind.TheVariants.{ValueValidation};
 ghost use Rattle.deals_cli.specs.CommandLine.{asked, kinds_for};
 ghost use Rattle.predeal.specs.PredealtHands.{none_given};
-ghost use Rattle.requests.specs.Requests.{conditions, count, make, numbers_look, pick};
+ghost use Rattle.requests.specs.Requests.{conditions, count, draw, make, make_with_tricks};
+ghost use Rattle.requests.specs.Requests.{numbers_look, pick};
 ghost use Rattle.requests.specs.Requests.{plain_look, plain_notices, plain_search, stream};
 ghost use Rattle.requests.specs.Requests.{two_questions};
 ghost use Rattle.notations.specs.declared.printer.Format.TheVariants.{Hands};
+ghost use Rattle.notations.specs.declared.show.Show.TheVariants.{Dealer};
+ghost use Rattle.requests.specs.declared.workers.Workers.TheVariants as workers;
 ghost use Rattle.requests.specs.declared.when.When.TheVariants.{Always, Auto, Never};
 ghost use Rattle.statistics.specs.declared.style.Style.TheVariants.{Csv};
 
@@ -57,6 +61,23 @@ pub fn example_of_formats()
         (codes "deals" ∷ codes "make" ∷ codes "--seed" ∷ codes "0"
         ∷ codes "--boards" ∷ codes "12" ∷ codes "--format" ∷ codes "PBN" ∷ [])
         ≡ InvalidValue ∷ [] }
+{}
+
+/// `deals make --seed 0 --boards 12 --show dealer --tricks --workers auto` asks for the dealers'
+/// hands of twelve boards, with tricks of which the input tells, by as many workers as suit the
+/// machine. Another word for the workers is refused as clap refuses a number.
+pub fn example_of_tricks()
+    ensures asked { asked
+        (codes "deals" ∷ codes "make" ∷ codes "--seed" ∷ codes "0"
+        ∷ codes "--boards" ∷ codes "12" ∷ codes "--show" ∷ codes "dealer"
+        ∷ codes "--tricks" ∷ codes "--workers" ∷ codes "auto" ∷ [])
+        ≡ Some (make_with_tricks
+        (record (plain_search 0) { boards = Some 12; workers = workers.Auto })
+        (record plain_look { show = Dealer }) plain_notices) }
+    ensures refused { kinds_for
+        (codes "deals" ∷ codes "make" ∷ codes "--seed" ∷ codes "0"
+        ∷ codes "--boards" ∷ codes "12" ∷ codes "--workers" ∷ codes "many" ∷ [])
+        ≡ ValueValidation ∷ [] }
 {}
 
 /// `deals pick --seed 2024 --north KQ432.A93.AJ.JT8 --south A985.KJ742.KQ32. --format hands` asks
@@ -117,7 +138,25 @@ pub fn example_of_count()
         ≡ InvalidValue ∷ [] }
 {}
 
-/// `deals conditions` asks for the page of the language.
+/// `deals make -s 7 -n 12 -w 'hcp(north)>=15' -fhands` asks for the same as the words in full.
+pub fn example_of_letters()
+    ensures { asked
+        (codes "deals" ∷ codes "make" ∷ codes "-s" ∷ codes "7" ∷ codes "-n" ∷ codes "12"
+        ∷ codes "-w" ∷ codes "hcp(north)>=15" ∷ codes "-fhands" ∷ [])
+        ≡ Some (make (record (plain_search 7) {
+          boards = Some 12;
+          where_text = Some (codes "hcp(north)>=15");
+        }) (record plain_look { format = Hands }) plain_notices) }
+{}
+
+/// `deals seed` asks for a seed that is drawn.
+pub fn example_of_seed()
+    ensures { asked (codes "deals" ∷ codes "seed" ∷ []) ≡ Some draw }
+{}
+
+/// `deals conditions` asks for the page of the language, and so does `deals help conditions`.
 pub fn example_of_conditions()
-    ensures { asked (codes "deals" ∷ codes "conditions" ∷ []) ≡ Some conditions }
+    ensures page { asked (codes "deals" ∷ codes "conditions" ∷ []) ≡ Some conditions }
+    ensures help { asked (codes "deals" ∷ codes "help" ∷ codes "conditions" ∷ [])
+        ≡ Some conditions }
 {}

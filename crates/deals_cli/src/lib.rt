@@ -15,6 +15,7 @@ mod shown;
 mod task;
 mod texts;
 mod words;
+mod workers;
 
 pub use entry::{program, program_with_input};
 pub use task::{Task, perform, prepare};

@@ -3,12 +3,12 @@
 ghost use Rattle.std.specs.Prelude.{◌≡◌, IfOk, false, fold, map};
 ghost use Rattle.clap.specs.Words.{app_of, rule_of, with_rule, with_subcommand};
 ghost use Rattle.clap.specs.declared.Command.TheViews.{out-Command as fields_of};
-ghost use Rattle.deals_cli.specs.Commands.{flag_rule, option_rule, deals, deals_top};
+ghost use Rattle.deals_cli.specs.Commands.{asking_rule, deals, deals_top, flag_rule, option_rule};
 ghost use Rattle.deals_cli.specs.internal.Rows.{rule_for, app_for, top_for};
 
-use self::Takes::{Count, Nothing, Text, U32, U64};
+use self::Takes::{Count, Help, Nothing, Text, U32, U64};
 use crate::helps::{about_of, examples_of, help_of};
-use crate::texts::{ABOUT, LANGUAGE_AND_STATUSES};
+use crate::texts::{ABOUT, PROGRAM_EXAMPLES};
 use clap::builder::ValueParser;
 use clap::{Arg, ArgAction, Command, value_parser};
 use notations::Format;
@@ -21,6 +21,8 @@ const MAX_VALUES: i64 = 1099511627776;
 pub(crate) enum Takes {
     /// A flag, which takes none.
     Nothing,
+    /// clap's flag for help, which takes none either.
+    Help,
     Text(&'static str),
     U32(&'static str),
     U64(&'static str),
@@ -28,10 +30,12 @@ pub(crate) enum Takes {
     Count(&'static str),
 }
 
-/// An option `--id`. What help says of it stands in `helps`: with its text each row would be too
+/// An option `--id`. What help says of it is in `helps`: with its text each row would be too
 /// large for the prover, which computes the whole table.
 pub(crate) struct Row {
     pub(crate) id: &'static str,
+    /// The letter of `-s`, where it has one.
+    pub(crate) short: Option<char>,
     pub(crate) takes: Takes,
     pub(crate) is_required: bool,
 }
@@ -45,6 +49,14 @@ fn option<'a>(alloc: Global, id: &'a str, parser: ValueParser<'a>, name: &'a str
         .long(id)
         .value_parser(parser)
         .value_name(name)
+}
+
+/// The flag `--help`.
+fn help_flag<'a>(alloc: Global, id: &'a str) -> Arg<'a>
+    ensures rule { rule_of result ≡ asking_rule id.entry.now }
+    ensures local { result.global ≡ false }
+{
+    Arg::new(alloc, id).long(id).action(ArgAction::Help)
 }
 
 /// A flag `--id`.
@@ -62,6 +74,7 @@ fn arg_of<'a>(alloc: Global, name: &str, row: &Row) -> Arg<'a>
 {
     let arg = match row.takes {
         Takes::Nothing => flag(alloc, row.id),
+        Takes::Help => help_flag(alloc, row.id),
         Takes::Text(name) => option(alloc, row.id, ValueParser::String, name),
         Takes::U32(name) => option(alloc, row.id, value_parser!(u32), name),
         Takes::U64(name) => option(alloc, row.id, value_parser!(u64), name),
@@ -69,7 +82,15 @@ fn arg_of<'a>(alloc: Global, name: &str, row: &Row) -> Arg<'a>
             option(alloc, row.id, value_parser!(u64).range(..=MAX_VALUES), name)
         }
     };
-    arg.required(row.is_required).help(help_of(name, row.id))
+    let (heading, text) = help_of(name, row.id);
+    let arg = arg
+        .required(row.is_required)
+        .help_heading(heading)
+        .help(text);
+    match row.short {
+        Some(letter) => arg.short(letter),
+        None => arg,
+    }
 }
 
 /// The command with one more option.
@@ -107,6 +128,15 @@ macro_rules! optional {
     ($id:literal $takes:expr) => {
         Row {
             id: $id,
+            short: None,
+            takes: $takes,
+            is_required: false,
+        }
+    };
+    ($letter:literal $id:literal $takes:expr) => {
+        Row {
+            id: $id,
+            short: Some($letter),
             takes: $takes,
             is_required: false,
         }
@@ -117,23 +147,30 @@ macro_rules! required {
     ($id:literal $takes:expr) => {
         Row {
             id: $id,
+            short: None,
+            takes: $takes,
+            is_required: true,
+        }
+    };
+    ($letter:literal $id:literal $takes:expr) => {
+        Row {
+            id: $id,
+            short: Some($letter),
             takes: $takes,
             is_required: true,
         }
     };
 }
 
-const SEED: Row = required! { "seed" U32("S") };
+const SEED: Row = required! { 's' "seed" U32("S") };
 
-const VALUES: Row = required! { "count" Count("N") };
+const WHERE: Row = optional! { 'w' "where" Text("TEXT") };
+
+const BOARDS: Row = optional! { 'n' "boards" U32("M") };
 
 const CANDIDATES: Row = optional! { "candidates" U64("N") };
 
 const FIRST: Row = optional! { "first" U64("K") };
-
-const WORKERS: Row = optional! { "workers" U32("W") };
-
-const LANE: Row = optional! { "lane" U32("C") };
 
 const NORTH: Row = optional! { "north" Text("HAND") };
 
@@ -143,13 +180,21 @@ const SOUTH: Row = optional! { "south" Text("HAND") };
 
 const WEST: Row = optional! { "west" Text("HAND") };
 
-const WHERE: Row = optional! { "where" Text("TEXT") };
-
-const BOARDS: Row = optional! { "boards" U32("M") };
-
 const OF: Row = optional! { "of" Text("TEXT") };
 
 const BY: Row = optional! { "by" Text("TEXT") };
+
+const FORMAT: Row = optional! { 'f' "format" Text("FORMAT") };
+
+const SHOW: Row = optional! { "show" Text("WHO") };
+
+const TRICKS: Row = optional! { "tricks" Nothing };
+
+const DEALER: Row = optional! { "dealer" Text("SEAT") };
+
+const VULNERABLE: Row = optional! { "vulnerable" Text("SIDES") };
+
+const ROTATE: Row = optional! { "rotate" Nothing };
 
 const FROM_BOARD: Row = optional! { "first-board" U64("B") };
 
@@ -159,13 +204,9 @@ const SITE: Row = optional! { "site" Text("TEXT") };
 
 const DATE: Row = optional! { "date" Text("DATE") };
 
-const FORMAT: Row = optional! { "format" Text("FORMAT") };
+const WORKERS: Row = optional! { "workers" Text("W") };
 
-const DEALER: Row = optional! { "dealer" Text("SEAT") };
-
-const VULNERABLE: Row = optional! { "vulnerable" Text("SIDES") };
-
-const ROTATE: Row = optional! { "rotate" Nothing };
+const LANE: Row = optional! { "lane" U32("C") };
 
 const REPORT: Row = optional! { "report" Nothing };
 
@@ -173,32 +214,42 @@ const PROGRESS: Row = optional! { "progress" Text("WHEN") };
 
 const HINTS: Row = optional! { "hints" Text("WHEN") };
 
+const HELP: Row = optional! { 'h' "help" Help };
+
+const VALUES: Row = required! { "count" Count("N") };
+
+// Which deals, how they look, speed, and what is said: each in the order in which people need them.
+
 pub(crate) const MAKE: &[Row] = &[
-    SEED, CANDIDATES, FIRST, WORKERS, LANE, NORTH, EAST, SOUTH, WEST, WHERE, BOARDS, FROM_BOARD,
-    EVENT, SITE, DATE, FORMAT, DEALER, VULNERABLE, ROTATE, REPORT, PROGRESS, HINTS,
+    SEED, WHERE, BOARDS, CANDIDATES, FIRST, NORTH, EAST, SOUTH, WEST, FORMAT, SHOW, TRICKS, DEALER,
+    VULNERABLE, ROTATE, FROM_BOARD, EVENT, SITE, DATE, WORKERS, LANE, REPORT, PROGRESS, HINTS,
+    HELP,
 ];
 
 pub(crate) const FIND: &[Row] = &[
-    SEED, CANDIDATES, FIRST, WORKERS, LANE, NORTH, EAST, SOUTH, WEST, WHERE, BOARDS, REPORT,
-    PROGRESS, HINTS,
+    SEED, WHERE, BOARDS, CANDIDATES, FIRST, NORTH, EAST, SOUTH, WEST, WORKERS, LANE, REPORT,
+    PROGRESS, HINTS, HELP,
 ];
 
 pub(crate) const COUNT: &[Row] = &[
-    SEED, CANDIDATES, FIRST, WORKERS, LANE, NORTH, EAST, SOUTH, WEST, WHERE, BOARDS, OF, BY,
-    FORMAT, PROGRESS, HINTS,
+    SEED, WHERE, BOARDS, CANDIDATES, FIRST, NORTH, EAST, SOUTH, WEST, OF, BY, FORMAT, WORKERS,
+    LANE, PROGRESS, HINTS, HELP,
 ];
 
 pub(crate) const PICK: &[Row] = &[
-    SEED, NORTH, EAST, SOUTH, WEST, FROM_BOARD, EVENT, SITE, DATE, FORMAT, DEALER, VULNERABLE,
-    ROTATE, HINTS,
+    SEED, NORTH, EAST, SOUTH, WEST, FORMAT, SHOW, DEALER, VULNERABLE, ROTATE, FROM_BOARD, EVENT,
+    SITE, DATE, HINTS, HELP,
 ];
 
-pub(crate) const STREAM: &[Row] = &[SEED, VALUES];
+/// The options of a command that needs none.
+pub(crate) const ALONE: &[Row] = &[HELP];
+
+pub(crate) const STREAM: &[Row] = &[SEED, VALUES, HELP];
 
 /// The subcommands that search and write one format alone.
 pub(crate) const FINDERS: &[(&str, Format)] = &[("find", Format::Numbers)];
 
-/// A subcommand. What help says of it stands in `helps`.
+/// A subcommand. What help says of it is in `helps`.
 pub(crate) struct Subcommand {
     pub(crate) name: &'static str,
     /// The program's name and its own, as `clap` names it in a refusal.
@@ -207,7 +258,7 @@ pub(crate) struct Subcommand {
 }
 
 /// The subcommands, in the order of the help.
-static SUBCOMMANDS: [Subcommand; 6] = [
+static SUBCOMMANDS: [Subcommand; 7] = [
     Subcommand {
         name: "make",
         in_full: "deals make",
@@ -231,7 +282,12 @@ static SUBCOMMANDS: [Subcommand; 6] = [
     Subcommand {
         name: "conditions",
         in_full: "deals conditions",
-        rows: &[],
+        rows: ALONE,
+    },
+    Subcommand {
+        name: "seed",
+        in_full: "deals seed",
+        rows: ALONE,
     },
     Subcommand {
         name: "stream",
@@ -240,12 +296,14 @@ static SUBCOMMANDS: [Subcommand; 6] = [
     },
 ];
 
-/// The subcommand as `clap` has it.
+/// The subcommand as `clap` has it. Its flag for help is a row, so that it is with others in the
+/// help, and not before them.
 fn command_of<'a>(alloc: Global, sub: &Subcommand) -> Result<Command<'a>, AllocError>
     ensures app { IfOk result (λ c. app_of c ≡ app_for sub.now) }
     ensures local { IfOk result (λ c. (fields_of c).has_globals ≡ false) }
 {
     let command = Command::new(alloc, sub.name)
+        .disable_help_flag(true)
         .about(about_of(sub.name))
         .after_help(examples_of(sub.name));
     with_rows(alloc, sub.name, command, sub.rows)
@@ -275,7 +333,7 @@ fn top<'a>(alloc: Global) -> Command<'a>
     Command::new(alloc, "deals")
         .version("0.2.0")
         .about(ABOUT)
-        .after_help(LANGUAGE_AND_STATUSES)
+        .after_help(PROGRAM_EXAMPLES)
         .subcommand_required(true)
 }
 

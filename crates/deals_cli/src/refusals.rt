@@ -5,6 +5,7 @@ ghost use Rattle.clap.specs.Words.{kind_of};
 
 use crate::choices::Unknown;
 use crate::options::named_command;
+use crate::workers::why_no_number;
 use clap::Error;
 use clap::error::ErrorKind;
 use std::alloc::{AllocError, Global};
@@ -23,6 +24,16 @@ pub fn missing_option(alloc: Global, name: &str, missing: &str) -> Result<Error,
 {
     let mut command = named_command(alloc, name)?;
     command.error(ErrorKind::MissingRequiredArgument, missing)
+}
+
+/// clap's refusal of a number of workers that is none.
+pub fn invalid_number(alloc: Global, name: &str, word: &str) -> Result<Error, AllocError>
+    ensures { IfOk result (λ e. kind_of e ≡ ErrorKind.ValueValidation) }
+{
+    let why = why_no_number(word);
+    let message = format!(in alloc; "invalid value '{word}' for '--workers <W>': {why}")?;
+    let mut command = named_command(alloc, name)?;
+    command.error(ErrorKind::ValueValidation, message.as_str())
 }
 
 /// clap's refusal of a word that is none of an option's values.

@@ -33,7 +33,7 @@ fn put_word(out: &mut String, word: &[u8]) -> Result<(), AllocError> {
     out.push_str("..")
 }
 
-/// The parts of a word that clap's texts show: all of it, what stands before its `=` and behind
+/// The parts of a word that clap's texts show: all of it, what is before its `=` and behind
 /// it, and the last part of a path, which is how the usage names the program.
 fn parts(word: &str) -> [&str; 4] {
     let (before, behind) = word.split_once('=').unwrap_or(("", ""));
@@ -41,8 +41,8 @@ fn parts(word: &str) -> [&str; 4] {
     [word, before, behind, last]
 }
 
-/// Whether the part stands here and isn't shown as it is: it is long, or has a line's end, which
-/// would otherwise be taken for one of clap's. A short one stands in quotes.
+/// Whether the part is here and can't be shown as it is: it is long, or has a line's end, which
+/// would otherwise be taken for one of clap's. A short one is in quotes.
 fn stands(part: &[u8], text: &[u8], is_quoted: bool) -> bool {
     let Some(rest) = text.strip_prefix(part) else {
         return false;
@@ -50,7 +50,7 @@ fn stands(part: &[u8], text: &[u8], is_quoted: bool) -> bool {
     part.len() > WHOLE || (is_quoted && rest.first() == Some(&b'\'') && part.contains(&b'\n'))
 }
 
-/// The part of one of the words that stands here and isn't shown as it is.
+/// The part of one of the words that is here and isn't shown as it is.
 fn part_at<'a>(words: &'a [String], text: &[u8], is_quoted: bool) -> Option<&'a [u8]> {
     for word in words {
         for part in parts(word.as_str()) {

@@ -3,7 +3,7 @@
 ghost use Rattle.std.specs.Prelude.{◌≡◌, List, codes, is_some, map, option_map, string_bytes};
 ghost use Rattle.clap.specs.Walk.{Text};
 ghost use Rattle.clap.specs.Words.{first_of, found_of, rows_of};
-ghost use Rattle.deals_cli.specs.CommandLine.{hands_in, has_by_alone, has_no_end, is_set};
+ghost use Rattle.deals_cli.specs.CommandLine.{asks_page, hands_in, has_by_alone, has_no_end, is_set};
 ghost use Rattle.deals_cli.specs.CommandLine.{lacks_option, look_in, made_by, notices_in};
 ghost use Rattle.deals_cli.specs.CommandLine.{number_in, number_or, questions_in, search_in};
 ghost use Rattle.deals_cli.specs.Program.{AreRead};
@@ -13,10 +13,14 @@ ghost use Rattle.deals_cli.specs.internal.Readings.{StreamValues};
 ghost use Rattle.predeal.specs.PredealtHands.{given_by};
 ghost use Rattle.requests.specs.Requests.{look_of, questions_of, search_of, wish_of};
 
-use crate::choices::{DEALER, FORMAT, HINTS, PROGRESS, STYLE, VULNERABLE, look_up, unknown_in};
+use crate::choices::{
+    DEALER, FORMAT, HINTS, PROGRESS, SHOW, STYLE, VULNERABLE, look_up, unknown_in,
+};
 use crate::options::{FINDERS, command};
-use crate::refusals::{NO_END, NO_QUESTION, invalid_value, missing_option};
+use crate::refusals::{NO_END, NO_QUESTION, invalid_number, invalid_value, missing_option};
+use crate::workers::{bad_workers_in, workers_in};
 use clap::{ArgMatches, Error};
+use notations::Show;
 use predeal::PredealtHands;
 use requests::{Format, Look, Notices, Questions, Request, Search, StreamRequest, Style, When};
 use std::alloc::Global;
@@ -56,7 +60,7 @@ pub fn text_in<'a>(matches: &ArgMatches<'a>, id: &str) -> Option<&'a str>
     matches.get_str(id)
 }
 
-/// Whether a flag stands.
+/// Whether a flag is given.
 fn is_set(matches: &ArgMatches, id: &str) -> bool
     ensures { result ≡ is_set id.now (rows_of (found_of matches.now)) }
 {
@@ -87,8 +91,8 @@ fn search_in<'a>(matches: &ArgMatches<'a>) -> Search<'a>
         seed: u32_in(matches, "seed").unwrap(),
         candidates: u64_in(matches, "candidates"),
         first: u64_in(matches, "first").unwrap_or(0),
-        workers: u32_in(matches, "workers").unwrap_or(1),
-        lane: u32_in(matches, "lane").unwrap_or(64),
+        workers: workers_in(matches),
+        lane: u32_in(matches, "lane"),
         where_text: text_in(matches, "where"),
         boards: u32_in(matches, "boards"),
         hands: hands_in(matches),
@@ -102,6 +106,7 @@ fn look_in<'a>(matches: &ArgMatches<'a>) -> Look<'a>
 {
     Look {
         format: FORMAT.given(matches).unwrap_or(Format::Pbn),
+        show: SHOW.given(matches).unwrap_or(Show::All),
         first_board: u64_in(matches, "first-board"),
         event: text_in(matches, "event"),
         site: text_in(matches, "site"),
@@ -197,8 +202,16 @@ fn request_by<'a>(name: &str, search: Search<'a>, matches: &ArgMatches<'a>) -> R
     Request::Make {
         search,
         look,
+        tricks: is_set(matches, "tricks"),
         notices,
     }
+}
+
+/// Whether the words ask for the page of the language by `help`.
+fn asks_page(words: &[String]) -> bool
+    ensures { result ≡ asks_page (map string_bytes words.now) }
+{
+    words.len() == 3 && words[1].as_str() == "help" && words[2].as_str() == "conditions"
 }
 
 /// What the words ask for, the program's name first.
@@ -210,6 +223,9 @@ fn request_by<'a>(name: &str, search: Search<'a>, matches: &ArgMatches<'a>) -> R
 pub fn read_words<'a>(alloc: Global, words: &'a [String]) -> Result<Request<'a>, Error>
     ensures { AreRead (map string_bytes words.entry.now) result }
 {
+    if asks_page(words) {
+        return Ok(Request::Conditions);
+    }
     let matches = command(alloc)?.try_get_matches_from(words)?;
     let (name, inner) = matches.subcommand().unwrap();
     request_of(alloc, name, inner)
@@ -227,8 +243,14 @@ fn request_of<'a>(alloc: Global, name: &str, matches: &ArgMatches<'a>) -> Result
     if name == "conditions" {
         return Ok(Request::Conditions);
     }
+    if name == "seed" {
+        return Ok(Request::Seed);
+    }
     if let Some(unknown) = unknown_in(name, matches) {
         return Err(invalid_value(alloc, name, &unknown)?);
+    }
+    if let Some(word) = bad_workers_in(matches) {
+        return Err(invalid_number(alloc, name, word)?);
     }
     let search = search_in(matches);
     if let Some(options) = missing_of(name, &search, matches) {

@@ -4,14 +4,14 @@ use crate::parts::Parts;
 use crate::tables::counted::COUNTED;
 use crate::words::{is, is_measure, is_number, is_one_of, is_relation, number};
 
-/// What stands behind a value, in the language's own form.
+/// What comes after a value, in the language's own form.
 #[derive(Clone, Copy)]
 pub(crate) struct Amount<'t> {
     pub sign: &'t [u8],
     pub low: &'t [u8],
     /// The second number of a range, or none.
     pub high: &'t [u8],
-    /// Where the part behind it stands.
+    /// Where the part behind it is.
     pub end: usize,
 }
 
@@ -29,7 +29,7 @@ pub(crate) fn amount_at<'t>(parts: &Parts<'t>, i: usize) -> Option<Amount<'t>> {
     }
 }
 
-/// The number with what stands behind it: `15+`, `15-`, `15-17`, or it alone.
+/// The number with what comes after it: `15+`, `15-`, `15-17`, or it alone.
 fn unsigned_at<'t>(parts: &Parts<'t>, i: usize) -> Option<Amount<'t>> {
     let (sign, behind) = (parts.at(i.saturating_add(1)), i.saturating_add(2));
     let high = parts.at(behind);
@@ -67,7 +67,7 @@ pub(crate) fn ordered<'t>(first: &'t [u8], second: &'t [u8]) -> (&'t [u8], &'t [
     }
 }
 
-/// The word that counts what the amount from the part on is said of, and what stands behind its
+/// The word that counts what the amount from the part on is said of, and what comes after its
 /// seat; nothing, if it is said of nothing that a word counts.
 pub(crate) fn counted_at(parts: &Parts, i: usize) -> (&'static str, &'static str) {
     if let Some(amount) = amount_at(parts, i) {

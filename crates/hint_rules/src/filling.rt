@@ -3,7 +3,7 @@
 //! A placeholder in a hint is `%`, a letter and a digit N: `%bN` is the part N before the fault,
 //! and `%nN` the one N behind it, `%n0` the one with it. Of these parts:
 //!
-//! | Placeholder | What it stands for |
+//! | Placeholder | What it means |
 //! |---|---|
 //! | `%uN` | `%nN` if it is a seat behind a bracket, else `north` |
 //! | `%mN` | the part with the fault in small letters |
@@ -11,15 +11,15 @@
 //! | `%iN` | the number `%bN` and one more |
 //! | `%dN`, `%gN` | the digits of `%bN` or of `%nN`, with dashes between them |
 //! | `%aN` | the amount that begins with `%nN`, as ` in 15-17` or `>=15` |
-//! | `%kN`, `%sN` | the word that counts what it is said of, and what stands behind its seat |
+//! | `%kN`, `%sN` | the word that counts what it is said of, and what comes after its seat |
 //! | `%xN` | that amount, or where a test ends a comparison for one suit |
 //! | `%oN`, `%qN` | brackets, if more is in the text than the call and that amount |
 //! | `%fN`, `%rN` | the range from `%b1`, or from `%n1`, to `%nN` |
 //! | `%tN` | `not ` if `%bN` is `!=` |
-//! | `%vN` | the value that ends with `%bN`; `hcp(north)` where none stands |
+//! | `%vN` | the value that ends with `%bN`; `hcp(north)` where none is |
 //! | `%cN` | a comparison for that value |
 //! | `%wN` | the word of the call that has the fault |
-//! | `%eN` | what stands behind the word `%bN` and a seat; `%e0` of the call |
+//! | `%eN` | what comes after the word `%bN` and a seat; `%e0` of the call |
 
 use crate::amounts::{Amount, amount_at, counted_at, ordered};
 use crate::parts::Parts;
@@ -31,7 +31,7 @@ use cond_lang::{CondError, parse};
 use itoa::Buffer;
 use std::alloc::{AllocError, Global};
 
-/// What stands behind a word and a seat, where it isn't the bracket.
+/// What comes after a word and a seat, where it isn't the bracket.
 static BEHIND_SEATS: &[(&str, &str)] = &[
     ("len", ",spades)"),
     ("stops", ",spades)"),
@@ -101,7 +101,7 @@ fn is_accepted(alloc: Global, hint: &[u8]) -> Result<bool, AllocError> {
     }
 }
 
-/// Appends what the placeholder stands for, if it is there.
+/// Appends what the placeholder means, if it is there.
 fn put(out: &mut Vec<u8>, parts: &Parts, kind: u8, n: usize) -> Result<bool, AllocError> {
     let back = parts.fault.saturating_sub(n);
     let next = parts.fault.saturating_add(n);
@@ -121,7 +121,7 @@ fn put(out: &mut Vec<u8>, parts: &Parts, kind: u8, n: usize) -> Result<bool, All
     Ok(true)
 }
 
-/// What the placeholder stands for, where it is one text.
+/// What the placeholder means, where it is one text.
 fn text_of<'t>(parts: &'t Parts, kind: u8, back: usize, next: usize) -> &'t [u8] {
     match kind {
         b'b' => parts.at(back),
@@ -148,7 +148,7 @@ fn text_of<'t>(parts: &'t Parts, kind: u8, back: usize, next: usize) -> &'t [u8]
     }
 }
 
-/// What stands behind the word and a seat.
+/// What comes after the word and a seat.
 fn behind_seat(call: &[u8]) -> &'static [u8] {
     for (word, behind) in BEHIND_SEATS {
         if is(call, word) {
@@ -200,7 +200,7 @@ pub(crate) fn put_number(out: &mut Vec<u8>, number: usize) -> Result<(), AllocEr
     out.extend_from_slice(Buffer::new().format(number as u64).as_bytes())
 }
 
-/// Appends the value that ends with the part; if nothing stands there, one that could.
+/// Appends the value that ends with the part; if nothing is there, one that could.
 fn put_value(out: &mut Vec<u8>, parts: &Parts, last: usize) -> Result<bool, AllocError> {
     match parts.value(last) {
         Some(value) => out.extend_from_slice(value)?,

@@ -3,8 +3,8 @@
 use crate::kinds::Kinds;
 use crate::parts::Parts;
 use crate::tables::{
-    calls, instead, joins, letters, more_or_less, names, plain, ranges, rest, several, shapes,
-    signs, suits, texts,
+    calls, instead, joins, letters, more_or_less, names, nouns, plain, ranges, rest, several,
+    shapes, signs, suits, texts,
 };
 use crate::{bounds, likeness};
 use cond_lang::Kind;
@@ -37,6 +37,7 @@ pub fn of_piece(alloc: Global, text: &[u8], at: usize) -> Said {
     first_of!(
         of_either(alloc, &parts),
         letters::hint(alloc, &parts),
+        nouns::hint(alloc, &parts),
         instead::hint(alloc, &parts),
         names::hint(alloc, &parts),
         likeness::hint(alloc, &parts),
@@ -46,7 +47,7 @@ pub fn of_piece(alloc: Global, text: &[u8], at: usize) -> Said {
 }
 
 /// Returns the hint for the token at the byte `at` of the text, or for its end, where only these
-/// kinds can stand, if a rule has one.
+/// kinds may come, if a rule has one.
 ///
 /// # Errors
 /// `AllocError` if an allocation failed.
@@ -60,7 +61,7 @@ pub fn of_syntax(alloc: Global, text: &[u8], at: usize, can: &Kinds) -> Said {
     joins::hint(alloc, &parts)
 }
 
-/// The hint for what may be a piece that isn't in the language or a token that can't stand there.
+/// The hint for what may be a piece that isn't in the language or a token that isn't allowed there.
 fn of_either(alloc: Global, parts: &Parts) -> Said {
     first_of!(
         texts::hint(alloc, parts),

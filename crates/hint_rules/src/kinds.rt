@@ -1,4 +1,4 @@
-//! The kinds of tokens that could stand at a fault.
+//! The kinds of tokens that may come at a fault.
 
 use cond_lang::Kind;
 

@@ -1,4 +1,4 @@
-//! Rules for hints: what a person perhaps meant where a condition is refused, by what stands around
+//! Rules for hints: what a person perhaps meant where a condition is refused, by what is around
 //! the fault.
 //!
 //! The rules are rows of tables (`tables`): what holds at the fault, the parts around it, and the

@@ -13,7 +13,7 @@ const BEGUN: f64 = 0.7;
 
 const ALIKE: f64 = 0.8;
 
-/// The word that is most like the one at fault, of those that can stand there.
+/// The word that is most like the one at fault, of those that may come there.
 pub(crate) fn hint(alloc: Global, parts: &Parts) -> Said {
     let Ok(text) = str::from_utf8(parts.word.as_slice()) else {
         return Ok(None);
@@ -48,7 +48,7 @@ fn nearest(alloc: Global, parts: &Parts, text: &str) -> Result<Option<&'static s
     Ok(found)
 }
 
-/// Whether a word may be meant at the fault: in the place of ranks a suit may stand too.
+/// Whether a word may be meant at the fault: in the place of ranks a suit may come too.
 fn is_at_home(parts: &Parts, word: &[u8]) -> bool {
     let is_first = is(parts.at(parts.fault.saturating_sub(1)), "(");
     if is_call(parts.call()) {

@@ -32,13 +32,13 @@ struct Part<'t> {
 #[derive(Drop)]
 pub(crate) struct Parts<'t> {
     text: &'t [u8],
-    /// The parts, behind an empty one: so nothing stands at 0, and nothing behind the last.
+    /// The parts, behind an empty one: so nothing is at 0, and nothing behind the last.
     parts: Vec<Part<'t>>,
-    /// Where the part with the fault stands, or the end.
+    /// Where the part with the fault is, or the end.
     pub fault: usize,
     /// That part in small letters.
     pub word: Vec<u8>,
-    /// The kinds of tokens that could stand there.
+    /// The kinds of tokens that may come there.
     pub can: Kinds,
 }
 
@@ -96,7 +96,7 @@ fn small(alloc: Global, bytes: &[u8]) -> Result<Vec<u8>, AllocError> {
 
 impl<'t> Parts<'t> {
     /// The parts of the text, of which the one with the byte `at` is at fault, or the end, where
-    /// only these kinds can stand.
+    /// only these kinds may come.
     pub(crate) fn of(
         alloc: Global,
         text: &'t [u8],
@@ -143,7 +143,7 @@ impl<'t> Parts<'t> {
         }
     }
 
-    /// Whether the part stands right behind the one before it, and apart from the one behind it.
+    /// Whether the part comes right after the one before it, and apart from the one behind it.
     pub(crate) fn is_suffix(&self, i: usize) -> bool {
         let (from, to) = self.range(i);
         from == self.range(i.saturating_sub(1)).1 && to != self.range(i.saturating_add(1)).0
@@ -178,7 +178,7 @@ impl<'t> Parts<'t> {
         is_short_line(line).then_some(line)
     }
 
-    /// Where the word of the call stands in which the fault is. At 0, if it is in none.
+    /// Where the word of the call is in which the fault is. At 0, if it is in none.
     pub(crate) fn call_at(&self) -> usize {
         let mut depth: usize = 0;
         for back in 1..self.fault.saturating_add(1) {

@@ -1,4 +1,4 @@
-//! Rules that a table holds: what stands around a fault, and what is said of it.
+//! Rules that a table holds: what is around a fault, and what is said of it.
 
 use crate::amounts::{amount_at, counted_at};
 use crate::parts::Parts;
@@ -11,7 +11,7 @@ use cond_lang::Kind;
 /// What has to hold at the fault, or what a part has to be.
 #[derive(Clone, Copy)]
 pub(crate) enum Want {
-    /// A token of the kind could stand at the fault, or could not.
+    /// A token of the kind may come at the fault, or could not.
     Can(Kind),
     Cannot(Kind),
     /// The fault is in the brackets of one of these words, or of none of them.
@@ -24,7 +24,7 @@ pub(crate) enum Want {
     InMeasure,
     /// This text.
     Is(&'static str),
-    /// One of these texts, which stand with a blank between them; a blank in front: or nothing.
+    /// One of these texts, with a blank between them; a blank in front: or nothing.
     OneOf(&'static str),
     /// None of these texts.
     Except(&'static str),
@@ -37,7 +37,7 @@ pub(crate) enum Want {
     /// Any part, or none.
     Any,
     Number,
-    /// A number of so many digits, and one of more than four whose first ones are zeros.
+    /// A number of this many digits, and one of more than four whose first ones are zeros.
     Digits(usize),
     Zeros,
     /// A number, or `x`.
@@ -62,10 +62,10 @@ pub(crate) enum Want {
     Value,
     /// The bracket that ends a value.
     Call,
-    /// The last part of a value behind a bracket, or of what stands behind a comparison.
+    /// The last part of a value behind a bracket, or of what follows a comparison.
     Bracketed,
     Chained,
-    /// A sign that stands right behind a part and apart from the next.
+    /// A sign that comes right after a part and apart from the next.
     Suffix(&'static str),
     /// An amount, as `15-17`, and one with a word that says of what.
     Amount,
@@ -77,7 +77,7 @@ pub(crate) enum Want {
 pub(crate) struct Rule {
     /// What holds at the fault, the parts before it, the part with it and those behind it.
     pub wants: &'static [Want],
-    /// How many wants stand before that of the part with the fault.
+    /// How many wants are before that of the part with the fault.
     pub here: usize,
     /// What is said, with placeholders (`filling`).
     pub hint: &'static str,

@@ -7,6 +7,7 @@ pub(crate) mod joins;
 pub(crate) mod letters;
 pub(crate) mod more_or_less;
 pub(crate) mod names;
+pub(crate) mod nouns;
 pub(crate) mod plain;
 pub(crate) mod ranges;
 pub(crate) mod rest;
@@ -29,13 +30,13 @@ use crate::rule::{Rule, one, rules};
 use cond_lang::{Class, Kind};
 use std::alloc::Global;
 
-/// Words in whose brackets lengths stand.
+/// Words in whose brackets lengths are.
 pub(crate) const SHAPES: &str = "shape pattern";
 
 /// How a person joins two shapes.
 pub(crate) const ALSO: &str = "or +";
 
-/// What may stand before and behind a whole test.
+/// What may come before and behind a whole test.
 pub(crate) const STARTS: &str = " ( and or not";
 
 pub(crate) const ENDS: &str = " ) and or";

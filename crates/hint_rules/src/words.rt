@@ -7,7 +7,7 @@ pub(crate) fn is(part: &[u8], text: &str) -> bool {
     part == text.as_bytes()
 }
 
-/// Whether the part reads as one of these texts, which stand with a blank between them.
+/// Whether the part reads as one of these texts, with a blank between them.
 pub(crate) fn is_one_of(part: &[u8], texts: &str) -> bool {
     for text in texts.split(' ') {
         if is(part, text) {
@@ -52,7 +52,7 @@ pub(crate) fn is_measure(part: &[u8]) -> bool {
     )
 }
 
-/// Whether the part is a word behind which a seat stands in brackets.
+/// Whether the part is a word behind which a seat is in brackets.
 pub(crate) fn is_call(part: &[u8]) -> bool {
     is_measure(part) || is_one_of(part, "balanced shape pattern stops")
 }
@@ -77,7 +77,7 @@ pub(crate) fn is_word(part: &[u8]) -> bool {
     matches!(part, [b'a'..=b'z' | b'A'..=b'Z', ..])
 }
 
-/// Whether the letters are ranks, whether or not one stands twice.
+/// Whether the letters are ranks, whether or not one occurs twice.
 pub(crate) fn are_ranks(word: &[u8]) -> bool {
     for letter in word {
         if !matches!(letter, b'a' | b'k' | b'q' | b'j' | b't') {
@@ -87,7 +87,7 @@ pub(crate) fn are_ranks(word: &[u8]) -> bool {
     true
 }
 
-/// Whether the part may stand in a value, outside of brackets.
+/// Whether the part may come in a value, outside of brackets.
 pub(crate) fn is_in_value(part: &[u8]) -> bool {
     is(part, "+") || is_number(part) || is_measure(part)
 }

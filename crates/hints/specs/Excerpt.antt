@@ -24,13 +24,13 @@ pub record IsWithoutEnds (text : List ℕ) (n : ℕ) : Type 0 where
   pub ends : (k : ℕ) → n ≤ k → k < length text → ends_line (slice_index text k) ≡ true
   pub some : 0 < n → ends_line (slice_index text (n - 1)) ≡ false
 
--- where the first caret stands: at the fault, or behind the last byte of the last line
+-- where the first caret is: at the fault, or behind the last byte of the last line
 abbrev pub IsPlace : List ℕ → ℕ → ℕ → Type 0
 IsPlace text at place =
     ((at < length text) × (place ≡ at)) ⊎ ((length text ≤ at) × IsWithoutEnds text place)
 
 -- the line of the text that has the place: from `start` up to `end` there is no line feed, and one
--- stands before it and behind it, unless the text begins or ends there
+-- is before it and behind it, unless the text begins or ends there
 pub record IsLineAt (text : List ℕ) (place start end : ℕ) : Type 0 where
   pub from : start ≤ place
   pub to : place ≤ end
@@ -46,7 +46,7 @@ without_return line =
 
 -- ---- how wide the fault is
 
--- an equals sign stands first
+-- an equals sign is first
 abbrev pub begins_with_equals : List ℕ → Bool
 begins_with_equals [] = false
 begins_with_equals (c ∷ s) = c == 61
@@ -84,7 +84,7 @@ shown_line line first after =
     codes "  " ++ where_cut (nat_lt 0 first) 46 ++ map shown (slice_range line first after)
     ++ where_cut (nat_lt after (length line)) 46 ++ codes "\n"
 
--- so many carets, the first below the line's byte at the column
+-- this many carets, the first below the line's byte at the column
 unfoldable pub caret_line : ℕ → ℕ → ℕ → List ℕ
 caret_line first column count =
     codes "  " ++ where_cut (nat_lt 0 first) 32 ++ replicate (column - first) 32

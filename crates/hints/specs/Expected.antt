@@ -1,4 +1,4 @@
--- What is said of the kinds that could stand at a fault.
+-- What is said of the kinds that may come at a fault.
 use Rattle.std.specs.Prelude.{ℕ, zero, suc, Bool, true, false, not, ◌&&◌, ◌||◌, List, [], ◌∷◌, ◌++◌}
 use Rattle.std.specs.Prelude.{codes, length, map, if◌then◌else◌}
 use Rattle.std.specs.List.{filter, list_all}
@@ -43,26 +43,26 @@ is_in part.Test k = begins_test k
 is_in part.Value k = begins_value k
 is_in part.Other k = not (begins_test k) && not (begins_value k)
 
--- all kinds of the list that are in the part can stand there
+-- all kinds of the list that are in the part may come there
 abbrev pub has_all : (Kind → Bool) → Part → List Kind → Bool
 has_all can part kinds = list_all (λ k. not (is_in part k) || can k) kinds
 
--- the kinds of the list that are in the part and can stand there, each by itself
+-- the kinds of the list that are in the part and may come there, each by itself
 abbrev pub each : (Kind → Bool) → Part → List Kind → List Term
 each can part kinds = map term.One (filter (λ k. is_in part k && can k) kinds)
 
--- the kinds that begin a value, as one term if all of them can stand there
+-- the kinds that begin a value, as one term if all of them may come there
 abbrev pub value_terms : (Kind → Bool) → List Term
 value_terms can =
     if has_all can part.Value all_kinds then term.Value ∷ [] else each can part.Value all_kinds
 
--- the kinds that begin a condition, as one term if all of them can stand there
+-- the kinds that begin a condition, as one term if all of them may come there
 abbrev pub first_terms : (Kind → Bool) → List Term
 first_terms can =
     if has_all can part.Test all_kinds && has_all can part.Value all_kinds then term.Condition ∷ []
     else each can part.Test all_kinds ++ value_terms can
 
--- the terms for the kinds that can stand there
+-- the terms for the kinds that may come there
 unfoldable pub terms : (Kind → Bool) → List Term
 terms can = first_terms can ++ each can part.Other all_kinds
 
@@ -123,7 +123,7 @@ term_text term.Condition = codes "a condition such as balanced(north)"
 term_text term.Value = codes "a value such as hcp(north)"
 term_text (term.One k) = kind_text k
 
--- what stands behind a term with so many more to come
+-- what comes after a term with this many more to come
 abbrev pub separator : ℕ → List ℕ
 separator zero = []
 separator (suc zero) = codes " or "
@@ -134,6 +134,6 @@ abbrev pub joined : List Term → List ℕ
 joined [] = []
 joined (t ∷ more) = term_text t ++ separator (length more) ++ joined more
 
--- the line that says what could stand there, for the set of the kinds that can
+-- the line that says what may come there, for the set of the kinds that can
 abbrev pub expected_line : (Kind → Bool) → List ℕ
 expected_line can = codes "  expected " ++ joined (terms can) ++ codes "\n"

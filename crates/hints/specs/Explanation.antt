@@ -21,7 +21,7 @@ hint_line bytes = codes "  hint: " ++ map shown bytes ++ codes "\n"
 abbrev pub MayHint : List ℕ → Type 0
 MayHint written = (written ≡ []) ⊎ ((bytes : List ℕ) × (written ≡ hint_line bytes))
 
--- the line of all kinds that can stand behind the longest beginning of the text, and no other
+-- the line of all kinds that may come behind the longest beginning of the text, and no other
 pub record TellsAll (asked : Asked) (text written : List ℕ) : Type 0 where
   pub beginning : List Token
   pub begins : Begins asked text beginning
@@ -33,11 +33,11 @@ pub record TellsAll (asked : Asked) (text written : List ℕ) : Type 0 where
 abbrev pub IsFaulty : List ℕ → Type 0
 IsFaulty text = (1024 < length text) ⊎ ((fault : CondError) × HasFault text fault)
 
--- what could stand there; nothing of a text that has no tokens
+-- what may come there; nothing of a text that has no tokens
 abbrev pub MayTell : Asked → List ℕ → List ℕ → Type 0
 MayTell asked text written = TellsAll asked text written ⊎ ((written ≡ []) × IsFaulty text)
 
--- the excerpt of the text, then what could stand there, then perhaps a hint
+-- the excerpt of the text, then what may come there, then perhaps a hint
 pub record Shows (Expects : List ℕ → Type 0) (text : List ℕ) (at : ℕ) (written : List ℕ)
     : Type 0 where
   pub excerpt : List ℕ
@@ -48,7 +48,7 @@ pub record Shows (Expects : List ℕ → Type 0) (text : List ℕ) (at : ℕ) (w
   pub expects : Expects expected
   pub hints : MayHint hint
 
--- nothing is said of what could stand there
+-- nothing is said of what may come there
 abbrev pub Nothing : List ℕ → Type 0
 Nothing written = written ≡ []
 

@@ -39,7 +39,7 @@ turned More = Less
 turned AtLeast = AtMost
 turned o = o
 
--- the least that stands in the relation to a number that is at least c, and the greatest that does
+-- the least that is in the relation to a number that is at least c, and the greatest that does
 -- to one that is at most d, where nothing is above g
 abbrev pub least_related : Op → ℕ → ℕ
 least_related Equal c = c

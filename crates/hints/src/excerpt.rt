@@ -33,7 +33,7 @@ pub(crate) fn put_excerpt(out: &mut String, text: &[u8], at: usize) -> Result<()
     put_line_and_carets(out, line, place - start, width_at(text, at))
 }
 
-/// Where the first caret stands.
+/// Where the first caret is.
 fn place_of(text: &[u8], at: usize) -> usize
     ensures place { IsPlace text.now at result }
     ensures within { result ≤ length text.now }

@@ -1,4 +1,4 @@
-//! What could stand at a fault, as a line of text.
+//! What may come at a fault, as a line of text.
 
 ghost use Rattle.std.specs.Prelude.{◌≡◌, ◌++◌, length, string_bytes, IfOk, OnOk};
 ghost use Rattle.hints.specs.Expected.{begins_test, begins_value, each, expected_line, has_all};
@@ -10,7 +10,7 @@ use crate::kinds::KindSet;
 use cond_lang::{Class, Kind, Quantifier, measure_word};
 use std::alloc::{AllocError, Global};
 
-/// What a person is told could stand there: a kind, or all kinds that begin a value or a condition.
+/// What a person is told may come there: a kind, or all kinds that begin a value or a condition.
 #[derive(Clone, Copy)]
 pub(crate) enum Term {
     Condition,
@@ -62,7 +62,7 @@ fn is_in(part: Part, kind: Kind) -> bool
     }
 }
 
-/// Appends the line that says what could stand there.
+/// Appends the line that says what may come there.
 pub(crate) fn put_expected(alloc: Global, out: &mut String, can: &KindSet) -> Result<(), AllocError>
     ensures { OnOk result (string_bytes out.new
         ≡ string_bytes out.old ++ expected_line (in_set can.now)) }
@@ -133,7 +133,7 @@ fn put_joined(out: &mut String, mut terms: &[Term]) -> Result<(), AllocError>
     Ok(())
 }
 
-/// What stands behind a term with so many more to come.
+/// What comes after a term with this many more to come.
 fn separator(more: usize) -> &'static str
     ensures { result.now ≡ separator more }
 {

@@ -1,4 +1,4 @@
-//! The kinds of tokens that could stand at a fault.
+//! The kinds of tokens that may come at a fault.
 
 ghost use Rattle.std.specs.Prelude.{◌≡◌, ◌↔◌, ◌<◌, IfOk, IfErr, IsTrue};
 ghost use Rattle.std.specs.List.{list_all};
@@ -18,7 +18,7 @@ pub(crate) struct KindSet {
 }
 
 impl KindSet {
-    /// The kinds that could stand behind the beginning of what is asked for. The only error is
+    /// The kinds that may come behind the beginning of what is asked for. The only error is
     /// `Memory`.
     pub(crate) fn of(asked: Asked, beginning: &Beginning) -> Result<KindSet, CondError>
         ensures allowed { IfOk result (λ set. (kind : AKind)

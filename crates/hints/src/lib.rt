@@ -1,5 +1,5 @@
 //! What a person is told of a condition or a question beside the line of a refusal: where it goes
-//! wrong, what could stand there, and what was perhaps meant; and whether no deal meets a
+//! wrong, what may come there, and what was perhaps meant; and whether no deal meets a
 //! condition.
 #![tactic(auto)]
 

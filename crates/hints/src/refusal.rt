@@ -17,11 +17,11 @@ use hint_rules::{Said, of_piece, of_syntax, suggested};
 use itoa::Buffer;
 use std::alloc::{AllocError, Global};
 
-/// Returns what helps a person with a text that is refused as `error`: the lines that stand below
+/// Returns what helps a person with a text that is refused as `error`: the lines that are below
 /// the one that names the refusal, each ended by a line feed.
 ///
 /// They are the line of the text that has the fault, cut to 72 columns around it, and carets below
-/// the fault; for a syntax fault what could stand there; and a hint, if a rule gives one. Bytes
+/// the fault; for a syntax fault what may come there; and a hint, if a rule gives one. Bytes
 /// that would disturb a terminal, or aren't ASCII, are shown as `?`, and a tab as a space. For a
 /// text that is too long the hint alone tells how long it is, and where memory runs out there is
 /// nothing to say.
@@ -35,7 +35,7 @@ pub fn explain(alloc: Global, text: &[u8], error: CondError) -> Result<String, A
 }
 
 /// Returns what helps a person with a text that is refused as a question: the same lines, of what
-/// could stand in a question.
+/// may come in a question.
 ///
 /// # Errors
 /// `AllocError` if an allocation failed.
@@ -75,7 +75,7 @@ fn put_piece(alloc: Global, out: &mut String, text: &[u8], at: usize) -> Result<
     put_hint(alloc, out, of_piece(alloc, text, at))
 }
 
-/// Appends what is said of a token that can't stand where it is.
+/// Appends what is said of a token that isn't allowed where it is.
 fn put_syntax(
     alloc: Global,
     out: &mut String,

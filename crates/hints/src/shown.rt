@@ -33,7 +33,7 @@ pub fn put_shown(out: &mut String, bytes: &[u8]) -> Result<(), AllocError>
     Ok(())
 }
 
-/// Appends an ASCII character so many times.
+/// Appends an ASCII character this many times.
 pub(crate) fn put_repeated(
     out: &mut String,
     character: char,

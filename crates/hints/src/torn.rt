@@ -105,7 +105,7 @@ fn turned(op: Op) -> Op
     }
 }
 
-/// The least that stands in the relation to a number that is at least c.
+/// The least that is in the relation to a number that is at least c.
 fn least_related(op: Op, c: u32) -> u32
     requires { c ≤ 67107840 }
     ensures { result ≡ least_related op c }
@@ -117,7 +117,7 @@ fn least_related(op: Op, c: u32) -> u32
     }
 }
 
-/// The greatest that stands in the relation to a number that is at most d, where nothing is above
+/// The greatest that is in the relation to a number that is at most d, where nothing is above
 /// g.
 fn greatest_related(op: Op, d: u32, g: u32) -> u32
     ensures { result ≡ greatest_related op d g }

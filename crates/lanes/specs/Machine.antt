@@ -1,5 +1,5 @@
 -- The core of a run: a machine of four events over the counters of its lanes, one flag and the
--- turn. An event that is not allowed changes nothing. No thread, no ring and no waiting stands in
+-- turn. An event that is not allowed changes nothing. No thread, no ring and no waiting is in
 -- it.
 use Rattle.std.specs.Prelude.{ℕ, ◌+◌, ◌-◌, ◌%◌, ◌==◌, ◌&&◌, ◌||◌, Bool, true, false, not, cond}
 use Rattle.std.specs.Prelude.{List, [], ◌∷◌, nat_lt, replicate, sum, count_by}
@@ -80,7 +80,7 @@ after m e = cond (is_allowed m e) (changed m e) m
 abbrev pub changes_made : Machine → ℕ
 changes_made m = sum m.sent + sum m.taken + count_by (λ c. c) m.closed + cond m.stopped 1 0
 
--- an event changes something if it is allowed and is no second Stop
+-- an event changes something if it is allowed and isn't a second Stop
 abbrev pub does_change : Machine → Event → Bool
 does_change m (Send w) = is_allowed m (Send w)
 does_change m Take = is_allowed m Take

@@ -146,8 +146,8 @@ pub fn lane_in_blocks(
     ends_with_blocks(alloc, capacity, block.min(MAX_BLOCK), pace)
 }
 
-/// The two ends of a lane, each with blocks of so many verdicts, and the ring with the rest of the
-/// capacity.
+/// The two ends of a lane, each with blocks of this many verdicts, and the ring with the rest of
+/// the capacity.
 fn ends_with_blocks(
     alloc: Global,
     capacity: u32,
@@ -165,7 +165,7 @@ fn ends_with_blocks(
         return Err(LaneError::Capacity);
     }
     let slots = capacity as usize - 2 * block;
-    // Making a ring is no event of the run's core.
+    // Making a ring isn't an event of the run's core.
     let Ok((producer, consumer)) = RingBuffer::new(alloc, slots) else {
         return Err(LaneError::Memory);
     };
@@ -210,18 +210,18 @@ impl LaneIn {
         ensures room { self.old.room ≤ self.new.room }
         ensures value { IsTrue result ↔ (0 < self.new.room) }
     {
-        // To look for a free slot is no event of the core.
+        // To look for a free slot isn't an event of the core.
         !self.producer.is_full()
     }
 
-    /// How many slots are free, as the lane stands now. Never blocks.
+    /// How many slots are free, at present. Never blocks.
     pub fn count_room(&mut self) -> usize
         ensures ring { self.new.ring ≡ self.old.ring }
         ensures sent { self.new.sent ≡ self.old.sent }
         ensures room { self.old.room ≤ self.new.room }
         ensures value { result ≡ self.new.room }
     {
-        // To look for a free slot is no event of the core.
+        // To look for a free slot isn't an event of the core.
         self.producer.slots()
     }
 
@@ -308,7 +308,7 @@ impl LaneOut {
         ensures none_known { result ≡ false → self.new.known ≡ 0 }
         ensures all_left { self.old.settled ≡ true → (IsTrue result ↔ (0 < length self.old.left)) }
     {
-        // To look for a verdict is no event of the core.
+        // To look for a verdict isn't an event of the core.
         if !self.block.is_empty() {
             return true;
         }
@@ -319,7 +319,7 @@ impl LaneOut {
         !self.block.is_empty() || !self.consumer.is_empty()
     }
 
-    /// How many verdicts wait, as the lane stands now. Never blocks.
+    /// How many verdicts wait, at present. Never blocks.
     pub fn count_verdicts(&mut self) -> usize
         ensures same { (self.new.ring ≡ self.old.ring) × (self.new.settled ≡ self.old.settled) }
         ensures taken { self.new.taken ≡ self.old.taken }
@@ -328,7 +328,7 @@ impl LaneOut {
         ensures value { result ≡ self.new.known }
         ensures all_left { self.old.settled ≡ true → result ≡ length self.old.left }
     {
-        // To look for a verdict is no event of the core.
+        // To look for a verdict isn't an event of the core.
         if self.settled {
             return self.block.len() + self.consumer.cached_slots();
         }
@@ -374,7 +374,7 @@ impl LaneOut {
         ensures fifo { self.new.taken ++ self.new.left ≡ closed.old.sent }
     {
         self.settled = true;
-        // Settling is no event of the core.
+        // Settling isn't an event of the core.
         (self.block.len() + self.consumer.slots_after(&mut closed.finished)) as u64
     }
 

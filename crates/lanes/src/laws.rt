@@ -9,9 +9,9 @@ ghost use Rattle.lanes.specs.Machine.{sent_of, taken_of};
 ghost use Rattle.lanes.specs.Sound.{IsSound};
 ghost use Rattle.lanes.specs.Runs.{after_all, item_of, items_sent, items_taken};
 
-/// Of any list of events, in any order, only so many change anything in a new core: each worker
-/// sends and the writer takes each candidate at most once, each lane is closed at most once, and
-/// the run is stopped once.
+/// Of any list of events, in any order, only a bounded number change anything in a new core: each
+/// worker sends and the writer takes each candidate at most once, each lane is closed at most once,
+/// and the run is stopped once.
 pub fn few_events_change()
     ensures { (count workers capacity : ℕ) (events : List Event) → 1 ≤ workers
         → changes_in (new_machine count workers capacity) events ≤ 2 * count + workers + 1 }

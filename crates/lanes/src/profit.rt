@@ -2,10 +2,10 @@
 
 ghost use Rattle.std.specs.Prelude.{◌<◌, ◌≤◌};
 
-/// After so many answers a test is worth its time or not.
+/// After this many answers a test is worth its time or not.
 const ANSWERS: u32 = 1024;
 
-/// A test is worth its time if it gives up one candidate of so many, or more.
+/// A test is worth its time if it gives up one candidate of this many, or more.
 const ONE_OF: u32 = 16;
 
 /// Whether a test is worth its time, by how many answers it gave and how many candidates it gave up

@@ -141,7 +141,7 @@ impl Model for Block {
 }
 
 impl Block {
-    /// No verdicts yet, and at most so many, 16 at most, from now on.
+    /// No verdicts yet, and at most this many, 16 at most, from now on.
     pub(crate) fn new(most: usize) -> Block
         requires { most ≤ 16 }
         ensures { result ≡ [] }
@@ -190,7 +190,7 @@ impl Block {
             (self.new ++ known_items consumer.new) }
     {
         self.start = 0;
-        // Up to 16 verdicts leave the ring here. That is no event of the core, whose Take comes
+        // Up to 16 verdicts leave the ring here. That isn't an event of the core, whose Take comes
         // when the writer takes one out of the block.
         self.end = consumer.pop_partial_slice(&mut self.slots[..self.most]);
     }

@@ -13,7 +13,7 @@
 //! with about half a lane's content.
 //!
 //! One loop a lane's end: look at the stop flag, pause, count. It ends with enough, with less once
-//! the other end stands still, or without when the flag is up.
+//! the other end makes no progress, or without when the flag is up.
 
 ghost use Rattle.std.specs.Prelude.{◌≡◌, ◌+◌, ◌<◌, ◌≤◌, ◌↔◌, true, false};
 ghost use Rattle.lanes.specs.declared.wait.Pace.TheVariants.{Spins};
@@ -44,8 +44,8 @@ pub enum Pace {
 }
 
 impl Pace {
-    /// The pace of a run with so many workers on so many cores: its ends yield unless there is a
-    /// core for each worker and one for the writer.
+    /// The pace of a run with this many workers on this many cores: its ends yield unless there is
+    /// a core for each worker and one for the writer.
     pub fn of(workers: u32, cores: usize) -> Pace
         ensures { (result ≡ Spins) ↔ (workers + 1 ≤ cores) }
     {
@@ -77,7 +77,7 @@ impl LaneIn {
     {
         let mut pause = Pause::new(self.capacity(), self.pace());
         for _ in rt.forever() {
-            // A load of the stop flag is no event of the core.
+            // A load of the stop flag isn't an event of the core.
             if stop.load(Ordering::SeqCst) {
                 return false;
             }
@@ -115,7 +115,7 @@ impl LaneOut {
     {
         let mut pause = Pause::new(self.capacity(), self.pace());
         for _ in rt.forever() {
-            // A load of the stop flag is no event of the core.
+            // A load of the stop flag isn't an event of the core.
             if stop.load(Ordering::SeqCst) {
                 // The worker may have sent since the last look.
                 return self.has_verdict();
@@ -130,7 +130,7 @@ impl LaneOut {
 }
 
 /// The pauses of an end that waits. One that spins does so again as long as the other end makes
-/// progress, and yields once that stands still.
+/// progress, and yields once that stops.
 #[derive(Drop)]
 struct Pause {
     spins: usize,
@@ -165,7 +165,7 @@ impl Pause {
         }
     }
 
-    /// Whether to go on with so many verdicts or slots: with enough, or with fewer if no more come.
+    /// Whether to go on with this many verdicts or slots: with enough, or if no more come.
     fn is_enough(&mut self, count: usize) -> bool
         ensures { result ≡ true → 0 < count }
     {

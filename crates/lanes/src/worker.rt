@@ -292,7 +292,7 @@ fn send_block<R: Wait, G: Gate>(
 {
     for i in 0..block.len() {
         let verdict = &block[i];
-        // A load of the stop flag is no event of the core.
+        // A load of the stop flag isn't an event of the core.
         if stop.load(Ordering::SeqCst) || !gate.pass(job.share.worker, verdict.number()) {
             return false;
         }

@@ -9,7 +9,7 @@ use crate::{Lcg48, Steps, Stride};
 /// How many digits in base 16 a number below 2^48 has.
 const DIGITS: usize = 12;
 
-/// For each digit of a length its strides: that of place p and digit d stands at 16 * p + d.
+/// For each digit of a length its strides: that of place p and digit d is at 16 * p + d.
 const STRIDES: usize = 16 * DIGITS;
 
 /// Jumps over any number of steps below 2^48 in twelve strides.
@@ -48,7 +48,7 @@ impl Jumps {
     }
 }
 
-/// The stride that stands there in the table.
+/// The stride that is there in the table.
 fn stride_at(index: usize) -> Stride
     requires { index < 192 }
     ensures { result ≡ length_at index }

@@ -1,1 +1,6 @@
 pub mod ColumnLemmas
+pub mod TwoColumns
+pub mod LineLemmas
+pub mod Pairs
+pub mod GameLemmas
+pub mod LayoutLemmas

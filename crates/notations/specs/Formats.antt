@@ -1,31 +1,101 @@
 -- What each format makes of boards.
-use Rattle.std.specs.Prelude.{◌≡◌, ℕ, Bool, true, false, List, [], ◌∷◌, codes, ⊤, refl}
-use Rattle.boards.specs.Layouts.{EndsAlike, Layout}
-use Rattle.pbn_text.specs.Games.{HeadingView, pbn}
-use Rattle.notations.specs.Json.{json}
-use Rattle.notations.specs.Lin.{lin}
-use Rattle.notations.specs.Numbers.{numbers}
-use Rattle.notations.specs.Pages.{html}
-use Rattle.notations.specs.Records.{hands}
+use Rattle.std.specs.Prelude.{◌≡◌, ℕ, ◌+◌, ◌-◌, min, nat_lt, Bool, true, false, List, [], ◌∷◌, Option}
+use Rattle.std.specs.Prelude.{None, Some, codes, length, if◌then◌else◌, slice_get, ⊤, refl}
+use Rattle.boards.specs.declared.board.Board.{Board}
+use Rattle.boards.specs.Layouts.{EndsAlike, Layout, ends_with}
+use Rattle.pbn_text.specs.Games.{HeadingView, header, pbn}
 use Rattle.notations.specs.declared.printer.Format.{Format}
-use Rattle.notations.specs.declared.printer.Format.TheVariants.{Pbn, Hands, Lin, Html, Json, Numbers}
-use Rattle.notations.specs.declared.printer.Pen.{Pen}
-use Rattle.notations.specs.declared.printer.Pen.TheVariants as pen
+use Rattle.notations.specs.declared.printer.Format.TheVariants.{Pbn, Hands, Lin, Html, Sheet, Json}
+use Rattle.notations.specs.declared.printer.Format.TheVariants.{Numbers}
+use Rattle.notations.specs.declared.show.Show.{Show}
+use Rattle.notations.specs.declared.show.Show.TheVariants.{All}
+use Rattle.notations.specs.Games.{game_in}
+use Rattle.notations.specs.Json.{json_line}
+use Rattle.notations.specs.Lin.{lin_line}
+use Rattle.notations.specs.Numbers.{number_line}
+use Rattle.notations.specs.Pages as pages
+use Rattle.notations.specs.Records as records
+use Rattle.notations.specs.SheetStyle.{sheet_style}
+use Rattle.notations.specs.Sheets.{section_text}
+use Rattle.notations.specs.Style.{style, style_with_tricks}
+use Rattle.tricks.specs.Lines.{TricksView, nothing_known}
 
 -- the formats that are asked for by a name
 abbrev pub formats : List (List ℕ × Format)
 formats =
     (codes "pbn", Pbn) ∷ (codes "hands", Hands) ∷ (codes "lin", Lin) ∷ (codes "html", Html)
-    ∷ (codes "json", Json) ∷ []
+    ∷ (codes "sheet", Sheet) ∷ (codes "json", Json) ∷ []
 
--- the layout of a format, under a heading; LIN, JSON and the numbers of candidates have no labels
+-- ---- the parts of a text
+
+-- what comes before the boards. LIN, JSON and the numbers of candidates have no labels
+abbrev pub header_of : Format → HeadingView → List ℕ
+header_of Pbn heading = header
+header_of Hands heading = records.header_text heading
+header_of Html heading = pages.header_text style heading
+header_of Sheet heading = pages.header_text sheet_style heading
+header_of _ heading = []
+
+-- the same before boards with tricks: the page has a style for these
+abbrev pub header_with_tricks : Format → HeadingView → List ℕ
+header_with_tricks Html heading = pages.header_text style_with_tricks heading
+header_with_tricks format heading = header_of format heading
+
+-- a board, with the hands that are shown and what is known of its tricks
+abbrev pub board_text : Format → Show → HeadingView → TricksView → Board → List ℕ
+board_text Pbn show heading tricks board = game_in heading show tricks board
+board_text Hands show heading tricks board = records.record_text show tricks board
+board_text Lin show heading tricks board = lin_line show board
+board_text Html show heading tricks board = pages.board_text show tricks board
+board_text Sheet show heading tricks board = section_text show tricks board
+board_text Json show heading tricks board = json_line show tricks board
+board_text Numbers show heading tricks board = number_line board
+
+-- what comes after the boards
+abbrev pub footer_of : Format → List ℕ
+footer_of Html = pages.footer_text
+footer_of Sheet = pages.footer_text
+footer_of _ = []
+
+-- ---- layouts
+
+-- with these hands, and without tricks. Games with all hands are those of the crate pbn_text
+abbrev pub layout_showing : Format → Show → HeadingView → Layout
+layout_showing Pbn All heading = pbn heading
+layout_showing format show heading = record {
+  header = header_of format heading;
+  board = board_text format show heading nothing_known;
+  footer = ends_with (footer_of format);
+}
+
+-- the layout of a format, under a heading: all hands, and no tricks
 abbrev pub layout_of : Format → HeadingView → Layout
-layout_of Pbn heading = pbn heading
-layout_of Hands heading = hands heading
-layout_of Lin heading = lin
-layout_of Html heading = html heading
-layout_of Json heading = json
-layout_of Numbers heading = numbers
+layout_of format heading = layout_showing format All heading
+
+-- with a table of tricks, of which line i is for the board of number first + i
+abbrev pub line_for : ℕ → List TricksView → ℕ → Option TricksView
+line_for first table number =
+    if nat_lt number first then None else slice_get table (number - first)
+
+-- tricks are written only beside all hands
+abbrev pub beside_hands : Show → TricksView → TricksView
+beside_hands All tricks = tricks
+beside_hands _ tricks = nothing_known
+
+-- a board without a line isn't written
+abbrev pub board_with : Format → Show → HeadingView → Option TricksView → Board → List ℕ
+board_with format show heading None board = []
+board_with format show heading (Some tricks) board =
+    board_text format show heading (beside_hands show tricks) board
+
+-- with these hands, and with tricks. There is no footer after more boards than there are lines
+abbrev pub layout_with : Format → Show → HeadingView → ℕ → List TricksView → Layout
+layout_with format show heading first table = record {
+  header = header_with_tricks format heading;
+  board = λ board. board_with format show heading (line_for first table board.number) board;
+  footer = λ boards tried.
+      if nat_lt (length table) (length boards) then [] else footer_of format;
+}
 
 -- no footer depends on how many candidates were tried
 pub ends_alike : (format : Format) (heading : HeadingView) → EndsAlike (layout_of format heading)
@@ -33,6 +103,7 @@ ends_alike Pbn heading boards m n = refl
 ends_alike Hands heading boards m n = refl
 ends_alike Lin heading boards m n = refl
 ends_alike Html heading boards m n = refl
+ends_alike Sheet heading boards m n = refl
 ends_alike Json heading boards m n = refl
 ends_alike Numbers heading boards m n = refl
 
@@ -41,27 +112,31 @@ abbrev pub numbers_boards : Format → Bool
 numbers_boards Numbers = false
 numbers_boards _ = true
 
--- what contracts see of a printer: its format, its heading, and the text that it printed last
+-- ---- a printer
+
+-- a table of tricks, and the number of the board that has its first line
+pub record TableView : Type 0 where
+  pub first : ℕ
+  pub lines : List TricksView
+
+-- what contracts see of a printer: its format, the hands that it shows, its heading, the tricks,
+-- the text that it printed last, and how many boards it printed where there are tricks, counted up
+-- to one more than they have lines
 pub record PrintingAs : Type 0 where
   pub format : Format
+  pub show : Show
   pub heading : HeadingView
+  pub tricks : Option TableView
   pub text : List ℕ
+  pub boards : ℕ
 
--- what a printer makes of its pen
-abbrev pub format_of : Pen → Format
-format_of (pen.Pbn printer) = Pbn
-format_of (pen.Hands letters) = Hands
-format_of (pen.Lin letters) = Lin
-format_of (pen.Html letters) = Html
-format_of (pen.Json letters) = Json
-format_of pen.Numbers = Numbers
+-- how a printer lays a text out
+abbrev pub layout_in : Format → Show → HeadingView → Option TableView → Layout
+layout_in format show heading None = layout_showing format show heading
+layout_in format show heading (Some table) =
+    layout_with format show heading table.first table.lines
 
--- what was printed last: a printer of games has it, and for the others it is in the buffer
-abbrev pub text_of : Pen → List ℕ → List ℕ
-text_of (pen.Pbn printer) buffer = printer.text
-text_of _ buffer = buffer
-
--- a printer of games writes this heading
-abbrev pub IsUnder : HeadingView → Pen → Type 0
-IsUnder heading (pen.Pbn printer) = printer.heading ≡ heading
-IsUnder heading _ = ⊤
+-- it printed these boards
+abbrev pub HasPrinted : Option TableView → ℕ → List Board → Type 0
+HasPrinted None count boards = ⊤
+HasPrinted (Some table) count boards = count ≡ min (length boards) (length table.lines + 1)

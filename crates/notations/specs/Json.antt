@@ -1,27 +1,28 @@
 -- JSON: a line a board, without header and footer.
-use Rattle.std.specs.Prelude.{ℕ, Bool, List, [], ◌++◌, codes, decimal}
-use Rattle.cards.specs.declared.suit.Suit.{Suit}
+use Rattle.std.specs.Prelude.{ℕ, List, ◌++◌, codes, decimal}
 use Rattle.boards.specs.declared.board.Board.{Board}
-use Rattle.boards.specs.Layouts.{Layout, ends_with}
-use Rattle.boards.specs.Letters.{suit_letters}
-use Rattle.pbn_text.specs.Games.{deal_text, dealer_text}
+use Rattle.pbn_text.specs.Games.{dealer_text}
+use Rattle.notations.specs.declared.show.Show.{Show}
+use Rattle.notations.specs.Dotted.{deal_value}
 use Rattle.notations.specs.Names.{vulnerable_name}
+use Rattle.notations.specs.Show.{hand_in}
+use Rattle.notations.specs.Tricks.{if_given, par_text}
+use Rattle.tricks.specs.Lines.{TricksView}
 
--- the ranks of a suit, and a dot
-abbrev pub dotted : List Bool → Suit → List ℕ
-dotted hand suit = suit_letters hand suit ++ codes "."
+-- the members of tricks and par, where they are known
+abbrev pub tricks_members : TricksView → List ℕ
+tricks_members tricks =
+    if_given (codes ",\"tricks\":\"") tricks.digits (codes "\"")
+    ++ if_given (codes ",\"par\":\"") (par_text tricks) (codes "\"")
 
--- the board's number, dealer, vulnerability and deal, the words as in PBN, and the number of the
--- candidate
-unfoldable pub json_line : Board → List ℕ
-json_line board =
+-- the board's number, dealer, vulnerability and deal, the words as in PBN, the number of the
+-- candidate, and what is known of the tricks
+unfoldable pub json_line : Show → TricksView → Board → List ℕ
+json_line show tricks board =
     codes "{\"board\":" ++ decimal board.number
     ++ codes ",\"dealer\":\"" ++ dealer_text board.dealer
     ++ codes "\",\"vulnerable\":\"" ++ vulnerable_name board.vulnerable
-    ++ codes "\",\"deal\":\"" ++ deal_text board.deal
+    ++ codes "\",\"deal\":\"" ++ deal_value (hand_in show board)
     ++ codes "\",\"number\":" ++ decimal board.candidate
+    ++ tricks_members tricks
     ++ codes "}\n"
-
--- the notation: a line for each board, and nothing before or after them
-abbrev pub json : Layout
-json = record { header = []; board = json_line; footer = ends_with [] }

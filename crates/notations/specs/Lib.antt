@@ -1,4 +1,8 @@
 pub mod Names
+pub mod Show
+pub mod Tricks
+pub mod Dotted
+pub mod Games
 pub mod Lin
 pub mod Json
 pub mod Numbers
@@ -6,5 +10,7 @@ pub mod Columns
 pub mod Records
 pub mod Style
 pub mod Pages
+pub mod SheetStyle
+pub mod Sheets
 pub mod Formats
 pub mod internal

@@ -1,14 +1,14 @@
 -- LIN, as BBO and its kin read it: a line a board, without header and footer.
-use Rattle.std.specs.Prelude.{ℕ, Bool, List, [], ◌++◌, codes, decimal}
+use Rattle.std.specs.Prelude.{ℕ, Bool, List, [], ◌++◌, Option, Some, None, codes, decimal}
 use Rattle.cards.specs.declared.seat.Seat.{Seat}
 use Rattle.cards.specs.declared.seat.Seat.TheVariants.{North, East, South, West}
 use Rattle.cards.specs.declared.suit.Suit.TheVariants.{Spades, Hearts, Diamonds, Clubs}
-use Rattle.cards.specs.Hands.{hand_of}
 use Rattle.boards.specs.declared.board.Board.{Board}
 use Rattle.boards.specs.declared.setting.Vul.{Vul}
 use Rattle.boards.specs.declared.setting.Vul.TheVariants.{Neither, NorthSouth, EastWest, Both}
-use Rattle.boards.specs.Layouts.{Layout, ends_with}
 use Rattle.boards.specs.Letters.{suit_letters}
+use Rattle.notations.specs.declared.show.Show.{Show}
+use Rattle.notations.specs.Show.{hand_in}
 
 -- the seats are numbered clockwise from South, 1 to 4
 abbrev pub dealer_digit : Seat → List ℕ
@@ -31,23 +31,24 @@ hand_text hand =
     ++ codes "D" ++ suit_letters hand Diamonds
     ++ codes "C" ++ suit_letters hand Clubs
 
+-- nothing for a hand that isn't shown
+abbrev pub shown_text : Option (List Bool) → List ℕ
+shown_text None = []
+shown_text (Some hand) = hand_text hand
+
 -- South's hand, West's, North's and East's
-abbrev pub deal_text : List Seat → List ℕ
-deal_text deal =
-    hand_text (hand_of deal South) ++ codes ","
-    ++ hand_text (hand_of deal West) ++ codes ","
-    ++ hand_text (hand_of deal North) ++ codes ","
-    ++ hand_text (hand_of deal East)
+abbrev pub deal_text : (Seat → Option (List Bool)) → List ℕ
+deal_text hand =
+    shown_text (hand South) ++ codes ","
+    ++ shown_text (hand West) ++ codes ","
+    ++ shown_text (hand North) ++ codes ","
+    ++ shown_text (hand East)
 
 -- the board's number, its dealer and hands, its vulnerability, and its name
-unfoldable pub lin_line : Board → List ℕ
-lin_line board =
+unfoldable pub lin_line : Show → Board → List ℕ
+lin_line show board =
     codes "qx|o" ++ decimal board.number
-    ++ codes "|md|" ++ dealer_digit board.dealer ++ deal_text board.deal
+    ++ codes "|md|" ++ dealer_digit board.dealer ++ deal_text (hand_in show board)
     ++ codes "|sv|" ++ vulnerable_letter board.vulnerable
     ++ codes "|ah|Board " ++ decimal board.number
     ++ codes "|pg||\n"
-
--- the notation: a line for each board, and nothing before or after them
-abbrev pub lin : Layout
-lin = record { header = []; board = lin_line; footer = ends_with [] }

@@ -1,20 +1,22 @@
--- One page of HTML that stands alone: a header with the title and the style, a section for each
--- board, and a footer that closes what the header opened.
-use Rattle.std.specs.Prelude.{ℕ, ◌==◌, Bool, List, [], ◌∷◌, ◌++◌, Option, Some, None, codes}
-use Rattle.std.specs.Prelude.{decimal, flat_map, if◌then◌else◌}
+-- One page of HTML that needs nothing else: a header with the title and the style, a section for
+-- each board, and a footer that closes what the header opened.
+use Rattle.std.specs.Prelude.{ℕ, ◌==◌, Bool, List, [], ◌∷◌, ◌++◌, Option, Some, None, bytes_eq}
+use Rattle.std.specs.Prelude.{codes, decimal, flat_map, if◌then◌else◌}
 use Rattle.std.specs.List.{list_all}
 use Rattle.cards.specs.declared.seat.Seat.{Seat}
 use Rattle.cards.specs.declared.seat.Seat.TheVariants.{North, East, South, West}
 use Rattle.cards.specs.declared.suit.Suit.{Suit}
 use Rattle.cards.specs.declared.suit.Suit.TheVariants.{Spades, Hearts, Diamonds, Clubs}
-use Rattle.cards.specs.Hands.{hand_of, points_of}
+use Rattle.cards.specs.Hands.{points_of}
 use Rattle.boards.specs.declared.board.Board.{Board}
 use Rattle.boards.specs.declared.setting.Vul.{Vul}
-use Rattle.boards.specs.Layouts.{Layout, ends_with}
 use Rattle.boards.specs.Letters.{or_dash, suit_letters}
-use Rattle.pbn_text.specs.Games.{HeadingView}
+use Rattle.pbn_text.specs.Games.{HeadingView, dealer_text}
+use Rattle.notations.specs.declared.show.Show.{Show}
 use Rattle.notations.specs.Names.{seat_name, vulnerable_name}
-use Rattle.notations.specs.Style.{style}
+use Rattle.notations.specs.Show.{hand_in}
+use Rattle.notations.specs.Tricks.{five_of, if_given, number_of, par_text}
+use Rattle.tricks.specs.Lines.{TricksView}
 
 -- ---- the title
 
@@ -22,7 +24,7 @@ use Rattle.notations.specs.Style.{style}
 abbrev pub is_blank : List ℕ → Bool
 is_blank text = list_all (λ byte. byte == 0x20) text
 
--- a label that is given and has something to be seen
+-- a label given and has something to be seen
 abbrev pub shown : Option (List ℕ) → List ℕ
 shown None = []
 shown (Some text) = if is_blank text then [] else text
@@ -61,9 +63,9 @@ opening =
     codes "<!DOCTYPE html>\n<html lang=\"en\">\n<head>\n<meta charset=\"utf-8\">\n"
     ++ codes "<meta name=\"viewport\" content=\"width=device-width, initial-scale=1\">\n"
 
--- the title, the style, and the title again as the heading
-unfoldable pub header_text : HeadingView → List ℕ
-header_text heading =
+-- the title, a style, and the title again as the heading
+unfoldable pub header_text : (List ℕ → List ℕ) → HeadingView → List ℕ
+header_text style heading =
     opening
     ++ codes "<title>" ++ escaped (title_of heading) ++ codes "</title>\n<style>\n"
     ++ style (title_of heading) ++ codes "</style>\n</head>\n<body>\n<main>\n<h1>"
@@ -103,9 +105,18 @@ seat_text seat points =
     codes "<div class=\"" ++ seat_name seat ++ codes "\"><h3>" ++ seat_name seat
     ++ codes " <small>" ++ decimal points ++ codes " HCP</small></h3>"
 
--- the hand in a seat: the seat, the points and the suits
-unfoldable pub hand_text : Seat → List Bool → List ℕ
-hand_text seat hand = seat_text seat (points_of hand) ++ suits_text hand ++ codes "</div>\n"
+-- the hand in a seat, if it is shown: the seat, the points and the suits
+unfoldable pub hand_text : Seat → Option (List Bool) → List ℕ
+hand_text seat None = []
+hand_text seat (Some hand) = seat_text seat (points_of hand) ++ suits_text hand ++ codes "</div>\n"
+
+-- the hands that are shown
+abbrev pub hands_text : (Seat → Option (List Bool)) → List ℕ
+hands_text hand =
+    hand_text North (hand North)
+    ++ hand_text East (hand East)
+    ++ hand_text South (hand South)
+    ++ hand_text West (hand West)
 
 -- the board's number, on the table
 unfoldable pub number_text : Vul → ℕ → List ℕ
@@ -119,20 +130,56 @@ facts_text dealer vulnerable =
     codes "<p>Dealer " ++ seat_name dealer
     ++ codes "<br>Vul " ++ vulnerable_name vulnerable ++ codes "</p>\n"
 
--- a section of what the board is and of its four hands
-unfoldable pub board_text : Board → List ℕ
-board_text board =
+-- ---- tricks
+
+-- the denominations, at the head of the table
+unfoldable pub table_head : List ℕ
+table_head =
+    codes "<table>\n<tr><td></td><th>NT</th><th>" ++ sign Spades ++ codes "</th><th>" ++ sign Hearts
+    ++ codes "</th><th>" ++ sign Diamonds ++ codes "</th><th>" ++ sign Clubs
+    ++ codes "</th></tr>\n"
+
+abbrev pub cell_text : ℕ → List ℕ
+cell_text digit = codes "<td>" ++ decimal (number_of digit) ++ codes "</td>"
+
+-- what follows who declares in a row of the table: the five numbers of tricks
+unfoldable pub cells_text : List ℕ → List ℕ
+cells_text five = codes "</th>" ++ flat_map cell_text five ++ codes "</tr>\n"
+
+abbrev pub row_text : List ℕ → List ℕ → List ℕ
+row_text who five = codes "<tr><th>" ++ who ++ cells_text five
+
+-- the row of two partners who make the same, or a row for each of them
+unfoldable pub side_rows : Seat → Seat → List ℕ → List ℕ
+side_rows one other digits =
+    if bytes_eq (five_of one digits) (five_of other digits)
+    then row_text (dealer_text one ++ dealer_text other) (five_of one digits)
+    else row_text (dealer_text one) (five_of one digits)
+    ++ row_text (dealer_text other) (five_of other digits)
+
+-- the table of the tricks, or nothing where they aren't known
+unfoldable pub table_text : List ℕ → List ℕ
+table_text [] = []
+table_text (x ∷ digits) =
+    table_head
+    ++ side_rows North South (x ∷ digits)
+    ++ side_rows East West (x ∷ digits)
+    ++ codes "</table>\n"
+
+-- the table, and par
+abbrev pub tricks_text : TricksView → List ℕ
+tricks_text tricks =
+    table_text tricks.digits
+    ++ if_given (codes "<p class=\"par\">Par ") (par_text tricks) (codes "</p>\n")
+
+-- ---- a board's section
+
+-- what the board is, its four hands, and what is known of the tricks
+unfoldable pub board_text : Show → TricksView → Board → List ℕ
+board_text show tricks board =
     codes "<section class=\"board\">\n"
     ++ number_text board.vulnerable board.number
     ++ facts_text board.dealer board.vulnerable
-    ++ hand_text North (hand_of board.deal North)
-    ++ hand_text East (hand_of board.deal East)
-    ++ hand_text South (hand_of board.deal South)
-    ++ hand_text West (hand_of board.deal West)
+    ++ hands_text (hand_in show board)
+    ++ tricks_text tricks
     ++ codes "</section>\n"
-
--- ---- the notation: the header, a section for each board, and the footer
-
-abbrev pub html : HeadingView → Layout
-html heading =
-    record { header = header_text heading; board = board_text; footer = ends_with footer_text }

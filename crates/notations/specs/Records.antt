@@ -4,13 +4,18 @@ use Rattle.cards.specs.declared.seat.Seat.{Seat}
 use Rattle.cards.specs.declared.seat.Seat.TheVariants.{North, East, South, West}
 use Rattle.cards.specs.declared.suit.Suit.{Suit}
 use Rattle.cards.specs.declared.suit.Suit.TheVariants.{Spades, Hearts, Diamonds, Clubs}
-use Rattle.cards.specs.Hands.{hand_of, points_of}
+use Rattle.cards.specs.Hands.{points_of}
 use Rattle.boards.specs.declared.board.Board.{Board}
-use Rattle.boards.specs.Layouts.{Layout, ends_with}
 use Rattle.boards.specs.Letters.{or_dash, suit_letters}
 use Rattle.pbn_text.specs.Games.{HeadingView}
+use Rattle.std.specs.List.{flat_map}
+use Rattle.notations.specs.declared.show.Show.{Show}
 use Rattle.notations.specs.Columns.{beside, line, spaces, two_columns}
 use Rattle.notations.specs.Names.{seat_name, vulnerable_name}
+use Rattle.notations.specs.Show.{hand_in}
+use Rattle.notations.specs.Tricks.{five_of, if_given, number_of, par_text}
+use Rattle.pbn_text.specs.Games.{dealer_text}
+use Rattle.tricks.specs.Lines.{TricksView}
 
 -- the sign of a suit, ♠, ♥, ♦ or ♣, which is a character of three bytes, and a space
 abbrev pub sign_and_space : Suit → List ℕ
@@ -23,29 +28,37 @@ sign_and_space Clubs = 0xE2 ∷ 0x99 ∷ 0xA3 ∷ codes " "
 abbrev pub suit_text : List Bool → Suit → List ℕ
 suit_text hand suit = sign_and_space suit ++ or_dash (codes "-") (suit_letters hand suit)
 
--- the points of one hand, whose last digit stands at column 7
-abbrev pub one_count : List Bool → List ℕ
-one_count hand = spaces 6 ++ two_columns (points_of hand)
+-- the points of one hand, whose last digit is at column 7; nothing for one that isn't shown
+abbrev pub one_count : Option (List Bool) → List ℕ
+one_count None = []
+one_count (Some hand) = spaces 6 ++ two_columns (points_of hand)
 
--- the points of West and East, whose last digits stand at columns 3 and 11
-abbrev pub two_counts : List Bool → List Bool → List ℕ
-two_counts west east =
+-- the points of West and East, whose last digits are at columns 3 and 11
+abbrev pub two_counts : Option (List Bool) → Option (List Bool) → List ℕ
+two_counts None None = []
+two_counts (Some west) None = spaces 2 ++ two_columns (points_of west)
+two_counts None (Some east) = spaces 10 ++ two_columns (points_of east)
+two_counts (Some west) (Some east) =
     spaces 2 ++ two_columns (points_of west) ++ spaces 6 ++ two_columns (points_of east)
 
--- a line of what stands before column 18, and a suit
-unfoldable pub suit_line : List ℕ → List Bool → Suit → List ℕ
-suit_line left hand suit = beside 18 left (suit_text hand suit)
+-- a line of what is before column 18, and a suit of a hand that is shown
+unfoldable pub suit_line : List ℕ → Option (List Bool) → Suit → List ℕ
+suit_line left None suit = line left
+suit_line left (Some hand) suit = beside 18 left (suit_text hand suit)
 
 -- a line of a suit of West's and of East's
-unfoldable pub side_line : List Bool → List Bool → Suit → List ℕ
-side_line west east suit = beside 36 (suit_text west suit) (suit_text east suit)
+unfoldable pub side_line : Option (List Bool) → Option (List Bool) → Suit → List ℕ
+side_line None None suit = line []
+side_line (Some west) None suit = line (suit_text west suit)
+side_line None (Some east) suit = beside 36 [] (suit_text east suit)
+side_line (Some west) (Some east) suit = beside 36 (suit_text west suit) (suit_text east suit)
 
 -- the line of the board's number and North's spades
-abbrev pub number_line : ℕ → List Bool → List ℕ
+abbrev pub number_line : ℕ → Option (List Bool) → List ℕ
 number_line number north = suit_line (codes "Board " ++ decimal number) north Spades
 
 -- North's suits, with the board's number, dealer and vulnerability
-abbrev pub north_lines : Board → List Bool → List ℕ
+abbrev pub north_lines : Board → Option (List Bool) → List ℕ
 north_lines board north =
     number_line board.number north
     ++ suit_line (codes "Dealer " ++ seat_name board.dealer) north Hearts
@@ -53,7 +66,7 @@ north_lines board north =
     ++ suit_line [] north Clubs
 
 -- West's suits and East's
-abbrev pub side_lines : List Bool → List Bool → List ℕ
+abbrev pub side_lines : Option (List Bool) → Option (List Bool) → List ℕ
 side_lines west east =
     side_line west east Spades
     ++ side_line west east Hearts
@@ -61,19 +74,53 @@ side_lines west east =
     ++ side_line west east Clubs
 
 -- South's suits, with the points of all: North's above, West's and East's, South's below
-abbrev pub south_lines : (Seat → List Bool) → List ℕ
+abbrev pub south_lines : (Seat → Option (List Bool)) → List ℕ
 south_lines hand =
     suit_line [] (hand South) Spades
     ++ suit_line (one_count (hand North)) (hand South) Hearts
     ++ suit_line (two_counts (hand West) (hand East)) (hand South) Diamonds
     ++ suit_line (one_count (hand South)) (hand South) Clubs
 
--- a board's twelve lines, and an empty one
-unfoldable pub record_text : Board → List ℕ
-record_text board =
-    north_lines board (hand_of board.deal North)
-    ++ side_lines (hand_of board.deal West) (hand_of board.deal East)
-    ++ south_lines (hand_of board.deal)
+-- ---- tricks
+
+-- the denominations, set right: NT, ♠, ♥, ♦ and ♣
+unfoldable pub head_line : List ℕ
+head_line =
+    codes "     NT  " ++ 0xE2 ∷ 0x99 ∷ 0xA0 ∷ codes "  " ++ 0xE2 ∷ 0x99 ∷ 0xA5 ∷ codes "  "
+    ++ 0xE2 ∷ 0x99 ∷ 0xA6 ∷ codes "  " ++ 0xE2 ∷ 0x99 ∷ 0xA3 ∷ codes "\n"
+
+-- the number of tricks in a column of the table
+abbrev pub cell_text : ℕ → List ℕ
+cell_text digit = codes " " ++ two_columns (number_of digit)
+
+-- a declarer's letter, and the five numbers, set right under the denominations
+unfoldable pub declarer_line : Seat → List ℕ → List ℕ
+declarer_line declarer five = line (dealer_text declarer ++ spaces 3 ++ flat_map cell_text five)
+
+-- the table of the tricks, or nothing where they aren't known
+unfoldable pub table_lines : List ℕ → List ℕ
+table_lines [] = []
+table_lines (x ∷ digits) =
+    head_line
+    ++ declarer_line North (five_of North (x ∷ digits))
+    ++ declarer_line South (five_of South (x ∷ digits))
+    ++ declarer_line East (five_of East (x ∷ digits))
+    ++ declarer_line West (five_of West (x ∷ digits))
+
+-- the table, and par
+abbrev pub tricks_lines : TricksView → List ℕ
+tricks_lines tricks =
+    table_lines tricks.digits ++ if_given (codes "Par ") (par_text tricks) (codes "\n")
+
+-- ---- a record
+
+-- a board's twelve lines, those of the tricks, and an empty one
+unfoldable pub record_text : Show → TricksView → Board → List ℕ
+record_text show tricks board =
+    north_lines board (hand_in show board North)
+    ++ side_lines (hand_in show board West) (hand_in show board East)
+    ++ south_lines (hand_in show board)
+    ++ tricks_lines tricks
     ++ line []
 
 -- the line of a label, if it is given
@@ -86,11 +133,7 @@ abbrev pub set_off : List ℕ → List ℕ
 set_off [] = []
 set_off lines = lines ++ line []
 
--- a line for each label that is given: event, site and date
+-- a line for each label given: event, site and date
 abbrev pub header_text : HeadingView → List ℕ
 header_text heading =
     set_off (label_line heading.event ++ label_line heading.site ++ label_line heading.date)
-
--- the notation: the header, a record for each board, and nothing after them
-abbrev pub hands : HeadingView → Layout
-hands heading = record { header = header_text heading; board = record_text; footer = ends_with [] }

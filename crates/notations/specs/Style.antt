@@ -1,7 +1,7 @@
 -- How the page looks, on a screen and on paper, in CSS.
 use Rattle.std.specs.Prelude.{ℕ, ◌==◌, List, [], ◌∷◌, ◌++◌, codes, flat_map, if◌then◌else◌}
 
--- boards stand side by side, as many as there is room for, below the heading
+-- boards are side by side, as many as there is room for, below the heading
 unfoldable pub page_style : List ℕ
 page_style =
     codes "html{font:clamp(.8rem,4.2vw,1rem)/1.25 system-ui,sans-serif;color:#111;"
@@ -12,7 +12,7 @@ page_style =
     ++ codes "h1,h2,h3,p{margin:0}\n"
     ++ codes "h1{grid-column:1/-1;font-size:1.5rem;overflow-wrap:anywhere}\n"
 
--- a board is no part of two pages; its middle is the table, green
+-- a board isn't part of two pages; its middle is the table, green
 unfoldable pub board_style : List ℕ
 board_style =
     codes ".board{display:grid;grid-template:auto auto auto/1fr auto 1fr;gap:.6rem;"
@@ -30,7 +30,7 @@ vulnerable_style =
     ++ codes ".EW{border-inline-color:#c8102e}\n"
     ++ codes ".All{border-color:#c8102e}\n"
 
--- the hands are around the table, each in its seat; what is in <b> is red
+-- the hands are around the table, each in its seat
 unfoldable pub hand_style : List ℕ
 hand_style =
     codes ".North{grid-area:1/2/2/4}\n"
@@ -39,11 +39,15 @@ hand_style =
     ++ codes ".West{grid-area:2/1;place-self:center end}\n"
     ++ codes "h3{font-size:.9rem}\n"
     ++ codes "small{font-weight:400;color:#555}\n"
-    ++ codes "i,b{display:inline-block;width:1.2em;font-style:normal;font-weight:400;"
+
+-- the signs of the suits have room, and what is in <b> is red
+unfoldable pub sign_style : List ℕ
+sign_style =
+    codes "i,b{display:inline-block;width:1.2em;font-style:normal;font-weight:400;"
     ++ codes "font-variant-emoji:text}\n"
     ++ codes "b{color:#c8102e}\n"
 
--- on paper, A4 or Letter, two boards stand side by side, eight on a sheet
+-- on paper, A4 or Letter, two boards are side by side, eight on a sheet
 unfoldable pub paper_style : List ℕ
 paper_style =
     codes "@media print{\n"
@@ -61,21 +65,41 @@ css_byte byte = if byte == 0x3C then codes "\\3C " else byte ∷ []
 abbrev pub css_string : List ℕ → List ℕ
 css_string text = flat_map css_byte text
 
--- on paper the title stands at the top of each sheet
+-- on paper the title is at the top of each sheet
 unfoldable pub title_style : List ℕ → List ℕ
 title_style title =
     codes "@page{margin:13mm 9mm 10mm;@top-left{content:\"" ++ css_string title
     ++ codes "\";font:bold 9pt system-ui,sans-serif}"
 
--- but the first, which has the heading, and the number of the sheet at the bottom of each
+-- and the number of the sheet at the bottom of each
 unfoldable pub number_style : List ℕ
 number_style =
     codes "@bottom-right{content:counter(page) \"/\" counter(pages);"
     ++ codes "font:8pt system-ui,sans-serif}}\n"
-    ++ codes "@page:first{@top-left{content:\"\"}}\n"
+
+-- but no title on the first, which has the heading
+unfoldable pub first_style : List ℕ
+first_style = codes "@page:first{@top-left{content:\"\"}}\n"
 
 -- that of a page with this title
 unfoldable pub style : List ℕ → List ℕ
 style title =
-    page_style ++ board_style ++ vulnerable_style ++ hand_style
-    ++ title_style title ++ number_style ++ paper_style
+    page_style ++ board_style ++ vulnerable_style ++ hand_style ++ sign_style
+    ++ title_style title ++ number_style ++ first_style ++ paper_style
+
+-- numbers of tricks are below one another, and par is set right
+unfoldable pub table_style : List ℕ
+table_style =
+    codes "table{border-spacing:0;text-align:right}\n"
+    ++ codes "th{font-weight:400;color:#555}\n"
+    ++ codes "td,th{padding:0 0 0 .2em;min-width:1.2em}\n"
+    ++ codes ".par{place-self:end;text-align:right;text-wrap:balance;"
+    ++ codes "overflow-wrap:anywhere;white-space:normal}\n"
+
+-- they are below the hands
+unfoldable pub below_style : List ℕ
+below_style = codes "table,.par{grid-area:4/1/5/4;font-size:.9rem;max-width:50%}\n"
+
+-- that of a page with this title and with tricks
+unfoldable pub style_with_tricks : List ℕ → List ℕ
+style_with_tricks title = style title ++ table_style ++ below_style

@@ -1,2 +1,4 @@
 -- What only bodies and lemmas use: no public clause names any of it.
 pub mod Parts
+pub mod Looks
+pub mod Pens

@@ -1,48 +1,62 @@
 //! Hand records, for print: each board's four hands around the table, with its number, dealer,
 //! vulnerability and points.
 //!
-//! A text begins with the labels that are given, each on a line of its own, and an empty line after
+//! A text begins with the given labels, each on a line of its own, and an empty line after
 //! them. Then come the records of the boards, thirteen lines each. Texts are UTF-8, for the signs
 //! of the suits.
 
 ghost use Rattle.std.specs.Prelude.{◌≡◌, ◌<◌, ◌≤◌, ◌+◌, ◌++◌, [], codes, length};
+ghost use Rattle.std.specs.Option.{option_copied};
 ghost use Rattle.cards.specs.declared.seat.Seat.TheVariants.{North, East, South, West};
-ghost use Rattle.cards.specs.Hands.{hand_of};
+ghost use Rattle.cards.specs.declared.suit.Suit.TheVariants.{Diamonds};
 ghost use Rattle.boards.specs.declared.buffer.TheConstants.{CAPACITY};
 ghost use Rattle.notations.specs.Columns.{columns};
 ghost use Rattle.notations.specs.Names.{seat_name, vulnerable_name};
-ghost use Rattle.notations.specs.Records.{north_lines, number_line, record_text, side_line};
-ghost use Rattle.notations.specs.Records.{side_lines, south_lines, suit_line};
-ghost use Rattle.notations.specs.internal.Parts.{rest_of_line};
+ghost use Rattle.notations.specs.Records.{north_lines, number_line, one_count, record_text};
+ghost use Rattle.notations.specs.Records.{side_line, side_lines, south_lines, suit_line};
+ghost use Rattle.notations.specs.Records.{two_counts};
+ghost use Rattle.notations.specs.Show.{hand_in};
+ghost use Rattle.notations.specs.Tricks.{or_nothing};
+ghost use Rattle.notations.specs.internal.Parts.{rest_of_line, shown_suit};
 
 mod header;
 mod parts;
+mod table;
 
-use crate::hands::parts::{one_count, put_gap, put_suit, two_counts};
+use crate::hands::parts::{put_gap, put_one_count, put_suit, put_two_counts};
+use crate::hands::table::put_tricks;
+use crate::show::Show;
 use boards::{Board, SuitLetters, TextBuffer, Vul};
-use cards::{Deal, Hand, Seat, Suit};
+use cards::{Hand, Seat, Suit};
 pub(crate) use header::put_header;
+use tricks::Tricks;
 
-/// Writes the board's twelve lines and the empty line into the empty buffer.
+/// Writes the board's twelve lines, those of its tricks and the empty one into the empty buffer.
 #[tactic(auto, unfolding(crate::specs::Records::record_text))]
-pub(crate) fn put_record(text: &mut TextBuffer, letters: &SuitLetters, board: &Board)
+pub(crate) fn put_record(
+    text: &mut TextBuffer,
+    letters: &SuitLetters,
+    show: Show,
+    tricks: Option<&Tricks>,
+    board: &Board,
+)
     requires { text.old ≡ [] }
-    ensures { text.new ≡ record_text board.now }
+    ensures { text.new ≡ record_text show (or_nothing (option_copied tricks.entry)) board.now }
 {
-    put_north(text, letters, board);
-    put_sides(text, letters, &board.deal);
-    put_south(text, letters, &board.deal);
+    put_north(text, letters, show, board);
+    put_sides(text, letters, show, board);
+    put_south(text, letters, show, board);
+    put_tricks(text, tricks);
     text.put(b"\n");
 }
 
 /// Appends North's suits, with the board's number, dealer and vulnerability.
-fn put_north(text: &mut TextBuffer, letters: &SuitLetters, board: &Board)
+fn put_north(text: &mut TextBuffer, letters: &SuitLetters, show: Show, board: &Board)
     requires { length text.old + 400 ≤ CAPACITY }
-    ensures text { text.new
-        ≡ text.old ++ north_lines board.now (hand_of board.now.deal North) }
+    ensures text { text.new ≡ text.old ++ north_lines board.now (hand_in show board.now North) }
     ensures most { length text.new ≤ length text.old + 400 }
 {
-    let north = board.deal.hand(Seat::North);
+    let north = show.hand(board, Seat::North);
     put_number_line(text, letters, board.number, &north);
     put_suit_line(
         text,
@@ -62,14 +76,14 @@ fn put_north(text: &mut TextBuffer, letters: &SuitLetters, board: &Board)
 }
 
 /// Appends West's suits and East's.
-fn put_sides(text: &mut TextBuffer, letters: &SuitLetters, deal: &Deal)
+fn put_sides(text: &mut TextBuffer, letters: &SuitLetters, show: Show, board: &Board)
     requires { length text.old + 400 ≤ CAPACITY }
-    ensures text { text.new
-        ≡ text.old ++ side_lines (hand_of deal.now West) (hand_of deal.now East) }
+    ensures text { text.new ≡ text.old
+        ++ side_lines (hand_in show board.now West) (hand_in show board.now East) }
     ensures most { length text.new ≤ length text.old + 300 }
 {
-    let west = deal.hand(Seat::West);
-    let east = deal.hand(Seat::East);
+    let west = show.hand(board, Seat::West);
+    let east = show.hand(board, Seat::East);
     put_side_line(text, letters, &west, &east, Suit::Spades);
     put_side_line(text, letters, &west, &east, Suit::Hearts);
     put_side_line(text, letters, &west, &east, Suit::Diamonds);
@@ -77,22 +91,69 @@ fn put_sides(text: &mut TextBuffer, letters: &SuitLetters, deal: &Deal)
 }
 
 /// Appends South's suits, with the points of all hands.
-fn put_south(text: &mut TextBuffer, letters: &SuitLetters, deal: &Deal)
+fn put_south(text: &mut TextBuffer, letters: &SuitLetters, show: Show, board: &Board)
     requires { length text.old + 400 ≤ CAPACITY }
-    ensures text { text.new ≡ text.old ++ south_lines (hand_of deal.now) }
-    ensures most { length text.new ≤ length text.old + 300 }
+    ensures text { text.new ≡ text.old ++ south_lines (hand_in show board.now) }
+    ensures most { length text.new ≤ length text.old + 320 }
 {
-    let south = deal.hand(Seat::South);
-    let north_points = one_count(&deal.hand(Seat::North));
-    let side_points = two_counts(&deal.hand(Seat::West), &deal.hand(Seat::East));
+    let south = show.hand(board, Seat::South);
     put_suit_line(text, letters, b"", &south, Suit::Spades);
-    put_suit_line(text, letters, &north_points, &south, Suit::Hearts);
-    put_suit_line(text, letters, &side_points, &south, Suit::Diamonds);
-    put_suit_line(text, letters, &one_count(&south), &south, Suit::Clubs);
+    put_count_line(
+        text,
+        letters,
+        &show.hand(board, Seat::North),
+        &south,
+        Suit::Hearts,
+    );
+    put_counts_line(
+        text,
+        letters,
+        &show.hand(board, Seat::West),
+        &show.hand(board, Seat::East),
+        &south,
+    );
+    put_count_line(text, letters, &south, &south, Suit::Clubs);
+}
+
+/// Appends a line of the points of one hand and a suit of South's.
+#[tactic(auto, unfolding(crate::specs::Records::suit_line))]
+fn put_count_line(
+    text: &mut TextBuffer,
+    letters: &SuitLetters,
+    counted: &Option<Hand>,
+    south: &Option<Hand>,
+    suit: Suit,
+)
+    requires { length text.old + 90 ≤ CAPACITY }
+    ensures text { text.new ≡ text.old ++ suit_line (one_count counted.now) south.now suit }
+    ensures most { length text.new ≤ length text.old + 75 }
+{
+    let start = text.len();
+    put_one_count(text, counted);
+    put_rest(text, text.len() - start, 18, letters, south, suit);
+}
+
+/// Appends the line of West's points, East's, and South's diamonds.
+#[tactic(auto, unfolding(crate::specs::Records::suit_line))]
+fn put_counts_line(
+    text: &mut TextBuffer,
+    letters: &SuitLetters,
+    west: &Option<Hand>,
+    east: &Option<Hand>,
+    south: &Option<Hand>,
+)
+    requires { length text.old + 90 ≤ CAPACITY }
+    ensures text { text.new
+        ≡ text.old ++ suit_line (two_counts west.now east.now) south.now Diamonds }
+    ensures most { length text.new ≤ length text.old + 75 }
+{
+    let start = text.len();
+    put_two_counts(text, west, east);
+    put_rest(text, text.len() - start, 18, letters, south, Suit::Diamonds);
 }
 
 /// Appends the line of the board's number and North's spades.
-fn put_number_line(text: &mut TextBuffer, letters: &SuitLetters, number: u64, north: &Hand)
+fn put_number_line(text: &mut TextBuffer, letters: &SuitLetters, number: u64, north: &Option<Hand>)
     requires { length text.old + 100 ≤ CAPACITY }
     ensures text { text.new ≡ text.old ++ number_line number north.now }
     ensures most { length text.new ≤ length text.old + 84 }
@@ -100,13 +161,20 @@ fn put_number_line(text: &mut TextBuffer, letters: &SuitLetters, number: u64, no
     let start = text.len();
     text.put(b"Board ");
     text.put_number(number);
-    put_rest(text, text.len() - start, letters, north, Suit::Spades);
+    put_rest(text, text.len() - start, 18, letters, north, Suit::Spades);
 }
 
-/// Appends a line of what stands before column 18, of which each byte is a column, and a suit.
+/// Appends a line of what is before column 18, of which each byte is a column, and a suit of a
+/// hand that is shown.
 #[inline(always)]
 #[tactic(auto, unfolding(crate::specs::Records::suit_line))]
-fn put_suit_line(text: &mut TextBuffer, letters: &SuitLetters, left: &[u8], hand: &Hand, suit: Suit)
+fn put_suit_line(
+    text: &mut TextBuffer,
+    letters: &SuitLetters,
+    left: &[u8],
+    hand: &Option<Hand>,
+    suit: Suit,
+)
     requires plain { columns left.now ≡ length left.now }
     requires short { length left.now ≤ 12 }
     requires room { length text.old + 80 ≤ CAPACITY }
@@ -114,38 +182,65 @@ fn put_suit_line(text: &mut TextBuffer, letters: &SuitLetters, left: &[u8], hand
     ensures most { length text.new ≤ length text.old + 70 }
 {
     text.put(left);
-    put_rest(text, left.len(), letters, hand, suit);
+    put_rest(text, left.len(), 18, letters, hand, suit);
 }
 
-/// Appends the gap up to column 18, the suit and the end of the line, of which `used` columns are
-/// written.
-fn put_rest(text: &mut TextBuffer, used: usize, letters: &SuitLetters, hand: &Hand, suit: Suit)
-    requires { length text.old + 64 ≤ CAPACITY }
-    ensures text { text.new ≡ text.old ++ rest_of_line used hand.now suit }
+/// Appends the gap up to the column and the suit, if the hand is shown, and the end of the line, of
+/// which `used` columns are written.
+fn put_rest(
+    text: &mut TextBuffer,
+    used: usize,
+    column: usize,
+    letters: &SuitLetters,
+    hand: &Option<Hand>,
+    suit: Suit,
+)
+    requires near { column ≤ 40 }
+    requires room { length text.old + 64 ≤ CAPACITY }
+    ensures text { text.new ≡ text.old ++ rest_of_line column used hand.now suit }
     ensures most { length text.new ≤ length text.old + 58 }
 {
-    put_gap(text, used, 18);
-    put_suit(text, letters, hand, suit);
+    if let Some(hand) = hand {
+        put_gap(text, used, column);
+        put_suit(text, letters, hand, suit);
+    }
     text.put(b"\n");
 }
 
 /// Appends a line of a suit of West's and of East's.
 #[tactic(auto, unfolding(crate::specs::Records::side_line))]
-fn put_side_line(text: &mut TextBuffer, letters: &SuitLetters, west: &Hand, east: &Hand, suit: Suit)
-    requires { length text.old + 80 ≤ CAPACITY }
+fn put_side_line(
+    text: &mut TextBuffer,
+    letters: &SuitLetters,
+    west: &Option<Hand>,
+    east: &Option<Hand>,
+    suit: Suit,
+)
+    requires { length text.old + 100 ≤ CAPACITY }
     ensures text { text.new ≡ text.old ++ side_line west.now east.now suit }
     ensures most { length text.new ≤ length text.old + 75 }
 {
+    let used = put_west(text, letters, west, suit);
+    put_rest(text, used, 36, letters, east, suit);
+}
+
+/// Appends the suit of West's hand, if it is shown. Returns how many columns it has.
+fn put_west(text: &mut TextBuffer, letters: &SuitLetters, west: &Option<Hand>, suit: Suit) -> usize
+    requires { length text.old + 20 ≤ CAPACITY }
+    ensures text { text.new ≡ text.old ++ shown_suit west.now suit }
+    ensures columns { result ≡ columns (shown_suit west.now suit) }
+    ensures most { length text.new ≤ length text.old + 17 }
+{
+    let Some(west) = west else {
+        return 0;
+    };
     let start = text.len();
     put_suit(text, letters, west, suit);
     // The sign has three bytes in one column.
-    let used = text.len() - start - 2;
-    put_gap(text, used, 36);
-    put_suit(text, letters, east, suit);
-    text.put(b"\n");
+    text.len() - start - 2
 }
 
-/// What stands before North's hearts.
+/// What is before North's hearts.
 fn dealer_line(dealer: Seat) -> &'static [u8]
     ensures value { result.now ≡ codes "Dealer " ++ seat_name dealer }
     ensures plain { columns result.now ≡ length result.now }
@@ -159,7 +254,7 @@ fn dealer_line(dealer: Seat) -> &'static [u8]
     }
 }
 
-/// What stands before North's diamonds.
+/// What is before North's diamonds.
 fn vulnerable_line(sides: Vul) -> &'static [u8]
     ensures value { result.now ≡ codes "Vul " ++ vulnerable_name sides }
     ensures plain { columns result.now ≡ length result.now }

@@ -1,16 +1,27 @@
 //! Bridge deals in the formats that a program can be asked for: games of Portable Bridge Notation
-//! (the crate `pbn_text`), hand records, LIN, a page of HTML, JSON, and the numbers of candidates.
+//! (the crate `pbn_text`), hand records, LIN, a page of HTML, a club's sheet, JSON, and the numbers
+//! of candidates.
 //!
-//! A format is a `Format`, and an `AnyPrinter` prints boards in it. A file has what one format
-//! writes: `hands.rt`, `lin.rt`, `page.rt`, `json.rt` and `numbers.rt`.
+//! A format is a `Format`, and an `AnyPrinter` prints boards in it, with the hands that a `Show`
+//! asks for, and with tricks. A file has what one format writes: `pbn.rt`, `hands.rt`, `lin.rt`,
+//! `page.rt`, `sheet.rt`, `json.rt` and `numbers.rt`.
 #![tactic(auto)]
 
+mod dotted;
 mod hands;
 mod json;
+pub mod laws;
 mod lin;
 mod names;
 mod numbers;
 mod page;
+mod pbn;
+mod pen;
 mod printer;
+mod results;
+mod sheet;
+mod show;
+mod table;
 
 pub use printer::{AnyPrinter, FORMAT_HELP, FORMAT_WORDS, FORMATS, Format};
+pub use show::{SHOW_HELP, SHOW_WORDS, SHOWS, Show};

@@ -5,23 +5,25 @@
 ghost use Rattle.std.specs.Prelude.{◌≡◌, ◌≤◌, ◌+◌, ◌++◌, [], length};
 ghost use Rattle.boards.specs.declared.buffer.TheConstants.{CAPACITY};
 ghost use Rattle.notations.specs.Lin.{deal_text, dealer_digit, hand_text, lin_line};
-ghost use Rattle.notations.specs.Lin.{vulnerable_letter};
+ghost use Rattle.notations.specs.Lin.{shown_text, vulnerable_letter};
+ghost use Rattle.notations.specs.Show.{hand_in};
 
+use crate::show::Show;
 use boards::{Board, SuitLetters, TextBuffer, Vul};
-use cards::{Deal, Hand, Seat, Suit};
+use cards::{Hand, Seat, Suit};
 
 /// Writes the board's line into the empty buffer.
 #[tactic(auto, unfolding(crate::specs::Lin::lin_line))]
-pub(crate) fn put_line(line: &mut TextBuffer, letters: &SuitLetters, board: &Board)
+pub(crate) fn put_line(line: &mut TextBuffer, letters: &SuitLetters, show: Show, board: &Board)
     requires { line.old ≡ [] }
-    ensures { line.new ≡ lin_line board.now }
+    ensures { line.new ≡ lin_line show board.now }
 {
     let number = board.number;
     line.put(b"qx|o");
     line.put_number(number);
     line.put(b"|md|");
     line.put(&dealer_digit(board.dealer));
-    put_deal(line, letters, &board.deal);
+    put_deal(line, letters, show, board);
     line.put(b"|sv|");
     line.put(&vulnerable_letter(board.vulnerable));
     line.put(b"|ah|Board ");
@@ -30,18 +32,29 @@ pub(crate) fn put_line(line: &mut TextBuffer, letters: &SuitLetters, board: &Boa
 }
 
 /// Appends the hands of South, West, North and East.
-fn put_deal(line: &mut TextBuffer, letters: &SuitLetters, deal: &Deal)
+fn put_deal(line: &mut TextBuffer, letters: &SuitLetters, show: Show, board: &Board)
     requires { length line.old + 300 ≤ CAPACITY }
-    ensures text { line.new ≡ line.old ++ deal_text deal.now }
+    ensures text { line.new ≡ line.old ++ deal_text (hand_in show board.now) }
     ensures most { length line.new ≤ length line.old + 227 }
 {
-    put_hand(line, letters, &deal.hand(Seat::South));
+    put_shown(line, letters, &show.hand(board, Seat::South));
     line.put(b",");
-    put_hand(line, letters, &deal.hand(Seat::West));
+    put_shown(line, letters, &show.hand(board, Seat::West));
     line.put(b",");
-    put_hand(line, letters, &deal.hand(Seat::North));
+    put_shown(line, letters, &show.hand(board, Seat::North));
     line.put(b",");
-    put_hand(line, letters, &deal.hand(Seat::East));
+    put_shown(line, letters, &show.hand(board, Seat::East));
+}
+
+/// Appends the hand, or nothing if it isn't shown.
+fn put_shown(line: &mut TextBuffer, letters: &SuitLetters, hand: &Option<Hand>)
+    requires { length line.old + 60 ≤ CAPACITY }
+    ensures text { line.new ≡ line.old ++ shown_text hand.now }
+    ensures most { length line.new ≤ length line.old + 56 }
+{
+    if let Some(hand) = hand {
+        put_hand(line, letters, hand);
+    }
 }
 
 /// Appends the hand: of each suit its letter and its ranks.

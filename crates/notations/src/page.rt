@@ -1,41 +1,67 @@
 //! One page of HTML, to look at and to print: each board's four hands around the table, with its
 //! number, dealer, vulnerability and points.
 //!
-//! A page stands alone: its style is in its header, and it has no script and loads nothing. It is
-//! UTF-8, for the signs of the suits. Labels are its title and its heading.
+//! A page needs nothing else: its style is in its header, and it has no script and loads nothing.
+//! It is UTF-8, for the signs of the suits. Labels are its title and its heading.
 
 ghost use Rattle.std.specs.Prelude.{◌≡◌, ◌≤◌, ◌+◌, ◌++◌, [], length};
-ghost use Rattle.cards.specs.Hands.{hand_of};
+ghost use Rattle.std.specs.Option.{option_copied};
 ghost use Rattle.boards.specs.declared.buffer.TheConstants.{CAPACITY};
-ghost use Rattle.notations.specs.Pages.{board_text, facts_text, hand_text, number_text, seat_text};
+ghost use Rattle.notations.specs.Pages.{board_text, facts_text, hand_text, hands_text};
+ghost use Rattle.notations.specs.Pages.{number_text, seat_text};
+ghost use Rattle.notations.specs.Show.{hand_in};
+ghost use Rattle.notations.specs.Tricks.{or_nothing};
 
 mod header;
 mod parts;
 mod style;
+mod table;
 
 use crate::names::{seat_name, vulnerable_name};
-use crate::page::parts::put_suits;
+use crate::show::Show;
 use boards::{Board, SuitLetters, TextBuffer, Vul};
-use cards::{Deal, Seat};
-pub(crate) use header::put_header;
+use cards::{Hand, Seat};
+pub(crate) use header::{Look, put_header};
+pub(crate) use parts::put_suits;
+pub(crate) use style::{
+    number_style, page_style, put_title_style, sign_style, table_style, vulnerable_style,
+};
+pub(crate) use table::put_tricks;
+use tricks::Tricks;
 
 /// What closes the page.
 pub(crate) const FOOTER: &[u8] = b"</main>\n</body>\n</html>\n";
 
 /// Writes the board's section into the empty buffer.
 #[tactic(auto, unfolding(crate::specs::Pages::board_text))]
-pub(crate) fn put_board(text: &mut TextBuffer, letters: &SuitLetters, board: &Board)
+pub(crate) fn put_board(
+    text: &mut TextBuffer,
+    letters: &SuitLetters,
+    show: Show,
+    tricks: Option<&Tricks>,
+    board: &Board,
+)
     requires { text.old ≡ [] }
-    ensures { text.new ≡ board_text board.now }
+    ensures { text.new ≡ board_text show (or_nothing (option_copied tricks.entry)) board.now }
 {
     text.put(b"<section class=\"board\">\n");
     put_number(text, board.vulnerable, board.number);
     put_facts(text, board.dealer, board.vulnerable);
-    put_hand(text, letters, &board.deal, Seat::North);
-    put_hand(text, letters, &board.deal, Seat::East);
-    put_hand(text, letters, &board.deal, Seat::South);
-    put_hand(text, letters, &board.deal, Seat::West);
+    put_hands(text, letters, show, board);
+    put_tricks(text, tricks);
     text.put(b"</section>\n");
+}
+
+/// Appends the hands that are shown.
+fn put_hands(text: &mut TextBuffer, letters: &SuitLetters, show: Show, board: &Board)
+    requires { length text.old + 900 ≤ CAPACITY }
+    ensures text { text.new ≡ text.old ++ hands_text (hand_in show board.now) }
+    ensures most { length text.new ≤ length text.old + 760 }
+{
+    put_hand(text, letters, Seat::North, &show.hand(board, Seat::North));
+    put_hand(text, letters, Seat::East, &show.hand(board, Seat::East));
+    put_hand(text, letters, Seat::South, &show.hand(board, Seat::South));
+    put_hand(text, letters, Seat::West, &show.hand(board, Seat::West));
 }
 
 /// Appends the board's number, with the vulnerability as its style.
@@ -54,7 +80,7 @@ fn put_number(text: &mut TextBuffer, vulnerable: Vul, number: u64)
 
 /// Appends who deals, and which sides are vulnerable.
 #[tactic(auto, unfolding(crate::specs::Pages::facts_text))]
-fn put_facts(text: &mut TextBuffer, dealer: Seat, vulnerable: Vul)
+pub(crate) fn put_facts(text: &mut TextBuffer, dealer: Seat, vulnerable: Vul)
     requires { length text.old + 60 ≤ CAPACITY }
     ensures text { text.new ≡ text.old ++ facts_text dealer vulnerable }
     ensures most { length text.new ≤ length text.old + 34 }
@@ -66,18 +92,19 @@ fn put_facts(text: &mut TextBuffer, dealer: Seat, vulnerable: Vul)
     text.put(b"</p>\n");
 }
 
-/// Appends the hand in the seat: the seat, the points and the suits.
+/// Appends the hand in the seat, if it is shown: the seat, the points and the suits.
 #[inline(always)]
 #[tactic(auto, unfolding(crate::specs::Pages::hand_text))]
-fn put_hand(text: &mut TextBuffer, letters: &SuitLetters, deal: &Deal, seat: Seat)
+fn put_hand(text: &mut TextBuffer, letters: &SuitLetters, seat: Seat, hand: &Option<Hand>)
     requires { length text.old + 210 ≤ CAPACITY }
-    ensures text { text.new ≡ text.old ++ hand_text seat (hand_of deal.now seat) }
+    ensures text { text.new ≡ text.old ++ hand_text seat hand.now }
     ensures most { length text.new ≤ length text.old + 190 }
 {
-    let hand = deal.hand(seat);
-    put_seat(text, seat, hand.points());
-    put_suits(text, letters, &hand);
-    text.put(b"</div>\n");
+    if let Some(hand) = hand {
+        put_seat(text, seat, hand.points());
+        put_suits(text, letters, hand);
+        text.put(b"</div>\n");
+    }
 }
 
 /// Appends the seat of a hand, and its points.

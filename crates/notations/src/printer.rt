@@ -1,14 +1,22 @@
 //! The formats that boards are written in, and the printer of any of them.
 
-ghost use Rattle.std.specs.Prelude.{◌≡◌, [], ⊤, IfOk};
-ghost use Rattle.notations.specs.Formats.{IsUnder, format_of, layout_of, numbers_boards, text_of};
+ghost use Rattle.std.specs.Prelude.{◌≡◌, [], IfOk, None, Some};
+ghost use Rattle.notations.specs.Formats.{HasPrinted, header_of, header_with_tricks, layout_in};
+ghost use Rattle.notations.specs.Formats.{layout_of, layout_showing, layout_with, numbers_boards};
+ghost use Rattle.notations.specs.internal.Pens.{footer_after, format_of};
+ghost use Rattle.notations.specs.declared.show.Show.TheVariants.{All};
 
-use crate::{hands, json, lin, numbers, page};
-use boards::{Board, Heading, Notation, SuitLetters, TextBuffer};
-use pbn_text::{HEADER, Printer};
+use crate::page::Look;
+use crate::pen::Pen;
+use crate::show::Show;
+use crate::table::Table;
+use crate::{hands, page};
+use boards::{Board, Heading, Notation, TextBuffer};
+use pbn_text::HEADER;
 use sinks::{Sink, SinkFault, put_all};
 use std::alloc::{AllocError, Global};
 use std::marker::Model;
+use tricks::Tricks;
 
 /// A notation, as it is asked for by its name.
 #[derive(Clone, Copy, PartialEq, Eq, Debug)]
@@ -21,6 +29,8 @@ pub enum Format {
     Lin,
     /// One page of HTML, to look at and to print.
     Html,
+    /// One page of HTML, eighteen boards on a sheet of paper.
+    Sheet,
     /// Lines of JSON, for programs.
     Json,
     /// The numbers of the candidates, which is what `find` prints.
@@ -33,16 +43,17 @@ pub const FORMATS: &[(&str, Format)] = &[
     ("hands", Format::Hands),
     ("lin", Format::Lin),
     ("html", Format::Html),
+    ("sheet", Format::Sheet),
     ("json", Format::Json),
 ];
 
 /// Their names, as help lists them.
-pub const FORMAT_WORDS: &str = "pbn, hands, lin, html, json";
+pub const FORMAT_WORDS: &str = "pbn, hands, lin, html, sheet, json";
 
 /// What help says of the option that asks for one.
 pub const FORMAT_HELP: &str = "The notation: Portable Bridge Notation, hand records for print, \
-    LIN, a page of HTML, or lines of JSON [default: pbn] \
-    [possible values: pbn, hands, lin, html, json]";
+    LIN, a page of HTML, a club's sheet in HTML, or lines of JSON [default: pbn] \
+    [possible values: pbn, hands, lin, html, sheet, json]";
 
 impl Format {
     /// Whether the boards have numbers of their own.
@@ -50,143 +61,207 @@ impl Format {
         ensures { result ≡ numbers_boards self }
     {
         match self {
-            Format::Pbn | Format::Hands | Format::Lin | Format::Html | Format::Json => true,
+            Format::Pbn | Format::Hands | Format::Lin => true,
+            Format::Html | Format::Sheet | Format::Json => true,
             Format::Numbers => false,
         }
     }
 }
 
-/// Prints boards in a format and under a heading, one at a time. Contracts see the two, and the
-/// text that was printed last.
+/// Prints boards in a format, with the hands that are shown, and under a heading, one at a time,
+/// and with tricks if it has them. Contracts see these, and the text that was printed last.
 ///
 /// It takes 128 KiB of memory once, when it is created, and none to print. Numbers of candidates
 /// need none at all.
 #[derive(Drop)]
 pub struct AnyPrinter {
+    show: Show,
     heading: Heading,
     header: TextBuffer,
     pen: Pen,
+    tricks: Option<Table>,
     text: TextBuffer,
-}
-
-/// What a board is written with: the letters of suits, unless the format has none. A printer of
-/// games has a text of its own, which keeps the lines that the games share.
-#[derive(Drop)]
-enum Pen {
-    Pbn(Printer),
-    Hands(SuitLetters),
-    Lin(SuitLetters),
-    Html(SuitLetters),
-    Json(SuitLetters),
-    Numbers,
+    /// How many boards were printed with tricks, counted up to one more than these are for.
+    boards: usize,
 }
 
 impl Model for AnyPrinter {
     ghost use Rattle.std.specs.Prelude.{◌≡◌};
-    ghost use Rattle.notations.specs.Formats.{IsUnder, PrintingAs, format_of, layout_of, text_of};
+    ghost use Rattle.notations.specs.Formats.{PrintingAs, layout_in};
+    ghost use Rattle.notations.specs.internal.Pens.{IsFor, IsUnder, format_of, text_of};
 
     ghost Value = { PrintingAs };
 
     ghost view = { λ p. record {
       format = format_of p.pen;
+      show = p.show;
       heading = p.heading;
+      tricks = p.tricks;
       text = text_of p.pen p.text;
+      boards = p.boards;
     } };
 
     ghost invariant = { λ p. IsUnder p.heading p.pen
-        × (p.header ≡ (layout_of (format_of p.pen) p.heading).header) };
+        × IsFor p.show p.tricks p.pen
+        × (p.header ≡ (layout_in (format_of p.pen) p.show p.heading p.tricks).header) };
 }
 
 impl AnyPrinter {
-    /// Returns a printer in the format and under the heading, which has printed nothing.
+    /// Returns a printer in the format and under the heading, which has printed nothing. It shows
+    /// all hands.
     ///
     /// # Errors
     /// `AllocError` if the allocation of its memory failed.
     pub fn new(alloc: Global, format: Format, heading: &Heading) -> Result<AnyPrinter, AllocError>
         ensures format { IfOk result (λ p. p.format ≡ format) }
         ensures heading { IfOk result (λ p. p.heading ≡ heading.now) }
+        ensures layout { IfOk result (λ p. ⟦<AnyPrinter as Notation>⟧.layout p
+            ≡ layout_of format heading.now) }
         ensures text { IfOk result (λ p. p.text ≡ []) }
+        ensures printed { IfOk result (λ p. ⟦<AnyPrinter as Notation>⟧.has_printed p []) }
     {
-        let pen = Pen::new(alloc, format, heading)?;
+        AnyPrinter::showing(alloc, format, Show::All, heading)
+    }
+
+    /// Returns a printer in the format and under the heading that shows these hands and has printed
+    /// nothing.
+    ///
+    /// # Errors
+    /// `AllocError` if the allocation of its memory failed.
+    pub fn showing(
+        alloc: Global,
+        format: Format,
+        show: Show,
+        heading: &Heading,
+    ) -> Result<AnyPrinter, AllocError>
+        ensures format { IfOk result (λ p. p.format ≡ format) }
+        ensures heading { IfOk result (λ p. p.heading ≡ heading.now) }
+        ensures layout { IfOk result (λ p. ⟦<AnyPrinter as Notation>⟧.layout p
+            ≡ layout_showing format show heading.now) }
+        ensures text { IfOk result (λ p. p.text ≡ []) }
+        ensures printed { IfOk result (λ p. ⟦<AnyPrinter as Notation>⟧.has_printed p []) }
+    {
+        let pen = Pen::new(alloc, format, show.is_all(), heading)?;
         let mut header = TextBuffer::new();
         put_header(&mut header, format, heading);
         Ok(AnyPrinter {
+            show,
             heading: *heading,
             header,
             pen,
+            tricks: None,
             text: TextBuffer::new(),
+            boards: 0,
+        })
+    }
+
+    /// Returns a printer in the format and under the heading that shows these hands and has printed
+    /// nothing. It writes the board of number `first + i` with line i of the tricks, which are
+    /// written only beside all hands. Of a board without a line it writes nothing, and no footer
+    /// after more boards than there are lines.
+    ///
+    /// # Errors
+    /// `AllocError` if the allocation of its memory failed.
+    pub fn with_tricks(
+        alloc: Global,
+        format: Format,
+        show: Show,
+        heading: &Heading,
+        first: u64,
+        table: Vec<Tricks>,
+    ) -> Result<AnyPrinter, AllocError>
+        ensures format { IfOk result (λ p. p.format ≡ format) }
+        ensures heading { IfOk result (λ p. p.heading ≡ heading.now) }
+        ensures layout { IfOk result (λ p. ⟦<AnyPrinter as Notation>⟧.layout p
+            ≡ layout_with format show heading.now first table.items) }
+        ensures text { IfOk result (λ p. p.text ≡ []) }
+        ensures printed { IfOk result (λ p. ⟦<AnyPrinter as Notation>⟧.has_printed p []) }
+    {
+        let pen = Pen::new(alloc, format, false, heading)?;
+        let mut header = TextBuffer::new();
+        put_header_with_tricks(&mut header, format, heading);
+        Ok(AnyPrinter {
+            show,
+            heading: *heading,
+            header,
+            pen,
+            tricks: Some(Table {
+                first,
+                lines: table,
+            }),
+            text: TextBuffer::new(),
+            boards: 0,
         })
     }
 }
 
 impl Notation for AnyPrinter {
-    ghost layout = { λ printer. layout_of printer.format printer.heading };
+    ghost layout = { λ p. layout_in p.format p.show p.heading p.tricks };
 
-    ghost printed = { λ printer. printer.text };
+    ghost printed = { λ p. p.text };
 
-    ghost has_printed = { λ _ _. ⊤ };
+    ghost has_printed = { λ p boards. HasPrinted p.tricks p.boards boards };
 
     fn header(&self) -> &[u8] {
         self.header.as_bytes()
     }
 
     fn print(&mut self, board: &Board) {
-        let text = &mut self.text;
-        text.clear();
-        match &mut self.pen {
-            Pen::Pbn(printer) => printer.print(board),
-            Pen::Hands(letters) => hands::put_record(text, letters, board),
-            Pen::Lin(letters) => lin::put_line(text, letters, board),
-            Pen::Html(letters) => page::put_board(text, letters, board),
-            Pen::Json(letters) => json::put_line(text, letters, board),
-            Pen::Numbers => numbers::put_line(text, board),
-        }
+        self.text.clear();
+        let Some(table) = &self.tricks else {
+            self.pen
+                .put(&mut self.text, &self.heading, self.show, None, board);
+            return;
+        };
+        self.boards = table.counted(self.boards);
+        let Some(tricks) = table.line(board.number) else {
+            return;
+        };
+        let beside = self.show.beside(tricks);
+        self.pen
+            .put(&mut self.text, &self.heading, self.show, beside, board);
     }
 
     fn text(&self) -> &[u8] {
-        if let Pen::Pbn(printer) = &self.pen {
-            return printer.text();
-        }
-        self.text.as_bytes()
+        self.pen.text(&self.text)
     }
 
-    #[tactic(auto, unfolding(crate::specs::Pages::footer_text))]
     fn put_footer<S: Sink>(&self, _tried: u64, sink: &mut S) -> Result<(), SinkFault> {
-        let footer = match &self.pen {
-            Pen::Html(_) => page::FOOTER,
-            Pen::Pbn(_) | Pen::Hands(_) | Pen::Lin(_) | Pen::Json(_) | Pen::Numbers => b"",
-        };
-        put_all(sink, footer)
+        put_all(sink, footer(&self.pen, &self.tricks, self.boards))
     }
 }
 
-impl Pen {
-    /// Returns the pen of the format, which has written nothing.
-    fn new(alloc: Global, format: Format, heading: &Heading) -> Result<Pen, AllocError>
-        ensures format { IfOk result (λ pen. format_of pen ≡ format) }
-        ensures heading { IfOk result (λ pen. IsUnder heading.now pen) }
-        ensures text { IfOk result (λ pen. text_of pen [] ≡ []) }
-    {
-        match format {
-            Format::Pbn => Ok(Pen::Pbn(Printer::new(alloc, heading)?)),
-            Format::Hands => Ok(Pen::Hands(SuitLetters::new(alloc)?)),
-            Format::Lin => Ok(Pen::Lin(SuitLetters::new(alloc)?)),
-            Format::Html => Ok(Pen::Html(SuitLetters::new(alloc)?)),
-            Format::Json => Ok(Pen::Json(SuitLetters::new(alloc)?)),
-            Format::Numbers => Ok(Pen::Numbers),
-        }
+/// Returns what comes after this many boards.
+fn footer(pen: &Pen, tricks: &Option<Table>, boards: usize) -> &'static [u8]
+    ensures { result.now ≡ footer_after (format_of pen.now) tricks.now boards }
+{
+    match tricks {
+        Some(table) if table.is_short(boards) => b"",
+        _ => pen.footer(),
     }
 }
 
 /// Writes the format's header into the empty buffer.
 fn put_header(text: &mut TextBuffer, format: Format, heading: &Heading)
     requires { text.old ≡ [] }
-    ensures { text.new ≡ (layout_of format heading.now).header }
+    ensures { text.new ≡ header_of format heading.now }
 {
     match format {
         Format::Pbn => text.put(&HEADER),
         Format::Hands => hands::put_header(text, heading),
-        Format::Html => page::put_header(text, heading),
+        Format::Html => page::put_header(text, Look::Plain, heading),
+        Format::Sheet => page::put_header(text, Look::Sheet, heading),
         Format::Lin | Format::Json | Format::Numbers => {}
+    }
+}
+
+/// Writes the format's header before boards with tricks into the empty buffer.
+fn put_header_with_tricks(text: &mut TextBuffer, format: Format, heading: &Heading)
+    requires { text.old ≡ [] }
+    ensures { text.new ≡ header_with_tricks format heading.now }
+{
+    match format {
+        Format::Html => page::put_header(text, Look::Tricks, heading),
+        _ => put_header(text, format, heading),
     }
 }

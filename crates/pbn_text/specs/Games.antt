@@ -63,7 +63,7 @@ deal_text deal =
     ++ hand_text (hand_of deal South) ++ codes " "
     ++ hand_text (hand_of deal West)
 
--- the lines of the labels that are given
+-- the lines of the given labels
 abbrev pub heading_text : HeadingView → List ℕ
 heading_text heading =
     label (codes "Event") heading.event

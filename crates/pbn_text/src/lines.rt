@@ -22,7 +22,7 @@ pub const HEADER: [u8; 10] = *b"% PBN 2.1\n";
 /// The text of one game.
 pub(crate) type Text = ArrayVec<u8, 400>;
 
-/// Appends the lines of the labels that are given.
+/// Appends the lines of the given labels.
 pub(crate) fn put_heading(text: &mut Text, heading: &Heading)
     requires { array_vec_len text.old + 241 ≤ 400 }
     ensures items { text.new.items ≡ text.old.items ++ heading_text heading.now }

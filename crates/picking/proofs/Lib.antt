@@ -5,3 +5,5 @@ pub mod ReadBack
 pub mod Boards
 pub mod Finding
 pub mod Pieces
+pub mod LineEnds
+pub mod LinesRead

@@ -8,11 +8,11 @@ use Rattle.picking.specs.internal.Lines.{start_of_line}
 
 -- ---- ended lines
 
-has_lf-other : (b : ℕ) (xs : List ℕ) → (b == 10) ≡ false → has_lf (xs ++ b ∷ []) ≡ has_lf xs
+pub has_lf-other : (b : ℕ) (xs : List ℕ) → (b == 10) ≡ false → has_lf (xs ++ b ∷ []) ≡ has_lf xs
 has_lf-other b [] e = rw e refl
 has_lf-other b (x ∷ xs) e = ap (λ t. x == 10 || t) (has_lf-other b xs e)
 
-ended-other : (b : ℕ) (xs : List ℕ) → (b == 10) ≡ false → ended (xs ++ b ∷ []) ≡ ended xs
+pub ended-other : (b : ℕ) (xs : List ℕ) → (b == 10) ≡ false → ended (xs ++ b ∷ []) ≡ ended xs
 ended-other b [] e = rw e refl
 ended-other b (x ∷ xs) e =
     ap (λ t. if x == 10 || t then x ∷ ended (xs ++ b ∷ []) else []) (has_lf-other b xs e)
@@ -26,7 +26,7 @@ has_lf-lf : (xs : List ℕ) → has_lf (xs ++ 10 ∷ []) ≡ true
 has_lf-lf [] = refl
 has_lf-lf (x ∷ xs) = ap (λ t. x == 10 || t) (has_lf-lf xs) ∙ or-true (x == 10)
 
-ended-lf : (xs : List ℕ) → ended (xs ++ 10 ∷ []) ≡ xs ++ 10 ∷ []
+pub ended-lf : (xs : List ℕ) → ended (xs ++ 10 ∷ []) ≡ xs ++ 10 ∷ []
 ended-lf [] = refl
 ended-lf (x ∷ xs) =
     ap (λ t. if t then x ∷ ended (xs ++ 10 ∷ []) else []) (has_lf-lf (x ∷ xs))

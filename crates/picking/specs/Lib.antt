@@ -2,4 +2,6 @@ pub mod NumberTexts
 pub mod Scans
 pub mod Picked
 pub mod Outcomes
+pub mod FourBytes
+pub mod TricksLines
 pub mod internal

@@ -19,7 +19,7 @@ abbrev pub with_lf : List ℕ → List ℕ
 with_lf [] = []
 with_lf (b ∷ bs) = if b == 13 && starts_with_lf bs then with_lf bs else b ∷ with_lf bs
 
--- what stands before the first LF, and the lines behind it: a last one may be without LF
+-- what is before the first LF, and the lines behind it: a last one may be without LF
 abbrev pub first_line : List ℕ → List ℕ
 first_line [] = []
 first_line (b ∷ bs) = if b == 10 then [] else b ∷ first_line bs
@@ -67,7 +67,7 @@ are_digits (b ∷ bs) = is_ascii_digit b && are_digits bs
 abbrev pub number_in : ℕ → Result (Option ℕ) LineFault
 number_in n = if nat_lt n (2 ^ 40) then Ok (Some n) else Err NotBelow
 
--- and is written in 1 to 13 digits; where nothing stands there is none
+-- and is written in 1 to 13 digits; where nothing is there is none
 abbrev pub number_of : List ℕ → Result (Option ℕ) LineFault
 number_of [] = Ok None
 number_of (d ∷ ds) =
@@ -85,7 +85,7 @@ pub record Said : Type 0 where
   pub numbers : List ℕ
   pub refused : Option RefusedLine
 
--- the line after so many lines is refused
+-- the line after this many lines is refused
 abbrev pub refused_after : ℕ → LineFault → Said
 refused_after lines fault = record {
   numbers = [];
@@ -95,7 +95,7 @@ refused_after lines fault = record {
 abbrev pub with_number : ℕ → Said → Said
 with_number n later = record { numbers = n ∷ later.numbers; refused = later.refused }
 
--- a line that says this, after so many lines with so many numbers; and what the lines behind it
+-- a line that says this, after this many lines with this many numbers; and what the lines behind it
 -- say, by how many numbers come before those
 abbrev pub with_line : ℕ → ℕ → Result (Option ℕ) LineFault → (ℕ → Said) → Said
 with_line lines count (Err fault) later = refused_after lines fault

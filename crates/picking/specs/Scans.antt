@@ -12,7 +12,7 @@ use Rattle.picking.specs.declared.line.Part.TheVariants.{Blank, Digits, Over}
 use Rattle.picking.specs.declared.refusal.LineFault.{LineFault}
 use Rattle.picking.specs.declared.refusal.LineFault.TheVariants.{NotANumber}
 
--- how far a line was read: so many digits, and the number that they write
+-- how far a line was read: this many digits, and the number that they write
 pub record LineView : Type 0 where
   pub part : Part
   pub value : ℕ

@@ -7,15 +7,19 @@
 #![tactic(auto)]
 
 mod fault;
+mod four_bytes;
 pub mod laws;
 mod line;
 mod picked;
 mod refusal;
 mod scanner;
 mod source;
+mod tricks_lines;
 
 pub use fault::PickFault;
+pub use four_bytes::{BytesFault, read_four};
 pub use picked::pick;
 pub use refusal::{LineFault, RefusedLine};
 pub use scanner::Scanner;
 pub use source::{MOST_BYTES, NoBytes, Reader, Source, SourceFault};
+pub use tricks_lines::{LinesEnd, TricksRead, read_tricks};

@@ -79,7 +79,7 @@ impl Line {
         true
     }
 
-    /// Takes the next byte of the line, unless it can't stand there.
+    /// Takes the next byte of the line, unless it isn't allowed there.
     pub fn take(&mut self, byte: u8) -> bool
         ensures taken { result ≡ true → (rest : List ℕ)
             → line_from self.old (byte ∷ rest) ≡ line_from self.new rest }

@@ -7,8 +7,12 @@ pub enum LineFault {
     NotANumber,
     /// Its number is 2^40 or more.
     NotBelow,
-    /// Its number comes after 2^40 others.
+    /// It comes after as many others as there may be.
     TooMany,
+    /// It isn't a line of tricks.
+    NotTricks,
+    /// The input ended before it.
+    Missing,
 }
 
 /// A line that is refused, by its number: the first line is 1, and each line counts.

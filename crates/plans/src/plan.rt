@@ -179,6 +179,14 @@ impl Plan {
         })
     }
 
+    /// The plan with this number of workers.
+    pub fn worked_by(self, workers: u32) -> Plan
+        requires { (0 < workers) × (workers ≤ 16) }
+        ensures { result ≡ record self { workers = workers } }
+    {
+        Plan { workers, ..self }
+    }
+
     /// The plan with the labels of each game.
     pub fn headed(self, heading: Heading) -> Plan
         ensures { result ≡ record self { heading = heading } }
@@ -186,7 +194,7 @@ impl Plan {
         Plan { heading, ..self }
     }
 
-    /// The plan with what stands in place of Law 2, and whether deals are turned.
+    /// The plan with what replaces Law 2, and whether deals are turned.
     pub fn set(self, setting: Setting) -> Plan
         ensures { result ≡ record self { setting = setting } }
     {

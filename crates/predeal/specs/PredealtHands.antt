@@ -25,11 +25,11 @@ is_rank_letter byte = list_any (λ letter. letter == byte) rank_letters
 abbrev pub is_dot : ℕ → Bool
 is_dot byte = byte == 0x2E
 
--- what stands between the dots: the spades, hearts, diamonds and clubs
+-- what is between the dots: the spades, hearts, diamonds and clubs
 abbrev pub suits_of : List ℕ → List (List ℕ)
 suits_of text = slice_split is_dot text
 
--- how often a text has a card: the letter of its rank, among what stands for its suit
+-- how often a text has a card: the letter of its rank, in the part of its suit
 unfoldable pub times_in : List ℕ → ℕ → ℕ
 times_in text c =
     count_by (λ byte. byte == letter_of c) (slice_index_or (suits_of text) (c / 13) [])
@@ -47,7 +47,7 @@ is_hand_byte byte = is_dot byte || is_rank_letter byte
 abbrev pub has_letters_alone : List ℕ → Bool
 has_letters_alone text = list_all is_hand_byte text
 
--- no card stands there twice
+-- no card occurs twice
 abbrev pub has_none_twice : List ℕ → Bool
 has_none_twice text = list_all (λ c. nat_le (times_in text c) 1) pack
 
@@ -60,7 +60,7 @@ unfoldable pub is_hand : List ℕ → Bool
 is_hand text =
     has_three_dots text && has_letters_alone text && has_none_twice text && has_room text
 
--- the texts that are given, by seat
+-- the texts given, by seat
 pub record GivenHands : Type 0 where
   pub north : Option (List ℕ)
   pub east : Option (List ℕ)
@@ -124,12 +124,12 @@ first_refused hands = find (is_refused_at hands) all_seats
 unfoldable pub fixed_of : GivenHands → List (Option Seat)
 fixed_of hands = map (seat_given hands) pack
 
--- each text that is given is a hand
+-- each text given is a hand
 abbrev pub AreHands : GivenHands → Type 0
 AreHands hands =
     (seat : Seat) (text : List ℕ) → given_at hands seat ≡ Some text → is_hand text ≡ true
 
--- each card is fixed at a seat exactly if the seat's text has it, so no two texts have it
+-- each card is fixed at a seat if and only if the seat's text has it, so no two texts have it
 abbrev pub IsFixedBy : GivenHands → List (Option Seat) → Type 0
 IsFixedBy hands fixed =
     (seat : Seat) (c : ℕ) → c < 52

@@ -21,7 +21,7 @@ pub enum HandFault {
     Unknown(usize),
     /// It hasn't exactly three dots.
     Dots,
-    /// The card stands there twice.
+    /// The card occurs twice.
     Twice(Card),
     /// It has more than thirteen cards.
     TooMany,
@@ -66,7 +66,7 @@ fn fault_of(text: &[u8]) -> Option<HandFault>
     }
 }
 
-/// Where the first byte stands that is neither a dot nor the letter of a rank.
+/// Where the first byte is that is neither a dot nor the letter of a rank.
 fn unread_place(text: &[u8]) -> Option<usize>
     ensures found { is_some result ≡ not (has_letters_alone text.now) }
     ensures unread { IfSome result (λ place. IsUnread text.now place) }

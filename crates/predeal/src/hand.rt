@@ -8,7 +8,7 @@ ghost use Rattle.predeal.specs.PredealtHands.{suits_of, times_in};
 /// The letters of the ranks, the ace first.
 const LETTERS: [u8; 13] = *b"AKQJT98765432";
 
-/// What stands for the suit of this number.
+/// The part of the suit of this number.
 fn suit_text(text: &[u8], suit: usize) -> &[u8]
     ensures { result.now ≡ slice_index_or (suits_of text.now) suit [] }
 {
@@ -70,7 +70,7 @@ fn has_letters_alone(text: &[u8]) -> bool
     text.iter().all(|byte| is_hand_byte(*byte))
 }
 
-/// Whether no card stands there twice.
+/// Whether no card occurs twice.
 fn has_none_twice(text: &[u8]) -> bool
     ensures { result ≡ has_none_twice text.now }
 {

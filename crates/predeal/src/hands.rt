@@ -1,4 +1,4 @@
-//! The texts of the hands that are given, and the cards that they fix.
+//! Predealt hands as texts, and the cards that they fix.
 
 ghost use Rattle.std.specs.Prelude.{◌≡◌, ◌<◌, None, Some, IfErr, IfOk};
 ghost use Rattle.predeal.specs.PredealtHands.{AreHands, IsFixedBy, before, bytes_of};
@@ -9,7 +9,7 @@ ghost use Rattle.predeal.specs.PredealtHands.{none_given, seat_given, shares};
 use crate::hand::{has_card, is_hand};
 use cards::{Fixed, Seat};
 
-/// The texts of the hands that are given, by seat.
+/// Predealt hands as texts, by seat.
 #[derive(Clone, Copy, Debug)]
 pub struct PredealtHands<'a> {
     pub north: Option<&'a str>,

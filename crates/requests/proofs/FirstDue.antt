@@ -12,9 +12,9 @@ use Rattle.plans.specs.Refusals.{refusal_of}
 use Rattle.plans.specs.declared.plan.PlanError.{PlanError}
 use Rattle.plans.specs.declared.plan.PlanError.TheVariants.{Range, Workers, Capacity, Boards, FirstBoard}
 use Rattle.requests.specs.Failures.{failure_of, is_refusal, status_of}
-use Rattle.requests.specs.FirstRefusal.{AreRefused, HasCondition, IsConditionDue, IsCountDue, IsDueFor, IsFirstHand, IsFirstOf, IsMakeDue, IsPickDue, IsPlanDue, Meets, of_labels, of_numbers}
-use Rattle.requests.specs.Makings.{HasLabels, HasNumbers, IsPlanned, Means, candidates_of}
-use Rattle.requests.specs.Requests.{Look, Questions, Search, Wish, conditions, count, make, no_search, numbers_look, pick, stream}
+use Rattle.requests.specs.FirstRefusal.{AreRefused, HasCondition, IsConditionDue, IsCountDue, IsDueFor, IsFirstHand, IsFirstOf, IsMakeDue, IsPickDue, IsPlanDue, IsTricksDue, Meets, of_labels, of_numbers}
+use Rattle.requests.specs.Makings.{HasLabels, HasNumbers, IsPlanned, Means, candidates_of, workers_in}
+use Rattle.requests.specs.Requests.{Look, Questions, Search, Wish, conditions, count, draw, make, make_with_tricks, no_search, numbers_look, pick, stream}
 use Rattle.requests.specs.Jobs.{IsRefused}
 use Rattle.requests.specs.Wishes.{HasMeaning, HasPlan, IsStatusOf}
 use Rattle.requests.proofs.Statuses.{no_memory as out_of_memory, refused_meaning, refused_plan}
@@ -22,7 +22,7 @@ use Rattle.requests.specs.declared.request.Notices.{Notices}
 use Rattle.requests.specs.declared.when.When.{When}
 use Rattle.predeal.specs.PredealtHands.{GivenHands}
 use Rattle.requests.specs.declared.failure.Failure.{Failure}
-use Rattle.requests.specs.declared.failure.Failure.TheVariants.{CommandLine, Plan, Label, Hand, Condition, Question, Cells, Interrupted, Line, Input}
+use Rattle.requests.specs.declared.failure.Failure.TheVariants.{CommandLine, Plan, Label, Hand, Condition, Question, Cells, Interrupted, Line, Input, EndOfInput}
 use Rattle.requests.specs.declared.failure.LabelName.TheVariants.{Event, Site, Date}
 use Rattle.requests.specs.declared.failure.QuestionName.TheVariants.{Of, By}
 use Rattle.requests.specs.Counting.{IsAsked}
@@ -41,30 +41,30 @@ positive (suc n) h = omega arith
 abbrev pub HasRun : Search → Look → Type 0
 HasRun s l = Meets s l (Plan Range) × Meets s l (Plan Workers) × Meets s l (Plan Capacity)
 
-pub plan_due : (s : Search) (l : Look) (e : PlanError) → e ≡ refusal_of s.first (candidates_of s) s.workers → (HasRun s l → ⊥) → IsFirstOf of_numbers s l (Plan e)
+pub plan_due : (s : Search) (l : Look) (e : PlanError) → e ≡ refusal_of s.first (candidates_of s) (workers_in s.workers) → (HasRun s l → ⊥) → IsFirstOf of_numbers s l (Plan e)
 plan_due s l e is not_so = rw is (at_range (nat_lt (2 ^ 40) (s.first + candidates_of s)) refl)
   where
     at_capacity : Meets s l (Plan Range) → Meets s l (Plan Workers) → IsFirstOf of_numbers s l (Plan Capacity)
     at_capacity range workers = inr (range, inr (workers, inl (refl, λ lane. not_so (range, workers, lane))))
 
-    at_workers : Meets s l (Plan Range) → (b c : Bool) → (s.workers == 0) ≡ b → nat_lt 16 s.workers ≡ c
+    at_workers : Meets s l (Plan Range) → (b c : Bool) → (workers_in s.workers == 0) ≡ b → nat_lt 16 (workers_in s.workers) ≡ c
         → IsFirstOf of_numbers s l (Plan (if b || c then Workers else Capacity))
     at_workers range true c none many =
-        let is_zero = eqb-true s.workers 0 none in
+        let is_zero = eqb-true (workers_in s.workers) 0 none in
         inr (range, inl (refl, λ workers. omega (arith, workers.0, is_zero)))
     at_workers range false true none many =
-        let more = ltb-true 16 s.workers many in
+        let more = ltb-true 16 (workers_in s.workers) many in
         inr (range, inl (refl, λ workers. omega (arith, workers.1, more)))
     at_workers range false false none many =
-        at_capacity range (positive s.workers (eqb-false s.workers 0 none), ltb-false 16 s.workers many)
+        at_capacity range (positive (workers_in s.workers) (eqb-false (workers_in s.workers) 0 none), ltb-false 16 (workers_in s.workers) many)
 
     at_range : (b : Bool) → nat_lt (2 ^ 40) (s.first + candidates_of s) ≡ b
-        → IsFirstOf of_numbers s l (Plan (if b then Range else (if s.workers == 0 || nat_lt 16 s.workers then Workers else Capacity)))
+        → IsFirstOf of_numbers s l (Plan (if b then Range else (if (workers_in s.workers) == 0 || nat_lt 16 (workers_in s.workers) then Workers else Capacity)))
     at_range true e =
         let more = ltb-true (2 ^ 40) (s.first + candidates_of s) e in
         inl (refl, λ range. omega (arith, range, more))
     at_range false e =
-        at_workers (ltb-false (2 ^ 40) (s.first + candidates_of s) e) (s.workers == 0) (nat_lt 16 s.workers) refl refl
+        at_workers (ltb-false (2 ^ 40) (s.first + candidates_of s) e) (workers_in s.workers == 0) (nat_lt 16 (workers_in s.workers)) refl refl
 
 pub boards_due : (s : Search) (l : Look) (most : ℕ) → HasRun s l → s.boards ≡ Some most → most ≡ 0 → IsFirstOf of_numbers s l (Plan Boards)
 boards_due s l most run given none =
@@ -109,6 +109,7 @@ hands_due s l Cells n t h = absurd h
 hands_due s l (Interrupted cause) n t h = absurd h
 hands_due s l (Line line) n t h = absurd h
 hands_due s l Input n t h = absurd h
+hands_due s l EndOfInput n t h = absurd h
 
 -- each way to refuse a plan
 pub ruleset plans = (numbers_due, labels_due, hands_due)
@@ -151,6 +152,8 @@ pub output_due : (w : Wish) → IsStatusOf w 0 → IsDueFor w (Interrupted cause
 output_due (stream seed n) status = refl
 output_due conditions status = refl
 output_due (make s l notices) status = status.accepted (inl refl)
+output_due (make_with_tricks s l notices) status = status.accepted (inl refl)
+output_due draw status = tt
 output_due (count s questions style notices) status = let all = status.accepted (inl refl) in (all.0, all.1.0, all.1.1)
 output_due (pick seed hands l hints) status = (status.accepted (inl refl)).0
 
@@ -166,6 +169,25 @@ make_plan_due s l Cells h = absurd h
 make_plan_due s l (Interrupted c) h = absurd h
 make_plan_due s l (Line line) h = absurd h
 make_plan_due s l Input h = absurd h
+make_plan_due s l EndOfInput h = absurd h
+
+-- what is due before the input is read is due with tricks too
+pub tricks_due : (s : Search) (l : Look) (f : Failure) → is_refusal f ≡ true → IsMakeDue s l f → IsTricksDue s l f
+tricks_due s l (CommandLine text) before h = h
+tricks_due s l (Plan error) before h = h
+tricks_due s l (Label name) before h = h
+tricks_due s l (Hand seat) before h = h
+tricks_due s l (Condition error) before h = h
+tricks_due s l (Question name error) before h = h
+tricks_due s l Cells before h = h
+tricks_due s l (Interrupted cause.Memory) before h = h
+tricks_due s l (Interrupted cause.Output) before h = h
+tricks_due s l (Interrupted cause.Spawn) before h = h
+tricks_due s l (Interrupted (cause.Stopped worker)) before h = h
+tricks_due s l (Interrupted (cause.Unclosed worker)) before h = h
+tricks_due s l (Line line) before h = absurd cc
+tricks_due s l Input before h = absurd cc
+tricks_due s l EndOfInput before h = absurd cc
 
 pub pick_plan_due : (s : Search) (l : Look) (f : Failure) → IsPlanDue s l f → IsPickDue s l f
 pick_plan_due s l (CommandLine text) h = h
@@ -178,6 +200,7 @@ pick_plan_due s l Cells h = absurd h
 pick_plan_due s l (Interrupted c) h = absurd h
 pick_plan_due s l (Line line) h = absurd h
 pick_plan_due s l Input h = absurd h
+pick_plan_due s l EndOfInput h = absurd h
 
 pub count_plan_due : (s : Search) (q : Questions) (f : Failure) → IsPlanDue s numbers_look f → IsCountDue s q f
 count_plan_due s q (CommandLine text) h = h
@@ -190,6 +213,7 @@ count_plan_due s q Cells h = absurd h
 count_plan_due s q (Interrupted c) h = absurd h
 count_plan_due s q (Line line) h = absurd h
 count_plan_due s q Input h = absurd h
+count_plan_due s q EndOfInput h = absurd h
 
 -- a condition or a question that is refused is due for a `count`
 count_condition_due : (s : Search) (q : Questions) (f : Failure) → IsPlanned s numbers_look → IsConditionFailure s.where_text f → IsCountDue s q f
@@ -208,6 +232,7 @@ questions_due s q Cells plan condition h = (plan, condition, h)
 questions_due s q (Interrupted c) plan condition h = absurd h
 questions_due s q (Line line) plan condition h = absurd h
 questions_due s q Input plan condition h = absurd h
+questions_due s q EndOfInput plan condition h = absurd h
 
 questions_refusal : (q : Questions) (f : Failure) → AreRefused q f → is_refusal f ≡ true
 questions_refusal q (CommandLine text) h = absurd h
@@ -221,6 +246,7 @@ questions_refusal q Cells h = refl
 questions_refusal q (Interrupted c) h = absurd h
 questions_refusal q (Line line) h = absurd h
 questions_refusal q Input h = absurd h
+questions_refusal q EndOfInput h = absurd h
 
 -- a `count` that was interrupted
 pub count_run_due : (s : Search) (q : Questions) (c : Cause) → IsPlanned s numbers_look → HasCondition s → (subject : Subject) → IsAsked q subject → IsCountDue s q (Interrupted c)
@@ -242,6 +268,7 @@ plan_refusal s l Cells h = refl
 plan_refusal s l (Interrupted c) h = absurd h
 plan_refusal s l (Line line) h = absurd h
 plan_refusal s l Input h = absurd h
+plan_refusal s l EndOfInput h = absurd h
 
 -- ---- before anything was done
 
@@ -320,3 +347,39 @@ meaning_refused s l notices f plan status memory due = record {
     by_failure : IsConditionFailure s.where_text f → is_refusal f ≡ true
     by_failure (inl memory) = rw memory refl
     by_failure (inr (error, is, due)) = rw is refl
+
+-- ---- the same with tricks
+
+tricks_status : (s : Search) (l : Look) (notices : Notices) (n : ℕ) → IsStatusOf (make s l notices) n → (n ≡ 7 → ⊥) → IsStatusOf (make_with_tricks s l notices) n
+tricks_status s l notices n h other = record {
+  accepted = h.accepted;
+  unplanned = h.unplanned;
+  meaningless = h.meaningless;
+  threads = h.threads;
+  input = λ e. absurd (other e);
+}
+
+refusal_status : (f : Failure) → is_refusal f ≡ true → status_of f ≡ 7 → ⊥
+refusal_status (CommandLine text) before h = omega (arith, h)
+refusal_status (Plan error) before h = omega (arith, h)
+refusal_status (Label name) before h = omega (arith, h)
+refusal_status (Hand seat) before h = omega (arith, h)
+refusal_status (Condition error) before h = omega (arith, h)
+refusal_status (Question name error) before h = omega (arith, h)
+refusal_status Cells before h = omega (arith, h)
+refusal_status (Interrupted cause.Memory) before h = omega (arith, h)
+refusal_status (Interrupted cause.Output) before h = omega (arith, h)
+refusal_status (Interrupted cause.Spawn) before h = omega (arith, h)
+refusal_status (Interrupted (cause.Stopped worker)) before h = omega (arith, h)
+refusal_status (Interrupted (cause.Unclosed worker)) before h = omega (arith, h)
+refusal_status (Line line) before h = cc
+refusal_status Input before h = cc
+refusal_status EndOfInput before h = cc
+
+-- what refuses a `make` refuses it with tricks
+pub tricks_refused : (s : Search) (l : Look) (notices : Notices) (f : Failure) → IsRefused (make s l notices) f → IsRefused (make_with_tricks s l notices) f
+tricks_refused s l notices f h = record {
+  due = tricks_due s l f h.nothing_done h.due;
+  status = tricks_status s l notices (status_of f) h.status (refusal_status f h.nothing_done);
+  nothing_done = h.nothing_done;
+}

@@ -6,3 +6,6 @@ pub mod Serving
 pub mod Reporting
 pub mod Asking
 pub mod Counted
+pub mod OtherWorkers
+pub mod ToldText
+pub mod Telling

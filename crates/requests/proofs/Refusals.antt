@@ -10,7 +10,7 @@ use Rattle.requests.specs.Makings.{Means}
 use Rattle.requests.specs.Wishes.{IsStatusWithInput}
 use Rattle.requests.specs.declared.failure.Failure.{Failure}
 use Rattle.dealrun.specs.declared.cause.Cause.TheVariants as cause
-use Rattle.requests.specs.declared.failure.Failure.TheVariants.{CommandLine, Plan, Label, Hand, Condition, Question, Cells, Interrupted, Line, Input}
+use Rattle.requests.specs.declared.failure.Failure.TheVariants.{CommandLine, Plan, Label, Hand, Condition, Question, Cells, Interrupted, Line, Input, EndOfInput}
 
 pub refused_status : (e : CondError) → (status_of (failure_of e) ≡ 5) ⊎ (status_of (failure_of e) ≡ 3)
 refused_status TooLong = inr refl
@@ -44,3 +44,4 @@ status_of-status (Interrupted (cause.Stopped worker)) = (5, omega arith, refl)
 status_of-status (Interrupted (cause.Unclosed worker)) = (5, omega arith, refl)
 status_of-status (Line line) = (6, omega arith, refl)
 status_of-status Input = (6, omega arith, refl)
+status_of-status EndOfInput = (6, omega arith, refl)

@@ -6,7 +6,7 @@ use Rattle.sinks.specs.Appended.{AppendsAll, append_known}
 use Rattle.requests.specs.Makings.{plan_of}
 use Rattle.requests.specs.Reported.{Counts, Reports, ReportsFor, wants_report}
 use Rattle.requests.specs.Reports.{next_line, report_line, report_of}
-use Rattle.requests.specs.Requests.{Look, Search, Wish, conditions, count, make, pick, stream}
+use Rattle.requests.specs.Requests.{Look, Search, Wish, conditions, count, draw, make, make_with_tricks, pick, stream}
 use Rattle.requests.specs.declared.request.Notices.{Notices}
 use Rattle.notations.specs.declared.printer.Format.{Format}
 use Rattle.requests.specs.declared.report.Report.{Report}
@@ -30,9 +30,21 @@ none_made None r some none quiet = let bad : Some r ≡ None = none refl in cc
 none_made (Some (stream seed n)) r some none quiet = let bad : Some r ≡ None = some (stream seed n) refl in cc
 none_made (Some (count s q style notices)) r some none quiet = let bad : Some r ≡ None = some (count s q style notices) refl in cc
 none_made (Some conditions) r some none quiet = let bad : Some r ≡ None = some conditions refl in cc
+none_made (Some draw) r some none quiet = let bad : Some r ≡ None = some draw refl in cc
+none_made (Some (make_with_tricks s l notices)) r some none quiet = let is = (some (make_with_tricks s l notices) refl).0 in let bad : true ≡ false = sym is ∙ quiet in cc
 none_made (Some (pick seed hands l hints)) r some none quiet = let bad : Some r ≡ None = some (pick seed hands l hints) refl in cc
 none_made (Some (make s l notices)) r some none quiet = let is = (some (make s l notices) refl).0 in let bad : true ≡ false = sym is ∙ quiet in cc
 
 -- a `make` that asks for a report has one
 pub some_made : (s : Search) (l : Look) (notices : Notices) → ReportsFor (make s l notices) None → notices.report ≡ true → ⊥
 some_made s l notices h is = let bad : true ≡ false = sym is ∙ h in cc
+
+-- the same with tricks
+pub said_with_tricks : (s : Search) (l : Look) (notices : Notices) (r : Report) (old new : Option (List ℕ)) → ReportsFor (make_with_tricks s l notices) (Some r)
+    → AppendsAll old new (report_line r.plan r.candidates r.boards ++ next_line r.format r.plan r.candidates r.boards) → Reports s l old new
+said_with_tricks s l notices r old new h text =
+    let counts = h.1 in
+    (counts.0, counts.1, text ∙ ap (append_known old) (same_text l.format (plan_of s l) counts.0 r counts.2))
+
+pub some_made_with_tricks : (s : Search) (l : Look) (notices : Notices) → ReportsFor (make_with_tricks s l notices) None → notices.report ≡ true → ⊥
+some_made_with_tricks s l notices h is = let bad : true ≡ false = sym is ∙ h in cc

@@ -1,22 +1,28 @@
 -- From how the parts of a job end to what is promised of a wish.
 use Rattle.std.proofs.Common.{◌≡◌, ◌⊎◌, ℕ, List, Option, None, Some, Ok, Err, true, false, refl, sym, ◌∙◌, inl, inr}
+use Rattle.cond_lang.specs.Form.{Form}
+use Rattle.requests.specs.Makings.{Means}
 use Rattle.dealrun.specs.Values.{lines}
 use Rattle.dealrun.specs.declared.cause.Cause.{Cause}
 use Rattle.dealrun.specs.declared.cause.Cause.TheVariants.{Memory, Spawn, Output, Stopped, Unclosed}
 use Rattle.requests.specs.Failures.{is_untouched}
-use Rattle.requests.specs.Interruptions.{InterruptsCount, InterruptsMake, LeavesFrom}
+use Rattle.requests.specs.Interruptions.{EndsTold, InterruptsCount, InterruptsMake, LeavesFrom}
 use Rattle.requests.specs.Jobs.{IsReady, Serves}
-use Rattle.requests.specs.Requests.{Look, Questions, Search, Wish, conditions, count, make, pick, stream}
+use Rattle.requests.specs.Requests.{Look, Questions, Search, Wish, conditions, count, draw, make, make_with_tricks, pick, stream}
 use Rattle.requests.specs.Wishes.{language_page}
 use Rattle.requests.specs.declared.failure.Failure.{Failure}
-use Rattle.requests.specs.declared.failure.Failure.TheVariants.{CommandLine, Plan, Label, Hand, Condition, Question, Cells, Interrupted, Line, Input}
-use Rattle.requests.specs.declared.job.BoardsJob.{BoardsJob}
+use Rattle.requests.specs.declared.failure.Failure.TheVariants.{CommandLine, Plan, Label, Hand, Condition, Question, Cells, Interrupted, Line, Input, EndOfInput}
+use Rattle.requests.specs.declared.boards_job.BoardsJob.{BoardsJob}
 use Rattle.requests.specs.declared.count_job.CountJob.{CountJob}
 use Rattle.requests.specs.declared.job.PickJob.{PickJob}
-use Rattle.requests.specs.declared.job.Job.TheVariants.{Boards, Conditions, Count, Pick, Stream}
+use Rattle.requests.specs.declared.job.Job.TheVariants.{Boards, Conditions, Count, Pick, Seed, Stream, WithTricks}
 use Rattle.requests.specs.declared.report.Report.{Report}
 use Rattle.requests.specs.declared.request.StreamRequest.{StreamRequest}
-use Rattle.requests.specs.internal.Ends.{EndsBoards, EndsCount, EndsPicking}
+use Rattle.requests.specs.internal.Ends.{EndsBoards, EndsCount, EndsDraw, EndsPicking, EndsReady}
+use Rattle.requests.specs.WithTricks.{BreaksTold, FailsTold, StopsAtLine}
+use Rattle.picking.specs.declared.refusal.RefusedLine.{RefusedLine}
+use Rattle.picking.specs.declared.fault.PickFault.{PickFault}
+use Rattle.picking.specs.declared.fault.PickFault.TheVariants.{Refused, Input as PickInput}
 use Rattle.requests.proofs.FirstDue.{count_run_due, run_due}
 use Rattle.requests.proofs.Statuses.{failed_input, interrupted, no_memory, served}
 use Rattle.sinks.specs.Appended.{AppendsAll, AppendsPart}
@@ -27,20 +33,22 @@ use Rattle.statistics.specs.Subjects.{subject_of}
 -- what a run promises of its own plan is promised of the wish
 run_text : (w : Wish) (job : BoardsJob) (report : Report) (r : Option Report) (before behind old new : Option (List ℕ)) → IsReady w (Boards job) → EndsBoards job (Ok report) old new
     → (job.report ≡ true) × (r ≡ Some report) ⊎ (job.report ≡ false) × (r ≡ None) → Serves w (Ok r) before behind old new
-run_text (make s l notices) job report r before behind old new (planned, plan_is, means, format_is, report_is) ends asked =
-    let written = rw (plan_is, format_is) at ends in record {
-      text = (job.condition, means, written.0);
+run_text (make s l notices) job report r before behind old new ready ends asked =
+    let written = rw (ready.plan_is, ready.format_is, ready.show_is) at ends in record {
+      text = (job.condition, ready.means, written.0);
       report = elim asked [
-        | inl made ↦ rw made.1 (sym report_is ∙ made.0, (job.condition, means, written.1))
-        | inr none ↦ rw none.1 (sym report_is ∙ none.0)
+        | inl made ↦ rw made.1 (sym ready.report_is ∙ made.0, (job.condition, ready.means, written.1))
+        | inr none ↦ rw none.1 (sym ready.report_is ∙ none.0)
       ];
-      status = served (make s l notices) 0 (inl refl) planned (job.condition, means);
+      status = served (make s l notices) 0 (inl refl) ready.planned (job.condition, ready.means);
       untouched = tt;
       stands = tt;
       due = tt;
     }
 run_text (pick seed hands l hints) job report r before behind old new ready ends asked = absurd ready
 run_text conditions job report r before behind old new ready ends asked = absurd ready
+run_text (make_with_tricks s l notices) job report r before behind old new ready ends asked = absurd ready
+run_text draw job report r before behind old new ready ends asked = absurd ready
 run_text (count s q style notices) job report r before behind old new ready ends asked = absurd ready
 run_text (stream seed n) job report r before behind old new ready ends asked = absurd ready
 
@@ -62,18 +70,20 @@ run_leaves s l notices (Stopped worker) before behind old new h = (h, λ bad. ab
 run_leaves s l notices (Unclosed worker) before behind old new h = (h, λ bad. absurd cc)
 
 pub interrupts : (w : Wish) (job : BoardsJob) (c : Cause) (before behind old new : Option (List ℕ)) → IsReady w (Boards job) → EndsBoards job (Err c) old new → Serves w (Err (Interrupted c)) before behind old new
-interrupts (make s l notices) job c before behind old new (planned, plan_is, means, format_is, report_is) ends =
-    let run = rw (plan_is, format_is) at ends in
-    let leaves = run_leaves s l notices c before behind old new (record { form = job.condition; means = means; run = run }) in record {
+interrupts (make s l notices) job c before behind old new ready ends =
+    let run = rw (ready.plan_is, ready.format_is, ready.show_is, ready.workers_are) at ends in
+    let leaves = run_leaves s l notices c before behind old new (record { form = job.condition; means = ready.means; workers = run.0; are_workers = run.1; run = run.2 }) in record {
       text = tt;
       report = tt;
-      status = interrupted (make s l notices) c planned (job.condition, means) tt;
+      status = interrupted (make s l notices) c ready.planned (job.condition, ready.means) tt;
       untouched = leaves.1;
       stands = leaves.0;
-      due = run_due s l c planned job.condition means;
+      due = run_due s l c ready.planned job.condition ready.means;
     }
 interrupts (pick seed hands l hints) job c before behind old new ready ends = absurd ready
 interrupts conditions job c before behind old new ready ends = absurd ready
+interrupts (make_with_tricks s l notices) job c before behind old new ready ends = absurd ready
+interrupts draw job c before behind old new ready ends = absurd ready
 interrupts (count s q style notices) job c before behind old new ready ends = absurd ready
 interrupts (stream seed n) job c before behind old new ready ends = absurd ready
 
@@ -81,7 +91,7 @@ interrupts (stream seed n) job c before behind old new ready ends = absurd ready
 
 pub counted : (T : Type 0) (w : Wish) (job : CountJob) (value : T) (before behind old new : Option (List ℕ)) → IsReady w (Count job) → EndsCount job (Ok value) old new
     → Serves w (Ok None) before behind old new
-counted T (count s q style notices) job value before behind old new (planned, plan_is, means, asked, style_is) ends =
+counted T (count s q style notices) job value before behind old new (planned, plan_is, means, asked, style_is, workers_are) ends =
     let written = rw (plan_is, style_is) at ends in record {
       text = (job.condition, means, (subject_of job.subject, asked, written));
       report = refl;
@@ -93,6 +103,8 @@ counted T (count s q style notices) job value before behind old new (planned, pl
 counted T (make s l notices) job value before behind old new ready ends = absurd ready
 counted T (pick seed hands l hints) job value before behind old new ready ends = absurd ready
 counted T conditions job value before behind old new ready ends = absurd ready
+counted T (make_with_tricks s l notices) job value before behind old new ready ends = absurd ready
+counted T draw job value before behind old new ready ends = absurd ready
 counted T (stream seed n) job value before behind old new ready ends = absurd ready
 
 count_leaves : (s : Search) (q : Questions) (style : _) (notices : _) (c : Cause) (before behind old new : Option (List ℕ)) → InterruptsCount s q style c old new
@@ -105,10 +117,10 @@ count_leaves s q style notices (Unclosed worker) before behind old new h = (h, �
 
 pub count_interrupts : (T : Type 0) (w : Wish) (job : CountJob) (c : Cause) (before behind old new : Option (List ℕ)) → IsReady w (Count job) → EndsCount {T = T} job (Err c) old new
     → Serves w (Err (Interrupted c)) before behind old new
-count_interrupts T (count s q style notices) job c before behind old new (planned, plan_is, means, asked, style_is) ends =
-    let run = rw (plan_is, style_is) at ends in
+count_interrupts T (count s q style notices) job c before behind old new (planned, plan_is, means, asked, style_is, workers_are) ends =
+    let run = rw (plan_is, style_is, workers_are) at ends in
     let subject = subject_of job.subject in
-    let leaves = count_leaves s q style notices c before behind old new (record { form = job.condition; means = means; subject = subject; asked = asked; run = run }) in record {
+    let leaves = count_leaves s q style notices c before behind old new (record { form = job.condition; means = means; subject = subject; asked = asked; workers = run.0; are_workers = run.1; run = run.2 }) in record {
       text = tt;
       report = tt;
       status = interrupted (count s q style notices) c planned ((job.condition, means), (subject, asked)) tt;
@@ -119,13 +131,15 @@ count_interrupts T (count s q style notices) job c before behind old new (planne
 count_interrupts T (make s l notices) job c before behind old new ready ends = absurd ready
 count_interrupts T (pick seed hands l hints) job c before behind old new ready ends = absurd ready
 count_interrupts T conditions job c before behind old new ready ends = absurd ready
+count_interrupts T (make_with_tricks s l notices) job c before behind old new ready ends = absurd ready
+count_interrupts T draw job c before behind old new ready ends = absurd ready
 count_interrupts T (stream seed n) job c before behind old new ready ends = absurd ready
 
 -- ---- a pick
 
 pub picked : {T : Type 0} (w : Wish) (job : PickJob) (value : T) (before behind old new : Option (List ℕ)) → IsReady w (Pick job) → EndsPicking {T = T} job (Ok value) before behind old new → Serves w (Ok None) before behind old new
-picked (pick seed hands l hints) job value before behind old new (planned, plan_is, format_is) ends = record {
-  text = rw (plan_is, format_is) at ends;
+picked (pick seed hands l hints) job value before behind old new (planned, plan_is, format_is, show_is) ends = record {
+  text = rw (plan_is, format_is, show_is) at ends;
   report = refl;
   status = served (pick seed hands l hints) 0 (inl refl) planned tt;
   untouched = tt;
@@ -134,11 +148,13 @@ picked (pick seed hands l hints) job value before behind old new (planned, plan_
 }
 picked (make s l notices) job value before behind old new ready ends = absurd ready
 picked conditions job value before behind old new ready ends = absurd ready
+picked (make_with_tricks s l notices) job value before behind old new ready ends = absurd ready
+picked draw job value before behind old new ready ends = absurd ready
 picked (count s q style notices) job value before behind old new ready ends = absurd ready
 picked (stream seed n) job value before behind old new ready ends = absurd ready
 
 pub pick_fails : (T : Type 0) (w : Wish) (job : PickJob) (f : Failure) (before behind old new : Option (List ℕ)) → IsReady w (Pick job) → EndsPicking {T = T} job (Err f) before behind old new → Serves w (Err f) before behind old new
-pick_fails T (pick seed hands l hints) job (Interrupted Memory) before behind old new (planned, plan_is, format_is) ends = record {
+pick_fails T (pick seed hands l hints) job (Interrupted Memory) before behind old new (planned, plan_is, format_is, show_is) ends = record {
   text = tt;
   report = tt;
   status = no_memory (pick seed hands l hints) 5 refl;
@@ -146,30 +162,31 @@ pick_fails T (pick seed hands l hints) job (Interrupted Memory) before behind ol
   stands = ends.1;
   due = planned;
 }
-pick_fails T (pick seed hands l hints) job (Interrupted Output) before behind old new (planned, plan_is, format_is) ends = record {
+pick_fails T (pick seed hands l hints) job (Interrupted Output) before behind old new (planned, plan_is, format_is, show_is) ends = record {
   text = tt;
   report = tt;
   status = served (pick seed hands l hints) 4 (inr refl) planned tt;
   untouched = λ bad. absurd cc;
-  stands = rw (plan_is, format_is) at ends;
+  stands = rw (plan_is, format_is, show_is) at ends;
   due = planned;
 }
-pick_fails T (pick seed hands l hints) job (Line line) before behind old new (planned, plan_is, format_is) ends = record {
+pick_fails T (pick seed hands l hints) job (Line line) before behind old new (planned, plan_is, format_is, show_is) ends = record {
   text = tt;
   report = tt;
   status = failed_input (pick seed hands l hints) 7 refl planned tt tt;
   untouched = λ bad. absurd cc;
-  stands = rw (plan_is, format_is) at ends;
+  stands = rw (plan_is, format_is, show_is) at ends;
   due = planned;
 }
-pick_fails T (pick seed hands l hints) job Input before behind old new (planned, plan_is, format_is) ends = record {
+pick_fails T (pick seed hands l hints) job Input before behind old new (planned, plan_is, format_is, show_is) ends = record {
   text = tt;
   report = tt;
   status = failed_input (pick seed hands l hints) 7 refl planned tt tt;
   untouched = λ bad. absurd cc;
-  stands = rw (plan_is, format_is) at ends;
+  stands = rw (plan_is, format_is, show_is) at ends;
   due = planned;
 }
+pick_fails T (pick seed hands l hints) job EndOfInput before behind old new ready ends = absurd ends
 pick_fails T (pick seed hands l hints) job (CommandLine text) before behind old new ready ends = absurd ends
 pick_fails T (pick seed hands l hints) job (Plan error) before behind old new ready ends = absurd ends
 pick_fails T (pick seed hands l hints) job (Label name) before behind old new ready ends = absurd ends
@@ -182,6 +199,8 @@ pick_fails T (pick seed hands l hints) job (Interrupted (Stopped worker)) before
 pick_fails T (pick seed hands l hints) job (Interrupted (Unclosed worker)) before behind old new ready ends = absurd ends
 pick_fails T (make s l notices) job f before behind old new ready ends = absurd ready
 pick_fails T conditions job f before behind old new ready ends = absurd ready
+pick_fails T (make_with_tricks s l notices) job f before behind old new ready ends = absurd ready
+pick_fails T draw job f before behind old new ready ends = absurd ready
 pick_fails T (count s q style notices) job f before behind old new ready ends = absurd ready
 pick_fails T (stream seed n) job f before behind old new ready ends = absurd ready
 
@@ -189,6 +208,8 @@ pick_fails T (stream seed n) job f before behind old new ready ends = absurd rea
 
 pub page_written : (w : Wish) (before behind old new : Option (List ℕ)) → IsReady w Conditions → AppendsAll old new language_page → Serves w (Ok None) before behind old new
 page_written conditions before behind old new ready text = record { text = text; report = refl; status = served conditions 0 (inl refl) tt tt; untouched = tt; stands = tt; due = tt }
+page_written (make_with_tricks s l notices) before behind old new ready text = absurd ready
+page_written draw before behind old new ready text = absurd ready
 page_written (make s l notices) before behind old new ready text = absurd ready
 page_written (count s q style notices) before behind old new ready text = absurd ready
 page_written (pick seed hands l hints) before behind old new ready text = absurd ready
@@ -196,6 +217,8 @@ page_written (stream seed n) before behind old new ready text = absurd ready
 
 pub page_breaks : (w : Wish) (before behind old new : Option (List ℕ)) → IsReady w Conditions → AppendsPart old new language_page → Serves w (Err (Interrupted Output)) before behind old new
 page_breaks conditions before behind old new ready part = record { text = tt; report = tt; status = served conditions 4 (inr refl) tt tt; untouched = λ bad. absurd cc; stands = part; due = refl }
+page_breaks (make_with_tricks s l notices) before behind old new ready part = absurd ready
+page_breaks draw before behind old new ready part = absurd ready
 page_breaks (make s l notices) before behind old new ready part = absurd ready
 page_breaks (count s q style notices) before behind old new ready part = absurd ready
 page_breaks (pick seed hands l hints) before behind old new ready part = absurd ready
@@ -204,6 +227,8 @@ page_breaks (stream seed n) before behind old new ready part = absurd ready
 pub values_written : (w : Wish) (r : StreamRequest) (before behind old new : Option (List ℕ)) → IsReady w (Stream r) → AppendsAll old new (lines r.seed r.count) → Serves w (Ok None) before behind old new
 values_written (stream seed n) r before behind old new (seed_is, count_is) text = record { text = rw (seed_is, count_is) at text; report = refl; status = served (stream seed n) 0 (inl refl) tt tt; untouched = tt; stands = tt; due = tt }
 values_written conditions r before behind old new ready text = absurd ready
+values_written (make_with_tricks s l notices) r before behind old new ready text = absurd ready
+values_written draw r before behind old new ready text = absurd ready
 values_written (count s q style notices) r before behind old new ready text = absurd ready
 values_written (make s l notices) r before behind old new ready text = absurd ready
 values_written (pick seed hands l hints) r before behind old new ready text = absurd ready
@@ -211,6 +236,154 @@ values_written (pick seed hands l hints) r before behind old new ready text = ab
 pub values_break : (w : Wish) (r : StreamRequest) (before behind old new : Option (List ℕ)) → IsReady w (Stream r) → AppendsPart old new (lines r.seed r.count) → Serves w (Err (Interrupted Output)) before behind old new
 values_break (stream seed n) r before behind old new (seed_is, count_is) part = record { text = tt; report = tt; status = served (stream seed n) 4 (inr refl) tt tt; untouched = λ bad. absurd cc; stands = rw (seed_is, count_is) at part; due = refl }
 values_break conditions r before behind old new ready part = absurd ready
+values_break (make_with_tricks s l notices) r before behind old new ready part = absurd ready
+values_break draw r before behind old new ready part = absurd ready
 values_break (count s q style notices) r before behind old new ready part = absurd ready
 values_break (make s l notices) r before behind old new ready part = absurd ready
 values_break (pick seed hands l hints) r before behind old new ready part = absurd ready
+
+-- ---- boards with tricks
+
+tricks_text : (w : Wish) (job : BoardsJob) (report : Report) (r : Option Report) (before behind old new : Option (List ℕ)) → IsReady w (WithTricks job) → EndsReady job (Ok report) before behind old new
+    → (job.report ≡ true) × (r ≡ Some report) ⊎ (job.report ≡ false) × (r ≡ None) → Serves w (Ok r) before behind old new
+tricks_text (make_with_tricks s l notices) job report r before behind old new ready ends asked =
+    let written = ends.ends s l notices ready in record {
+      text = (job.condition, ready.means, written.0);
+      report = elim asked [
+        | inl made ↦ rw made.1 (sym ready.report_is ∙ made.0, (job.condition, ready.means, written.1))
+        | inr none ↦ rw none.1 (sym ready.report_is ∙ none.0)
+      ];
+      status = served (make_with_tricks s l notices) 0 (inl refl) ready.planned (job.condition, ready.means);
+      untouched = tt;
+      stands = tt;
+      due = tt;
+    }
+tricks_text (make s l notices) job report r before behind old new ready ends asked = absurd ready
+tricks_text (pick seed hands l hints) job report r before behind old new ready ends asked = absurd ready
+tricks_text conditions job report r before behind old new ready ends asked = absurd ready
+tricks_text draw job report r before behind old new ready ends asked = absurd ready
+tricks_text (count s q style notices) job report r before behind old new ready ends asked = absurd ready
+tricks_text (stream seed n) job report r before behind old new ready ends asked = absurd ready
+
+pub tricks_reported : (w : Wish) (job : BoardsJob) (report : Report) (before behind old new : Option (List ℕ)) → IsReady w (WithTricks job) → EndsReady job (Ok report) before behind old new → job.report ≡ true
+    → Serves w (Ok (Some report)) before behind old new
+tricks_reported w job report before behind old new ready ends asked = tricks_text w job report (Some report) before behind old new ready ends (inl (asked, refl))
+
+pub tricks_unreported : (w : Wish) (job : BoardsJob) (report : Report) (before behind old new : Option (List ℕ)) → IsReady w (WithTricks job) → EndsReady job (Ok report) before behind old new → job.report ≡ false
+    → Serves w (Ok None) before behind old new
+tricks_unreported w job report before behind old new ready ends asked = tricks_text w job report None before behind old new ready ends (inr (asked, refl))
+
+-- how it breaks off
+tricks_broken : (s : Search) (l : Look) (form : Form) (c : Cause) (before behind old new : Option (List ℕ)) → Means s.where_text form
+    → (BreaksTold s l form c before behind old new × (c ≡ Spawn → new ≡ old))
+    ⊎ ((c ≡ Output) × (((line : RefusedLine) × StopsAtLine s l form line before behind old new) ⊎ FailsTold s l form before behind old new))
+    → ((form : Form) × Means s.where_text form × BreaksTold s l form c before behind old new) ⊎ ((fault : PickFault) × EndsTold s l fault before behind old new)
+tricks_broken s l form c before behind old new means (inl run) = inl (form, means, run.0)
+tricks_broken s l form c before behind old new means (inr (is, inl (line, stops))) = inr (Refused line, (form, means, stops))
+tricks_broken s l form c before behind old new means (inr (is, inr fails)) = inr (PickInput, (form, means, fails))
+
+pub tricks_fail : (w : Wish) (job : BoardsJob) (f : Failure) (before behind old new : Option (List ℕ)) → IsReady w (WithTricks job) → EndsReady job (Err f) before behind old new → Serves w (Err f) before behind old new
+tricks_fail (make_with_tricks s l notices) job (Interrupted Memory) before behind old new ready ends = record {
+  text = tt;
+  report = tt;
+  status = no_memory (make_with_tricks s l notices) 5 refl;
+  untouched = λ _. ends.ends s l notices ready;
+  stands = ends.ends s l notices ready;
+  due = ready.planned;
+}
+tricks_fail (make_with_tricks s l notices) job (Interrupted Output) before behind old new ready ends = record {
+  text = tt;
+  report = tt;
+  status = served (make_with_tricks s l notices) 4 (inr refl) ready.planned (job.condition, ready.means);
+  untouched = λ bad. absurd cc;
+  stands = tricks_broken s l job.condition Output before behind old new ready.means (ends.ends s l notices ready);
+  due = (ready.planned, (job.condition, ready.means));
+}
+tricks_fail (make_with_tricks s l notices) job (Interrupted Spawn) before behind old new ready ends = record {
+  text = tt;
+  report = tt;
+  status = interrupted (make_with_tricks s l notices) Spawn ready.planned (job.condition, ready.means) tt;
+  untouched = λ _. elim (ends.ends s l notices ready) [ inl run ↦ run.1 refl | inr bad ↦ absurd (let no = bad.0 in cc) ];
+  stands = tricks_broken s l job.condition Spawn before behind old new ready.means (ends.ends s l notices ready);
+  due = (ready.planned, (job.condition, ready.means));
+}
+tricks_fail (make_with_tricks s l notices) job (Interrupted (Stopped worker)) before behind old new ready ends = record {
+  text = tt;
+  report = tt;
+  status = interrupted (make_with_tricks s l notices) (Stopped worker) ready.planned (job.condition, ready.means) tt;
+  untouched = λ bad. absurd cc;
+  stands = tricks_broken s l job.condition (Stopped worker) before behind old new ready.means (ends.ends s l notices ready);
+  due = (ready.planned, (job.condition, ready.means));
+}
+tricks_fail (make_with_tricks s l notices) job (Interrupted (Unclosed worker)) before behind old new ready ends = record {
+  text = tt;
+  report = tt;
+  status = interrupted (make_with_tricks s l notices) (Unclosed worker) ready.planned (job.condition, ready.means) tt;
+  untouched = λ bad. absurd cc;
+  stands = tricks_broken s l job.condition (Unclosed worker) before behind old new ready.means (ends.ends s l notices ready);
+  due = (ready.planned, (job.condition, ready.means));
+}
+tricks_fail (make_with_tricks s l notices) job (Line line) before behind old new ready ends = record {
+  text = tt;
+  report = tt;
+  status = failed_input (make_with_tricks s l notices) 7 refl ready.planned (job.condition, ready.means) tt;
+  untouched = λ bad. absurd cc;
+  stands = (job.condition, ready.means, ends.ends s l notices ready);
+  due = (ready.planned, (job.condition, ready.means));
+}
+tricks_fail (make_with_tricks s l notices) job Input before behind old new ready ends = record {
+  text = tt;
+  report = tt;
+  status = failed_input (make_with_tricks s l notices) 7 refl ready.planned (job.condition, ready.means) tt;
+  untouched = λ bad. absurd cc;
+  stands = (job.condition, ready.means, ends.ends s l notices ready);
+  due = (ready.planned, (job.condition, ready.means));
+}
+tricks_fail (make_with_tricks s l notices) job EndOfInput before behind old new ready ends = absurd (ends.ends s l notices ready)
+tricks_fail (make_with_tricks s l notices) job (CommandLine text) before behind old new ready ends = absurd (ends.ends s l notices ready)
+tricks_fail (make_with_tricks s l notices) job (Plan error) before behind old new ready ends = absurd (ends.ends s l notices ready)
+tricks_fail (make_with_tricks s l notices) job (Label name) before behind old new ready ends = absurd (ends.ends s l notices ready)
+tricks_fail (make_with_tricks s l notices) job (Hand seat) before behind old new ready ends = absurd (ends.ends s l notices ready)
+tricks_fail (make_with_tricks s l notices) job (Condition error) before behind old new ready ends = absurd (ends.ends s l notices ready)
+tricks_fail (make_with_tricks s l notices) job (Question name error) before behind old new ready ends = absurd (ends.ends s l notices ready)
+tricks_fail (make_with_tricks s l notices) job Cells before behind old new ready ends = absurd (ends.ends s l notices ready)
+tricks_fail (make s l notices) job f before behind old new ready ends = absurd ready
+tricks_fail (pick seed hands l hints) job f before behind old new ready ends = absurd ready
+tricks_fail conditions job f before behind old new ready ends = absurd ready
+tricks_fail draw job f before behind old new ready ends = absurd ready
+tricks_fail (count s q style notices) job f before behind old new ready ends = absurd ready
+tricks_fail (stream seed n) job f before behind old new ready ends = absurd ready
+
+-- ---- a seed
+
+pub drawn : {T : Type 0} (w : Wish) (value : T) (before behind old new : Option (List ℕ)) → IsReady w Seed → EndsDraw {T = T} (Ok value) before behind old new → Serves w (Ok None) before behind old new
+drawn draw value before behind old new ready ends = record { text = ends; report = refl; status = served draw 0 (inl refl) tt tt; untouched = tt; stands = tt; due = tt }
+drawn (make s l notices) value before behind old new ready ends = absurd ready
+drawn (make_with_tricks s l notices) value before behind old new ready ends = absurd ready
+drawn (pick seed hands l hints) value before behind old new ready ends = absurd ready
+drawn conditions value before behind old new ready ends = absurd ready
+drawn (count s q style notices) value before behind old new ready ends = absurd ready
+drawn (stream seed n) value before behind old new ready ends = absurd ready
+
+pub draw_fails : (T : Type 0) (w : Wish) (f : Failure) (before behind old new : Option (List ℕ)) → IsReady w Seed → EndsDraw {T = T} (Err f) before behind old new → Serves w (Err f) before behind old new
+draw_fails T draw (Interrupted Output) before behind old new ready ends = record { text = tt; report = tt; status = served draw 4 (inr refl) tt tt; untouched = λ bad. absurd cc; stands = ends; due = tt }
+draw_fails T draw Input before behind old new ready ends = record { text = tt; report = tt; status = failed_input draw 7 refl tt tt tt; untouched = λ bad. absurd cc; stands = ends; due = tt }
+draw_fails T draw EndOfInput before behind old new ready ends = record { text = tt; report = tt; status = failed_input draw 7 refl tt tt tt; untouched = λ _. ends; stands = ends; due = tt }
+draw_fails T draw (Interrupted Memory) before behind old new ready ends = absurd ends
+draw_fails T draw (Interrupted Spawn) before behind old new ready ends = absurd ends
+draw_fails T draw (Interrupted (Stopped worker)) before behind old new ready ends = absurd ends
+draw_fails T draw (Interrupted (Unclosed worker)) before behind old new ready ends = absurd ends
+draw_fails T draw (Line line) before behind old new ready ends = absurd ends
+draw_fails T draw (CommandLine text) before behind old new ready ends = absurd ends
+draw_fails T draw (Plan error) before behind old new ready ends = absurd ends
+draw_fails T draw (Label name) before behind old new ready ends = absurd ends
+draw_fails T draw (Hand seat) before behind old new ready ends = absurd ends
+draw_fails T draw (Condition error) before behind old new ready ends = absurd ends
+draw_fails T draw (Question name error) before behind old new ready ends = absurd ends
+draw_fails T draw Cells before behind old new ready ends = absurd ends
+draw_fails T (make s l notices) f before behind old new ready ends = absurd ready
+draw_fails T (make_with_tricks s l notices) f before behind old new ready ends = absurd ready
+draw_fails T (pick seed hands l hints) f before behind old new ready ends = absurd ready
+draw_fails T conditions f before behind old new ready ends = absurd ready
+draw_fails T (count s q style notices) f before behind old new ready ends = absurd ready
+draw_fails T (stream seed n) f before behind old new ready ends = absurd ready

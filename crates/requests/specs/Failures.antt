@@ -6,7 +6,7 @@ use Rattle.dealrun.specs.declared.cause.Cause.TheVariants as cause
 use Rattle.requests.specs.declared.failure.Failure.{Failure}
 use Rattle.requests.specs.declared.failure.Failure.TheVariants.{CommandLine, Plan, Label, Hand}
 use Rattle.requests.specs.declared.failure.Failure.TheVariants.{Condition, Question, Cells, Interrupted}
-use Rattle.requests.specs.declared.failure.Failure.TheVariants.{Line, Input}
+use Rattle.requests.specs.declared.failure.Failure.TheVariants.{Line, Input, EndOfInput}
 use Rattle.requests.specs.declared.failure.QuestionName.{QuestionName}
 
 -- the exit status of a failure
@@ -25,6 +25,7 @@ status_of (Interrupted (cause.Stopped worker)) = 6
 status_of (Interrupted (cause.Unclosed worker)) = 6
 status_of (Line line) = 7
 status_of Input = 7
+status_of EndOfInput = 7
 
 -- that memory ran out in a parse is told as it is elsewhere
 abbrev pub failure_of : CondError → Failure

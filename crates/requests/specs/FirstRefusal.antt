@@ -13,13 +13,14 @@ use Rattle.plans.specs.declared.plan.PlanError.TheVariants.{FirstBoard}
 use Rattle.requests.specs.Counting.{Asks, IsAsked, IsQuestion}
 use Rattle.requests.specs.Makings.{CanDate, CanLabel, HasLabels, HasNumbers}
 use Rattle.requests.specs.Makings.{IsPlanned, Means, candidates_of, first_board_of}
-use Rattle.requests.specs.Requests.{Look, Questions, Search, Wish, conditions, count, make}
-use Rattle.requests.specs.Requests.{no_question, no_search, numbers_look, one_question}
+use Rattle.requests.specs.Makings.{lane_of, workers_in}
+use Rattle.requests.specs.Requests.{Look, Questions, Search, Wish, conditions, count, draw}
+use Rattle.requests.specs.Requests.{make, make_with_tricks, no_question, no_search, numbers_look, one_question}
 use Rattle.requests.specs.Requests.{pick, stream, two_questions}
 use Rattle.requests.specs.declared.failure.Failure.{Failure}
 use Rattle.requests.specs.declared.failure.Failure.TheVariants.{Plan, Label, Hand}
 use Rattle.requests.specs.declared.failure.Failure.TheVariants.{Cells, Condition, Question}
-use Rattle.requests.specs.declared.failure.Failure.TheVariants.{Interrupted, Line, Input}
+use Rattle.requests.specs.declared.failure.Failure.TheVariants.{Interrupted, Line, Input, EndOfInput}
 use Rattle.requests.specs.declared.failure.LabelName.TheVariants.{Event, Site, Date}
 use Rattle.requests.specs.declared.failure.QuestionName.TheVariants.{Of, By}
 use Rattle.statistics.specs.Counting.{Asked, Subject, cells_of}
@@ -27,8 +28,8 @@ use Rattle.statistics.specs.Counting.{Asked, Subject, cells_of}
 -- what a plan has to meet, by the refusal that says that it doesn't
 abbrev pub Meets : Search → Look → Failure → Type 0
 Meets s l (Plan Range) = s.first + candidates_of s ≤ 2 ^ 40
-Meets s l (Plan Workers) = (0 < s.workers) × (s.workers ≤ 16)
-Meets s l (Plan Capacity) = (0 < s.lane) × (s.lane ≤ 4096)
+Meets s l (Plan Workers) = (0 < workers_in s.workers) × (workers_in s.workers ≤ 16)
+Meets s l (Plan Capacity) = (0 < lane_of s) × (lane_of s ≤ 4096)
 Meets s l (Plan Boards) = s.boards ≡ Some 0 → ⊥
 Meets s l (Plan FirstBoard) = (0 < first_board_of l) × (first_board_of l ≤ 2 ^ 40)
 Meets s l (Label Event) = CanLabel l.event
@@ -127,10 +128,26 @@ IsPickDue s l (Line line) = IsPlanned s l
 IsPickDue s l Input = IsPlanned s l
 IsPickDue s l failure = IsPlanDue s l failure
 
+-- why a `make` with tricks fails: as without; else a line of the input is refused, or the input
+-- failed
+abbrev pub IsTricksDue : Search → Look → Failure → Type 0
+IsTricksDue s l (Line line) = IsPlanned s l × ((form : Form) × Means s.where_text form)
+IsTricksDue s l Input = IsPlanned s l × ((form : Form) × Means s.where_text form)
+IsTricksDue s l failure = IsMakeDue s l failure
+
+-- why no seed is drawn
+abbrev pub IsDrawDue : Failure → Type 0
+IsDrawDue (Interrupted Output) = Unit {0}
+IsDrawDue Input = Unit {0}
+IsDrawDue EndOfInput = Unit {0}
+IsDrawDue _ = ⊥
+
 -- why a wish fails
 abbrev pub IsDueFor : Wish → Failure → Type 0
 IsDueFor (stream seed n) failure = failure ≡ Interrupted Output
 IsDueFor conditions failure = failure ≡ Interrupted Output
 IsDueFor (make s l notices) failure = IsMakeDue s l failure
+IsDueFor (make_with_tricks s l notices) failure = IsTricksDue s l failure
+IsDueFor draw failure = IsDrawDue failure
 IsDueFor (count s questions style notices) failure = IsCountDue s questions failure
 IsDueFor (pick seed hands l hints) failure = IsPickDue (no_search seed hands) l failure

@@ -3,7 +3,8 @@ use Rattle.std.specs.Prelude.{ℕ, List}
 use Rattle.boards.specs.Layouts.{Layout}
 use Rattle.cond_lang.specs.Form.{Form}
 use Rattle.plans.specs.Text.{text_in}
-use Rattle.notations.specs.Formats.{layout_of}
+use Rattle.notations.specs.Formats.{layout_of, layout_showing}
+use Rattle.notations.specs.declared.show.Show.{Show}
 use Rattle.notations.specs.declared.printer.Format.{Format}
 use Rattle.plans.specs.Plans.{Planned}
 use Rattle.requests.specs.Makings.{plan_of}
@@ -13,6 +14,11 @@ use Rattle.requests.specs.Requests.{Look, Search}
 abbrev pub text_as : Format → Planned → Form → List ℕ
 text_as format plan form = text_in (layout_of format plan.heading) plan form
 
+-- the same where these hands are written
+abbrev pub text_showing : Format → Show → Planned → Form → List ℕ
+text_showing format show plan form =
+    text_in (layout_showing format show plan.heading) plan form
+
 -- how boards are laid out
 abbrev pub layout_in : Search → Look → Layout
-layout_in s l = layout_of l.format (plan_of s l).heading
+layout_in s l = layout_showing l.format l.show (plan_of s l).heading

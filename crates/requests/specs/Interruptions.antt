@@ -1,44 +1,37 @@
--- What stands on the output of a wish that wasn't done to its end.
-use Rattle.std.specs.Prelude.{◌≡◌, ℕ, List, [], Err, Option, Some}
-use Rattle.boards.specs.Layouts.{Layout}
+-- What is on the output of a wish that wasn't done to its end.
+use Rattle.std.specs.Prelude.{◌≡◌, ◌⊎◌, ℕ, List, [], Err, Option, Some}
 use Rattle.cond_lang.specs.Form.{Form}
-use Rattle.dealrun.specs.Interrupted.{InterruptedIn}
 use Rattle.dealrun.specs.declared.cause.Cause.{Cause}
 use Rattle.dealrun.specs.declared.cause.Cause.TheVariants.{Memory}
-use Rattle.lanes.specs.Views.{OutView}
 use Rattle.picking.specs.Outcomes.{Picks}
 use Rattle.picking.specs.declared.fault.PickFault.{PickFault}
 use Rattle.picking.specs.declared.fault.PickFault.TheVariants as picks
-use Rattle.plans.specs.Plans.{Planned}
 use Rattle.sinks.specs.Appended.{AppendsPart}
 use Rattle.dealrun.specs.Values.{lines}
 use Rattle.requests.specs.Counting.{IsAsked}
 use Rattle.requests.specs.Formats.{layout_in}
-use Rattle.requests.specs.Makings.{Means, plan_of}
-use Rattle.requests.specs.Requests.{Look, Questions, Search, Wish, conditions, count, make}
-use Rattle.requests.specs.Requests.{no_search, numbers_look, pick, stream}
-use Rattle.requests.specs.Wishes.{language_page}
+use Rattle.requests.specs.Makings.{AreWorkers, Means, plan_of}
+use Rattle.requests.specs.Requests.{Look, Questions, Search, Wish, conditions, count, draw, make}
+use Rattle.requests.specs.Requests.{make_with_tricks, no_search, numbers_look, pick, stream}
+pub use Rattle.requests.specs.Runs.{InterruptsRun}
+use Rattle.requests.specs.WithTricks.{BreaksTold, FailsTold, StopsAtLine}
+use Rattle.requests.specs.Wishes.{IsDrawn, language_page, seed_text}
 use Rattle.requests.specs.declared.failure.Failure.{Failure}
 use Rattle.requests.specs.declared.failure.Failure.TheVariants.{Interrupted, Line, Input}
 use Rattle.statistics.specs.Counting.{Subject, counting}
 use Rattle.statistics.specs.declared.style.Style.{Style}
-
--- a run was interrupted for this cause: there are lanes as it left them, and the bytes are those
--- that the verdicts taken from them print
-pub record InterruptsRun (layout : Layout) (plan : Planned) (form : Form) (cause : Cause)
-    (old new : Option (List ℕ)) : Type 0 where
-  pub lanes : List OutView
-  pub boards : ℕ
-  pub stands : InterruptedIn layout plan form cause lanes boards old new
 
 -- the run of a `make` or a `find` was interrupted
 pub record InterruptsMake (s : Search) (l : Look) (cause : Cause) (old new : Option (List ℕ))
     : Type 0 where
   pub form : Form
   pub means : Means s.where_text form
-  pub run : InterruptsRun (layout_in s l) (plan_of s l) form cause old new
+  pub workers : ℕ
+  pub are_workers : AreWorkers s.workers workers
+  pub run : InterruptsRun (layout_in s l) (record (plan_of s l) { workers = workers }) form cause
+      old new
 
--- the run of a `count` was interrupted: no board is written, and the table stands as far as it was
+-- the run of a `count` was interrupted: no board is written, and the table as far as it was
 -- written
 pub record InterruptsCount (s : Search) (questions : Questions) (style : Style) (cause : Cause)
     (old new : Option (List ℕ)) : Type 0 where
@@ -46,28 +39,49 @@ pub record InterruptsCount (s : Search) (questions : Questions) (style : Style) 
   pub means : Means s.where_text form
   pub subject : Subject
   pub asked : IsAsked questions subject
-  pub run : InterruptsRun (counting style subject) (plan_of s numbers_look) form cause old new
+  pub workers : ℕ
+  pub are_workers : AreWorkers s.workers workers
+  pub run : InterruptsRun (counting style subject)
+      (record (plan_of s numbers_look) { workers = workers }) form cause old new
 
 -- picking ended with this fault
 abbrev pub EndsPick : Search → Look → PickFault → (before behind old new : Option (List ℕ)) → Type 0
 EndsPick s l fault before behind old new =
     Picks (layout_in s l) (plan_of s l) (Err fault) before behind old new
 
+-- a `make` with tricks was ended by this fault of its input
+abbrev pub EndsTold : Search → Look → PickFault → (before behind old new : Option (List ℕ)) → Type 0
+EndsTold s l (picks.Refused line) before behind old new =
+    (form : Form) × Means s.where_text form × StopsAtLine s l form line before behind old new
+EndsTold s l picks.Input before behind old new =
+    (form : Form) × Means s.where_text form × FailsTold s l form before behind old new
+EndsTold s l picks.Output before behind old new = ⊥
+
 -- a wish was broken off for this cause: of a text that needs no run a proper prefix is written. The
--- output of a `pick` may also fail where it passes on what stands before a fault of its input
+-- output of a `pick` or of a `make` with tricks may also fail where it passes on what is before
+-- a fault of its input
 abbrev pub BreaksOff : Wish → Cause → (before behind old new : Option (List ℕ)) → Type 0
 BreaksOff (stream seed n) cause before behind old new = AppendsPart old new (lines seed n)
 BreaksOff conditions cause before behind old new = AppendsPart old new language_page
 BreaksOff (make s l notices) cause before behind old new = InterruptsMake s l cause old new
+BreaksOff (make_with_tricks s l notices) cause before behind old new =
+    ((form : Form) × Means s.where_text form × BreaksTold s l form cause before behind old new)
+    ⊎ ((fault : PickFault) × EndsTold s l fault before behind old new)
+BreaksOff draw cause before behind old new =
+    (new ≡ old)
+    ⊎ ((bytes : List ℕ) × IsDrawn bytes before behind × AppendsPart old new (seed_text bytes))
 BreaksOff (count s questions style notices) cause before behind old new =
     InterruptsCount s questions style cause old new
 BreaksOff (pick seed hands l hints) cause before behind old new =
     (fault : PickFault) × EndsPick (no_search seed hands) l fault before behind old new
 
--- a wish was ended by this fault of its input, which only a `pick` reads
+-- a wish was ended by this fault of its input; of a `draw` nothing is written then
 abbrev pub EndsFor : Wish → PickFault → (before behind old new : Option (List ℕ)) → Type 0
 EndsFor (pick seed hands l hints) fault before behind old new =
     EndsPick (no_search seed hands) l fault before behind old new
+EndsFor (make_with_tricks s l notices) fault before behind old new =
+    EndsTold s l fault before behind old new
+EndsFor draw picks.Input before behind old new = new ≡ old
 EndsFor w fault before behind old new = ⊥
 
 -- what a wish leaves that fails so: nothing, unless it was broken off. `before` and `behind` are

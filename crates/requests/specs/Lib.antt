@@ -5,6 +5,8 @@ pub mod Jobs
 pub mod Formats
 pub mod Wishes
 pub mod FirstRefusal
+pub mod Runs
+pub mod WithTricks
 pub mod Interruptions
 pub mod Failures
 pub mod Lines

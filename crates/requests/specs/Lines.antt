@@ -68,6 +68,8 @@ abbrev pub fault_text : LineFault → List ℕ
 fault_text fault.NotANumber = codes ": not a number\n"
 fault_text fault.NotBelow = codes ": not below 1099511627776\n"
 fault_text fault.TooMany = codes ": too many numbers\n"
+fault_text fault.NotTricks = codes ": not tricks\n"
+fault_text fault.Missing = codes ": missing\n"
 
 -- a line of the input is refused, counted from 1
 abbrev pub input_line : RefusedLine → List ℕ
@@ -86,3 +88,4 @@ line_of failure.Cells = codes "by refused: more than 1048576 cells\n"
 line_of (failure.Interrupted cause) = cause_line cause
 line_of (failure.Line refused) = input_line refused
 line_of failure.Input = codes "input failed\n"
+line_of failure.EndOfInput = codes "input failed\n"

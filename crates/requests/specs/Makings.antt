@@ -10,15 +10,35 @@ use Rattle.predeal.specs.PredealtHands.{first_refused, fixed_of}
 use Rattle.boards.specs.Labels.{IsDate, IsLabel}
 use Rattle.plans.specs.Plans.{Planned}
 use Rattle.requests.specs.Requests.{Look, Search}
+use Rattle.requests.specs.declared.workers.Workers.{Workers}
+use Rattle.requests.specs.declared.workers.Workers.TheVariants.{Number, Auto}
 
 -- how many candidates are tried: as many as are asked for, or all that there are from the first on
 abbrev pub candidates_of : Search → ℕ
 candidates_of s = unwrap_or s.candidates (2 ^ 40 - s.first)
 
+-- the number of workers in a plan: 1 with `auto`, until the machine's cores are counted
+abbrev pub workers_in : Workers → ℕ
+workers_in (Number n) = n
+workers_in Auto = 1
+
+-- how many workers a run has: what is asked for; with `auto` some number from 1 to 16
+abbrev pub AreWorkers : Workers → ℕ → Type 0
+AreWorkers (Number n) workers = workers ≡ n
+AreWorkers Auto workers = (0 < workers) × (workers ≤ 16)
+
+-- how many verdicts a lane holds, if that isn't given
+abbrev pub usual_lane : Workers → ℕ
+usual_lane (Number n) = 64
+usual_lane Auto = 4096
+
+abbrev pub lane_of : Search → ℕ
+lane_of s = unwrap_or s.lane (usual_lane s.workers)
+
 abbrev pub first_board_of : Look → ℕ
 first_board_of l = unwrap_or l.first_board 1
 
--- the labels of all boards, and what stands in place of Law 2
+-- the labels of all boards, and what replaces Law 2
 abbrev pub heading_of : Look → HeadingView
 heading_of l = record { event = l.event; site = l.site; date = l.date }
 
@@ -31,8 +51,8 @@ plan_of s l = record {
   seed = s.seed;
   first = s.first;
   count = candidates_of s;
-  workers = s.workers;
-  capacity = s.lane;
+  workers = workers_in s.workers;
+  capacity = lane_of s;
   limit = s.boards;
   first_board = first_board_of l;
   heading = heading_of l;
@@ -43,12 +63,12 @@ plan_of s l = record {
 -- the plan's numbers are in range
 pub record HasNumbers (s : Search) (l : Look) : Type 0 where
   pub candidates : s.first + candidates_of s ≤ 2 ^ 40
-  pub workers : (0 < s.workers) × (s.workers ≤ 16)
-  pub lane : (0 < s.lane) × (s.lane ≤ 4096)
+  pub workers : (0 < workers_in s.workers) × (workers_in s.workers ≤ 16)
+  pub lane : (0 < lane_of s) × (lane_of s ≤ 4096)
   pub boards : s.boards ≡ Some 0 → ⊥
   pub first_board : (0 < first_board_of l) × (first_board_of l ≤ 2 ^ 40)
 
--- a text that is given can be written as a label, or as a date
+-- a text given can be written as a label, or as a date
 abbrev pub CanLabel : Option (List ℕ) → Type 0
 CanLabel given = (t : List ℕ) → given ≡ Some t → IsLabel t
 
@@ -61,7 +81,7 @@ pub record HasLabels (l : Look) : Type 0 where
   pub site : CanLabel l.site
   pub date : CanDate l.date
 
--- each text of a hand that is given is a hand, without a card of an earlier one
+-- each text of a hand given is a hand, without a card of an earlier one
 abbrev pub HasHands : Search → Type 0
 HasHands s = first_refused s.hands ≡ None
 

@@ -7,7 +7,8 @@ use Rattle.requests.specs.Makings.{Means, plan_of}
 use Rattle.requests.specs.Reports.{report_of}
 use Rattle.sinks.specs.Appended.{AppendsAll}
 use Rattle.notations.specs.declared.printer.Format.{Format}
-use Rattle.requests.specs.Requests.{Look, Search, Wish, conditions, count, make, pick, stream}
+use Rattle.requests.specs.Requests.{Look, Search, Wish, conditions, count, draw, make}
+use Rattle.requests.specs.Requests.{make_with_tricks, pick, stream}
 use Rattle.requests.specs.declared.request.Notices.{Notices}
 use Rattle.requests.specs.declared.report.Report.{Report}
 
@@ -31,11 +32,14 @@ abbrev pub ReportsFor : Wish → Option Report → Type 0
 ReportsFor (stream seed n) report = report ≡ None
 ReportsFor conditions report = report ≡ None
 ReportsFor (make s l notices) report = ReportsOf s l notices report
+ReportsFor (make_with_tricks s l notices) report = ReportsOf s l notices report
+ReportsFor draw report = report ≡ None
 ReportsFor (count s questions style notices) report = report ≡ None
 ReportsFor (pick seed hands l hints) report = report ≡ None
 
 abbrev pub wants_report : Option Wish → Bool
 wants_report (Some (make s l notices)) = notices.report
+wants_report (Some (make_with_tricks s l notices)) = notices.report
 wants_report _ = false
 
 -- the report of a run was appended

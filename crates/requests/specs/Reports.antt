@@ -11,7 +11,7 @@ use Rattle.notations.specs.declared.printer.Format.{Format}
 abbrev pub boards_text : ℕ → List ℕ
 boards_text boards = decimal boards ++ (if boards == 1 then codes " board" else codes " boards")
 
--- so many candidates, from `first` on
+-- this many candidates, from `first` on
 abbrev pub candidates_text : ℕ → ℕ → List ℕ
 candidates_text first candidates =
     if candidates == 0 then codes "no candidates"

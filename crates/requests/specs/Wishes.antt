@@ -1,5 +1,9 @@
 -- What is done for a wish, and how it ends.
-use Rattle.std.specs.Prelude.{◌≡◌, ◌⊎◌, ℕ, List, [], ◌∷◌, Contains, Ok, Option, Some}
+use Rattle.std.specs.Prelude.{◌≡◌, ◌⊎◌, ℕ, List, [], ◌∷◌, ◌++◌, Contains, Ok, Option, Some}
+use Rattle.std.specs.Prelude.{decimal, length}
+use Rattle.std.specs.Int.{from_le_bytes}
+use Rattle.std.specs.Int.{w32}
+use Rattle.std.specs.Io.KnownBytes.{Consumes}
 use Rattle.std.specs.List.{flat_map}
 use Rattle.cond_lang.specs.Form.{Form}
 use Rattle.cond_lang.specs.declared.language.TheConstants.{LANGUAGE}
@@ -7,15 +11,25 @@ use Rattle.picking.specs.Outcomes.{Picks}
 use Rattle.sinks.specs.Appended.{AppendsAll}
 use Rattle.dealrun.specs.Values.{lines}
 use Rattle.requests.specs.Counting.{IsAsked, table_by}
-use Rattle.requests.specs.Formats.{layout_in, text_as}
+use Rattle.requests.specs.Formats.{layout_in, text_showing}
 use Rattle.requests.specs.Makings.{IsPlanned, Means, plan_of}
-use Rattle.requests.specs.Requests.{Wish, conditions, count, make, no_search}
-use Rattle.requests.specs.Requests.{numbers_look, pick, stream}
+use Rattle.requests.specs.Requests.{Wish, conditions, count, draw, make, make_with_tricks}
+use Rattle.requests.specs.Requests.{no_search, numbers_look, pick, stream}
+use Rattle.requests.specs.WithTricks.{WritesTold}
 use Rattle.statistics.specs.Counting.{Subject}
 
 -- the page of the language, of its parts
 abbrev pub language_page : List ℕ
 language_page = flat_map (λ part. part.now) LANGUAGE
+
+-- these are the next four bytes of the input
+pub record IsDrawn (bytes : List ℕ) (before behind : Option (List ℕ)) : Type 0 where
+  pub four : length bytes ≡ 4
+  pub consumed : Consumes before behind bytes
+
+-- the number that they are, the lowest first, and LF
+abbrev pub seed_text : List ℕ → List ℕ
+seed_text bytes = decimal (from_le_bytes w32 bytes) ++ (10 ∷ [])
 
 -- what a wish asks for was appended; `before` and `behind` are what the input had to give before
 -- and behind it
@@ -24,7 +38,11 @@ AppendsFrom (stream seed n) before behind old new = AppendsAll old new (lines se
 AppendsFrom conditions before behind old new = AppendsAll old new language_page
 AppendsFrom (make s l notices) before behind old new =
     (form : Form) × Means s.where_text form
-    × AppendsAll old new (text_as l.format (plan_of s l) form)
+    × AppendsAll old new (text_showing l.format l.show (plan_of s l) form)
+AppendsFrom (make_with_tricks s l notices) before behind old new =
+    (form : Form) × Means s.where_text form × WritesTold s l form before behind old new
+AppendsFrom draw before behind old new =
+    (bytes : List ℕ) × IsDrawn bytes before behind × AppendsAll old new (seed_text bytes)
 AppendsFrom (count s questions style notices) before behind old new =
     (form : Form) × Means s.where_text form
     × ((subject : Subject) × IsAsked questions subject
@@ -43,6 +61,8 @@ abbrev pub HasPlan : Wish → Type 0
 HasPlan (stream seed n) = Unit {0}
 HasPlan conditions = Unit {0}
 HasPlan (make s l notices) = IsPlanned s l
+HasPlan (make_with_tricks s l notices) = IsPlanned s l
+HasPlan draw = Unit {0}
 HasPlan (count s questions style notices) = IsPlanned s numbers_look
 HasPlan (pick seed hands l hints) = IsPlanned (no_search seed hands) l
 
@@ -51,6 +71,8 @@ abbrev pub HasMeaning : Wish → Type 0
 HasMeaning (stream seed n) = Unit {0}
 HasMeaning conditions = Unit {0}
 HasMeaning (make s l notices) = (form : Form) × Means s.where_text form
+HasMeaning (make_with_tricks s l notices) = (form : Form) × Means s.where_text form
+HasMeaning draw = Unit {0}
 HasMeaning (count s questions style notices) =
     ((form : Form) × Means s.where_text form) × ((subject : Subject) × IsAsked questions subject)
 HasMeaning (pick seed hands l hints) = Unit {0}
@@ -60,6 +82,8 @@ abbrev pub HasRun : Wish → Type 0
 HasRun (stream seed n) = ⊥
 HasRun conditions = ⊥
 HasRun (make s l notices) = Unit {0}
+HasRun (make_with_tricks s l notices) = Unit {0}
+HasRun draw = ⊥
 HasRun (count s questions style notices) = Unit {0}
 HasRun (pick seed hands l hints) = ⊥
 
@@ -68,6 +92,8 @@ abbrev pub HasInput : Wish → Type 0
 HasInput (stream seed n) = ⊥
 HasInput conditions = ⊥
 HasInput (make s l notices) = ⊥
+HasInput (make_with_tricks s l notices) = Unit {0}
+HasInput draw = Unit {0}
 HasInput (count s questions style notices) = ⊥
 HasInput (pick seed hands l hints) = Unit {0}
 
@@ -85,7 +111,7 @@ pub record IsStatusOf (w : Wish) (status : ℕ) : Type 0 where
       → HasPlan w × HasMeaning w
   -- the plan, a label or a hand is refused
   pub unplanned : status ≡ 2 → HasPlan w → ⊥
-  -- the condition or a question is refused, and the plan stands
+  -- the condition or a question is refused, and the plan is sound
   pub meaningless : status ≡ 3 → HasPlan w × (HasMeaning w → ⊥)
   -- only a run over lanes has threads and workers
   pub threads : status ≡ 6 → HasRun w

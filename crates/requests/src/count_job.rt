@@ -2,9 +2,11 @@
 
 ghost use Rattle.std.specs.Prelude.{◌≡◌, ◌≤◌, ◌^◌};
 ghost use Rattle.boards.specs.Settings.{by_law};
+ghost use Rattle.requests.specs.Makings.{workers_in};
 ghost use Rattle.statistics.specs.Counting.{cells_of};
 ghost use Rattle.statistics.specs.Subjects.{subject_of};
 
+use crate::workers::Workers;
 use cond_lang::Cond;
 use plans::Plan;
 use statistics::{Style, Subject};
@@ -14,6 +16,9 @@ use statistics::{Style, Subject};
 pub struct CountJob {
     pub plan: Plan,
     pub condition: Cond,
+    /// How many workers are asked for: with `Auto` the plan has one, until the job is done.
+    pub workers: Workers,
+    ghost workers_are: { plan.workers ≡ workers_in workers },
     pub style: Style,
     pub subject: Subject,
     ghost small: { cells_of (subject_of subject) ≤ 2 ^ 20 },

@@ -57,6 +57,8 @@ pub enum Failure {
     Line(RefusedLine),
     /// The input couldn't be read.
     Input,
+    /// The input ended too soon.
+    EndOfInput,
 }
 
 impl From<SinkFault> for Failure {
@@ -184,6 +186,8 @@ fn of_fault(fault: LineFault) -> &'static str
         LineFault::NotANumber => ": not a number\n",
         LineFault::NotBelow => ": not below 1099511627776\n",
         LineFault::TooMany => ": too many numbers\n",
+        LineFault::NotTricks => ": not tricks\n",
+        LineFault::Missing => ": missing\n",
     }
 }
 
@@ -221,7 +225,7 @@ impl Failure {
                 Cause::Memory => 5,
                 Cause::Spawn | Cause::Stopped { .. } | Cause::Unclosed { .. } => 6,
             },
-            Failure::Line(_) | Failure::Input => 7,
+            Failure::Line(_) | Failure::Input | Failure::EndOfInput => 7,
         }
     }
 
@@ -239,6 +243,7 @@ impl Failure {
             Failure::Interrupted(cause) => of_cause(*cause),
             Failure::Line(refused) => of_line(*refused),
             Failure::Input => Message::plain("input failed\n"),
+            Failure::EndOfInput => Message::plain("input failed\n"),
         }
     }
 

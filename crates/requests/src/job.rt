@@ -1,8 +1,9 @@
 //! Jobs: requests that were accepted, ready to be done, and how they are done.
 
 ghost use Rattle.std.specs.Prelude.{IfErr, IfOk, ◌≡◌, ◌-◌, ◌+◌, ◌^◌, ◌<◌};
-ghost use Rattle.requests.specs.Jobs.{IsReady, IsRefused, ReadsInput, Serves};
-ghost use Rattle.requests.specs.Requests.{count, look_of, make, questions_of, search_of, wish_of};
+ghost use Rattle.requests.specs.Jobs.{IsReady, IsReadyRun, IsRefused, ReadsInput, Serves};
+ghost use Rattle.requests.specs.Requests.{count, look_of, make, make_with_tricks, questions_of};
+ghost use Rattle.requests.specs.Requests.{search_of, wish_of};
 ghost use Rattle.requests.specs.Requests.{Wish};
 ghost use Rattle.requests.specs.declared.request.Notices.{Notices as ANotices};
 ghost use Rattle.requests.specs.Failures.{CountsInput, faults_in, status_of};
@@ -10,16 +11,20 @@ ghost use Rattle.requests.specs.Wishes.{language_page};
 ghost use Rattle.requests.specs.internal.Ends.{EndsBoards, EndsCount, EndsPicking, FaultsOfRun};
 ghost use Rattle.sinks.specs.Sinks.{AppendsOrBreaksOff, CountsFault};
 
+use crate::boards_job::BoardsJob;
 use crate::count_job::CountJob;
 use crate::failure::Failure;
 use crate::questions::Questions;
 use crate::report::Report;
 use crate::request::{Notices, Request, StreamRequest};
 use crate::search::{Look, Search, planned};
+use crate::seed_job::draw;
+use crate::tricks_job::write_with_tricks;
+use crate::workers::worked;
 use cond_lang::{Cond, LANGUAGE};
 use dealrun::{Cause, RunFault, run_and_count};
 use lanes::OpenGate;
-use notations::{AnyPrinter, Format};
+use notations::{AnyPrinter, Format, Show};
 use picking::{PickFault, Source, pick};
 use plans::Plan;
 use sinks::{Sink, SinkFault, put_all};
@@ -32,20 +37,13 @@ use std::thread::Threads;
 #[derive(Drop)]
 pub enum Job {
     Boards(BoardsJob),
+    /// Boards with their tricks, of which the input tells.
+    WithTricks(BoardsJob),
     Count(CountJob),
     Pick(PickJob),
     Conditions,
+    Seed,
     Stream(StreamRequest),
-}
-
-/// A run: the boards of the accepted ones among a plan's candidates.
-#[derive(Drop)]
-pub struct BoardsJob {
-    pub plan: Plan,
-    pub condition: Cond,
-    pub format: Format,
-    /// Whether the boards and the candidates are counted for a report.
-    pub report: bool,
 }
 
 /// The boards of the candidates whose numbers the input gives.
@@ -53,6 +51,7 @@ pub struct BoardsJob {
 pub struct PickJob {
     pub plan: Plan,
     pub format: Format,
+    pub show: Show,
 }
 
 /// Returns the job of a request.
@@ -69,13 +68,24 @@ pub fn prepare(alloc: Global, request: &Request<'_>) -> Result<Job, Failure>
         Request::Make {
             search,
             look,
+            tricks,
             notices,
-        } => boards_job(alloc, search, look, notices),
+        } => {
+            let job = boards_job(alloc, search, look, notices)?;
+            if *tricks {
+                Ok(Job::WithTricks(job))
+            } else {
+                Ok(Job::Boards(job))
+            }
+        }
         Request::Find {
             search,
             format,
             notices,
-        } => boards_job(alloc, search, &Look::plain(*format), notices),
+        } => {
+            let job = boards_job(alloc, search, &Look::plain(*format), notices)?;
+            Ok(Job::Boards(job))
+        }
         Request::Count {
             search,
             questions,
@@ -89,10 +99,11 @@ pub fn prepare(alloc: Global, request: &Request<'_>) -> Result<Job, Failure>
             ..
         } => {
             let plan = planned(&Search::none(*seed, *hands), look)?;
-            let format = look.format;
-            Ok(Job::Pick(PickJob { plan, format }))
+            let Look { format, show, .. } = *look;
+            Ok(Job::Pick(PickJob { plan, format, show }))
         }
         Request::Conditions => Ok(Job::Conditions),
+        Request::Seed => Ok(Job::Seed),
         Request::Stream(request) => Ok(Job::Stream(*request)),
     }
 }
@@ -103,20 +114,24 @@ fn boards_job(
     search: &Search<'_>,
     look: &Look<'_>,
     notices: &Notices,
-) -> Result<Job, Failure>
+) -> Result<BoardsJob, Failure>
     ensures ready { IfOk result
-        (IsReady (make (search_of search.now) (look_of look.now) notices.now)) }
+        (IsReadyRun (search_of search.now) (look_of look.now) notices.now) }
     ensures refused { IfErr result
         (IsRefused (make (search_of search.now) (look_of look.now) notices.now)) }
+    ensures refused_with_tricks { IfErr result
+        (IsRefused (make_with_tricks (search_of search.now) (look_of look.now) notices.now)) }
 {
     let plan = planned(search, look)?;
     let condition = search.condition(alloc)?;
-    Ok(Job::Boards(BoardsJob {
+    Ok(BoardsJob {
         plan,
         condition,
         format: look.format,
+        show: look.show,
+        workers: search.workers,
         report: notices.report,
-    }))
+    })
 }
 
 /// Returns the job of a `count`.
@@ -137,6 +152,7 @@ fn count_job(
     Ok(Job::Count(CountJob {
         plan,
         condition,
+        workers: search.workers,
         style,
         subject,
     }))
@@ -157,15 +173,18 @@ fn write_boards<R: Threads + Wait + Clone + Send + 'static, O: Sink>(
         plan,
         condition,
         format,
+        show,
+        workers,
         ..
     } = job;
-    let Ok(mut printer) = AnyPrinter::new(alloc, format, plan.heading()) else {
+    let run = worked(rt, &plan, workers);
+    let Ok(mut printer) = AnyPrinter::showing(alloc, format, show, plan.heading()) else {
         return Err(Cause::Memory);
     };
     let Ok(gate) = Arc::new(alloc, OpenGate) else {
         return Err(Cause::Memory);
     };
-    match run_and_count(rt, alloc, &plan, condition, &mut printer, out, gate) {
+    match run_and_count(rt, alloc, &run, condition, &mut printer, out, gate) {
         Ok(counted) => Ok(Report {
             plan,
             format,
@@ -190,9 +209,11 @@ fn write_table<R: Threads + Wait + Clone + Send + 'static, O: Sink>(
     let CountJob {
         plan,
         condition,
+        workers,
         style,
         subject,
     } = job;
+    let run = worked(rt, &plan, workers);
     // The plan tells how many deals there are at most.
     let _count = plan.count();
     let Ok(mut counter) = Counter::new(alloc, style, subject) else {
@@ -201,7 +222,7 @@ fn write_table<R: Threads + Wait + Clone + Send + 'static, O: Sink>(
     let Ok(gate) = Arc::new(alloc, OpenGate) else {
         return Err(Cause::Memory);
     };
-    match run_and_count(rt, alloc, &plan, condition, &mut counter, out, gate) {
+    match run_and_count(rt, alloc, &run, condition, &mut counter, out, gate) {
         Ok(_) => Ok(()),
         Err(RunFault { cause, .. }) => Err(cause),
     }
@@ -225,7 +246,7 @@ fn pick_boards<I: Source, O: Sink>(
     ensures input { CountsInput result (I.faults input.old) (I.faults input.new) }
     ensures flushed { IfErr result (λ e. status_of e ≡ 7 → O.is_flushed out.new) }
 {
-    let mut printer = AnyPrinter::new(alloc, job.format, job.plan.heading())?;
+    let mut printer = AnyPrinter::showing(alloc, job.format, job.show, job.plan.heading())?;
     match pick(&job.plan, &mut printer, input, out) {
         Ok(_) => Ok(()),
         Err(PickFault::Output) => Err(Failure::Interrupted(Cause::Output)),
@@ -252,14 +273,15 @@ fn put_language<O: Sink>(out: &mut O) -> Result<(), SinkFault>
     put_all(out, behind.as_bytes())
 }
 
-/// Does the job, and returns its report if one is asked for. It may wait for its workers, and a
-/// `pick` for its input, which nothing else reads.
+/// Does the job, and returns its report if one is asked for. It may wait for its workers, and for
+/// its input: only a `pick`, boards with tricks and the drawing of a seed read it.
 ///
 /// # Errors
 ///
 /// `Interrupted`: the output failed, memory ran out, a thread wasn't started, or a worker ended too
 /// soon. `Line`, with the first line of the input that is refused, or `Input`, if it couldn't be
-/// read: of a `pick` alone, whose boards up to there were written and passed on.
+/// read: the boards up to there were written and passed on. `EndOfInput`: there are not as many
+/// bytes as a seed is drawn from.
 pub fn serve<R: Threads + Wait + Clone + Send + 'static, I: Source, O: Sink>(
     rt: &R,
     alloc: Global,
@@ -273,8 +295,7 @@ pub fn serve<R: Threads + Wait + Clone + Send + 'static, I: Source, O: Sink>(
         (I.rest input.old) (I.rest input.new) (O.bytes out.old) (O.bytes out.new) }
     // The output failed once if the failure says so, and else not.
     ensures faults { O.faults out.new ≡ O.faults out.old + faults_in result }
-    // The input failed once if the failure says so, and else not unless the output failed after it;
-    // only a `pick` reads it.
+    // The input failed once if the failure says so, and else not unless the output failed after it.
     ensures input { CountsInput result (I.faults input.old) (I.faults input.new) }
     ensures unread { (ReadsInput job → ⊥) → (I.rest input.new ≡ I.rest input.old)
         × (I.faults input.new ≡ I.faults input.old) }
@@ -290,6 +311,14 @@ pub fn serve<R: Threads + Wait + Clone + Send + 'static, I: Source, O: Sink>(
                 Err(cause) => Err(Failure::Interrupted(cause)),
             }
         }
+        Job::WithTricks(job) => {
+            let wants_report = job.report;
+            match write_with_tricks(rt, alloc, job, input, out) {
+                Ok(report) if wants_report => Ok(Some(report)),
+                Ok(_) => Ok(None),
+                Err(failure) => Err(failure),
+            }
+        }
         Job::Count(job) => match write_table(rt, alloc, job, out) {
             Ok(()) => Ok(None),
             Err(cause) => Err(Failure::Interrupted(cause)),
@@ -301,6 +330,10 @@ pub fn serve<R: Threads + Wait + Clone + Send + 'static, I: Source, O: Sink>(
         Job::Conditions => match put_language(out) {
             Ok(()) => Ok(None),
             Err(_) => Err(Failure::Interrupted(Cause::Output)),
+        },
+        Job::Seed => match draw(input, out) {
+            Ok(()) => Ok(None),
+            Err(failure) => Err(failure),
         },
         Job::Stream(job) => match dealrun::stream(job.seed, job.count, out) {
             Ok(()) => Ok(None),

@@ -6,6 +6,7 @@
 //! become a request isn't known here.
 #![tactic(auto)]
 
+mod boards_job;
 mod count_job;
 mod failure;
 mod job;
@@ -15,15 +16,20 @@ mod questions;
 mod report;
 mod request;
 mod search;
+mod seed_job;
+mod tricks_job;
 mod when;
+mod workers;
 
+pub use boards_job::BoardsJob;
 pub use count_job::CountJob;
 pub use failure::{Failure, LabelName, QuestionName};
-pub use job::{BoardsJob, Job, PickJob, prepare, serve};
-pub use notations::Format;
+pub use job::{Job, PickJob, prepare, serve};
+pub use notations::{Format, Show};
 pub use questions::Questions;
 pub use report::Report;
 pub use request::{Notices, Request, StreamRequest};
 pub use search::{Look, Search, planned};
 pub use statistics::Style;
 pub use when::When;
+pub use workers::{Workers, workers_for};

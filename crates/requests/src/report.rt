@@ -35,7 +35,7 @@ fn put_boards<E: Sink>(boards: u64, err: &mut E) -> Result<(), SinkFault>
     Message::with("", boards, noun).print(err)
 }
 
-/// Says which candidates were tried: so many, from `first` on.
+/// Says which candidates were tried: this many, from `first` on.
 fn put_candidates<E: Sink>(first: u64, candidates: u64, err: &mut E) -> Result<(), SinkFault>
     requires faults { E.faults err.old < 2 ^ 64 - 1 }
     requires range { first + candidates ≤ 2 ^ 40 }

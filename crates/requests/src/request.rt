@@ -17,7 +17,7 @@ pub struct Notices {
     pub report: bool,
     /// When the counts are shown while the run lasts.
     pub progress: When,
-    /// When lines that help a person stand below a refusal.
+    /// When lines that help a person are below a refusal.
     pub hints: When,
 }
 
@@ -36,6 +36,8 @@ pub enum Request<'a> {
     Make {
         search: Search<'a>,
         look: Look<'a>,
+        /// Whether the input tells the boards' tricks, a line for each.
+        tricks: bool,
         notices: Notices,
     },
     /// What the format writes of the accepted candidates, where no option of the boards' look is
@@ -61,6 +63,8 @@ pub enum Request<'a> {
     },
     /// The page of the language.
     Conditions,
+    /// A seed that the first bytes of the input draw.
+    Seed,
     Stream(StreamRequest),
 }
 
@@ -77,7 +81,7 @@ impl<'a> Request<'a> {
                 look,
                 ..
             } => Some((Search::none(*seed, *hands), *look)),
-            Request::Conditions | Request::Stream(_) => None,
+            Request::Conditions | Request::Seed | Request::Stream(_) => None,
         }
     }
 
@@ -89,14 +93,14 @@ impl<'a> Request<'a> {
         }
     }
 
-    /// Returns when lines that help a person stand below a refusal.
+    /// Returns when lines that help a person are below a refusal.
     pub fn hints(&self) -> When {
         match self {
             Request::Make { notices, .. }
             | Request::Find { notices, .. }
             | Request::Count { notices, .. } => notices.hints,
             Request::Pick { hints, .. } => *hints,
-            Request::Conditions | Request::Stream(_) => When::Auto,
+            Request::Conditions | Request::Seed | Request::Stream(_) => When::Auto,
         }
     }
 }

@@ -4,7 +4,7 @@ ghost use Rattle.std.specs.Prelude.{◌≡◌, ◌⊎◌, IfErr, IfOk, option_ma
 ghost use Rattle.cond_lang.specs.Form.{Form};
 ghost use Rattle.requests.specs.Failures.{status_of};
 ghost use Rattle.requests.specs.Makings.{Means, candidates_of, CanDate, CanLabel, HasLabels};
-ghost use Rattle.requests.specs.Makings.{first_board_of, heading_of, setting_of, HasHands};
+ghost use Rattle.requests.specs.Makings.{first_board_of, heading_of, lane_of, workers_in, setting_of, HasHands};
 ghost use Rattle.requests.specs.Makings.{HasNumbers, IsPlanned, plan_of};
 ghost use Rattle.predeal.specs.PredealtHands.{given_by, fixed_of};
 ghost use Rattle.requests.specs.Requests.{Search as ASearch, look_as, look_of, no_search, search_of};
@@ -16,10 +16,11 @@ ghost use Rattle.cards.specs.Fixed.{none_fixed};
 ghost use Rattle.boards.specs.Headings.{no_heading};
 
 use crate::failure::{Failure, LabelName};
+use crate::workers::Workers;
 use boards::{Date, Heading, Label, Setting, Vul};
 use cards::{Fixed, MAX_CANDIDATES, Seat};
 use cond_lang::{Cond, parse};
-use notations::Format;
+use notations::{Format, Show};
 use plans::{Plan, PlanError};
 use predeal::PredealtHands;
 use std::alloc::Global;
@@ -33,9 +34,11 @@ pub struct Search<'a> {
     pub candidates: Option<u64>,
     /// The number of the first candidate.
     pub first: u64,
-    pub workers: u32,
-    /// How many verdicts a worker's lane holds.
-    pub lane: u32,
+    /// How many workers judge them.
+    pub workers: Workers,
+    /// How many verdicts a worker's lane holds: 64 if it isn't given, and 4,096 if the machine says
+    /// how many workers there are.
+    pub lane: Option<u32>,
     /// The text of the condition.
     pub where_text: Option<&'a str>,
     /// How many boards are written at most.
@@ -53,8 +56,8 @@ impl<'a> Search<'a> {
             seed,
             candidates: Some(0),
             first: 0,
-            workers: 1,
-            lane: 1,
+            workers: Workers::Number(1),
+            lane: Some(1),
             where_text: None,
             boards: None,
             hands,
@@ -67,6 +70,27 @@ impl<'a> Search<'a> {
     {
         let all = MAX_CANDIDATES.saturating_sub(self.first);
         self.candidates.unwrap_or(all)
+    }
+
+    /// Returns how many workers a plan has: 1 until it is known how many suit the machine.
+    pub fn workers(&self) -> u32
+        ensures { result ≡ workers_in self.now.workers }
+    {
+        match self.workers {
+            Workers::Number(number) => number,
+            Workers::Auto => 1,
+        }
+    }
+
+    /// Returns how many verdicts a worker's lane holds.
+    pub fn lane(&self) -> u32
+        ensures { result ≡ lane_of (search_of self.now) }
+    {
+        let default = match self.workers {
+            Workers::Number(_) => 64,
+            Workers::Auto => 4096,
+        };
+        self.lane.unwrap_or(default)
     }
 
     /// Returns what the condition's text means; without a text every deal is accepted.
@@ -90,6 +114,8 @@ impl<'a> Search<'a> {
 pub struct Look<'a> {
     /// The notation that the boards are written in.
     pub format: Format,
+    /// The hands that are written.
+    pub show: Show,
     pub first_board: Option<u64>,
     pub event: Option<&'a str>,
     pub site: Option<&'a str>,
@@ -110,6 +136,7 @@ impl Look<'_> {
     {
         Look {
             format,
+            show: Show::All,
             first_board: None,
             event: None,
             site: None,
@@ -209,8 +236,8 @@ fn numbers_of(search: &Search<'_>, look: &Look<'_>) -> Result<Plan, PlanError>
         search.seed,
         search.first,
         search.candidates(),
-        search.workers,
-        search.lane,
+        search.workers(),
+        search.lane(),
     )?;
     let plan = match search.boards {
         Some(boards) => plan.limited(boards)?,

@@ -19,11 +19,11 @@ pub record Asked : Type 0 where
   pub question : Question
   pub title : List ℕ
 
--- whether a text can stand in a table: at most 72 bytes of printable ASCII
+-- whether a text may come in a table: at most 72 bytes of printable ASCII
 abbrev pub is_shown : List ℕ → Bool
 is_shown text = nat_le (length text) 72 && list_all (λ b. nat_le 0x20 b && nat_le b 0x7E) text
 
--- the title of a question's text: the text, if it can stand in a table
+-- the title of a question's text: the text, if it may come in a table
 abbrev pub title_of : List ℕ → List ℕ
 title_of text = if is_shown text then text else codes "value"
 

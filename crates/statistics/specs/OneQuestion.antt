@@ -58,7 +58,7 @@ table_header is_condition answers =
     (second_width (most_in (rows is_condition answers) answers))
     (codes "value") (codes "deals") (codes "%") []
 
--- the standard deviation of so many answers, of their sum and of that of their squares, as so many
+-- the standard deviation of this many answers, of their sum and of that of their squares, in
 -- thousandths: the root of the mean square less the square of the mean, both rounded down
 unfoldable pub deviation : ℕ → ℕ → ℕ → ℕ
 deviation deals total squared =

@@ -1,4 +1,4 @@
--- A table as one page of HTML that stands alone.
+-- A table as one page of HTML that needs nothing else.
 use Rattle.std.specs.Prelude.{ℕ, ◌*◌, ◌==◌, Bool, List, [], ◌∷◌, ◌++◌, codes, fold, if◌then◌else◌}
 use Rattle.std.specs.Prelude.{length, map, max, sum}
 use Rattle.std.specs.List.{flat_map}

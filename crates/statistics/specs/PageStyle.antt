@@ -10,7 +10,7 @@ text_style =
     ++ codes "h1{margin:0;font-size:1.5rem;overflow-wrap:anywhere}\n"
     ++ codes "p{margin:.5rem 0}\n"
 
--- numbers stand right, one below the other; a wide table is moved in its own place
+-- numbers are set right; a wide table is moved in its own place
 unfoldable pub table_style : List ℕ
 table_style =
     codes "div{overflow-x:auto}\n"

@@ -8,7 +8,7 @@ use Rattle.statistics.specs.Columns.{commas}
 abbrev pub rounded : ℕ → ℕ → ℕ
 rounded a b = (2 * a + b) / (2 * b)
 
--- the last so many digits of a number, zeros included
+-- the last this many digits of a number, zeros included
 abbrev pub last_digits : ℕ → ℕ → List ℕ
 last_digits zero n = []
 last_digits (suc count) n = last_digits count (n / 10) ++ (0x30 + n % 10) ∷ []
@@ -18,7 +18,7 @@ abbrev pub with_point : ℕ → ℕ → List ℕ
 with_point digits n =
     commas (n / 10 ^ digits) ++ codes "." ++ last_digits digits (n % 10 ^ digits)
 
--- a / b, rounded to so many digits
+-- a / b, rounded to this many digits
 abbrev pub fraction : ℕ → ℕ → ℕ → List ℕ
 fraction digits a b = with_point digits (rounded (10 ^ digits * a) b)
 

@@ -26,7 +26,7 @@ cell pairs n m = count_by (λ p. p.0 == n && p.1 == m) pairs
 abbrev pub in_column : ℕ → Pairs → List ℕ
 in_column m pairs = of_rows (filter (λ p. p.1 == m) pairs)
 
--- the mean of so many answers, of their sum, or `-`
+-- the mean of this many answers, of their sum, or `-`
 abbrev pub mean_or_dash : ℕ → ℕ → List ℕ
 mean_or_dash deals total = if deals == 0 then codes "-" else fraction 2 total deals
 

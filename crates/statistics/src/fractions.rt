@@ -73,7 +73,7 @@ fn digit(number: u64) -> u8
     b'0' + (number % 10) as u8
 }
 
-/// Appends a / b, rounded to so many digits.
+/// Appends a / b, rounded to this many digits.
 pub(crate) fn put_fraction(text: &mut TextBuffer, digits: Digits, a: u128, b: u128)
     requires divisor { 0 < b }
     requires above { a < 2 ^ 90 }

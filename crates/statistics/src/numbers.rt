@@ -46,7 +46,7 @@ fn put_digit(text: &mut TextBuffer, i: usize, count: usize, digit: u8)
     text.put(&[digit]);
 }
 
-/// Appends so many spaces, for which there is room.
+/// Appends this many spaces, for which there is room.
 #[tactic(auto, using(crate::proofs::Appending::replicate_more))]
 pub(crate) fn put_spaces(text: &mut TextBuffer, count: usize)
     requires { length text.old + count ≤ CAPACITY }

@@ -138,7 +138,7 @@ fn bar_len(count: u64, most: u64) -> usize
     (blocks as usize).max(1)
 }
 
-/// Appends so many blocks.
+/// Appends this many blocks.
 #[tactic(auto, using(crate::proofs::Appending::blocks_more))]
 fn put_blocks(text: &mut TextBuffer, count: usize)
     requires few { count ≤ 40 }
@@ -173,7 +173,7 @@ pub(crate) fn put_mean(text: &mut TextBuffer, deals: u64, total: u64, squared: u
     );
 }
 
-/// Returns the standard deviation of some answers, as so many thousandths.
+/// Returns the standard deviation of some answers, as a number of thousandths.
 #[tactic(auto, unfolding(crate::specs::OneQuestion::deviation))]
 fn deviation(deals: u128, total: u128, squared: u128) -> u64
     requires some { 0 < deals }

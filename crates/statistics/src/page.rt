@@ -1,6 +1,6 @@
 //! A table as one page of HTML, to look at and to print.
 //!
-//! A page stands alone: its style is in its header, and it has no script and loads nothing.
+//! A page needs nothing else: its style is in its header, and it has no script and loads nothing.
 
 mod cells;
 mod header;

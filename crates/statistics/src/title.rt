@@ -26,7 +26,7 @@ impl Model for Title {
 }
 
 impl Title {
-    /// The title of a question's text: the text, if it can stand in a table.
+    /// The title of a question's text: the text, if it may come in a table.
     pub(crate) fn of(text: &[u8]) -> Title
         ensures { result ≡ title_of text.now }
     {
@@ -59,7 +59,7 @@ impl Title {
     }
 }
 
-/// Whether the text can stand in a table: at most 72 bytes of printable ASCII.
+/// Whether the text may come in a table: at most 72 bytes of printable ASCII.
 fn is_shown(text: &[u8]) -> bool
     ensures { result ≡ is_shown text.now }
 {

@@ -131,7 +131,7 @@ fn free_cards(fixed: &[Option<Seat>; 52]) -> ([usize; 52], usize) {
     (free, count)
 }
 
-/// Shuffles the first cards, so many.
+/// Shuffles the first cards, this many.
 fn shuffle(cards: &mut [usize; 52], count: usize, generator: &mut Lcg48) {
     for j in (2..count % 53 + 1).rev() {
         let place = (j as u128 * u128::from(generator.next())) >> 48;

@@ -45,7 +45,7 @@ fn states(rt: HostRuntime) {
     assert!(rt; Lcg48::at_state(1 << 48).is_none());
 }
 
-/// Of so many steps: what a state is multiplied by, and what is added.
+/// Of this many steps: what a state is multiplied by, and what is added.
 const STRIDES: [(u64, u64, u64); 3] = [
     (0, 1, 0),
     (2, 0xBB20_B460_0A69, 0x40_942D_E6BA),
@@ -60,7 +60,7 @@ fn strides(rt: HostRuntime) {
     }
 }
 
-/// So many steps lead from a state to another.
+/// This many steps lead from a state to another.
 const JUMPS: [(u64, u64, u64); 2] = [
     (2, 0x330E, 0xBFF9_9381_6378),
     ((1 << 48) - 1, 0x2BBB_62DC_5101, 0x330E),

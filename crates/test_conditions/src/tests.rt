@@ -1,6 +1,6 @@
 //! The functions of the language, each with values from outside. What else texts mean, where they
-//! are refused and what could stand there is asked of the built program: by tests/conditions and
-//! tests/mistakes.
+//! are refused and what may come there is asked of the built program, by tests/rows and
+//! tests/second.
 
 mod beginnings;
 mod questions;

@@ -8,7 +8,7 @@ const SHORT: &[u8] = b"seven.\n";
 
 const LONG: &[u8] = b"A longer piece, so that the memory for the first one does not do.\n";
 
-/// How many bytes stand after a write of a piece, which was taken whole or not at all.
+/// How many bytes are after a write of a piece, which was taken whole or not at all.
 fn after<R: Abort>(rt: &R, before: usize, piece: &[u8], is_taken: bool, bytes: &[u8]) -> usize {
     if is_taken {
         equals(rt, &bytes.len(), &before.saturating_add(piece.len()));

@@ -43,7 +43,18 @@ fn failures_are_told(rt: HostRuntime) {
             7,
             "input refused at line 3: too many numbers\n",
         ),
+        (
+            of_line(LineFault::NotTricks),
+            7,
+            "input refused at line 3: not tricks\n",
+        ),
+        (
+            of_line(LineFault::Missing),
+            7,
+            "input refused at line 3: missing\n",
+        ),
         (Failure::Input, 7, "input failed\n"),
+        (Failure::EndOfInput, 7, "input failed\n"),
     ] {
         let mut err = MemSink::new(rt.alloc());
         assert!(rt; failure.say(&mut err).is_ok());

@@ -74,7 +74,7 @@ impl Notation for Digits {
 /// Candidates 7 to 11 as boards from 98 on.
 const TEXT: &[u8] = b"begin\n8 7\n9 8\n0 9\n1 0\n2 1\n5 5\n";
 
-/// The plan of so many candidates of seed 0 from 7 on, as boards from 98 on.
+/// The plan of this many candidates of seed 0 from 7 on, as boards from 98 on.
 fn plan_from_7(rt: &impl Abort, count: u64, workers: u32, capacity: u32) -> Plan {
     let plan = Plan::new(0, 7, count, workers, capacity).expect(rt, "a plan");
     plan.numbered(98).expect(rt, "a plan")

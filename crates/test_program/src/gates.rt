@@ -38,7 +38,7 @@ impl Gate for TwoWay {
     }
 }
 
-/// At one number waits until more than so many bytes were written.
+/// At one number waits until more than this many bytes were written.
 #[derive(Drop)]
 pub struct WaitsForBytes {
     pub number: u64,

@@ -116,7 +116,7 @@ fn stops_a_lone_worker(rt: HostRuntime) {
     assert!(rt; four.bytes().starts_with(sink.bytes()));
 }
 
-/// How many verdicts the lanes still give, each lane at most so many.
+/// How many verdicts the lanes still give, each lane at most this many.
 fn left_in(lanes: &mut Vec<LaneOut>, most: u64) -> u64 {
     let mut left = 0u64;
     for lane in lanes.iter_mut() {
@@ -141,8 +141,8 @@ fn replays_on_the_core(rt: HostRuntime) {
     core_stops(&rt, fault.boards, left);
 }
 
-/// The core allows these events: so many verdicts sent and taken, so many sent and left, the flag,
-/// the lane closed.
+/// The core allows these events: this many verdicts sent and taken, this many sent and left, the
+/// flag, the lane closed.
 fn core_stops(rt: &impl Abort, taken: u64, left: u64) {
     let core = &mut Core::new(10, 1, 64).expect(rt, "a core");
     for _ in 0..taken {
@@ -172,7 +172,7 @@ fn replays_a_limit_on_the_core(rt: HostRuntime) {
     core_ends(&rt, left);
 }
 
-/// The core allows these events: three verdicts sent and taken, the flag, so many sent and left,
+/// The core allows these events: three verdicts sent and taken, the flag, this many sent and left,
 /// the lane closed. It allows no more to be taken.
 fn core_ends(rt: &impl Abort, left: u64) {
     let core = &mut Core::new(10, 1, 64).expect(rt, "a core");

@@ -16,7 +16,7 @@ pub fn same<T: Copy + PartialEq + Debug>(rt: &impl Abort, found: T, wanted: T) {
     assert_eq!(rt; found, wanted);
 }
 
-/// The plan of the first candidates of seed 0, so many, over so many workers.
+/// The plan of the first candidates of seed 0, this many, over this many workers.
 pub fn plan_of(rt: &impl Abort, count: u64, workers: u32) -> Plan {
     Plan::new(0, 0, count, workers, 64).expect(rt, "a plan")
 }

@@ -64,7 +64,7 @@ fn writes_the_plain_text_byte_by_byte(rt: HostRuntime) {
     }
 }
 
-/// The run over lanes writes so many boards as this text, a byte at a time.
+/// The run over lanes writes this many boards as this text, a byte at a time.
 fn writes_byte_by_byte<R: Abort + Threads + Wait + Clone + Send + 'static>(
     rt: &R,
     alloc: Global,

@@ -5,7 +5,7 @@ use notations::{AnyPrinter, Format};
 use picking::{LineFault, NoBytes, PickFault, Reader, RefusedLine, pick};
 use plans::Plan;
 use sinks::{Fuse, MemSink};
-use std::alloc::AllocGlobal;
+use std::alloc::{AllocError, AllocGlobal};
 use std::io::{Error, ErrorKind, Read, Result};
 use std::process::Abort;
 use std::test::Fail;
@@ -61,7 +61,7 @@ fn check<R: Read + Drop>(
     Ok(())
 }
 
-/// The input's third line is no number.
+/// The input's third line isn't a number.
 const THIRD: PickFault = PickFault::Refused(RefusedLine {
     line: 3,
     fault: LineFault::NotANumber,
@@ -90,26 +90,32 @@ fn picks_to_the_end(rt: HostRuntime) -> std::result::Result<(), Fail> {
 #[test]
 fn picks_nothing_and_into_an_output_that_fails(rt: HostRuntime) -> std::result::Result<(), Fail> {
     let plan = Plan::new(0, 0, 0, 1, 64)?;
-    let mut printer = AnyPrinter::new(rt.alloc(), Format::Lin, plan.heading())?;
-    picks_nothing(&rt, &plan, &mut printer);
-    picks_until_the_output_fails(&rt, &plan, &mut printer);
+    picks_nothing(&rt, &plan)?;
+    picks_until_the_output_fails(&rt, &plan)?;
     Ok(())
 }
 
-fn picks_nothing(rt: &(impl Abort + AllocGlobal), plan: &Plan, printer: &mut AnyPrinter) {
+fn picks_nothing(
+    rt: &(impl Abort + AllocGlobal),
+    plan: &Plan,
+) -> std::result::Result<(), AllocError> {
+    let mut printer = AnyPrinter::new(rt.alloc(), Format::Lin, plan.heading())?;
     let mut sink = MemSink::new(rt.alloc());
-    equals(rt, &pick(plan, printer, &mut NoBytes, &mut sink), &Ok(0));
+    let ended = pick(plan, &mut printer, &mut NoBytes, &mut sink);
+    equals(rt, &ended, &Ok(0));
     holds(rt, "nothing written", sink.bytes().is_empty());
+    Ok(())
 }
 
 fn picks_until_the_output_fails(
     rt: &(impl Abort + AllocGlobal),
     plan: &Plan,
-    printer: &mut AnyPrinter,
-) {
+) -> std::result::Result<(), AllocError> {
+    let mut printer = AnyPrinter::new(rt.alloc(), Format::Lin, plan.heading())?;
     let mut sink = Fuse::new(MemSink::new(rt.alloc()), 2, 1000, true);
     let mut input = Reader::new(b"0\n1\n".as_slice());
-    let ended = pick(plan, printer, &mut input, &mut sink);
+    let ended = pick(plan, &mut printer, &mut input, &mut sink);
     equals(rt, &ended, &Err(PickFault::Output));
     equals(rt, &sink.bytes(), &FIRST);
+    Ok(())
 }

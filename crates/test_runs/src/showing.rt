@@ -1,4 +1,4 @@
-//! What stands on the output and on the terminal, by a clock that is set by hand.
+//! What is on the output and on the terminal, by a clock that is set by hand.
 
 use crate::support::{equals, holds};
 use console::{Counts, Drawn, GATHERED_MILLIS, OverLine, Prompt, Style};
@@ -118,13 +118,13 @@ fn flush(prompt: &mut OnDesk<'_>) -> bool {
     prompt.fault_count() < u64::MAX && prompt.flush().is_ok()
 }
 
-/// Looks at the clock when there are so many candidates and boards.
+/// Looks at the clock when there are this many candidates and boards.
 fn watch_at(desk: &Desk, prompt: &mut OnDesk<'_>, millis: u64, candidates: u64, boards: u64) {
     desk.millis.set(millis);
     prompt.watch(candidates, boards);
 }
 
-/// Aborts unless just this stands on a paper, which is empty then.
+/// Aborts unless just this is on a paper, which is empty then.
 fn stands(rt: &impl Abort, paper: &RefCell<Vec<u8>>, text: &[u8]) {
     let Ok(mut paper) = paper.try_borrow_mut() else {
         assert!(rt; false);

@@ -122,7 +122,7 @@ fn a_lane_of_one_verdict(rt: HostRuntime) -> Result<(), Fail> {
     Ok(())
 }
 
-/// Aborts unless the lane has this room, and so many verdicts wait.
+/// Aborts unless the lane has this room, and this many verdicts wait.
 fn counts(rt: &impl Abort, sender: &mut LaneIn, taker: &mut LaneOut, wanted: (usize, usize)) {
     equals(rt, &(sender.count_room(), taker.count_verdicts()), &wanted);
 }

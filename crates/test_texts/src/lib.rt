@@ -1,7 +1,9 @@
-//! Tests of texts that only Rust can ask for: numbers that are read, and the plain form of Portable
-//! Bridge Notation.
+//! Tests of texts that only Rust can ask for: numbers and lines of tricks that are read, and the
+//! plain form of Portable Bridge Notation.
 #![tactic(auto)]
 
+#[cfg(test)]
+mod lines_of_tricks;
 #[cfg(test)]
 mod numbers;
 #[cfg(test)]

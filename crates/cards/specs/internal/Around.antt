@@ -27,7 +27,7 @@ abbrev pub AreCards : List ℕ → Type 0
 AreCards cards = (i : ℕ) → i < 52 → slice_index cards i < 52
 
 -- the free cards while n positions are open: traced back through the exchanges to come, position i
--- leads to where its card stands now
+-- leads to where its card is now
 pub record IsDealingAround
     (fixed : List (Option Seat)) (free : List ℕ)
     (x state : ℕ) (cards : List ℕ) (n : ℕ) : Type 0 where

@@ -31,7 +31,7 @@ pub record IsSouthDealt
   pub west_is : west ≡ seat_mask (drawn_deal fixed x) West
   pub south_is : south ≡ seat_mask (drawn_deal fixed x) South
 
--- what is kept of a deal of which so many hands are dealt, with the draws after the state x
+-- what is kept of a deal of which this many hands are dealt, with the draws after the state x
 pub record IsUnderWay
     (fixed : List (Option Seat)) (x now : ℕ) (cards : List ℕ) (west south dealt : ℕ)
     : Type 0 where

@@ -1,7 +1,7 @@
 -- What the three words of a packed candidate are. Three masks are enough for a deal, since West
--- has the rest, and for fixed cards, since West's are in two of them. Above the first mask stands 0
+-- has the rest, and for fixed cards, since West's are in two of them. Above the first mask is 0
 -- or 1 for a deal without the flag and with it, and 2 or more for an undealt candidate, whose seed
--- stands above all three.
+-- is above all three.
 use Rattle.std.specs.Prelude.{◌≡◌, ℕ, ◌+◌, ◌-◌, ◌*◌, ◌/◌, ◌%◌, ◌^◌, ◌<◌, ◌≤◌, ◌==◌, ltb, Bool, true, false, cond, List, map, Option, Some, None, if◌then◌else◌}
 use Rattle.std.specs.Int.{bit_at}
 use Rattle.std.specs.Int.RustNames.{bit_or}
@@ -17,7 +17,7 @@ use Rattle.cards.specs.internal.Masks.{IsMasks, seat_mask, seats_of_masks}
 abbrev pub rest_of : ℕ → ℕ → ℕ → ℕ
 rest_of n e s = 2 ^ 52 - 1 - (n + e + s)
 
--- the mask of a word, and what stands above it
+-- the mask of a word, and what is above it
 abbrev pub cards_in : ℕ → ℕ
 cards_in word = word % 2 ^ 52
 
@@ -42,7 +42,7 @@ told_at a b c i = told (bit_at a i == 1) (bit_at b i == 1) (bit_at c i == 1)
 unfoldable pub fixed_told : ℕ → ℕ → ℕ → List (Option Seat)
 fixed_told a b c = map (told_at a b c) pack
 
--- the seed by what stands above the three masks
+-- the seed by what is above the three masks
 abbrev pub seed_told : ℕ → ℕ → ℕ → ℕ
 seed_told a b c = (a - 2) * 2 ^ 24 + c * 2 ^ 12 + b
 

@@ -52,7 +52,7 @@ abbrev pub seat : Reader ASeat
 seat (Seat q ∷ S) = got q S
 seat S = stuck S
 
--- the suit that a class's word stands for
+-- the suit that a class's word means
 abbrev pub class_suit : Option ASuit → AClass → Reader ASuit
 class_suit None c S = stuck (Class c ∷ S)
 class_suit (Some s) c S = got s S

@@ -70,7 +70,7 @@ impl<'a> Parser<'a> {
         Ok(seat)
     }
 
-    /// A suit, or a bound class, which is the suit that it stands for.
+    /// A suit, or a bound class, which is the suit that it means.
     pub(super) fn suit(&mut self, bound: Bound) -> Result<Suit, Refusal>
         ensures gives { Gives (λ s. s) result self.new (suit bound self.old) }
         ensures shorter { length self.new ≤ length self.old }

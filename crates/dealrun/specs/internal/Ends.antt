@@ -10,7 +10,7 @@ use Rattle.dealrun.specs.Headline.{TakesWhatIsOwed, WritesTextIn}
 use Rattle.dealrun.specs.declared.runs.Counted.{Counted}
 use Rattle.dealrun.specs.declared.runs.RunFault.{RunFault}
 
--- the whole text was written; so many candidates are needed
+-- the whole text was written; this many candidates are needed
 pub record Closes (layout : Layout) (plan : Planned) (form : Form) (lanes : List OutView)
     (boards candidates : ℕ) (old new : Option (List ℕ)) : Type 0 where
   pub lanes_are : TakesWhatIsOwed plan form lanes boards

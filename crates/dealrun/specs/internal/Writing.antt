@@ -99,7 +99,7 @@ abbrev pub HasEnough : Writer → Type 0
 HasEnough w =
     (w.progress.taken ≡ w.plan.count) ⊎ (w.plan.limit ≡ Some w.progress.boards)
 
--- where it stands once it has written so much beside the workers
+-- where it is once it has written so much beside the workers
 abbrev pub WroteBeside : Layout → (List Board → Type 0) → Planned → Written
     → List OutView → ℕ → ℕ → Option (List ℕ) → Option (List ℕ) → Type 0
 WroteBeside layout has_printed plan Failed lanes m boards old new =

@@ -44,7 +44,6 @@ pub record SearchValues (rows : List Row) : Type 0 where
   pub seed : Gives32 (codes "seed") rows
   pub candidates : MayGive64 (codes "candidates") rows
   pub first : MayGive64 (codes "first") rows
-  pub workers : MayGive32 (codes "workers") rows
   pub lane : MayGive32 (codes "lane") rows
   pub boards : MayGive32 (codes "boards") rows
 

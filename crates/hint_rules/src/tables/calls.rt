@@ -1,8 +1,8 @@
-//! What stands in the brackets behind a word: seat, suit, ranks.
+//! What is in the brackets behind a word: seat, suit, ranks.
 
 use super::*;
 
-/// What may stand behind a value or a test, and not within brackets.
+/// What may come behind a value or a test, and not within brackets.
 const GOES_ON: &str = "== != < <= > >= in + and or";
 
 static RULES: [Rule; 20] = rules! {

@@ -1,6 +1,6 @@
 //! What a person says that a hand has.
 
-/// The word that counts it, what stands behind the seat, and how a person calls it.
+/// The word that counts it, what comes after the seat, and how a person calls it.
 pub(crate) static COUNTED: &[(&str, &str, &str)] = &[
     ("len", ",spades", "spade spades"),
     ("len", ",hearts", "heart hearts"),

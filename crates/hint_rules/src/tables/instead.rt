@@ -13,7 +13,7 @@ const BIDDING: &str = "there is no bidding: say what the hand has, as in hcp(nor
 const SINGLE: &str =
     "for single cards write cards with a suit and ranks, as in cards(north,spades,a)";
 
-static RULES: [Rule; 15] = rules! {
+static RULES: [Rule; 16] = rules! {
     [] [Seat] [Is("unbalanced")] => "in the language's own words write: not balanced(%b1)";
     [] [] [Is("unbalanced")] => "in the language's own words write: not balanced(%u2)";
     [] [] [Is("void")] => "in the language's own words write: shortest(%u2)==0";
@@ -21,6 +21,7 @@ static RULES: [Rule; 15] = rules! {
     [] [] [Is("doubleton")] => "in the language's own words write: shortest(%u2)==2";
     [] [] [OneOf("opens open opening opener bids bid")] => BIDDING;
     [] [Nothing, Number] [Named(BIDS)] => BIDDING;
+    [] [Seat, Number] [Named(BIDS)] => BIDDING;
     [] [] [OneOf("dealer vul vulnerable vulnerability")] =>
         "a condition asks of the four hands alone, and not of the board";
     [] [] [Is("quality")] =>

@@ -8,7 +8,12 @@ const OPEN: &str = "a \")\" is missing at the end";
 
 const JOIN: &str = "join the tests with \"and\" or \"or\"";
 
-static RULES: [Rule; 20] = rules! {
+static RULES: [Rule; 25] = rules! {
+    [Can(Kind::Number)] [OneOf("and or not")] [Nothing] =>
+        "a test is missing after \"%b1\", such as balanced(north)";
+    [Can(Kind::Number)] [OneOf("and or")] [OneOf("and or")] =>
+        "leave out \"%b1\" or \"%n0\"";
+    [Can(Kind::Number)] [Nothing] [OneOf("and or")] => "begin with a test: leave out \"%n0\"";
     [Can(Kind::Number)] [] [Suit] => "for a suit's length write \"len(%u2,%n0)\"";
     [Can(Kind::Number)] [] [Seat] => "begin with what you ask of the seat, as in hcp(%n0)";
     [Can(Kind::Number)] [] [Is("<>")] => UNEQUAL;
@@ -25,6 +30,10 @@ static RULES: [Rule; 20] = rules! {
         "without brackets around the sum write: %v1%c1";
     [Can(Kind::Relation)] [Bracketed] [Is(")")] => "leave out the brackets around the sum";
     [Can(Kind::Relation)] [] [Is("<>")] => UNEQUAL;
+    [Can(Kind::Relation)] [Number] [Suit, Is("in"), Seat] =>
+        "with the seat in brackets write: len(%n2,%n0)==%b1";
+    [Can(Kind::Relation)] [Number] [Suit] =>
+        "for a suit's length write len, as in len(north,%n0)>=%b1";
     [Can(Kind::Relation)] [Value] [] => "to compare it write: %v1%c1";
 
     [Can(Kind::And), Can(Kind::End)] [] [Is(")")] => "this \")\" closes nothing";

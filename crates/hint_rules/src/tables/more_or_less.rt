@@ -2,7 +2,7 @@
 
 use super::*;
 
-/// What may stand before a number and `+`, and before one and `-`.
+/// What may come before a number and `+`, and before one and `-`.
 const UP: &str = "in == >= >";
 
 const DOWN: &str = "in == <= <";

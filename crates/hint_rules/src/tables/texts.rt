@@ -4,7 +4,7 @@ use super::*;
 
 const FILE: &str = "the condition itself stands here; from a file: --where \"$(cat FILE)\"";
 
-static RULES: [Rule; 13] = rules! {
+static RULES: [Rule; 14] = rules! {
     [] [Nothing] [Nothing] => "for 15 points or more with North write: hcp(north)>=15";
     [] [Nothing] [Is("@")] => FILE;
     [] [Nothing] [OneOf("/ . ~"), OneOf(". /")] => FILE;
@@ -20,6 +20,8 @@ static RULES: [Rule; 13] = rules! {
     [] [Nothing, Is("any")] [Digits(4), Is("+"), Is("any"), Digits(4), Nothing] =>
         "with one pattern in each test write: pattern(north,%g0) or pattern(north,%g3)";
     [] [Nothing, Is("any")] [Digits(4)] =>
+        "for any order write \"pattern\", as in pattern(north,5-3-3-2)";
+    [] [Nothing, Is("any")] [Number, Is("-"), Number, Is("-")] =>
         "for any order write \"pattern\", as in pattern(north,5-3-3-2)";
     [] [OneOf("any a"), Number, Is("-")] [OneOf("card cards"), OneOf("suit major minor")] =>
         "for some %n1 write: any %n1 (len(north,%n1)>=%b2)";

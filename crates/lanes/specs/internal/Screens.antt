@@ -13,8 +13,8 @@ pub record IsScreenOf (screening : Screening) (form : Form) (fixed : List (Optio
     pub sound : IsFixed fixed
     pub screen : IfSome screening.screen (λ s. (s.form ≡ form) × (s.fixed ≡ fixed))
 
--- a deal comes exactly if the next candidate is accepted, and it is the candidate's; then it goes
--- on to the one after it
+-- a deal comes if and only if the next candidate is accepted, and it is the candidate's; then it
+-- goes on to the one after it
 pub record DealsNext (form : Form) (fixed : List (Option Seat)) (old new : CandidatesView)
     (result : Option (List Seat)) : Type 0 where
   pub moved : (seed number step : ℕ) → GoesOnAt old fixed seed number step

@@ -5,7 +5,7 @@ use Rattle.std.proofs.Math.Nat.{mod-add-mod}
 use Rattle.std.proofs.lemmas.Nat.{mul-mod_second}
 use Rattle.lcg48.specs.Sequence.{step}
 
--- what stands above sixteen bits that are zero is the number itself
+-- what is above sixteen bits that are zero is the number itself
 pub high-low : (high : ℕ) → high % 2 ^ 16 ≡ 0 → high / 2 ^ 16 * 2 ^ 16 ≡ high
 high-low high h = omega arith
 

@@ -5,7 +5,7 @@ use Rattle.std.specs.Prelude.{◌≡◌, ℕ, ◌*◌, ◌/◌, ◌%◌, ◌^◌
 abbrev pub unit_of : ℕ → ℕ
 unit_of place = 2 ^ (place * 4)
 
--- the stride of place p and digit d stands at 16 * p + d
+-- the stride of place p and digit d is at 16 * p + d
 abbrev pub length_at : ℕ → ℕ
 length_at index = index % 16 * unit_of (index / 16)
 

@@ -1,4 +1,4 @@
-//! The lines of the labels that are given, and an empty line after them.
+//! The lines of the given labels, and an empty line after them.
 
 ghost use Rattle.std.specs.Prelude.{◌≡◌, ◌≤◌, ◌+◌, ◌++◌, [], length};
 ghost use Rattle.boards.specs.declared.buffer.TheConstants.{CAPACITY};

@@ -1,6 +1,6 @@
 //! The parts of a record's lines: gaps, suits and points.
 
-ghost use Rattle.std.specs.Prelude.{◌≡◌, ◌<◌, ◌≤◌, ◌+◌, ◌-◌, ◌++◌, length, max};
+ghost use Rattle.std.specs.Prelude.{◌≡◌, ◌<◌, ◌≤◌, ◌+◌, ◌-◌, ◌++◌, None, Some, length, max};
 ghost use Rattle.cards.specs.Hands.{points_of};
 ghost use Rattle.boards.specs.declared.buffer.TheConstants.{CAPACITY};
 ghost use Rattle.notations.specs.Columns.{columns, spaces, two_columns};
@@ -51,24 +51,68 @@ fn sign_and_space(suit: Suit) -> [u8; 4]
     [0xE2, 0x99, last, b' ']
 }
 
-/// The points of one hand, whose last digit stands at column 7.
-pub(crate) fn one_count(hand: &Hand) -> [u8; 8]
-    ensures value { result ≡ one_count hand.now }
+/// Appends the points of one hand, whose last digit is at column 7; nothing if it isn't shown.
+pub(crate) fn put_one_count(text: &mut TextBuffer, hand: &Option<Hand>)
+    requires { length text.old + 8 ≤ CAPACITY }
+    ensures text { text.new ≡ text.old ++ one_count hand.now }
+    ensures columns { length text.new ≡ length text.old + columns (one_count hand.now) }
+    ensures most { length text.new ≤ length text.old + 8 }
+{
+    if let Some(hand) = hand {
+        text.put(&one_count(hand));
+    }
+}
+
+fn one_count(hand: &Hand) -> [u8; 8]
+    ensures value { result ≡ one_count (Some hand.now) }
     ensures columns { columns result ≡ 8 }
 {
     let [tens, ones] = two_columns(hand.points());
     [b' ', b' ', b' ', b' ', b' ', b' ', tens, ones]
 }
 
-/// The points of West and East, whose last digits stand at columns 3 and 11.
-pub(crate) fn two_counts(west: &Hand, east: &Hand) -> [u8; 12]
-    ensures value { result ≡ two_counts west.now east.now }
+/// Appends the points of West and East, whose last digits are at columns 3 and 11; nothing for
+/// one that isn't shown, and no space at the end.
+pub(crate) fn put_two_counts(text: &mut TextBuffer, west: &Option<Hand>, east: &Option<Hand>)
+    requires { length text.old + 12 ≤ CAPACITY }
+    ensures text { text.new ≡ text.old ++ two_counts west.now east.now }
+    ensures columns { length text.new ≡ length text.old + columns (two_counts west.now east.now) }
+    ensures most { length text.new ≤ length text.old + 12 }
+{
+    match (west, east) {
+        (Some(west), Some(east)) => text.put(&two_counts(west, east)),
+        (Some(west), None) => text.put(&count_of_west(west)),
+        (None, Some(east)) => text.put(&count_of_east(east)),
+        (None, None) => {}
+    }
+}
+
+fn two_counts(west: &Hand, east: &Hand) -> [u8; 12]
+    ensures value { result ≡ two_counts (Some west.now) (Some east.now) }
     ensures columns { columns result ≡ 12 }
 {
     let [west_tens, west_ones] = two_columns(west.points());
     let [tens, ones] = two_columns(east.points());
     [
         b' ', b' ', west_tens, west_ones, b' ', b' ', b' ', b' ', b' ', b' ', tens, ones,
+    ]
+}
+
+fn count_of_west(west: &Hand) -> [u8; 4]
+    ensures value { result ≡ two_counts (Some west.now) None }
+    ensures columns { columns result ≡ 4 }
+{
+    let [tens, ones] = two_columns(west.points());
+    [b' ', b' ', tens, ones]
+}
+
+fn count_of_east(east: &Hand) -> [u8; 12]
+    ensures value { result ≡ two_counts None (Some east.now) }
+    ensures columns { columns result ≡ 12 }
+{
+    let [tens, ones] = two_columns(east.points());
+    [
+        b' ', b' ', b' ', b' ', b' ', b' ', b' ', b' ', b' ', b' ', tens, ones,
     ]
 }
 

@@ -1,17 +1,30 @@
-//! The header: the title, of the labels that are given, and the style.
+//! The header: the title, of the given labels, and the style.
 
 ghost use Rattle.std.specs.Prelude.{◌≡◌, ◌≤◌, ◌+◌, ◌*◌, ◌++◌, [], length};
 ghost use Rattle.boards.specs.declared.buffer.TheConstants.{CAPACITY};
 ghost use Rattle.notations.specs.Pages.{escaped, escaped_byte, header_text, is_blank, joined};
 ghost use Rattle.notations.specs.Pages.{opening, shown, title_of};
+ghost use Rattle.notations.specs.internal.Looks.{style_of};
 
-use crate::page::style::put_style;
+use crate::page::style::{put_style, put_style_with_tricks};
+use crate::sheet::put_sheet_style;
 use boards::{Date, Heading, Label, TextBuffer};
 
+/// How a page looks.
+#[derive(Clone, Copy)]
+pub(crate) enum Look {
+    /// A page without tricks.
+    Plain,
+    /// A page with tricks.
+    Tricks,
+    /// A sheet, with or without tricks.
+    Sheet,
+}
+
 /// Writes the header into the empty buffer.
-pub(crate) fn put_header(text: &mut TextBuffer, heading: &Heading)
+pub(crate) fn put_header(text: &mut TextBuffer, look: Look, heading: &Heading)
     requires { text.old ≡ [] }
-    ensures { text.new ≡ header_text heading.now }
+    ensures { text.new ≡ header_text (style_of look) heading.now }
 {
     let mut title = TextBuffer::new();
     put_title(&mut title, heading);
@@ -19,10 +32,23 @@ pub(crate) fn put_header(text: &mut TextBuffer, heading: &Heading)
     text.put(b"<title>");
     put_escaped(text, title.as_bytes());
     text.put(b"</title>\n<style>\n");
-    put_style(text, title.as_bytes());
+    put_look(text, look, title.as_bytes());
     text.put(b"</style>\n</head>\n<body>\n<main>\n<h1>");
     put_escaped(text, title.as_bytes());
     text.put(b"</h1>\n");
+}
+
+/// Appends the style of a page that looks so and has this title.
+fn put_look(text: &mut TextBuffer, look: Look, title: &[u8])
+    requires { length text.old + 1_810 + 4 * length title.now ≤ CAPACITY }
+    ensures text { text.new ≡ text.old ++ style_of look title.now }
+    ensures most { length text.new ≤ length text.old + 1_810 + 4 * length title.now }
+{
+    match look {
+        Look::Plain => put_style(text, title),
+        Look::Tricks => put_style_with_tricks(text, title),
+        Look::Sheet => put_sheet_style(text, title),
+    }
 }
 
 /// Writes what comes before the title into the empty buffer.

@@ -1,4 +1,4 @@
--- The number of a board's candidate is no part of its game.
+-- The number of a board's candidate isn't part of its game.
 use Rattle.std.proofs.Common.{◌≡◌, ℕ, List, refl}
 use Rattle.cards.specs.declared.seat.Seat.{Seat}
 use Rattle.boards.specs.Law2.{board_by_law}

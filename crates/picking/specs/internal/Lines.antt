@@ -1,4 +1,4 @@
--- What stands before the first byte of a line.
+-- What is before the first byte of a line.
 use Rattle.picking.specs.Scans.{LineView}
 use Rattle.picking.specs.declared.line.Part.TheVariants.{Blank}
 

@@ -5,7 +5,7 @@ use Rattle.dealrun.specs.declared.cause.Cause.TheVariants.{Memory}
 use Rattle.requests.specs.FirstRefusal.{AreRefused, IsQuestionDue}
 use Rattle.requests.specs.Requests.{Questions}
 use Rattle.requests.specs.declared.failure.Failure.{Failure}
-use Rattle.requests.specs.declared.failure.Failure.TheVariants.{Cells, Interrupted, Question}
+use Rattle.requests.specs.declared.failure.Failure.TheVariants.{Interrupted, Question}
 use Rattle.requests.specs.declared.failure.QuestionName.{QuestionName}
 
 -- memory ran out, or the text of this question is refused so

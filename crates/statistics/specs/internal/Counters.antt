@@ -45,7 +45,7 @@ alone_text Table deals tried = []
 alone_text Csv deals tried = csv_total deals tried
 alone_text Html deals tried = []
 
--- what stands above a table: the sentence
+-- what is above a table: the sentence
 unfoldable pub sentence_line : ℕ → ℕ → List ℕ
 sentence_line deals tried = sentence deals tried ++ codes "\n"
 
@@ -53,7 +53,7 @@ sentence_line deals tried = sentence deals tried ++ codes "\n"
 abbrev pub page_part : Subject → List (List Seat) → List ℕ
 page_part subject deals = if length deals == 0 then [] else page_table subject deals
 
--- what stands above it
+-- what is above it
 abbrev pub head_kept : Kept → ℕ → List ℕ
 head_kept kept tried = page_head (page_title (asked_of kept)) (sentence (deals_kept kept) tried)
 

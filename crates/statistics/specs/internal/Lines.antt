@@ -56,7 +56,7 @@ CanShade two All m = Unit {0}
 CanShade two Mean m = Unit {0}
 CanShade two (Page line) m = IsShaded two line m
 
--- what stands in a line's first column, in that of a number, and in the last
+-- what is in a line's first column, in that of a number, and in the last
 unfoldable pub first_text : KeptTwo → Line → List ℕ
 first_text two (CsvRow n) = []
 first_text two Header = codes "value"
@@ -81,7 +81,7 @@ last_text two All = or_dash two.of.sums.deals
 last_text two Mean = mean_or_dash two.of.sums.deals two.of.sums.sum
 last_text two (Page line) = []
 
--- how wide the cells of a column are that has so many deals, and such a sum
+-- how wide the cells of a column are with this many deals, and such a sum
 abbrev pub cells_kept : Bool → ℕ → ℕ → ℕ
 cells_kept is_condition deals total =
     max (length (or_dash deals)) (if is_condition then 0 else length (mean_or_dash deals total))
@@ -138,7 +138,7 @@ line_text two line =
     start_piece two line ++ flat_map (cell_piece two line) (numbers_in (columns_of_two two))
     ++ end_piece two line
 
--- the line of a number, where a cell has so many deals at most
+-- the line of a number, where a cell has at most this many deals
 abbrev pub row_of : Style → ℕ → ℕ → Line
 row_of Table most n = Row n
 row_of Csv most n = CsvRow n

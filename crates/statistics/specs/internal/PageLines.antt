@@ -29,7 +29,7 @@ most_for two Table = 0
 most_for two Csv = 0
 most_for two Html = most_kept two
 
--- a row, where a cell has so many deals at most
+-- a row, where a cell has at most this many deals
 pub record IsPageRow (two : KeptTwo) (n most : ℕ) : Type 0 where
   pub within : n < length two.of.counts
   pub up_to : (m : ℕ) → (columns_of_two two).first ≤ m → m < (columns_of_two two).end

@@ -16,7 +16,7 @@ pub(crate) const COLUMNS_HEAD: &[u8] =
 pub(crate) const COLUMNS_TAIL: &[u8] =
     b"<th scope=\"col\" class=\"all\">all</th></tr></thead>\n<tbody>\n";
 
-/// What stands between the rows and the line `all`.
+/// What is between the rows and the line `all`.
 pub(crate) const TOTALS_HEAD: &[u8] = b"</tbody>\n<tfoot>\n";
 
 /// What closes the table.

@@ -33,7 +33,7 @@ fn text_style() -> &'static [u8]
     p{margin:.5rem 0}\n"
 }
 
-/// Numbers stand right, one below the other; a wide table is moved in its own place.
+/// Numbers are set right; a wide table is moved in its own place.
 #[tactic(auto, unfolding(crate::specs::PageStyle::table_style))]
 fn table_style() -> &'static [u8]
     ensures value { result.now ≡ table_style }

@@ -21,7 +21,7 @@ use boards::TextBuffer;
 pub(crate) enum PageLine {
     /// The numbers of the columns.
     Heads,
-    /// How many deals a row has in each column, where a cell has so many at most.
+    /// How many deals a row has in each column, where a cell has at most this many.
     Cells(u32, u64),
     /// How many deals each column has.
     Totals,

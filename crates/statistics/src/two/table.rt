@@ -45,7 +45,7 @@ pub(crate) enum Line {
 }
 
 impl Line {
-    /// The line of a number, where a cell has so many deals at most.
+    /// The line of a number, where a cell has at most this many deals.
     fn of_row(style: Style, most: u64, number: u32) -> Line
         ensures { result ≡ row_of style most number }
     {
@@ -270,7 +270,7 @@ impl Two {
         piece
     }
 
-    /// What stands in a line's first column.
+    /// What is in a line's first column.
     #[tactic(auto, unfolding(crate::specs::internal::Lines::first_text))]
     fn first_text(&self, line: Line) -> TextBuffer
         ensures text { result ≡ first_text self.now line }
@@ -317,7 +317,7 @@ impl Two {
         piece
     }
 
-    /// What stands in the column of a number.
+    /// What is in the column of a number.
     #[tactic(auto, unfolding(crate::specs::internal::Lines::cell_text))]
     fn cell_text(&self, line: Line, column: u32) -> TextBuffer
         requires line { IsLine self.now line }
@@ -378,7 +378,7 @@ impl Two {
         piece
     }
 
-    /// What stands in the last column.
+    /// What is in the last column.
     #[tactic(auto, unfolding(crate::specs::internal::Lines::last_text))]
     fn last_text(&self, line: Line) -> TextBuffer
         requires { IsLine self.now line }
@@ -424,7 +424,7 @@ impl Two {
     }
 }
 
-/// How wide the cells of a column are that has so many deals, and such a sum.
+/// How wide the cells of a column are with this many deals, and such a sum.
 fn cells_width(is_condition: bool, deals: u64, total: u64) -> usize
     requires deals { deals ≤ 2 ^ 40 }
     requires total { total ≤ deals * most_answer }

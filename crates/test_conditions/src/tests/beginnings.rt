@@ -1,10 +1,10 @@
-//! What could stand where a text goes wrong: worked by an independent program, each set once.
+//! What may come where a text goes wrong: worked by an independent program, each set once.
 
 use super::*;
 use cards::Measure;
 use cond_lang::{Beginning, Class, Kind, Quantifier};
 
-/// Any measure: all of them stand in the same places.
+/// Any measure: all of them are in the same places.
 const MEASURE: Kind = Kind::Measure(Measure::Hcp);
 
 const SUIT: Kind = Kind::Class(Class::Suit);
@@ -62,7 +62,7 @@ const VALUE: [Kind; 7] = [
     Kind::Shortest,
 ];
 
-/// Texts with a syntax fault, or whole ones, and what could stand there.
+/// Texts with a syntax fault, or whole ones, and what may come there.
 const EXPECTED: [(&str, &[Kind]); 31] = [
     ("", &CONDITION),
     ("1==1+", &VALUE),
@@ -126,7 +126,7 @@ fn what_could_stand_there(rt: HostRuntime) -> Result<(), Fail> {
     Ok(())
 }
 
-/// Whether exactly these kinds could stand there.
+/// Whether exactly these kinds may come there.
 fn is_expected(alloc: Global, text: &str, expected: &[Kind]) -> Result<bool, CondError> {
     let beginning = Beginning::of(alloc, text.as_bytes())?;
     for kind in Kind::ALL {

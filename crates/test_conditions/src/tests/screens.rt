@@ -76,15 +76,15 @@ const CONDITIONS: [(&str, &[u8], Plain, Plain); 14] = [
 enum Plain {
     /// Nothing.
     Never,
-    /// So many points or more of West.
+    /// This many points or more of West.
     West(u8),
-    /// So many points or more of the two.
+    /// This many points or more of the two.
     Both(u8),
     /// Fewer points than these of the two.
     NotBoth(u8),
-    /// So many spades or more of West.
+    /// This many spades or more of West.
     Spades(u8),
-    /// So many spades or more of the two.
+    /// This many spades or more of the two.
     BothSpades(u8),
 }
 

@@ -1,4 +1,4 @@
-//! What a condition says of a deal, and why a text is no condition.
+//! What a condition says of a deal, and why a text isn't a condition.
 
 use super::*;
 use cards::testing::{IN_ORDER, WORKED, deal};

@@ -3,7 +3,7 @@
 use cards::Measure;
 use cond_lang::{Kind, digit_run_len, letter_run_len, measure_word};
 
-/// Texts, and how many letters and how many digits stand in front.
+/// Texts, and how many letters and how many digits are in front.
 const RUNS: [(&[u8], usize, usize); 7] = [
     (b"", 0, 0),
     (b"hcp(north)", 3, 0),
@@ -33,7 +33,7 @@ fn words_and_runs(rt: HostRuntime) {
     assert!(rt; are_in_order());
 }
 
-/// Whether each kind stands at its place.
+/// Whether each kind is at its place.
 fn are_in_order() -> bool {
     for (i, kind) in Kind::ALL.iter().enumerate() {
         if kind.place() != i {

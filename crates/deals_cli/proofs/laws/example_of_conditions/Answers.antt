@@ -3,6 +3,10 @@ use Rattle.clap.proofs.OnLiterals.{clap_on_literals}
 use Rattle.deals_cli.specs.CommandLine.{asked, kinds_for}
 use Rattle.deals_cli.proofs.laws.example_of_conditions.Goals as goal
 
-pub returns : goal.returns
+pub returns-clause-page : goal.returns-clause-page
 unfolding asked kinds_for clap_on_literals
-returns c = refl
+returns-clause-page c = refl
+
+pub returns-clause-help : goal.returns-clause-help
+unfolding asked
+returns-clause-help c = refl

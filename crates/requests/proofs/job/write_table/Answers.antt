@@ -1,15 +1,22 @@
-use Rattle.std.proofs.Common.{arith}
+use Rattle.std.proofs.Common.{ap, arith}
 use Rattle.plans.proofs.BoardLists.{length-boards_of}
+use Rattle.plans.specs.Plans.{Planned}
 use Rattle.plans.specs.Text.{accepted}
+use Rattle.statistics.specs.Counting.{counting}
 use Rattle.statistics.specs.Subjects.{subject_of}
 use Rattle.requests.proofs.Counted.{table_written}
+use Rattle.requests.proofs.OtherWorkers.{worked_writes}
 use Rattle.requests.proofs.job.write_table.Goals as goal
 
 pub returns-in-Ok-run_and_count-clause-ends : goal.returns-in-Ok-run_and_count-clause-ends
 returns-in-Ok-run_and_count-clause-ends g c =
     let job = c.args.job in
+    let w = c.worked-run.ensures in
     let e = c.in-Ok-run_and_count.ensures in
-    table_written job.style (subject_of job.subject) job.plan job.condition c.in-Ok-run_and_count.field-0.report.boards
-    (g.O.Sink.bytes c.args.out.now) (g.O.Sink.bytes c.run_and_count.new.sink) job.plain
-    (omega (arith, length-boards_of job.plan (accepted job.plan job.condition), e.text.boards_are, e.few.0, e.few.1, c.count-count.ensures.range))
-    (rw c.in-Ok.ensures.layout at e.text)
+    let boards = c.in-Ok-run_and_count.field-0.report.boards in
+    let old = g.O.Sink.bytes c.args.out.now in
+    let new = g.O.Sink.bytes c.run_and_count.new.sink in
+    let counts = ap (λ (p : Planned). p.count) w.2 in
+    let text = worked_writes (counting job.style (subject_of job.subject)) job.plan c.worked-run.result job.condition w.0 boards old new w.2 (rw c.in-Ok.ensures.layout at e.text) in
+    table_written job.style (subject_of job.subject) job.plan job.condition boards old new job.plain
+    (omega (arith, length-boards_of job.plan (accepted job.plan job.condition), text.boards_are, e.few.0, e.few.1, counts, c.count-count.ensures.range)) text

@@ -1,14 +1,8 @@
-use Rattle.std.proofs.Common.{◌≡◌, ℕ, List, [], ◌∷◌, ◌++◌, ◌∙◌, length, get_or, refl, ap, arith}
+use Rattle.std.proofs.Common.{ℕ, List, [], ◌∷◌, ◌++◌, ◌∙◌, get_or, ap, arith}
 use Rattle.cards.specs.Hands.{points_of}
 use Rattle.notations.specs.Columns.{spaces, two_columns}
+use Rattle.notations.proofs.Pairs.{pair}
 use Rattle.notations.proofs.hands.parts.two_counts.Goals as goal
-
--- the two bytes of a pair
-pair : (xs : List ℕ) → length xs ≡ 2 → get_or xs 0 0 ∷ get_or xs 1 0 ∷ [] ≡ xs
-pair [] two = absurd (omega (arith, two))
-pair (x ∷ []) two = absurd (omega (arith, two))
-pair (x ∷ y ∷ []) two = refl
-pair (x ∷ y ∷ z ∷ xs) two = absurd (omega (arith, two))
 
 pub returns-clause-value : goal.returns-clause-value
 returns-clause-value c =

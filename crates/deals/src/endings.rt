@@ -1,0 +1,64 @@
+//! How a run ended, as a program reads it and as a person does.
+
+ghost use Rattle.std.specs.Prelude.{◌-◌, ◌<◌, ◌^◌};
+
+use crate::refused_words::without_far_tips;
+use crate::streams::Said;
+use requests::{Failure, Report};
+use sinks::{Sink, put_all};
+use std::io;
+use std::io::{ErrorKind, IsTerminal};
+
+/// Says how it ended, as a program reads it: the report if one was asked for, or what failed.
+/// Returns the status.
+pub fn say(ended: &Result<Option<Report>, Failure>, err: &mut Said) -> u8
+    requires { ⟦<Said as Sink>⟧.faults err.old < 2 ^ 64 - 1 }
+{
+    match ended {
+        Ok(None) => 0,
+        Ok(Some(report)) => {
+            let _ = report.say(err);
+            0
+        }
+        Err(failure) => {
+            let _ = failure.say(err);
+            failure.status()
+        }
+    }
+}
+
+/// How it ended, as a person is told: without tips that lead astray.
+pub fn for_person(
+    rt: &HostRuntime,
+    ended: Result<Option<Report>, Failure>,
+) -> Result<Option<Report>, Failure> {
+    match ended {
+        Err(Failure::CommandLine(text)) => {
+            let text = without_far_tips(rt.alloc(), text.as_str()).unwrap_or(text);
+            Err(Failure::CommandLine(text))
+        }
+        ended => ended,
+    }
+}
+
+/// The status, if a person at a terminal closed what reads the output, as `head` does when it has
+/// enough: there is nothing to say of that.
+pub fn cut_off(
+    rt: &HostRuntime,
+    ended: &Result<Option<Report>, Failure>,
+    reason: Option<&io::Error>,
+) -> Option<u8> {
+    let failure = ended.as_ref().err()?;
+    let is_closed = reason?.kind() == ErrorKind::BrokenPipe;
+    (is_closed && rt.stderr().is_terminal()).then_some(failure.status())
+}
+
+/// Says it to a person, if there is something to say.
+pub fn say_more(text: Option<String>, err: &mut Said) {
+    if err.fault_count() > 0 {
+        return;
+    }
+    if let Some(text) = text {
+        let _ = put_all(err, text.as_bytes());
+    }
+}

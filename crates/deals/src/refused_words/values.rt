@@ -1,0 +1,76 @@
+//! Values of options in other spellings, and the word to write.
+
+use std::alloc::Global;
+
+/// Spellings of a value, with the option and the value.
+struct Spelling {
+    option: &'static str,
+    value: &'static str,
+    tried: &'static [&'static str],
+}
+
+macro_rules! spelling {
+    ($option:literal $value:literal $tried:expr) => {
+        Spelling {
+            option: $option,
+            value: $value,
+            tried: $tried,
+        }
+    };
+}
+
+/// Spellings in small letters.
+static SPELLINGS: [Spelling; 29] = [
+    spelling! { "--dealer" "N" &["n", "north", "nord"] },
+    spelling! { "--dealer" "E" &["e", "east"] },
+    spelling! { "--dealer" "S" &["s", "south"] },
+    spelling! { "--dealer" "W" &["w", "west"] },
+    spelling! { "--vulnerable" "None" &["none", "no", "neither", "nobody", "nil", "-", "0"] },
+    spelling! { "--vulnerable" "NS" &["ns", "n-s", "n/s", "north-south", "northsouth", "n", "s"] },
+    spelling! { "--vulnerable" "EW" &["ew", "e-w", "e/w", "east-west", "eastwest", "e", "w"] },
+    spelling! { "--vulnerable" "All" &["all", "both", "b", "everybody", "yes"] },
+    spelling! { "--format" "pbn" &["pbn", ".pbn"] },
+    spelling! { "--format" "hands" &["hands", "hand", "records", "text", "txt", "plain", "print"] },
+    spelling! { "--format" "lin" &["lin", "bbo", ".lin"] },
+    spelling! { "--format" "html" &["html", "htm", "page", "web", "pdf"] },
+    spelling! { "--format" "json" &["json", "jsonl", "ndjson"] },
+    spelling! { "--progress" "always" &["always", "yes", "on", "true", "1"] },
+    spelling! { "--progress" "never" &["never", "no", "off", "false", "0", "none"] },
+    spelling! { "--progress" "auto" &["auto", "default"] },
+    spelling! { "--hints" "always" &["always", "yes", "on", "true", "1"] },
+    spelling! { "--hints" "never" &["never", "no", "off", "false", "0", "none"] },
+    spelling! { "--hints" "auto" &["auto", "default"] },
+    spelling! { "--show" "north" &["north", "n"] },
+    spelling! { "--show" "east" &["east", "e"] },
+    spelling! { "--show" "south" &["south", "s"] },
+    spelling! { "--show" "west" &["west", "w"] },
+    spelling! { "--show" "ns" &["ns", "n-s", "n/s", "north-south", "northsouth"] },
+    spelling! { "--show" "ew" &["ew", "e-w", "e/w", "east-west", "eastwest"] },
+    spelling! { "--show" "all" &["all", "every", "everything", "both"] },
+    spelling! { "--show" "dealer" &["dealer", "opener", "d"] },
+    spelling! { "--format" "sheet" &["sheet", "sheets", "records-sheet"] },
+    spelling! { "--workers" "auto" &["auto", "all", "max", "cores", "many"] },
+];
+
+/// Spellings of the formats of `count`.
+static STYLES: [Spelling; 3] = [
+    spelling! { "--format" "table" &["table", "text", "txt", "plain"] },
+    spelling! { "--format" "csv" &["csv", "tsv", "excel", "xls", "xlsx", "json", "spreadsheet"] },
+    spelling! { "--format" "html" &["html", "htm", "page", "web", "pdf", "chart"] },
+];
+
+/// What helps with the value of this option, in any case.
+pub(crate) fn hint(alloc: Global, command: &str, option: &str, word: &str) -> Option<String> {
+    let name = word.to_ascii_lowercase(alloc).ok()?;
+    let of_count = command == "count" && option == "--format";
+    let table: &[Spelling] = if of_count { &STYLES } else { &SPELLINGS };
+    let value = value_of(table, option, name.as_str())?;
+    format!(in alloc; "write {option} {value}").ok()
+}
+
+/// The value that this spelling means.
+fn value_of(table: &[Spelling], option: &str, name: &str) -> Option<&'static str> {
+    let spelling = table.iter().find(|known| known.option == option
+        && known.tried.iter().any(|tried| *tried == name))?;
+    Some(spelling.value)
+}

@@ -1,0 +1,63 @@
+-- A club's sheet of hand records: a page of HTML like the other, with a section of its own for each
+-- board, small enough for eighteen on a sheet of paper.
+use Rattle.std.specs.Prelude.{ℕ, Bool, List, [], ◌++◌, Option, Some, None, codes, decimal}
+use Rattle.cards.specs.declared.seat.Seat.{Seat}
+use Rattle.cards.specs.declared.seat.Seat.TheVariants.{North, East, South, West}
+use Rattle.cards.specs.Hands.{points_of}
+use Rattle.boards.specs.declared.board.Board.{Board}
+use Rattle.boards.specs.declared.setting.Vul.{Vul}
+use Rattle.notations.specs.declared.show.Show.{Show}
+use Rattle.notations.specs.Names.{seat_name, vulnerable_name}
+use Rattle.notations.specs.Pages.{facts_text, suits_text, tricks_text}
+use Rattle.notations.specs.Show.{hand_in}
+use Rattle.tricks.specs.Lines.{TricksView}
+
+-- the board's number
+unfoldable pub number_text : ℕ → List ℕ
+number_text number = codes "<h2>" ++ decimal number ++ codes "</h2>\n"
+
+-- the suits of the hand in a seat, if it is shown
+unfoldable pub hand_text : Seat → Option (List Bool) → List ℕ
+hand_text seat None = []
+hand_text seat (Some hand) =
+    codes "<div class=\"" ++ seat_name seat ++ codes "\">" ++ suits_text hand ++ codes "</div>\n"
+
+-- the hands that are shown
+abbrev pub hands_text : (Seat → Option (List Bool)) → List ℕ
+hands_text hand =
+    hand_text North (hand North)
+    ++ hand_text East (hand East)
+    ++ hand_text South (hand South)
+    ++ hand_text West (hand West)
+
+-- the points of a hand that is shown
+unfoldable pub points_text : Seat → Option (List Bool) → List ℕ
+points_text seat None = []
+points_text seat (Some hand) =
+    codes "<span class=\"" ++ seat_name seat ++ codes "\">" ++ decimal (points_of hand)
+    ++ codes "</span>"
+
+-- the points of the hands that are shown
+abbrev pub all_points : (Seat → Option (List Bool)) → List ℕ
+all_points hand =
+    points_text North (hand North)
+    ++ points_text East (hand East)
+    ++ points_text South (hand South)
+    ++ points_text West (hand West)
+
+-- these, in their seats around the table
+unfoldable pub middle_text : Vul → (Seat → Option (List Bool)) → List ℕ
+middle_text vulnerable hand =
+    codes "<div class=\"middle " ++ vulnerable_name vulnerable ++ codes "\">"
+    ++ all_points hand ++ codes "</div>\n"
+
+-- a section of what the board is, its four hands, their points, and what is known of the tricks
+unfoldable pub section_text : Show → TricksView → Board → List ℕ
+section_text show tricks board =
+    codes "<section class=\"board\">\n"
+    ++ number_text board.number
+    ++ facts_text board.dealer board.vulnerable
+    ++ hands_text (hand_in show board)
+    ++ middle_text board.vulnerable (hand_in show board)
+    ++ tricks_text tricks
+    ++ codes "</section>\n"

@@ -1,0 +1,54 @@
+-- What a printer makes of its pen.
+use Rattle.std.specs.Prelude.{◌≡◌, ℕ, List, [], Option, None, Some, if◌then◌else◌, length, nat_lt, ⊤}
+use Prim.{⊥}
+use Rattle.boards.specs.Headings.{HeadingView}
+use Rattle.notations.specs.declared.pen.Pen.{Pen}
+use Rattle.notations.specs.declared.pen.Pen.TheVariants as pen
+use Rattle.notations.specs.declared.printer.Format.{Format}
+use Rattle.notations.specs.declared.printer.Format.TheVariants.{Pbn, Hands, Lin, Html, Sheet, Json}
+use Rattle.notations.specs.declared.printer.Format.TheVariants.{Numbers}
+use Rattle.notations.specs.declared.show.Show.{Show}
+use Rattle.notations.specs.declared.show.Show.TheVariants.{All}
+use Rattle.notations.specs.Formats.{TableView, footer_of}
+use Rattle.tricks.specs.Lines.{TricksView, nothing_known}
+
+abbrev pub format_of : Pen → Format
+format_of (pen.Games printer) = Pbn
+format_of (pen.Pbn letters) = Pbn
+format_of (pen.Hands letters) = Hands
+format_of (pen.Lin letters) = Lin
+format_of (pen.Html letters) = Html
+format_of (pen.Sheet letters) = Sheet
+format_of (pen.Json letters) = Json
+format_of pen.Numbers = Numbers
+
+-- what was printed last: a printer of games has it, and for the others it is in the buffer
+abbrev pub text_of : Pen → List ℕ → List ℕ
+text_of (pen.Games printer) buffer = printer.text
+text_of _ buffer = buffer
+
+-- a printer of games writes this heading
+abbrev pub IsUnder : HeadingView → Pen → Type 0
+IsUnder heading (pen.Games printer) = printer.heading ≡ heading
+IsUnder heading _ = ⊤
+
+-- a printer of games writes all hands, and no tricks
+abbrev pub Writes : Show → TricksView → Pen → Type 0
+Writes show tricks (pen.Games printer) = (show ≡ All) × (tricks ≡ nothing_known)
+Writes show tricks _ = ⊤
+
+-- it is one only where all hands are written, and there are no tricks
+abbrev pub IsFor : {X : Type 0} → Show → Option X → Pen → Type 0
+IsFor show tricks (pen.Games printer) = (show ≡ All) × (tricks ≡ None)
+IsFor show tricks _ = ⊤
+
+-- what comes after this many boards
+abbrev pub footer_after : Format → Option TableView → ℕ → List ℕ
+footer_after format None count = footer_of format
+footer_after format (Some table) count =
+    if nat_lt (length table.lines) count then [] else footer_of format
+
+-- it is a printer of games
+abbrev pub IsPlain : Pen → Type 0
+IsPlain (pen.Games printer) = ⊤
+IsPlain _ = ⊥

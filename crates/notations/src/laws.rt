@@ -1,0 +1,27 @@
+//! Laws of the formats: functions that do nothing, whose contracts are the laws.
+
+ghost use Rattle.std.specs.Prelude.{◌≡◌};
+ghost use Rattle.boards.specs.declared.board.Board.{Board as ABoard};
+ghost use Rattle.boards.specs.Headings.{HeadingView};
+ghost use Rattle.boards.specs.Layouts.{EndsAlike};
+ghost use Rattle.notations.specs.Formats.{layout_showing};
+ghost use Rattle.notations.specs.Games.{game_in};
+ghost use Rattle.notations.specs.declared.printer.Format.{Format as AFormat};
+ghost use Rattle.notations.specs.declared.show.Show.{Show as AShow};
+ghost use Rattle.notations.specs.declared.show.Show.TheVariants.{All};
+ghost use Rattle.pbn_text.specs.Games.{game_text};
+ghost use Rattle.tricks.specs.Lines.{nothing_known};
+
+/// A game with all hands and without tricks is that of `pbn_text`.
+#[tactic(auto, using(crate::proofs::GameLemmas::plain_game))]
+pub fn plain_games_are_games()
+    ensures { (heading : HeadingView) (board : ABoard)
+        → game_in heading All nothing_known board ≡ game_text heading board }
+{}
+
+/// With chosen hands, too, no footer depends on how many candidates were tried.
+#[tactic(auto, using(crate::proofs::LayoutLemmas::showing_ends_alike))]
+pub fn chosen_hands_end_alike()
+    ensures { (format : AFormat) (show : AShow) (heading : HeadingView)
+        → EndsAlike (layout_showing format show heading) }
+{}

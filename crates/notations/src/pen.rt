@@ -1,0 +1,109 @@
+//! What boards are written with in each format.
+
+ghost use Rattle.std.specs.Prelude.{◌≡◌, [], IfOk, true};
+ghost use Rattle.std.specs.Option.{option_copied};
+ghost use Rattle.notations.specs.Formats.{board_text, footer_of};
+ghost use Rattle.notations.specs.Tricks.{or_nothing};
+ghost use Rattle.notations.specs.internal.Pens.{IsPlain, IsUnder, Writes, format_of, text_of};
+
+use crate::printer::Format;
+use crate::show::Show;
+use crate::{hands, json, lin, numbers, page, pbn, sheet};
+use boards::{Board, Heading, SuitLetters, TextBuffer};
+use pbn_text::Printer;
+use std::alloc::{AllocError, Global};
+use tricks::Tricks;
+
+/// What a board is written with: the letters of suits, unless the format has none. A printer of
+/// games has a text of its own, which keeps the lines that the games share; it writes all hands and
+/// no tricks.
+#[derive(Drop)]
+pub(crate) enum Pen {
+    Games(Printer),
+    Pbn(SuitLetters),
+    Hands(SuitLetters),
+    Lin(SuitLetters),
+    Html(SuitLetters),
+    Sheet(SuitLetters),
+    Json(SuitLetters),
+    Numbers,
+}
+
+impl Pen {
+    /// Returns the pen of the format, which has written nothing: a printer of games only where all
+    /// hands are written and no tricks.
+    pub(crate) fn new(
+        alloc: Global,
+        format: Format,
+        is_plain: bool,
+        heading: &Heading,
+    ) -> Result<Pen, AllocError>
+        ensures format { IfOk result (λ pen. format_of pen ≡ format) }
+        ensures heading { IfOk result (λ pen. IsUnder heading.now pen) }
+        ensures text { IfOk result (λ pen. text_of pen [] ≡ []) }
+        ensures plain { IfOk result (λ pen. IsPlain pen → is_plain ≡ true) }
+    {
+        match format {
+            Format::Pbn if is_plain => Ok(Pen::Games(Printer::new(alloc, heading)?)),
+            Format::Pbn => Ok(Pen::Pbn(SuitLetters::new(alloc)?)),
+            Format::Hands => Ok(Pen::Hands(SuitLetters::new(alloc)?)),
+            Format::Lin => Ok(Pen::Lin(SuitLetters::new(alloc)?)),
+            Format::Html => Ok(Pen::Html(SuitLetters::new(alloc)?)),
+            Format::Sheet => Ok(Pen::Sheet(SuitLetters::new(alloc)?)),
+            Format::Json => Ok(Pen::Json(SuitLetters::new(alloc)?)),
+            Format::Numbers => Ok(Pen::Numbers),
+        }
+    }
+
+    /// Writes the board into the empty buffer, or over the last one of a printer of games.
+    pub(crate) fn put(
+        &mut self,
+        text: &mut TextBuffer,
+        heading: &Heading,
+        show: Show,
+        tricks: Option<&Tricks>,
+        board: &Board,
+    )
+        requires empty { text.old ≡ [] }
+        requires heading { IsUnder heading.now self.old }
+        requires writes { Writes show (or_nothing (option_copied tricks)) self.old }
+        ensures format { format_of self.new ≡ format_of self.old }
+        ensures heading { IsUnder heading.now self.new }
+        ensures plain { IsPlain self.new → IsPlain self.old }
+        ensures text { text_of self.new text.new ≡ board_text (format_of self.old) show
+            heading.now (or_nothing (option_copied tricks.entry)) board.now }
+    {
+        match self {
+            Pen::Games(printer) => printer.print(board),
+            Pen::Pbn(letters) => pbn::put_game(text, letters, heading, show, tricks, board),
+            Pen::Hands(letters) => hands::put_record(text, letters, show, tricks, board),
+            Pen::Lin(letters) => lin::put_line(text, letters, show, board),
+            Pen::Html(letters) => page::put_board(text, letters, show, tricks, board),
+            Pen::Sheet(letters) => sheet::put_section(text, letters, show, tricks, board),
+            Pen::Json(letters) => json::put_line(text, letters, show, tricks, board),
+            Pen::Numbers => numbers::put_line(text, board),
+        }
+    }
+
+    /// Returns what was written last, where this is the buffer.
+    pub(crate) fn text<'a>(&'a self, buffer: &'a TextBuffer) -> &'a [u8]
+        ensures { result.now ≡ text_of self.now buffer.now }
+    {
+        if let Pen::Games(printer) = self {
+            return printer.text();
+        }
+        buffer.as_bytes()
+    }
+
+    /// Returns what comes after the boards.
+    #[tactic(auto, unfolding(crate::specs::Pages::footer_text))]
+    pub(crate) fn footer(&self) -> &'static [u8]
+        ensures { result.now ≡ footer_of (format_of self.now) }
+    {
+        match self {
+            Pen::Html(_) | Pen::Sheet(_) => page::FOOTER,
+            Pen::Games(_) | Pen::Pbn(_) | Pen::Hands(_) | Pen::Lin(_) => b"",
+            Pen::Json(_) | Pen::Numbers => b"",
+        }
+    }
+}

@@ -1,0 +1,98 @@
+//! Which hands of a board are written: all, the dealer's, one, or a side's.
+
+ghost use Rattle.std.specs.Prelude.{◌≡◌, true};
+ghost use Rattle.std.specs.Option.{option_copied};
+ghost use Rattle.notations.specs.Formats.{beside_hands};
+ghost use Rattle.notations.specs.Show.{hand_in, is_same, shows};
+ghost use Rattle.notations.specs.Tricks.{or_nothing};
+ghost use Rattle.notations.specs.declared.show.Show.TheVariants.{All};
+
+use boards::Board;
+use cards::{Hand, Seat};
+use tricks::Tricks;
+
+/// The hands that are written of a board, as they are asked for by a word.
+#[derive(Clone, Copy, PartialEq, Eq, Debug)]
+pub enum Show {
+    All,
+    /// The hand of the board's dealer.
+    Dealer,
+    North,
+    East,
+    South,
+    West,
+    NorthSouth,
+    EastWest,
+}
+
+/// The words that ask for hands, each with what it asks for.
+pub const SHOWS: &[(&str, Show)] = &[
+    ("all", Show::All),
+    ("dealer", Show::Dealer),
+    ("north", Show::North),
+    ("east", Show::East),
+    ("south", Show::South),
+    ("west", Show::West),
+    ("ns", Show::NorthSouth),
+    ("ew", Show::EastWest),
+];
+
+/// These words, as help lists them.
+pub const SHOW_WORDS: &str = "all, dealer, north, east, south, west, ns, ew";
+
+/// What help says of the option that asks for hands.
+pub const SHOW_HELP: &str = "The hands that are written: all, the dealer's, one, or a side's \
+    [default: all] [possible values: all, dealer, north, east, south, west, ns, ew]";
+
+impl Show {
+    /// Whether all hands are written.
+    pub(crate) fn is_all(self) -> bool
+        ensures { result ≡ true → self ≡ All }
+    {
+        matches!(self, Show::All)
+    }
+
+    /// What is written of the tricks beside these hands: nothing, unless they are all.
+    pub(crate) fn beside(self, tricks: &Tricks) -> Option<&Tricks>
+        ensures { or_nothing (option_copied result) ≡ beside_hands self tricks.now }
+    {
+        match self {
+            Show::All => Some(tricks),
+            _ => None,
+        }
+    }
+
+    /// Whether the hand in the seat is written.
+    fn shows(self, board: &Board, seat: Seat) -> bool
+        ensures { result ≡ shows self board.now seat }
+    {
+        match self {
+            Show::All => true,
+            Show::Dealer => is_same(seat, board.dealer),
+            Show::North => is_same(seat, Seat::North),
+            Show::East => is_same(seat, Seat::East),
+            Show::South => is_same(seat, Seat::South),
+            Show::West => is_same(seat, Seat::West),
+            Show::NorthSouth => is_same(seat, Seat::North) || is_same(seat, Seat::South),
+            Show::EastWest => is_same(seat, Seat::East) || is_same(seat, Seat::West),
+        }
+    }
+
+    /// The hand in the seat, or `None` if it isn't written.
+    pub(crate) fn hand(self, board: &Board, seat: Seat) -> Option<Hand>
+        ensures { result ≡ hand_in self board.now seat }
+    {
+        if self.shows(board, seat) {
+            Some(board.deal.hand(seat))
+        } else {
+            None
+        }
+    }
+}
+
+/// Whether the seats are one.
+fn is_same(seat: Seat, other: Seat) -> bool
+    ensures { result ≡ is_same seat other }
+{
+    seat as usize == other as usize
+}

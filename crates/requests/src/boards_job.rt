@@ -1,0 +1,23 @@
+//! The job of a `make` or a `find`.
+
+ghost use Rattle.std.specs.Prelude.{◌≡◌};
+ghost use Rattle.requests.specs.Makings.{workers_in};
+
+use crate::workers::Workers;
+use cond_lang::Cond;
+use notations::{Format, Show};
+use plans::Plan;
+
+/// A run: the boards of the accepted ones among a plan's candidates.
+#[derive(Drop)]
+pub struct BoardsJob {
+    pub plan: Plan,
+    pub condition: Cond,
+    pub format: Format,
+    pub show: Show,
+    /// How many workers are asked for: with `Auto` the plan has one, until the job is done.
+    pub workers: Workers,
+    ghost workers_are: { plan.workers ≡ workers_in workers },
+    /// Whether the boards and the candidates are counted for a report.
+    pub report: bool,
+}

@@ -1,0 +1,41 @@
+//! How many workers judge the candidates of a search.
+
+ghost use Rattle.std.specs.Prelude.{◌≡◌, ◌-◌, max, min};
+ghost use Rattle.requests.specs.Makings.{workers_in};
+ghost use Rattle.requests.specs.internal.Ends.{IsWorked};
+
+use plans::Plan;
+use std::thread::{self, Threads};
+
+/// How many workers are asked for. The same is written with any number of them.
+#[derive(Clone, Copy, PartialEq, Eq, Debug)]
+pub enum Workers {
+    Number(u32),
+    /// As many as suit the machine.
+    Auto,
+}
+
+/// Returns how many workers suit a process that may use this many cores: one fewer, so that the
+/// writer has one, but 1 to 16.
+pub fn workers_for(cores: usize) -> u32
+    ensures { result ≡ max 1 (min 16 (cores - 1)) }
+{
+    cores.saturating_sub(1).clamp(1, 16) as u32
+}
+
+/// Returns the plan with as many workers as are asked for, on this machine.
+pub(crate) fn worked<R: Threads>(rt: &R, plan: &Plan, asked: Workers) -> Plan
+    requires { plan.now.workers ≡ workers_in asked }
+    ensures { IsWorked plan.now asked result }
+{
+    match asked {
+        Workers::Number(_) => *plan,
+        Workers::Auto => {
+            let cores = match thread::available_parallelism(rt) {
+                Ok(cores) => cores.get(),
+                Err(_) => 1,
+            };
+            plan.worked_by(workers_for(cores))
+        }
+    }
+}

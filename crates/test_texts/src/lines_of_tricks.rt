@@ -1,0 +1,124 @@
+//! Lines of tricks, and what they tell.
+
+use crate::support::same;
+use picking::{LinesEnd, NoBytes, Reader, read_four, read_tricks};
+use tricks::Tricks;
+
+const DIGITS: &[u8] = b"97b8997b892624426244";
+
+/// A line, and its digits, score and contract.
+type Line = (&'static [u8], &'static [u8], &'static [u8], &'static [u8]);
+
+const LINES: [Line; 9] = [
+    (b"-", b"", b"", b""),
+    (b"97b8997b892624426244", DIGITS, b"", b""),
+    (b"97B8997B892624426244", DIGITS, b"", b""),
+    (b"0123456789abcdABCD00", b"0123456789abcdabcd00", b"", b""),
+    (b"97b8997b892624426244 NS 450", DIGITS, b"NS 450", b""),
+    (b"97b8997b892624426244 EW 0", DIGITS, b"EW 0", b""),
+    (b"97b8997b892624426244 EW 7600", DIGITS, b"EW 7600", b""),
+    (
+        b"97b8997b892624426244 NS 450 4H-NS+1",
+        DIGITS,
+        b"NS 450",
+        b"4H-NS+1",
+    ),
+    (
+        b"97b8997b892624426244 NS 450 3N*=,4s/EW-1+2345678910",
+        DIGITS,
+        b"NS 450",
+        b"3N*=,4s/EW-1+2345678910",
+    ),
+];
+
+/// Texts that are no line of tricks.
+const MALFORMED: [&[u8]; 13] = [
+    b"",
+    b" ",
+    b"--",
+    b"- ",
+    b"97b8997b89262442624",
+    b"97b8997b8926244262444",
+    b"97e8997b892624426244",
+    b"97b8997b892624426244 ",
+    b"97b8997b892624426244 NS",
+    b"97b8997b892624426244 SN 450",
+    b"97b8997b892624426244 NS 14500",
+    b"97b8997b892624426244 NS  450",
+    b"97b8997b892624426244 NS 450 4H NS",
+];
+
+#[test]
+fn lines_tell_tricks(rt: HostRuntime) {
+    for (line, digits, score, contract) in LINES {
+        let Some(tricks) = Tricks::read(line) else {
+            return same(&rt, line.len(), 0);
+        };
+        same(&rt, tricks.digits(), digits);
+        same(&rt, tricks.score(), score);
+        same(&rt, tricks.contract(), contract);
+    }
+}
+
+#[test]
+fn malformed_lines_tell_none(rt: HostRuntime) {
+    for line in MALFORMED {
+        same(&rt, Tricks::read(line).is_some(), false);
+    }
+}
+
+/// A text, how many lines are asked for, how many are read, and why no more are.
+type Text = (&'static [u8], u64, usize, LinesEnd);
+
+const TEXTS: [Text; 15] = [
+    (b"", 2, 0, LinesEnd::Missing),
+    (b"", 0, 0, LinesEnd::Enough),
+    (b"x", 0, 0, LinesEnd::Enough),
+    (b"-", 1, 1, LinesEnd::Enough),
+    (b"-", 2, 1, LinesEnd::Missing),
+    (b"-\n", 2, 1, LinesEnd::Missing),
+    (b"-\r\n-", 2, 2, LinesEnd::Enough),
+    (b"-\n-\nx\n", 2, 2, LinesEnd::Enough),
+    (b"-\n-\nx\n", 3, 2, LinesEnd::Refused),
+    (b"-\n\n-\n", 3, 1, LinesEnd::Refused),
+    (b"-\r", 1, 0, LinesEnd::Refused),
+    (b"-\r\r\n", 1, 0, LinesEnd::Refused),
+    (b"\xff\xfe", 1, 0, LinesEnd::Refused),
+    (
+        b"97b8997b892624426244 NS 450 4H-NS+1                              ",
+        1,
+        0,
+        LinesEnd::Refused,
+    ),
+    (
+        b"-\n97b8997b892624426244 NS 450 4H-NS+1\n-",
+        9,
+        3,
+        LinesEnd::Missing,
+    ),
+];
+
+#[test]
+fn texts_have_lines(rt: HostRuntime) -> Result<(), std::test::Fail> {
+    for (text, most, count, end) in TEXTS {
+        let read = read_tricks(rt.alloc(), &mut Reader::new(text), most)?;
+        same(&rt, read.table.len(), count);
+        same(&rt, read.end, end);
+    }
+    Ok(())
+}
+
+#[test]
+fn four_bytes_are_read(rt: HostRuntime) {
+    same(
+        &rt,
+        read_four(&mut Reader::new(b"\x01\x02\x03\x04\x05".as_slice())),
+        Ok([1, 2, 3, 4]),
+    );
+    same(
+        &rt,
+        read_four(&mut Reader::new(b"\x01\x02\x03".as_slice())).is_err(),
+        true,
+    );
+    same(&rt, read_four(&mut NoBytes).is_err(), true);
+}

@@ -1,0 +1,4 @@
+pub mod FirstWord
+pub mod Told
+pub mod Forms
+pub mod Short

@@ -1,0 +1,9 @@
+use Rattle.std.proofs.Common.{◌≡◌, true, rules}
+use Rattle.tricks.specs.Lines.{are_tricks}
+use Rattle.tricks.proofs.Told.{alone_told}
+use Rattle.tricks.proofs.tricks.Tricks.alone.Goals as goal
+
+pub invariant_of-result-2 : goal.invariant_of-result-2
+invariant_of-result-2 c =
+    let are : are_tricks c.args.word.now ≡ true = search rules in
+    rw (c.small.ensures, c.new-2.ensures, c.new-3.ensures) (alone_told c.args.word.now are)

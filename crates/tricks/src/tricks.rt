@@ -1,0 +1,164 @@
+//! The tricks and par of a board.
+
+ghost use Rattle.std.specs.Prelude.{◌≡◌, ◌≤◌, ◌++◌, ◌∷◌, [], length, map, true};
+ghost use Rattle.std.specs.Char.{to_ascii_lowercase};
+ghost use Rattle.tricks.specs.Lines.{IsTold, are_tricks, are_with_par};
+ghost use Rattle.tricks.specs.Lines.{known, nothing_known, told, told_by};
+
+use crate::words::{are_tricks, are_with_par, is_contract, split_word};
+use arrayvec::ArrayVec;
+use std::marker::Model;
+
+/// What is known of a board: the tricks of each declarer in each denomination, par for one side,
+/// and a contract that scores it. It takes 64 bytes.
+#[derive(Drop, Debug)]
+pub struct Tricks {
+    digits: ArrayVec<u8, 20>,
+    score: ArrayVec<u8, 7>,
+    contract: ArrayVec<u8, 24>,
+}
+
+impl Model for Tricks {
+    ghost use Rattle.tricks.specs.Lines.{IsTold, TricksView};
+
+    ghost Value = { TricksView };
+
+    ghost view = { λ t. record {
+      digits = t.digits.items;
+      score = t.score.items;
+      contract = t.contract.items;
+    } };
+
+    ghost invariant = { λ t. IsTold (record {
+      digits = t.digits.items;
+      score = t.score.items;
+      contract = t.contract.items;
+    }) };
+}
+
+impl Tricks {
+    /// Returns what a line tells, without its end, or `None` if and only if it is no such line.
+    /// Capital digits are made small.
+    pub fn read(line: &[u8]) -> Option<Tricks>
+        ensures { result ≡ told line.now }
+    {
+        let (tricks, behind) = split_word(line);
+        let Some(behind) = behind else {
+            return Tricks::alone(tricks);
+        };
+        let (side, behind) = split_word(behind);
+        let Some(behind) = behind else {
+            return None;
+        };
+        let (points, behind) = split_word(behind);
+        if !are_with_par(tricks, side, points) {
+            return None;
+        }
+        let Some(behind) = behind else {
+            return Some(Tricks::with_par(tricks, side, points, &[]));
+        };
+        let (contract, behind) = split_word(behind);
+        if behind.is_some() {
+            return None;
+        }
+        if !is_contract(contract) {
+            return None;
+        }
+        Some(Tricks::with_par(tricks, side, points, contract))
+    }
+
+    /// Returns what a word tells by itself.
+    fn alone(word: &[u8]) -> Option<Tricks>
+        ensures { result ≡ told_by (word.now ∷ []) }
+    {
+        if word == b"-".as_slice() {
+            return Some(Tricks {
+                digits: ArrayVec::new(),
+                score: ArrayVec::new(),
+                contract: ArrayVec::new(),
+            });
+        }
+        if !are_tricks(word) {
+            return None;
+        }
+        Some(Tricks {
+            digits: small(word),
+            score: ArrayVec::new(),
+            contract: ArrayVec::new(),
+        })
+    }
+
+    /// Returns tricks with a score, and the contract, if it isn't empty.
+    fn with_par(tricks: &[u8], side: &[u8], points: &[u8], contract: &[u8]) -> Tricks
+        requires par { are_with_par tricks.now side.now points.now ≡ true }
+        requires contract { length contract.now ≤ 24 }
+        ensures { result ≡ known tricks.now (side.now ++ (32 ∷ points.now)) contract.now }
+    {
+        Tricks {
+            digits: small(tricks),
+            score: score_of(side, points),
+            contract: kept(contract),
+        }
+    }
+
+    /// Returns the 20 numbers of tricks, `0` to `9` and `a` to `d`, those of declarer North, South,
+    /// East and West, each in notrump, spades, hearts, diamonds and clubs; nothing if they aren't
+    /// known.
+    pub fn digits(&self) -> &[u8]
+        ensures value { result.now ≡ self.now.digits }
+        ensures told { IsTold self.now }
+    {
+        &self.digits
+    }
+
+    /// Returns par as it was given, such as `NS 450`; nothing if it isn't known.
+    pub fn score(&self) -> &[u8]
+        ensures value { result.now ≡ self.now.score }
+        ensures told { IsTold self.now }
+    {
+        &self.score
+    }
+
+    /// Returns a contract that scores par, such as `4H-NS+1`; nothing if none is known.
+    pub fn contract(&self) -> &[u8]
+        ensures value { result.now ≡ self.now.contract }
+        ensures told { IsTold self.now }
+    {
+        &self.contract
+    }
+}
+
+/// Returns the numbers of tricks in small letters.
+fn small(tricks: &[u8]) -> ArrayVec<u8, 20>
+    requires { are_tricks tricks.now ≡ true }
+    ensures { result.items ≡ map to_ascii_lowercase tricks.now }
+{
+    let mut digits = ArrayVec::new();
+    for digit in tricks {
+        digits.push(digit.to_ascii_lowercase());
+    }
+    digits
+}
+
+/// Returns a side and its points, with a space between them.
+fn score_of(side: &[u8], points: &[u8]) -> ArrayVec<u8, 7>
+    requires side { length side.now ≡ 2 }
+    requires points { length points.now ≤ 4 }
+    ensures { result.items ≡ side.now ++ (32 ∷ points.now) }
+{
+    let mut score = ArrayVec::new();
+    let _fits = score.try_extend_from_slice(side);
+    score.push(b' ');
+    let _fits = score.try_extend_from_slice(points);
+    score
+}
+
+/// Returns the contract's bytes.
+fn kept(contract: &[u8]) -> ArrayVec<u8, 24>
+    requires { length contract.now ≤ 24 }
+    ensures { result.items ≡ contract.now }
+{
+    let mut bytes = ArrayVec::new();
+    let _fits = bytes.try_extend_from_slice(contract);
+    bytes
+}
