@@ -1,13 +1,9 @@
 """The calls of the program that are made to fail, and what each ends with where nothing fails."""
 
 import dataclasses
-import pathlib
-import sys
 
-sys.path.append(str(pathlib.Path(__file__).resolve().parent.parent / "counting"))
-
-import counts  # noqa: E402
-import model  # noqa: E402
+import counts
+import model
 
 
 @dataclasses.dataclass
@@ -36,7 +32,7 @@ MISSING = "error: the following required arguments were not provided:\n"
 MORE_INFORMATION = "For more information, try '--help'.\n"
 SEED_HINTS = (
     "  hint: for a lesson any number is a good seed: --seed 7\n"
-    "  hint: for a club draw one that nobody can guess: od -An -N4 -tu4 /dev/urandom\n"
+    "  hint: for a club draw one that nobody can guess: deals seed\n"
 )
 
 # A condition, and whether it accepts four hands.
@@ -122,26 +118,32 @@ def of_texts():
         yield Case(" ".join(words), words, out=None)
 
 
+SEED_OF_SEARCH = "  hint: write the seed of the search that found the numbers: deals pick --seed 7\n"
+
+
 def without_seed(command, more):
     """clap's text, and for new boards how to come to a seed."""
     words = [*more.replace("<M>", "36").replace("<TEXT>", "hcp(north)>=15").split(), *HINTS]
     usage = f"Usage: deals {command} --seed <S> {more} --hints <WHEN>"
     line = f"{MISSING}  --seed <S>\n\n{usage}\n\n{MORE_INFORMATION}"
-    said = line if command == "pick" else line + SEED_HINTS
+    said = line + (SEED_OF_SEARCH if command == "pick" else SEED_HINTS)
     return Case(f"{command}, no seed", [command, *words], 2, err=said.encode(), line=line.encode())
 
 
 # What stands below an option that isn't there, and below words whose command was left out.
 COMMAND_FIRST = "  hint: the command comes first: deals make --seed 7 --boards 36\n"
 TO_A_FILE = "  hint: boards go to standard output, and so into a file: deals make .. > boards.pbn\n"
-BY_WHERE = "  hint: a condition stands behind --where, in quotes: --where 'hcp(north)>=15'\n"
+BY_WHERE = "  hint: a condition comes after --where, in quotes: --where 'hcp(north)>=15'\n"
 HOW_MANY = "  hint: --boards 36 says how many boards, --candidates 1000 how many deals are tried\n"
 
 
-def unexpected(words, option, usage, hint):
-    """clap's text, and what to write in the place of the option."""
-    line = f"error: unexpected argument '{option}' found\n\n{usage}\n\n{MORE_INFORMATION}"
-    return Case(f"words, {option}", words, 2, err=(line + hint).encode(), line=line.encode())
+def unexpected(words, option, usage, hint, tip=""):
+    """clap's text, and what to write in the place of the option. A far tip, and the usage that goes with it, are left out
+    unless memory is refused."""
+    head = f"error: unexpected argument '{option}' found\n\n"
+    line = f"{head}{tip}{usage}\n\n{MORE_INFORMATION}"
+    said = head + MORE_INFORMATION if tip else line
+    return Case(f"words, {option}", words, 2, err=(said + hint).encode(), line=line.encode())
 
 
 def of_tried_options():
@@ -150,10 +152,10 @@ def of_tried_options():
     for words in (["--seed", "7", "--boards", "12"], ["--frist"]):
         yield unexpected([*words, *HINTS], words[0], "Usage: deals <COMMAND>", COMMAND_FIRST)
     yield unexpected(["--frist"], "--frist", "Usage: deals <COMMAND>", "")
-    tip = "  tip: a similar argument exists: '--south'\n\n"
-    yield unexpected([*boards, "--output", "x", *HINTS], "--output", f"{tip}{usage} --south <HAND>", TO_A_FILE)
+    south, dealer = (f"  tip: a similar argument exists: '--{name}'\n\n" for name in ("south", "dealer"))
+    yield unexpected([*boards, "--output", "x", *HINTS], "--output", f"{usage} --south <HAND>", TO_A_FILE, south)
     yield unexpected([*boards, "--condition", "hcp(north)>9", *HINTS], "--condition", usage, BY_WHERE)
-    yield unexpected([*boards, "-n", "12", *HINTS], "-n", "Usage: deals make [OPTIONS] --seed <S>", HOW_MANY)
+    yield unexpected([*boards, "--deals", "12", *HINTS], "--deals", f"{usage} --dealer <SEAT>", HOW_MANY, dealer)
     yield unexpected([*boards, "--nothing-like-it"], "--nothing-like-it", usage, "")
 
 

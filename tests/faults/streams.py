@@ -16,7 +16,6 @@ def failed(words, reason):
     return f"output failed\n{more}".encode()
 
 
-
 @dataclasses.dataclass
 class Check:
     """A command of the shell, in which DEALS is the program, and what it gives."""

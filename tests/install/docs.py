@@ -1,0 +1,230 @@
+"""Runs each command that README, the pages for clubs and teachers and the man page show, and compares what it prints;
+and README's picture of a terminal with what tools/record draws now.
+
+A command is a line of a block that begins with `deals`, `deals-tricks`, `./deals`, `printf`, `sed` or `cat`, with `$ `
+before it where what it prints follows; what a line such as `seed=$(..)` sets is known to those behind it in its block.
+Each page's commands run in order in an empty folder, `deals` as it is installed and `./deals` as the launcher. A `make`
+that has no condition, or a number of boards, has to write this many. Commands that install, build or check are known
+here and are run by other tests; a block that shows any other is wrong.
+"""
+
+import functools
+import os
+import pathlib
+import pty
+import re
+import shlex
+import subprocess
+import tempfile
+
+import commands
+import harness
+import packages
+
+PAGES = ["README.md", "docs/GUIDE.md", "docs/CONDITIONS.md", "docs/SECRECY.md"]
+PAGES += ["docs/SCALE.md", "docs/COUNTING.md", "package/deals.1.in"]
+BLOCK = re.compile(r"^ *```\n(.*?)^ *```$", re.M | re.S)
+EXAMPLE = re.compile(r"^\.EX\n(.*?)^\.EE$", re.M | re.S)
+OURS = re.compile(r"(\./)?deals(-tricks)? |printf |sed |cat ")
+ASSIGNS = re.compile(r"\w+=")
+# What other tests and ./check themselves run.
+ELSEWHERE = ("sudo dpkg ", "parallel ", "tar -xzf ", "sh ", "package/build", "./check", "tests/", "rt ")
+ELSEWHERE += ("companion/build",)
+# How a board begins in each format.
+SECTION = rb'<section class="board"'
+BOARDS = {"pbn": rb"^\[Deal ", "hands": rb"^Board \d", "lin": rb"^qx\|", "html": SECTION, "sheet": SECTION, "json": b"^{"}
+PATIENCE = 600
+# How many words the pages have at most, and how often what isn't plain English may be written.
+MOST_WORDS = 17_000
+SELDOM = {r"\bstands?\b": 27, r"(?<![Tt]here )\bis no [a-z]": 7, r"\bso many\b": 5, r"\bthat (?:is|are) given\b": 4}
+SELDOM |= {r"\bexactly if\b": 2, r"\bwant of memory\b": 1, r"\bparted\b": 1, r"\bhangs on\b": 1}
+
+
+def blocks_of(path):
+    """The blocks of a page, without the spaces before them."""
+    text = path.read_text(encoding="utf-8")
+    if path.suffix == ".in":
+        found = [commands.plain(block) for block in EXAMPLE.findall(text)]
+    else:
+        found = BLOCK.findall(text)
+    for block in found:
+        indent = min((len(line) - len(line.lstrip()) for line in block.splitlines() if line.strip()), default=0)
+        yield [line[indent:] for line in block.splitlines()]
+
+
+def joined(lines):
+    """The lines, with those that end with a backslash joined to the next."""
+    whole = []
+    for line in lines:
+        if whole and whole[-1].endswith("\\"):
+            whole[-1] = whole[-1][:-1] + line
+        else:
+            whole.append(line)
+    return whole
+
+
+def commands_of(lines):
+    """Each command of a block, with what it prints by the page, None where the page doesn't show it."""
+    shown = [at for at, line in enumerate(lines) if line.startswith("$ ")]
+    if shown:
+        for at, end in zip(shown, [*shown[1:], len(lines)]):
+            yield lines[at][2:], "".join(line + "\n" for line in lines[at + 1 : end])
+    elif OURS.match(lines[0]) or ASSIGNS.match(lines[0]) or lines[0].startswith(ELSEWHERE):
+        yield from ((line, None) for line in joined(lines))
+
+
+def wanted_boards(words):
+    """How many boards a `make` has to write, if its words say so."""
+    options = dict(zip(words, [*words[1:], None]))
+    if "--boards" in options and "--candidates" not in options:
+        return int(options["--boards"])
+    return int(options["--candidates"]) if "--where" not in options and "--boards" not in options else None
+
+
+def shown_on_terminal(bash):
+    """What a person sees of a command."""
+    ours, theirs = pty.openpty()
+    process = subprocess.Popen(**bash, stdout=theirs, stderr=theirs)
+    os.close(theirs)
+    shown = harness.all_of(ours)
+    os.close(ours)
+    process.wait(timeout=PATIENCE)
+    return shown.replace(b"\r\n", b"\n")
+
+
+def complaint_of(command, wanted, folder, before=""):
+    """What is wrong with a command that ran in a folder, behind what its block sets; None where nothing is."""
+    command = command.replace("/usr/share/doc/deals/examples/", f"{folder}/examples/")
+    bash = {
+        "args": ["bash", "-euc", before + command],
+        "cwd": folder,
+        "env": {**os.environ, "PATH": f"{folder}/bin:/usr/bin:/bin", "LC_ALL": "C.UTF-8"},
+        "stdin": subprocess.DEVNULL,
+    }
+    if wanted is not None:
+        shown = shown_on_terminal(bash)
+        return None if shown == wanted.encode() else f"it prints {shown.decode(errors='replace')!r}"
+    end = subprocess.run(**bash, stdout=subprocess.PIPE, stderr=subprocess.STDOUT, timeout=PATIENCE)
+    if end.returncode != 0:
+        return f"status {end.returncode}, {end.stdout[-300:]!r}"
+    words = shlex.split(command)
+    if words[:2] == ["deals", "seed"]:
+        return None if int(end.stdout) < 2**32 else f"it prints {end.stdout!r}"
+    if len(words) < 2 or words[1] != "make":
+        return None
+    text = (folder / words[-1]).read_bytes() if words[-2] == ">" else end.stdout
+    form = words[words.index("--format") + 1] if "--format" in words else "pbn"
+    boards = len(re.findall(BOARDS[form], text, re.M))
+    return None if boards in (wanted_boards(words), boards * (wanted_boards(words) is None)) else f"{boards} boards"
+
+
+def prose():
+    """What a reader reads: the pages, and the comments and texts of the sources and the definitions."""
+    for page in [*(harness.TOP / "docs").glob("*.md"), *harness.TOP.glob("*.md")]:
+        yield page.read_text(encoding="utf-8")
+    for source in (harness.TOP / "crates").glob("*/src/**/*.rt"):
+        yield from re.findall(r"//.*|\".*", source.read_text(encoding="utf-8"))
+    for definitions in (harness.TOP / "crates").glob("*/specs/**/*.antt"):
+        yield from re.findall(r"^ *--.*", definitions.read_text(encoding="utf-8"), re.M)
+
+
+def check_words():
+    """The pages are short, and plain words are written."""
+    words = sum(len(page.read_text(encoding="utf-8").split()) for page in (harness.TOP / "docs").glob("*.md"))
+    yield "words of the pages", None if words < MOST_WORDS else f"{words} words"
+    text = "\n".join(prose())
+    for pattern, most in SELDOM.items():
+        found = len(re.findall(pattern, text))
+        yield pattern, None if found <= most else f"{found} times, and not {most}"
+
+
+def what_it_sets(command, folder):
+    """A line of bash that sets what the command sets."""
+    line = f"{command} > /dev/null; declare -p {command.partition('=')[0]}"
+    path = f"{folder}/bin:/usr/bin:/bin"
+    told = subprocess.run(["bash", "-euc", line], env={"PATH": path}, stdout=subprocess.PIPE, text=True, check=True)
+    return told.stdout
+
+
+@functools.cache
+def solver():
+    """The companion program, or None where the solver isn't there and can't be installed."""
+    try:
+        packages.need("g++", "g++")
+        packages.need("libdds-dev", "/usr/include/dds/dll.h")
+    except packages.Missing as missing:
+        if os.environ.get("CI") == "true":
+            raise
+        print(f"SKIPPED: commands with tricks: {missing}")
+        return None
+    subprocess.run([harness.TOP / "companion" / "build"], check=True)
+    return harness.TOP / "companion" / "out" / "deals-tricks"
+
+
+def check_page(path, folder):
+    """The name of each command of a page, and what is wrong with it."""
+    (folder / "bin").mkdir()
+    if solver() is not None:
+        (folder / "bin" / "deals-tricks").symlink_to(solver())
+    (folder / "bin" / "deals").symlink_to(harness.PROGRAM)
+    (folder / "deals").symlink_to(harness.TOP / "deals")
+    (folder / "examples").symlink_to(harness.TOP / "examples")
+    for lines in blocks_of(path):
+        before = ""
+        for command, wanted in commands_of(lines):
+            if "tricks" in command and solver() is None:
+                continue
+            if ASSIGNS.match(command):
+                before += what_it_sets(command, folder)
+            elif OURS.match(command):
+                yield command, complaint_of(command, wanted, folder, before)
+            elif not command.startswith(ELSEWHERE):
+                yield command, "nothing runs this command"
+
+
+def rows_of(heading):
+    """The rows of the first table below a heading of CONDITIONS, as lists of cells."""
+    text = (harness.TOP / "docs/CONDITIONS.md").read_text(encoding="utf-8").partition(heading)[2]
+    for line in text.partition("\n|---")[2].splitlines()[1:]:
+        if not line.startswith("|"):
+            return
+        yield [cell.strip() for cell in line.strip("|").split("|")]
+
+
+def refusal_of(condition):
+    words = [harness.PROGRAM, "make", "--seed", "1", "--candidates", "1", "--where", condition]
+    return subprocess.run(words, capture_output=True, text=True, timeout=PATIENCE).stderr.partition("\n")[0]
+
+
+def check_refusals():
+    """The tables of CONDITIONS that say where a text goes wrong."""
+    for message, example, _ in rows_of("\n## Refusals\n"):
+        if example.startswith("`"):
+            said = refusal_of(example.strip("`"))
+            yield f"{example}", None if said == message.strip("`") else said
+    for example, place, _ in rows_of("\n`syntax` points at"):
+        said = refusal_of(example.strip("`"))
+        right = said == f"condition refused at byte {re.match(r'[0-9]+', place).group()}: syntax"
+        yield f"{example}", None if right else said
+
+
+def check_picture():
+    """The terminal of README shows what the program prints now, and is drawn the same each time."""
+    kept = (harness.TOP / "docs/pictures/terminal.svg").read_bytes()
+    for time in ("first", "second"):
+        drawn = subprocess.run([harness.TOP / "tools/record"], capture_output=True, timeout=PATIENCE)
+        right = (drawn.returncode, drawn.stdout) == (0, kept)
+        wrong = drawn.stderr.decode() or "tools/record draws another: look at it, and keep it by tools/record --write"
+        yield f"the {time} drawing", None if right else wrong
+
+
+def shown():
+    """The commands of the pages, and what the pages show."""
+    for name in PAGES:
+        path = harness.TOP / name
+        if path.exists():
+            with tempfile.TemporaryDirectory(prefix="docs-") as folder:
+                yield from ((f"{name}: {command}", wrong) for command, wrong in check_page(path, pathlib.Path(folder)))
+    yield from check_refusals()
+    yield from check_picture()
+    yield from check_words()

@@ -1,0 +1,132 @@
+"""Compares the man page and the completions with the built program's help; makes, installs and removes the packages.
+With `all` the Debian package is tried in a clean Debian too, which is fetched: some minutes, as root.
+"""
+
+import pathlib
+import re
+import tempfile
+
+import commands
+import installs
+import packages
+import report
+
+# Ranges, defaults and limits.
+NUMBER = re.compile(r"\d+ to \d+|\d+")
+
+
+def names():
+    """The commands with options of their own, as help lists them, and the program itself."""
+    listed = commands.commands()
+    return [None, *(name for name in listed if name != "help")]
+
+
+def numbers_in(text):
+    return set(NUMBER.findall(text.replace("\n", " ")))
+
+
+def check_man(_):
+    parts = commands.man_parts()
+    yield "man, the commands", set(parts) == {None, *commands.commands()}
+    for name in names():
+        told, written = commands.options(name), parts.get(name, {})
+        yield f"man, the options of {name}", bool(told) and set(written) == set(told)
+        for option, text in told.items():
+            entry = written.get(option, "")
+            has_numbers = numbers_in(text.replace("2024.05.01", "")) <= numbers_in(entry)
+            has_words = set(commands.values(text)) <= set(re.findall(r"\w+", entry))
+            yield f"man, {name} {option}", has_numbers and has_words
+    text = commands.plain(commands.MAN.read_text(encoding="utf-8"))
+    known = {option for name in names() for option in commands.options(name)}
+    yield "man, no option that isn't there", set(commands.LONG.findall(text)) <= known
+
+
+def check_man_form(_):
+    packages.need("mandoc", "mandoc")
+    packages.need("groff-base", "groff")
+    packages.need("man-db", "man")
+    for words in (["mandoc", "-Tlint", "-Wall"], ["man", "--warnings", "-l", "-Tutf8", "-Z"]):
+        words = [*words, commands.MAN]
+        status, out, err = installs.told(words, LC_ALL="C.UTF-8", MANWIDTH="80", MANROFFSEQ="")
+        said = out if words[0] == "mandoc" else b""
+        yield f"man, no warning of {words[0]}", (status, said, err) == (0, b"", b"")
+
+
+def right_words(name):
+    """What stands behind a command, and where that is another list than its options, what is completed there."""
+    options = commands.options(name)
+    yield "--", set(options)
+    yield "-", set(options) | commands.shorts(name)
+    for option, text in options.items():
+        if commands.values(text):
+            yield f"{option} ", set(commands.values(text))
+
+
+def check_bash(_):
+    for name in names():
+        start = "deals " if name is None else f"deals {name} "
+        for words, right in right_words(name):
+            yield f"bash, {start}{words}", set(commands.in_bash(start + words)) == right
+    listed = set(commands.commands())
+    yield "bash, the commands", {word for word in commands.in_bash("deals ") if word[0] != "-"} == listed
+    yield "bash, help", set(commands.in_bash("deals help ")) == listed
+    yield "bash, nothing behind a number's option", commands.in_bash("deals make --seed ") == []
+    yield "bash, nothing of another command", commands.in_bash("deals stream --w") == []
+    shell = commands.Terminal(["bash", "--norc", "--noprofile", "-i"])
+    shell.do(f"source '{commands.PAGES}/deals.bash'")
+    for line, wanted in (("make --wo", "make --workers"), ("make --format=ha", "make --format=hands"), ("fi", "find")):
+        yield f"bash, {line} on a terminal", shell.completed(f"deals {line}", 1)[1] == f"deals {wanted}"
+    shown, line = shell.completed("deals make --w")
+    right = line == "deals make --w" and re.search(r"\n--west +--where +--workers *\r", shown) is not None
+    yield "bash, --w on a terminal", right
+    shell.close()
+
+
+def check_fish(_):
+    packages.need("fish", "fish")
+    for name in names():
+        start = "deals " if name is None else f"deals {name} "
+        for words, right in right_words(name):
+            yield f"fish, {start}{words}", set(commands.in_fish(start + words)) == right
+    listed = set(commands.commands())
+    yield "fish, the commands", set(commands.in_fish("deals ")) == listed
+    yield "fish, help", set(commands.in_fish("deals help ")) == listed
+    yield "fish, nothing of another command", commands.in_fish("deals stream --w") == []
+
+
+def listed_by_zsh(shell, line):
+    """The words that zsh lists for a line, or the one that it completes."""
+    shown, completed = shell.completed(line)
+    rows = shown.split("\r\n")[1:-1]
+    if len(rows) < 2:
+        return {completed.split()[-1]} if completed != line.strip() else set()
+    rows = [row.split("  -- ")[0] if "  -- " in row else row for row in rows[:-1]]
+    return {word for row in rows for word in row.replace("\r", "").split()}
+
+
+def check_zsh(_):
+    packages.need("zsh", "zsh")
+    shell = commands.zsh()
+    for name in names():
+        start = "deals " if name is None else f"deals {name} "
+        for words, right in right_words(name):
+            found = listed_by_zsh(shell, start + words)
+            # zsh lists -h beside --help; where one word is left, it is completed.
+            shorts = commands.shorts(name)
+            yield f"zsh, {start}{words}", found - shorts == right - shorts
+    listed = set(commands.commands())
+    yield "zsh, the commands", listed_by_zsh(shell, "deals ") == listed
+    yield "zsh, help", listed_by_zsh(shell, "deals help ") == listed
+    yield "zsh, nothing of another command", listed_by_zsh(shell, "deals stream --w") == set()
+    shell.close()
+
+
+QUICK = [check_man, check_man_form, check_bash, check_fish, check_zsh, *installs.QUICK]
+
+
+def packaged():
+    """The packages, their pages and completions."""
+    commands.make_pages()
+    with tempfile.TemporaryDirectory(prefix="package-") as folder:
+        for test in QUICK + (installs.SLOW if report.has("all") else []):
+            yield from report.results(test.__name__, lambda: report.judged(test(pathlib.Path(folder))))

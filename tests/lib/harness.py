@@ -1,0 +1,107 @@
+"""Runs the program: as it is, or with one thing refused by the shim."""
+
+import dataclasses
+import os
+import pathlib
+import struct
+import subprocess
+import tempfile
+
+HERE = pathlib.Path(__file__).resolve().parent
+TOP = HERE.parent.parent
+PROGRAM = TOP / "crates" / "deals" / "out" / "deals"
+SECONDS = 20
+REPORT = struct.Struct("QQq")
+
+
+@dataclasses.dataclass(frozen=True)
+class Fault:
+    """A kind of call, and how it fails: see shim.c."""
+
+    call: str
+    mode: str = "once"
+    descriptor: int = 1
+    error: int = 0
+    most: int = 1
+
+    def __str__(self):
+        return f"{self.call} {self.mode}, descriptor {self.descriptor}, error {self.error}, at most {self.most}"
+
+
+@dataclasses.dataclass
+class End:
+    """How a run ended; `status` is None where it did not end in time."""
+
+    status: int | None
+    out: bytes
+    err: bytes
+    calls: int
+    failed: int
+    live: int
+
+
+def compile_shim(folder):
+    """The shim, compiled into a folder."""
+    library = pathlib.Path(folder) / "shim.so"
+    command = ["cc", "-O2", "-Wall", "-Wextra", "-shared", "-fPIC", "-o", library, HERE / "shim.c", "-ldl"]
+    subprocess.run(command, check=True)
+    return library
+
+
+def build():
+    """Builds the program, where it is missing or was built from other sources."""
+    subprocess.run([TOP / "deals", "--version"], check=True, stdout=subprocess.DEVNULL)
+
+
+def deals(*words, given=b"", stdin=None):
+    """Runs the program; it has the descriptor as its input, or these bytes."""
+    source = {"stdin": stdin} if stdin is not None else {"input": given}
+    return subprocess.run([PROGRAM, *words], capture_output=True, check=False, **source)
+
+
+def run(command, shim, fault, at, stderr=subprocess.PIPE, given=b""):
+    """Runs a command whose call number `at` of the fault's kind fails; 0: none fails. What it writes to a standard error
+    that is given isn't told. Its input has the bytes of `given`."""
+    report = os.memfd_create("report")
+    os.truncate(report, REPORT.size)
+    settings = {
+        "LD_PRELOAD": str(shim),
+        "FAULT_CALL": fault.call,
+        "FAULT_AT": str(at),
+        "FAULT_MODE": fault.mode,
+        "FAULT_FD": str(fault.descriptor),
+        "FAULT_ERRNO": str(fault.error),
+        "FAULT_MOST": str(fault.most),
+        "FAULT_REPORT": str(report),
+    }
+    stdin = subprocess.PIPE if given else subprocess.DEVNULL
+    process = subprocess.Popen(
+        command, env=settings, pass_fds=[report], stdout=subprocess.PIPE, stderr=stderr, stdin=stdin
+    )
+    try:
+        out, err = process.communicate(given or None, timeout=SECONDS)
+        status = process.returncode
+    except subprocess.TimeoutExpired:
+        process.kill()
+        out, err = process.communicate()
+        status = None
+    calls, failed, live = REPORT.unpack(os.pread(report, REPORT.size, 0))
+    os.close(report)
+    return End(status, out, err or b"", calls, failed, live)
+
+
+def scratch():
+    return tempfile.TemporaryDirectory(prefix="faults-")
+
+
+def all_of(terminal):
+    """What a terminal was given, whose other end is closed. It may come in several pieces."""
+    said = b""
+    while True:
+        try:
+            piece = os.read(terminal, 65536)
+        except OSError:
+            return said
+        if not piece:
+            return said
+        said += piece

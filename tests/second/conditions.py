@@ -1,0 +1,153 @@
+"""Runs each worked condition of docs/CONDITIONS.md and each file of examples/ in the built program.
+
+A second program (language.py over model.py) deals the same candidates and says of which
+of them each condition is true; `make` has to write the games of these and no others. Each condition is true of some
+candidate and not of all. Then the tables of truths/ are asked of both (given.py): conditions over deals that are given,
+with what is true of each; and random conditions (random_conditions.py). Fifty conditions are asked of ten million
+candidates each, given up early and dealt whole (early.py). The page that `conditions` prints is read as well (page.py).
+
+With `many` there are 20,000 random conditions in place of 2,000.
+"""
+
+import concurrent.futures
+import functools
+import os
+import random
+import re
+import subprocess
+
+import early
+import given
+import harness
+import language
+import model
+import page
+import random_conditions
+import report
+
+SEED = 2026
+CANDIDATES = 20_000
+# How many random conditions there are, and of how many candidates each is asked.
+RANDOM = 20_000 if report.has("many") else 2_000
+ASKED = 48
+# A lesson's condition is shorter than this.
+SHORT = 200
+LESSONS = 21
+# The pack has forty points: true of each candidate, and false of each.
+POINTS = "+".join(f"hcp({seat})" for seat in language.SEATS)
+FORTY = [(f"{POINTS}==40", CANDIDATES), (f"{POINTS}!=40", 0)]
+
+
+def worked():
+    """The worked conditions of the docs, each with its heading."""
+    text = (harness.TOP / "docs" / "CONDITIONS.md").read_text()
+    for heading, condition in re.findall(r"^### (\d+\. [^\n]+)\n\n```\n(.*?)\n```", text, re.M | re.S):
+        yield heading, condition
+
+
+def lessons():
+    """The lessons of the docs, a line of a table each, with the bytes that the line tells."""
+    text = (harness.TOP / "docs" / "CONDITIONS.md").read_text()
+    section = text.split("## Twenty-one lessons, a line each")[1].split("\n## ")[0]
+    for name, told, condition in re.findall(r"^\| ([^|]+?) \| (\d+) \| `([^`|]+)` \|$", section, re.M):
+        yield name, condition, int(told)
+
+
+def examples():
+    """The files of examples/."""
+    for file in sorted((harness.TOP / "examples").glob("*.cond")):
+        yield f"examples/{file.name}", file.read_text()
+
+
+def dealt():
+    """The four hands of each candidate."""
+    state = model.start(SEED)
+    for _ in range(CANDIDATES):
+        hands, state = model.hands(state)
+        yield hands
+
+
+def expected(condition, deals):
+    """The deals of the boards that are to be written, as the program writes them."""
+    is_true = language.condition(condition)
+    return ["N:" + " ".join(model.spelled(hand) for hand in hands) for hands in deals if is_true(hands)]
+
+
+def written(condition):
+    """The deals of the boards that the program writes."""
+    words = ["make", "--seed", str(SEED), "--candidates", str(CANDIDATES), "--workers", "2", "--where", condition]
+    run = subprocess.run([harness.PROGRAM, *words], capture_output=True, text=True, check=False)
+    if run.returncode != 0:
+        raise ValueError(run.stderr)
+    return re.findall(r'^\[Deal "([^"]+)"\]$', run.stdout, re.M)
+
+
+def complaint(condition, deals):
+    """What is wrong with a condition; None where nothing is."""
+    try:
+        wanted, found = expected(condition, deals), written(condition)
+    except ValueError as error:
+        return str(error)
+    if not 0 < len(wanted) < len(deals):
+        return f"true of {len(wanted)} of {len(deals)} candidates"
+    if found != wanted:
+        return f"{len(found)} boards for {len(wanted)}"
+    return None
+
+
+def randoms():
+    """Random conditions, the same in each run."""
+    dice = random.Random(2026)
+    found = (random_conditions.test(dice, []) for _ in range(RANDOM))
+    return [condition for condition in found if len(condition) <= 1024]
+
+
+def random_complaint(condition, deals):
+    """Why the program finds other candidates than the second one, or None."""
+    is_true = language.condition(condition)
+    wanted = [number for number, hands in enumerate(deals[:ASKED]) if is_true(hands)]
+    words = ["find", "--seed", str(SEED), "--candidates", str(ASKED), "--where", condition]
+    run = subprocess.run([harness.PROGRAM, *words], capture_output=True, text=True, check=False)
+    if run.returncode != 0 or run.stdout.split() != [str(number) for number in wanted]:
+        return f"status {run.returncode}, {run.stdout.split()} for {wanted}"
+    return None
+
+
+@functools.cache
+def deals():
+    """The candidates of each worked condition."""
+    return list(dealt())
+
+
+def worked_conditions():
+    """The worked conditions, lessons and examples, each with what it finds."""
+    short = {name: condition for name, condition, _ in lessons()}
+    told = {name: size for name, _, size in lessons()}
+    chosen = [*worked(), *short.items(), *examples()]
+    yield "how many there are", None if len(list(worked())) >= 40 and len(short) == LESSONS else "fewer than there were"
+    with concurrent.futures.ProcessPoolExecutor(len(os.sched_getaffinity(0))) as pool:
+        tried = [(name, text, pool.submit(complaint, text, deals())) for name, text in chosen]
+        for name, text, outcome in tried:
+            is_told = name not in short or len(text) == told[name] < SHORT
+            yield name, outcome.result() if is_told else f"{len(text)} bytes"
+    for condition, count in FORTY:
+        found = len(written(condition))
+        yield condition, None if found == count else f"{found} boards for {count}"
+    yield "the page of the language", page.complaint()
+
+
+def random_ones():
+    """Random conditions."""
+    yield from report.asked(lambda condition: random_complaint(condition, deals()), randoms())
+
+
+def given_up_early():
+    """Conditions of which candidates are given up before they are dealt whole."""
+    yield from report.asked(lambda row: early.complaint(*row), early.asked())
+
+
+def truths():
+    """Conditions over deals that are given."""
+    rows = list(given.asked())
+    yield "how many there are", None if len(rows) >= 700 else f"{len(rows)} of them"
+    yield from report.asked(lambda row: given.complaint(*row[1:]), rows, lambda row: f"{row[0]}: {row[2]} of {row[1]}")
