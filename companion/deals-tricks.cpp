@@ -34,7 +34,7 @@ d (13); then, where the board has a dealer and a vulnerability, the side and the
 
     97b8997b892624426244 NS 450 4H-NS+1
 
-Exit status: 0, or 1 if a deal can't be read or the output can't be written.
+Exit status: 0; 1 if a deal can't be read or the output can't be written; 2 for words other than --help.
 )";
 
 constexpr int SEATS = 4;
