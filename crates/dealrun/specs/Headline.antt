@@ -30,15 +30,15 @@ AllSettled lanes = All (λ l. l.settled ≡ true) lanes
 abbrev pub contents_of : OutView → List Verdict
 contents_of l = l.taken ++ l.left
 
--- the lanes: what was taken from each is its worker's verdicts, each once, in the order sent,
--- nothing after its close
+-- the lanes: what was taken from each is its worker's verdicts, each once, in the order in which
+-- the worker owes and sends them, and nothing after its close
 pub record TakesWhatIsOwed (plan : Planned) (form : Form) (lanes : List OutView) (boards : ℕ)
     : Type 0 where
   -- there is a lane for each worker, and its first verdicts were taken, as many as are needed
   pub taken :
       map (λ l. l.taken) lanes ≡ for_each_worker plan
       (λ w. take (turns plan.workers w (end_of plan form)) (verdicts_for plan form w))
-  -- each lane was closed
+  -- each lane was closed, and the writer saw it: nothing can follow what is told here
   pub settled : AllSettled lanes
   -- what is left follows what was taken in its worker's verdicts
   pub sent : EachLane lanes (λ w l. IsPrefix (contents_of l) (verdicts_for plan form w))
@@ -47,8 +47,8 @@ pub record TakesWhatIsOwed (plan : Planned) (form : Form) (lanes : List OutView)
       → (map (λ l. l.taken) lanes ≡ for_each_worker plan (verdicts_for plan form))
       × All (λ l. l.left ≡ []) lanes
 
--- the text: the boards of the accepted ones of the one candidate sequence, each deal a partition of
--- the pack
+-- the text, if the sink tells its bytes; how many boards it has; and that each of their deals is a
+-- partition of the pack
 pub record WritesTextIn (layout : Layout) (plan : Planned) (form : Form) (boards : ℕ)
     (old new : Option (List ℕ)) : Type 0 where
   pub bytes : AppendsAll old new (text_in layout plan form)

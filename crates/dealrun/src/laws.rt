@@ -12,6 +12,7 @@ ghost use Rattle.plans.specs.Plans.{Planned, candidate_of};
 ghost use Rattle.plans.specs.Text.{accepted, board_of, end_of, needed_by, text_in};
 ghost use Rattle.dealrun.specs.MergedVerdicts.{verdicts_for};
 ghost use Rattle.dealrun.specs.Pbn.{text};
+ghost use Rattle.pbn_text.specs.Games.{pbn};
 ghost use Rattle.dealrun.specs.Plain.{IsPlain, plain_accepted, plain_text};
 
 /// The text of a plan, in any layout and in PBN, and the candidates that it accepts, are the same
@@ -48,7 +49,7 @@ pub fn a_plain_plan()
     ensures needed { (plan : Planned) (form : Form) → IsPlain plan
         → end_of plan form ≡ needed_by (candidate plan.seed) plan form }
     ensures text { (plan : Planned) (form : Form) → IsPlain plan
-        → text plan form ≡ plain_text plan form }
+        → text_in (pbn plan.heading) plan form ≡ plain_text plan form }
     ensures verdicts { (plan : Planned) (form : Form) (w : ℕ) → IsPlain plan
         → verdicts_for plan form w
         ≡ verdicts (candidate plan.seed) plan.first plan.count form plan.workers w }

@@ -11,11 +11,12 @@ abbrev pub verdict_of : (ℕ → List Seat) → Form → ℕ → Verdict
 verdict_of deals form k =
     record { number = k; accepted = holds form (deals k); deal = deals k }
 
--- the verdicts of worker w of W: those on first + i, for each i below count whose rest by W is w
+-- the verdicts of worker w of W: those on candidates first + i, for each i below count with i % W
+-- equal to w
 unfoldable pub verdicts : (ℕ → List Seat) → ℕ → ℕ → Form → ℕ → ℕ → List Verdict
 verdicts deals first count form W w =
     map (λ i. verdict_of deals form (first + i)) (filter (λ i. i % W == w) (range_with_len 0 count))
 
--- how many numbers below m have the rest w by W
+-- how many numbers i below m have i % W equal to w
 unfoldable pub turns : ℕ → ℕ → ℕ → ℕ
 turns W w m = count_by (λ i. i % W == w) (range_with_len 0 m)

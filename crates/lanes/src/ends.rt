@@ -2,8 +2,8 @@
 
 ghost use Rattle.std.specs.Prelude.{◌≡◌, ◌+◌, ◌*◌, ◌/◌, ◌<◌, ◌≤◌, ◌↔◌, ◌⊎◌, min, [], ◌∷◌, ◌++◌, length};
 ghost use Rattle.std.specs.Prelude.{IsTrue, IsOk, IsSome, IsErrOf, OnOk, IfOk, IfErr, IfSome, IfNone};
-ghost use Rattle.std.specs.Prelude.{true, false};
-ghost use Rattle.lanes.specs.Slots.{verdict_in};
+ghost use Rattle.std.specs.Prelude.{true, false, MatchBool};
+ghost use Rattle.lanes.specs.Slots.{verdict_in, verdicts_in};
 ghost use Rattle.lanes.specs.declared.ends.LaneError.TheVariants.{Capacity, Memory};
 
 use crate::limits::MAX_CAPACITY;
@@ -244,6 +244,18 @@ impl LaneIn {
     {
         // A push is the core's Send.
         self.producer.push_reserved(verdict);
+    }
+
+    /// Sends all these verdicts, as the lane keeps them, or none if too few slots are free. Never
+    /// blocks.
+    pub(crate) fn try_send_block(&mut self, verdicts: &[Slot]) -> bool
+        ensures ring { self.new.ring ≡ self.old.ring }
+        ensures sent { MatchBool result
+            (self.new.sent ≡ self.old.sent ++ verdicts_in verdicts.now)
+            (self.new.sent ≡ self.old.sent) }
+    {
+        // To push n verdicts at once is n of the core's Sends, one after another.
+        self.producer.push_entire_slice(verdicts).is_ok()
     }
 
     /// How many verdicts the ring holds at most.

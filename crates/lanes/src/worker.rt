@@ -25,11 +25,18 @@ use std::sync::atomic::{AtomicBool, Ordering};
 use std::sync::{Arc, Wait};
 
 /// Is asked once for each candidate, by the worker with this number, before the candidate's verdict
-/// is sent; `false` stops the whole run. By then a worker may have judged the candidate and up to
-/// 15 after it. It is shared between the workers' threads, and may wait.
+/// is sent, unless it says that it is open; `false` stops the whole run. By then a worker may have
+/// judged the candidate and up to 15 after it. It is shared between the workers' threads, and may
+/// wait.
 pub trait Gate {
     /// Returns whether this worker may go on with the candidate of this number.
     fn pass(&self, worker: u32, number: u64) -> bool;
+
+    /// Returns whether every candidate may pass. Then the gate need not be asked, and verdicts are
+    /// sent many at a time.
+    fn is_open(&self) -> bool {
+        false
+    }
 }
 
 /// A gate that lets every candidate pass.
@@ -38,6 +45,12 @@ pub struct OpenGate;
 
 impl Gate for OpenGate {
     fn pass(&self, _worker: u32, _number: u64) -> bool
+        ensures { result ≡ true }
+    {
+        true
+    }
+
+    fn is_open(&self) -> bool
         ensures { result ≡ true }
     {
         true
@@ -275,9 +288,31 @@ fn deal_by_hand(
     }
 }
 
+/// Sends the block's verdicts, all at once if the gate is open and there is room. Returns false,
+/// and sends no more, if the gate returns false or the stop flag is up.
+fn send_block<R: Wait, G: Gate>(
+    rt: &R,
+    job: &JobAround,
+    lane: &mut LaneIn,
+    gate: &G,
+    stop: &AtomicBool,
+    block: &[Slot],
+) -> bool
+    ensures ring { lane.new.ring ≡ lane.old.ring }
+    ensures all { result ≡ true → lane.new.sent ≡ lane.old.sent ++ verdicts_in block.now }
+    ensures some { result ≡ false → IsProperPrefix lane.new.sent
+        (lane.old.sent ++ verdicts_in block.now) }
+{
+    // A load of the stop flag isn't an event of the core.
+    if gate.is_open() && !stop.load(Ordering::SeqCst) && lane.try_send_block(block) {
+        return true;
+    }
+    send_each(rt, job, lane, gate, stop, block)
+}
+
 /// Asks the gate before each verdict of the block, and sends it. Returns false, and sends no more,
 /// if the gate returns false or the stop flag is up.
-fn send_block<R: Wait, G: Gate>(
+fn send_each<R: Wait, G: Gate>(
     rt: &R,
     job: &JobAround,
     lane: &mut LaneIn,

@@ -17,7 +17,7 @@ unfoldable pub accepted_among : (ℕ → List Seat) → ℕ → Form → ℕ →
 accepted_among deals first form n =
     filter (λ k. holds form (deals k)) (range_with_len first n)
 
--- the first that many, or all if there is no limit
+-- the first `most` of them, or all if there is no limit
 abbrev pub limited : Option ℕ → List ℕ → List ℕ
 limited None xs = xs
 limited (Some most) xs = take most xs

@@ -195,7 +195,8 @@ fn write_boards<R: Threads + Wait + Clone + Send + 'static, O: Sink>(
     }
 }
 
-/// Writes the table.
+/// Writes the table. It stands apart, so that no other job takes its stack.
+#[inline(never)]
 fn write_table<R: Threads + Wait + Clone + Send + 'static, O: Sink>(
     rt: &R,
     alloc: Global,

@@ -1,6 +1,6 @@
 use Rattle.std.proofs.Common.{◌≡◌, ◌++◌, take}
 use Rattle.lanes.specs.Slots.{verdicts_in}
-use Rattle.lanes.proofs.worker.send_block.Given as goal
+use Rattle.lanes.proofs.worker.send_each.Given as goal
 
 abbrev pub invariant-loop-i : goal.invariant-loop-i
 invariant-loop-i g l = record {

@@ -1,6 +1,6 @@
 use Rattle.std.proofs.Common.{◌∙◌, arith}
 use Rattle.lanes.proofs.Blocks.{proper_with_slots}
-use Rattle.lanes.proofs.worker.send_block.Goals as goal
+use Rattle.lanes.proofs.worker.send_each.Goals as goal
 
 pub returns-then-load-clause-some : goal.returns-then-load-clause-some
 returns-then-load-clause-some g c _ =
