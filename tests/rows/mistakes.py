@@ -1,8 +1,8 @@
 """Gives the built program each text of the tables beside this file, and compares what is said of it.
 
-A table of mistakes has a line `$ CONDITION` for each, and below it what the program says behind its first line. A
-condition that a hint tells to write is given to the program again, on a terminal: it is accepted, and no note says that
-no deal meets it.
+A table of mistakes has a line `$ CONDITION` for each, and below it what the program says behind its first line; lines
+that begin with `#` are comments. A condition that a hint tells to write is given to the program again, on a terminal: it
+is accepted, and no note says that no deal meets it.
 
 A table of places/ has a line `WHERE | TEXT` for each: where and why the text is refused, as the program's first line has
 it, and behind a `;` what could stand there. A second reader (second/grammar.py) says the same.
@@ -27,7 +27,8 @@ LEAST = {"mistakes": 330, "places": 90, "notes": 80}
 def mistakes():
     """Each table's name, with each condition and what is said of it."""
     for file in sorted((HERE / "mistakes").glob("*.txt")):
-        _, *rows = re.split(r"^\$ ", file.read_text(), flags=re.M)
+        text = re.sub(r"^#.*\n", "", file.read_text(), flags=re.M)
+        _, *rows = re.split(r"^\$ ", text, flags=re.M)
         for row in rows:
             condition, said = row.split("\n", 1)
             yield file.stem, tables.unescaped(condition), said.rstrip("\n") + "\n"

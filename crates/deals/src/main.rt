@@ -9,9 +9,10 @@ mod endings;
 mod notes;
 mod refused_words;
 mod streams;
+mod unread;
 
 use crate::endings::{cut_off, for_person, say, say_more};
-use crate::notes::note;
+use crate::notes::{note, typed};
 use crate::streams::{Given, Reasons, help, hints_of, is_time, open};
 use deals_cli::{perform, prepare, read_words};
 use picking::Reader;
@@ -36,6 +37,7 @@ fn words_of(rt: &HostRuntime) -> io::Result<Vec<String>> {
 /// Says why nothing was begun: memory ran out, or a word isn't UTF-8.
 fn not_begun(rt: &HostRuntime, error: &io::Error) -> ExitCode {
     if error.kind() != ErrorKind::OutOfMemory {
+        put_note(rt, unread::hint(rt));
         return ExitCode::from(2);
     }
     let _ = put_all(&mut Piped::new(rt.stderr()), b"out of memory\n");
@@ -60,6 +62,7 @@ fn main(rt: HostRuntime) -> ExitCode {
         Ok(task) => {
             if hints {
                 put_note(&rt, note(rt.alloc(), words, &read, &task));
+                put_note(&rt, typed(&rt, &task));
             }
             perform(&rt, rt.alloc(), task, &mut input, &mut out)
         }

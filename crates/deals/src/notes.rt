@@ -5,6 +5,7 @@ use clap::Error;
 use deals_cli::Task;
 use requests::{Job, Request, Search};
 use std::alloc::Global;
+use std::io::IsTerminal;
 
 /// What there is to note of a task; none where memory runs out.
 pub fn note(
@@ -22,6 +23,18 @@ pub fn note(
         Ok(None) => dealt_again(alloc, words, read),
         noted => noted.unwrap_or(None),
     }
+}
+
+/// Where the tricks are read from, if that is the keyboard.
+pub fn typed(rt: &HostRuntime, task: &Task) -> Option<String> {
+    let Task::Do(Job::WithTricks(_)) = task else {
+        return None;
+    };
+    if !rt.stdin().is_terminal() {
+        return None;
+    }
+    let text = "note: the tricks are read from the keyboard: for a file write --tricks < FILE\n";
+    String::from_str(rt.alloc(), text).ok()
 }
 
 /// The note on boards whose numbers go on, but whose deals don't.

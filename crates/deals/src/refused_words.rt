@@ -1,8 +1,10 @@
 //! What helps a person with words that are refused, below what clap says of them.
 //!
 //! `refused` reads what is refused; each other file has the hints of one kind, as tables where it
-//! can. `tips` takes clap's own tips away where they lead astray.
+//! can. `elsewhere` has the options of other commands. `tips` takes clap's own tips away where they
+//! lead astray.
 
+mod elsewhere;
 mod hyphens;
 mod instead;
 mod missing;
@@ -68,7 +70,7 @@ fn of_argument(alloc: Global, words: &[String], command: &str, word: &str) -> Op
         return Some(text);
     }
     if word.starts_with('-') {
-        return of_option(alloc, word);
+        return of_option(alloc, command, word);
     }
     if is_behind_tricks(words, word) {
         return format!(in alloc; "the lines come from its input: --tricks < {word}").ok();
@@ -89,18 +91,22 @@ fn is_behind_tricks(words: &[String], word: &str) -> bool {
 }
 
 /// What helps with an option that isn't there.
-fn of_option(alloc: Global, word: &str) -> Option<String> {
+fn of_option(alloc: Global, command: &str, word: &str) -> Option<String> {
     if let Some(text) = numbers::hint_of_sign(alloc, word) {
         return Some(text);
+    }
+    let known = options::named(word);
+    if let Some(text) = known.and_then(|known| elsewhere::of_option(command, known.option)) {
+        return owned(alloc, text);
     }
     let name = word.to_ascii_lowercase(alloc).ok()?;
     if let Some(text) = instead::of_option(name.as_str()) {
         return owned(alloc, text);
     }
-    let known = options::named(name.as_str())?;
-    if known.option == word || known.letter == word {
+    if known.is_some() {
         return None;
     }
+    options::named(name.as_str())?;
     format!(in alloc; "write {name} in small letters").ok()
 }
 

@@ -9,6 +9,7 @@ use cond_lang::CondError;
 use console::{Counts, Drawn, GATHERED_MILLIS, OverLine, Prompt, Style, millis};
 use dealrun::Cause;
 use hints::{explain, explain_question};
+use picking::LineFault;
 use requests::{Failure, QuestionName, Request, Search, When};
 use sinks::{Piped, Sink};
 use std::alloc::Global;
@@ -179,7 +180,7 @@ pub fn hints_of(words: &[String], read: &Result<Request<'_>, Error>) -> When {
 }
 
 /// When hints are said, by the last word that says it.
-fn hints_among(words: &[String]) -> When {
+pub fn hints_among(words: &[String]) -> When {
     let mut when = When::Auto;
     let mut follows = false;
     for word in words {
@@ -272,6 +273,18 @@ pub fn help(
             format!(in alloc; "  {reason}\n").ok()
         }
         Failure::Input => reason_of(alloc, reasons.input?),
-        Failure::Interrupted(_) | Failure::Line(_) | Failure::EndOfInput => None,
+        Failure::Line(line) => String::from_str(alloc, line_help(line.fault)).ok(),
+        Failure::Interrupted(_) | Failure::EndOfInput => None,
+    }
+}
+
+/// What helps with a line of the input that is refused.
+fn line_help(fault: LineFault) -> &'static str {
+    match fault {
+        LineFault::NotTricks => "  hint: deals-tricks writes such lines of a file of the boards\n",
+        LineFault::Missing => "  hint: each board needs a line of the tricks of all boards\n",
+        LineFault::NotANumber | LineFault::NotBelow | LineFault::TooMany => {
+            "  hint: a line has the number of a candidate, as deals find writes it\n"
+        }
     }
 }

@@ -291,14 +291,24 @@ const OF_COUNT: &[(&str, Help)] = &[(
     ),
 )];
 
-const OF_PICK: &[(&str, Help)] = &[(
-    "seed",
+const OF_PICK: &[(&str, Help)] = &[
     (
-        WHICH,
-        "The seed of the search that found the numbers, 0 to\n\
+        "seed",
+        (
+            WHICH,
+            "The seed of the search that found the numbers, 0 to\n\
         4294967295",
+        ),
     ),
-)];
+    (
+        "first-board",
+        (
+            LOOK,
+            "The number of the first board, 1 to 1099511627776\n\
+        [default: 1]",
+        ),
+    ),
+];
 
 const OF_STREAM: &[(&str, Help)] = &[
     ("seed", (OPTIONS, "The seed, 0 to 4294967295")),

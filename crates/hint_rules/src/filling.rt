@@ -85,15 +85,20 @@ fn filled(alloc: Global, parts: &Parts, hint: &str) -> Result<Option<Vec<u8>>, A
             _ => out.push(*first)?,
         }
     }
-    let is_sound = is_accepted(alloc, out.as_slice())?;
-    Ok(is_sound.then_some(out))
+    let is_said = is_sound(alloc, out.as_slice())?;
+    Ok(is_said.then_some(out))
 }
 
 /// Whether the language has what the hint suggests, if it suggests anything.
-fn is_accepted(alloc: Global, hint: &[u8]) -> Result<bool, AllocError> {
-    let Some(condition) = suggested(hint) else {
-        return Ok(true);
-    };
+fn is_sound(alloc: Global, hint: &[u8]) -> Result<bool, AllocError> {
+    match suggested(hint) {
+        Some(condition) => is_accepted(alloc, condition),
+        None => Ok(true),
+    }
+}
+
+/// Whether the language has the condition.
+pub(crate) fn is_accepted(alloc: Global, condition: &[u8]) -> Result<bool, AllocError> {
     match parse(alloc, condition) {
         Ok(_) => Ok(true),
         Err(CondError::Memory) => Err(AllocError),

@@ -3,10 +3,10 @@
 use crate::kinds::Kinds;
 use crate::parts::Parts;
 use crate::tables::{
-    calls, instead, joins, letters, more_or_less, names, nouns, plain, ranges, rest, several,
-    shapes, signs, suits, texts,
+    calls, compared, honours, instead, joins, letters, more_or_less, names, nouns, plain, ranges,
+    rest, scripts, several, shapes, short, sides, signs, suits, texts, whole,
 };
-use crate::{bounds, likeness};
+use crate::{bounds, likeness, outside};
 use cond_lang::Kind;
 use std::alloc::{AllocError, Global};
 
@@ -36,9 +36,13 @@ pub fn of_piece(alloc: Global, text: &[u8], at: usize) -> Said {
     let parts = Parts::of(alloc, text, at, can)?;
     first_of!(
         of_either(alloc, &parts),
+        compared::hint(alloc, &parts),
         letters::hint(alloc, &parts),
         nouns::hint(alloc, &parts),
+        scripts::hint(alloc, &parts),
+        short::hint(alloc, &parts),
         instead::hint(alloc, &parts),
+        honours::hint(alloc, &parts),
         names::hint(alloc, &parts),
         likeness::hint(alloc, &parts),
         signs::hint(alloc, &parts),
@@ -65,7 +69,10 @@ pub fn of_syntax(alloc: Global, text: &[u8], at: usize, can: &Kinds) -> Said {
 fn of_either(alloc: Global, parts: &Parts) -> Said {
     first_of!(
         texts::hint(alloc, parts),
+        whole::hint(alloc, parts),
         plain::hint(alloc, parts),
+        sides::hint(alloc, parts),
+        outside::hint(alloc, parts),
         suits::hint(alloc, parts),
         bounds::hint(alloc, parts),
         several::hint(alloc, parts),

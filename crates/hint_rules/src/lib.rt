@@ -3,7 +3,7 @@
 //!
 //! The rules are rows of tables (`tables`): what holds at the fault, the parts around it, and the
 //! text (`rule`, `filling`). Code is left where a text is cut (`parts`), for amounts and bounds,
-//! and for words that are alike (`likeness`).
+//! for classes outside their brackets (`outside`), and for words that are alike (`likeness`).
 //!
 //! Nothing is claimed of which hint a fault gets. That what is shown of one is printable is claimed
 //! where it is shown.
@@ -15,6 +15,7 @@ mod filling;
 mod hint;
 mod kinds;
 mod likeness;
+mod outside;
 mod parts;
 mod rule;
 mod samples;

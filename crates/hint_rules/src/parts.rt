@@ -135,6 +135,16 @@ impl<'t> Parts<'t> {
         bytes_at(self.parts.as_slice(), i)
     }
 
+    /// How many there are, with the empty one in front.
+    pub(crate) fn count(&self) -> usize {
+        self.parts.len()
+    }
+
+    /// What is written from the first of these parts to the last.
+    pub(crate) fn written(&self, first: usize, last: usize) -> Option<&'t [u8]> {
+        self.text.get(self.range(first).0..self.range(last).1)
+    }
+
     /// Where the part begins in the text, and where it ends.
     fn range(&self, i: usize) -> (usize, usize) {
         match self.parts.as_slice().get(i) {
@@ -174,7 +184,7 @@ impl<'t> Parts<'t> {
         if last < start || !ends || !is_in_value(first) || is(first, "+") {
             return None;
         }
-        let line = self.text.get(self.range(start).0..self.range(last).1)?;
+        let line = self.written(start, last)?;
         is_short_line(line).then_some(line)
     }
 

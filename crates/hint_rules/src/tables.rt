@@ -1,7 +1,9 @@
 //! The rules, by what they are about. In a table the first rule that fits is taken.
 
 pub(crate) mod calls;
+pub(crate) mod compared;
 pub(crate) mod counted;
+pub(crate) mod honours;
 pub(crate) mod instead;
 pub(crate) mod joins;
 pub(crate) mod letters;
@@ -11,11 +13,15 @@ pub(crate) mod nouns;
 pub(crate) mod plain;
 pub(crate) mod ranges;
 pub(crate) mod rest;
+pub(crate) mod scripts;
 pub(crate) mod several;
 pub(crate) mod shapes;
+pub(crate) mod short;
+pub(crate) mod sides;
 pub(crate) mod signs;
 pub(crate) mod suits;
 pub(crate) mod texts;
+pub(crate) mod whole;
 
 use crate::filling::first_in;
 use crate::hint::Said;
@@ -40,6 +46,9 @@ pub(crate) const ALSO: &str = "or +";
 pub(crate) const STARTS: &str = " ( and or not";
 
 pub(crate) const ENDS: &str = " ) and or";
+
+/// The suits, and the classes that stand for one.
+pub(crate) const SUITS: &str = "spades hearts diamonds clubs suit major minor other";
 
 /// What is taken for a range, before its first number.
 pub(crate) const IN: &str = "in == != < <= > >=";

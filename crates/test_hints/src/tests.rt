@@ -59,7 +59,7 @@ fn what_is_said(rt: HostRuntime) -> Result<(), Fail> {
 }
 
 /// Texts that are refused as questions, how, and all that is said of that.
-const QUESTIONS: [(&[u8], CondError, &str); 4] = [
+const QUESTIONS: [(&[u8], CondError, &str); 5] = [
     (
         b"hcp(north) hcp(south)",
         CondError::Syntax { at: 11 },
@@ -84,6 +84,16 @@ const QUESTIONS: [(&[u8], CondError, &str); 4] = [
         "  hcp(nord)
       ^^^^
   hint: write \"north\"
+",
+    ),
+    (
+        b"any suit (hcp(west,suit)>=8) and len(east,suit)>=2",
+        CondError::Syntax { at: 42 },
+        "  any suit (hcp(west,suit)>=8) and len(east,suit)>=2
+                                            ^^^^
+  expected a suit
+  hint: with this test inside the brackets write: \
+any suit (hcp(west,suit)>=8 and len(east,suit)>=2)
 ",
     ),
     (

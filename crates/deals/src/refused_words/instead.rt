@@ -12,7 +12,7 @@ const FROM_A_FILE: &str = "write --where \"$(cat FILE)\" for a condition in a fi
 pub(crate) const HOW_MANY: &str =
     "--boards 36 says how many boards, --candidates 1000 how many deals are tried";
 
-const BY_COUNT: &str =
+pub(crate) const BY_COUNT: &str =
     "deals count tells how often each number comes, and the mean: --of 'hcp(north)'";
 
 const FORMS: &str =
@@ -27,6 +27,9 @@ const THREADS: &str = "write --workers 3 for three threads";
 const ZONE: &str = "write --vulnerable NS, or None, EW or All";
 
 const GO_ON: &str = "write --first K to begin at deal K, as --report tells it";
+
+const FROM_WHERE: &str = "write --first 28 to begin at candidate 28, \
+    --first-board 28 to give the first board the number 28";
 
 const BOARD_NUMBER: &str = "write --first-board B for the number of the first board";
 
@@ -116,13 +119,16 @@ static OPTIONS: &[(&str, &str)] = &[
     ("--zone", ZONE),
     ("--skip", GO_ON),
     ("--offset", GO_ON),
-    ("--start", GO_ON),
-    ("--from", GO_ON),
+    ("--start", FROM_WHERE),
+    ("--start-at", FROM_WHERE),
+    ("--from", FROM_WHERE),
+    ("--begin", FROM_WHERE),
     ("--continue", GO_ON),
     ("--resume", GO_ON),
     ("--board", BOARD_NUMBER),
     ("--start-board", BOARD_NUMBER),
     ("--board-number", BOARD_NUMBER),
+    ("--from-board", BOARD_NUMBER),
     ("--random", THE_SEED),
     ("--random-seed", THE_SEED),
     ("--predeal", PREDEALT),

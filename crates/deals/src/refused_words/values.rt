@@ -44,8 +44,8 @@ static SPELLINGS: [Spelling; 29] = [
     spelling! { "--show" "east" &["east", "e"] },
     spelling! { "--show" "south" &["south", "s"] },
     spelling! { "--show" "west" &["west", "w"] },
-    spelling! { "--show" "ns" &["ns", "n-s", "n/s", "north-south", "northsouth"] },
-    spelling! { "--show" "ew" &["ew", "e-w", "e/w", "east-west", "eastwest"] },
+    spelling! { "--show" "ns" &["ns", "n-s", "n/s", "n,s", "north-south", "north,south"] },
+    spelling! { "--show" "ew" &["ew", "e-w", "e/w", "e,w", "east-west", "east,west"] },
     spelling! { "--show" "all" &["all", "every", "everything", "both"] },
     spelling! { "--show" "dealer" &["dealer", "opener", "d"] },
     spelling! { "--format" "sheet" &["sheet", "sheets", "records-sheet"] },
@@ -55,13 +55,65 @@ static SPELLINGS: [Spelling; 29] = [
 /// Spellings of the formats of `count`.
 static STYLES: [Spelling; 3] = [
     spelling! { "--format" "table" &["table", "text", "txt", "plain"] },
-    spelling! { "--format" "csv" &["csv", "tsv", "excel", "xls", "xlsx", "json", "spreadsheet"] },
+    spelling! { "--format" "csv" &["csv", "tsv", "excel", "xls", "xlsx", "spreadsheet"] },
     spelling! { "--format" "html" &["html", "htm", "page", "web", "pdf", "chart"] },
+];
+
+/// What a person wants of an option that has no value for it, and what to write then.
+struct Wish {
+    option: &'static str,
+    tried: &'static [&'static str],
+    text: &'static str,
+}
+
+macro_rules! wish {
+    ($option:literal $tried:expr, $text:literal) => {
+        Wish {
+            option: $option,
+            tried: $tried,
+            text: $text,
+        }
+    };
+}
+
+static WISHES: [Wish; 4] = [
+    wish! {
+        "--dealer" &["rotate", "rotates", "rotating", "auto", "board", "default", "standard"],
+        "without --dealer the dealer changes from board to board; \
+        --rotate gives north's hand to the dealer"
+    },
+    wish! {
+        "--vulnerable" &["rotate", "rotates", "rotating", "auto", "board", "default", "standard"],
+        "without --vulnerable it changes from board to board"
+    },
+    wish! {
+        "--format" &["dup", "dlm", "bri", "dge", "rbn"],
+        "dealing machines read PBN: write --format pbn"
+    },
+    wish! {
+        "--format" &["csv", "tsv", "excel", "xls", "xlsx"],
+        "for programs write --format json, a line for each board; \
+        deals count --format csv writes a table"
+    },
+];
+
+static WISHES_OF_COUNT: [Wish; 2] = [
+    wish! {
+        "--format" &["json", "jsonl", "ndjson"],
+        "for programs write --format csv; deals make --format json writes boards"
+    },
+    wish! {
+        "--format" &["pbn", "lin", "bbo", "hands", "sheet"],
+        "deals count writes a table of numbers; deals make writes boards"
+    },
 ];
 
 /// What helps with the value of this option, in any case.
 pub(crate) fn hint(alloc: Global, command: &str, option: &str, word: &str) -> Option<String> {
     let name = word.to_ascii_lowercase(alloc).ok()?;
+    if let Some(text) = wish_of(command, option, name.as_str()) {
+        return String::from_str(alloc, text).ok();
+    }
     let of_count = command == "count" && option == "--format";
     let table: &[Spelling] = if of_count { &STYLES } else { &SPELLINGS };
     let value = value_of(table, option, name.as_str())?;
@@ -73,4 +125,16 @@ fn value_of(table: &[Spelling], option: &str, name: &str) -> Option<&'static str
     let spelling = table.iter().find(|known| known.option == option
         && known.tried.iter().any(|tried| *tried == name))?;
     Some(spelling.value)
+}
+
+/// What to write for this wish.
+fn wish_of(command: &str, option: &str, name: &str) -> Option<&'static str> {
+    let table: &[Wish] = if command == "count" {
+        &WISHES_OF_COUNT
+    } else {
+        &WISHES
+    };
+    let wish = table.iter().find(|known| known.option == option
+        && known.tried.iter().any(|tried| *tried == name))?;
+    Some(wish.text)
 }

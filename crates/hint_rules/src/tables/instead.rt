@@ -13,21 +13,18 @@ const BIDDING: &str = "there is no bidding: say what the hand has, as in hcp(nor
 const SINGLE: &str =
     "for single cards write cards with a suit and ranks, as in cards(north,spades,a)";
 
-static RULES: [Rule; 16] = rules! {
+static RULES: [Rule; 13] = rules! {
     [] [Seat] [Is("unbalanced")] => "in the language's own words write: not balanced(%b1)";
     [] [] [Is("unbalanced")] => "in the language's own words write: not balanced(%u2)";
-    [] [] [Is("void")] => "in the language's own words write: shortest(%u2)==0";
-    [] [] [Is("singleton")] => "in the language's own words write: shortest(%u2)==1";
-    [] [] [Is("doubleton")] => "in the language's own words write: shortest(%u2)==2";
     [] [] [OneOf("opens open opening opener bids bid")] => BIDDING;
     [] [Nothing, Number] [Named(BIDS)] => BIDDING;
     [] [Seat, Number] [Named(BIDS)] => BIDDING;
-    [] [] [OneOf("dealer vul vulnerable vulnerability")] =>
-        "a condition asks of the four hands alone, and not of the board";
     [] [] [Is("quality")] =>
         "for a suit's quality count its honours, as in cards(north,spades,akq)";
     [] [] [OneOf("stopper stop stopped guard"), Is("("), Seat, Is(","), Suit, Is(")")] =>
         "in the language's own words write: stops(%n2,%n4)";
+    [] [] [OneOf("stopper stop stopped guard"), OneOf("in of"), Suit] =>
+        "for a stopper write \"stops\", as in stops(north,%n2)";
     [] [] [OneOf("stopper stoppers stop stopped guard guards")] =>
         "for a stopper write \"stops\", as in stops(north,spades)";
     [] [] [Is("tricks")] => "count losers, as in losers(north), or controls";

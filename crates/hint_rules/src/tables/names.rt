@@ -2,7 +2,7 @@
 
 use super::*;
 
-static RULES: [Rule; 28] = rules! {
+static RULES: [Rule; 23] = rules! {
     [InCall] [Is("(")] [Named("n nord")] => "write \"north\"";
     [InCall] [Is("(")] [Named("e ost est")] => "write \"east\"";
     [InCall] [Is("(")] [Named("s sud sued")] => "write \"south\"";
@@ -23,18 +23,12 @@ static RULES: [Rule; 28] = rules! {
     [NotInCall] [] [Named("length lengths")] => "write \"len\"";
     [NotInCall] [] [Named("distribution dist")] => "write \"shape\"";
     [NotInCall] [] [Named("ltc")] => "write \"losers\"";
-    [NotInCall] [] [Named("und et with")] => "write \"and\"";
+    [NotInCall] [] [Named("und et with but")] => "write \"and\"";
+    [NotInCall] [] [Named("unless")] => "write \"and not\"";
     [NotInCall] [] [Named("oder ou")] => "write \"or\"";
     [NotInCall] [] [Named("no nicht")] => "write \"not\"";
     [NotInCall] [] [Named("is equals equal")] => "write \"==\"";
     [NotInCall] [] [Named("plus")] => "write \"+\"";
-    [NotInCall] [] [Named("ace aces")] => "write \"cards(north,a)\"";
-    [NotInCall] [] [Named("king kings")] => "write \"cards(north,k)\"";
-    [NotInCall] [] [Named("queen queens")] => "write \"cards(north,q)\"";
-    [NotInCall] [] [Named("jack jacks")] => "write \"cards(north,j)\"";
-    [NotInCall] [] [Named("ten tens")] => "write \"cards(north,t)\"";
-    [NotInCall] [] [Named("honours honors tops top")] =>
-        "write \"cards(north,akq)\"";
 };
 
 pub(crate) fn hint(alloc: Global, parts: &Parts) -> Said {

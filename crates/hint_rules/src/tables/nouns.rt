@@ -17,19 +17,19 @@ static RULES: [Rule; 20] = rules! {
     [NotInCall] [] [Named("bal balance semibalanced")] => "write \"balanced\"";
     [NotInCall] [] [Named("verlierer perdantes")] => "write \"losers\"";
     [NotInCall] [] [Named("kontrollen controles")] => "write \"controls\"";
-    [NotInCall] [] [Named("spade pik pique piques"), Is("("), Seat] =>
+    [NotInCall] [] [Named("s spade pik pique piques"), Is("("), Seat] =>
         "for a suit's length write \"len(%n2,spades)\"";
-    [NotInCall] [] [Named("heart herz coeur coeurs"), Is("("), Seat] =>
+    [NotInCall] [] [Named("h heart herz coeur coeurs"), Is("("), Seat] =>
         "for a suit's length write \"len(%n2,hearts)\"";
-    [NotInCall] [] [Named("diamond karo carreau carreaux"), Is("("), Seat] =>
+    [NotInCall] [] [Named("d diamond karo carreau carreaux"), Is("("), Seat] =>
         "for a suit's length write \"len(%n2,diamonds)\"";
-    [NotInCall] [] [Named("club treff kreuz trefle trefles"), Is("("), Seat] =>
+    [NotInCall] [] [Named("c club treff kreuz trefle trefles"), Is("("), Seat] =>
         "for a suit's length write \"len(%n2,clubs)\"";
-    [NotInCall] [] [Named("spade pik pique piques"), Is("(")] =>
+    [NotInCall] [] [Named("s spade pik pique piques"), Is("(")] =>
         "for a suit's length write len, as in len(north,spades)";
-    [NotInCall] [] [Named("heart herz coeur coeurs"), Is("(")] =>
+    [NotInCall] [] [Named("h heart herz coeur coeurs"), Is("(")] =>
         "for a suit's length write len, as in len(north,hearts)";
-    [NotInCall] [] [Named("diamond karo carreau carreaux"), Is("(")] =>
+    [NotInCall] [] [Named("d diamond karo carreau carreaux"), Is("(")] =>
         "for a suit's length write len, as in len(north,diamonds)";
     [NotInCall] [] [Named("club treff kreuz trefle trefles tr"), Except(" )")] =>
         "for a suit's length write len, as in len(north,clubs)";

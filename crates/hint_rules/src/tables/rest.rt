@@ -2,11 +2,12 @@
 
 use super::*;
 
-static RULES: [Rule; 4] = rules! {
+static RULES: [Rule; 5] = rules! {
     [NotInCall] [] [Word, Is("(")] =>
-        "a hand has hcp, controls, losers, cards, len, longest, shortest, balanced, \
-        shape, pattern";
+        "a hand has hcp, controls, losers, cards, len, longest, second, shortest, balanced, \
+        shape, pattern, stops";
     [] [] [Capital] => "conditions are written in small letters";
+    [NotInCall] [OneOf(STARTS)] [Word] => "deals conditions has all words, with examples";
     [] [] [Zeros] => "without leading zeros write \"%z0\"";
     [] [] [Number] => "a number has at most four digits";
 };

@@ -24,7 +24,7 @@ const CLASSES: &str = "suit major minor";
 const ANY_CLASS: &str =
     "a class stands in the brackets of any or every, as in any suit (len(north,suit)>=5)";
 
-static RULES: [Rule; 20] = rules! {
+static RULES: [Rule; 26] = rules! {
     [InMeasure, NotIn(OTHERS)] [Seat, Is(",")] [OneOf(MINOR)] =>
         "for some minor write: any minor (%w0(%b2,minor)%x2)";
     [InMeasure, NotIn(OTHERS)] [Seat, Is(",")] [OneOf(MAJOR)] =>
@@ -60,6 +60,18 @@ static RULES: [Rule; 20] = rules! {
         "say what in brackets, as in %b2 %b1 (len(north,%b1)>=5)";
     [NotInCall] [] [OneOf(CLASSES), Is("("), Seat, Is(")")] =>
         "for some %n0 write: any %n0 (len(%n2,%n0)%a4)";
+    [NotInCall] [] [Is("suit"), Is("("), Seat, Is(","), Suit, Is(")")] =>
+        "for a suit's length write \"len(%n2,%n4)\"";
+    [] [OneOf(THROUGH), OneOf("suit major minor other")] [Is(":")] =>
+        "say what in brackets, as in %b2 %b1 (len(north,%b1)>=5)";
+    [NotInCall] [] [OneOf("some either"), OneOf(CLASSES)] =>
+        "for some %n1 write \"any %n1\", as in any %n1 (len(north,%n1)>=5)";
+    [NotInCall] [] [OneOf("all each both"), OneOf(CLASSES)] =>
+        "for each %n1 write \"every %n1\", as in every %n1 (stops(north,%n1))";
+    [NotInCall] [] [OneOf("all each both"), Is("majors")] =>
+        "for each major write \"every major\", as in every major (stops(north,major))";
+    [NotInCall] [] [OneOf("all each both"), Is("minors")] =>
+        "for each minor write \"every minor\", as in every minor (stops(north,minor))";
     [NotInCall] [] [OneOf("some anysuit anymajor anyminor")] =>
         "for some suit write \"any suit\", as in any suit (len(north,suit)>=5)";
     [NotInCall] [] [OneOf("all each everysuit"), OneOf("suit suits major majors minor minors")] =>

@@ -1,0 +1,69 @@
+//! Sides and players in the place of a seat, and two seats in the place of one.
+
+use super::*;
+
+const NS: &str = "ns northsouth";
+
+const EW: &str = "ew eastwest";
+
+/// What both hands of a side have together.
+const TOGETHER: &str = "hcp controls losers";
+
+const IN_SUITS: &str = "hcp controls losers len";
+
+/// How a person joins two seats.
+const JOINS: &str = "- / & and";
+
+/// Whom a person speaks of in place of a seat.
+const PLAYERS: &str = "opener responder overcaller advancer doubler declarer dummy defender \
+    leader opponent opponents opps partner partners pard me my i we us you lho rho";
+
+static RULES: [Rule; 21] = rules! {
+    [In(TOGETHER)] [Is("(")] [Named(NS), Is(")")] =>
+        "for both hands write \"%w0(north)+%w0(south)\"";
+    [In(TOGETHER)] [Is("(")] [Named(EW), Is(")")] =>
+        "for both hands write \"%w0(east)+%w0(west)\"";
+    [In(TOGETHER)] [Is("(")] [Named("n"), OneOf("- / + &"), OneOf("s S"), Is(")")] =>
+        "for both hands write \"%w0(north)+%w0(south)\"";
+    [In(TOGETHER)] [Is("(")] [Named("e"), OneOf("- / + &"), OneOf("w W"), Is(")")] =>
+        "for both hands write \"%w0(east)+%w0(west)\"";
+    [In(TOGETHER)] [Is("("), Seat] [OneOf(JOINS), Seat, Is(")")] =>
+        "for both hands write \"%w0(%b1)+%w0(%n1)\"";
+    [In(IN_SUITS)] [Is("(")] [Named(NS), Is(","), OneOf(SUITS), Is(")")] =>
+        "for both hands write \"%w0(north,%n2)+%w0(south,%n2)\"";
+    [In(IN_SUITS)] [Is("(")] [Named(EW), Is(","), OneOf(SUITS), Is(")")] =>
+        "for both hands write \"%w0(east,%n2)+%w0(west,%n2)\"";
+    [In(IN_SUITS)] [Is("("), Seat] [OneOf("- / & and +"), Seat, Is(","), OneOf(SUITS), Is(")")] =>
+        "for both hands write \"%w0(%b1,%n3)+%w0(%n1,%n3)\"";
+    [In("cards")] [Is("(")] [Named(NS), Is(","), Ranks, Is(")")] =>
+        "for both hands write \"cards(north,%n2)+cards(south,%n2)\"";
+    [In("cards")] [Is("(")] [Named(EW), Is(","), Ranks, Is(")")] =>
+        "for both hands write \"cards(east,%n2)+cards(west,%n2)\"";
+    [In("cards")] [Is("(")] [Named(NS), Is(","), OneOf(SUITS), Is(","), Ranks, Is(")")] =>
+        "for both hands write \"cards(north,%n2,%n4)+cards(south,%n2,%n4)\"";
+    [In("cards")] [Is("(")] [Named(EW), Is(","), OneOf(SUITS), Is(","), Ranks, Is(")")] =>
+        "for both hands write \"cards(east,%n2,%n4)+cards(west,%n2,%n4)\"";
+
+    [In("balanced")] [Is("(")] [Named(NS), Is(")")] =>
+        "for both hands write: %o2balanced(north) and balanced(south)%q2";
+    [In("balanced")] [Is("(")] [Named(EW), Is(")")] =>
+        "for both hands write: %o2balanced(east) and balanced(west)%q2";
+    [In("balanced")] [Is("("), Seat] [OneOf(JOINS), Seat, Is(")")] =>
+        "for both hands write: %o3balanced(%b1) and balanced(%n1)%q3";
+    [In("balanced")] [Is("("), Seat] [Is("or"), Seat, Is(")")] =>
+        "with one seat in each test write: %o3balanced(%b1) or balanced(%n1)%q3";
+    [InMeasure] [Is("("), Seat] [Is("or"), Seat, Is(")"), Amount] =>
+        "with one seat in each test write: %o3%w0(%b1)%a3 or %w0(%n1)%a3%q3";
+
+    [InCall] [Is("(")] [Named("ns ew northsouth eastwest")] =>
+        "name one seat, north, east, south or west, and join two tests with \"and\" or \"or\"";
+    [InCall] [Is("("), Seat] [OneOf("- / & and or"), Seat] =>
+        "name one seat, and join two tests with \"and\" or \"or\"";
+    [InCall] [Is("(")] [Named("dealer")] =>
+        "name the seat: north, east, south or west; with --rotate the dealer has north's hand";
+    [InCall] [Is("(")] [Named(PLAYERS)] => "name the seat: north, east, south or west";
+};
+
+pub(crate) fn hint(alloc: Global, parts: &Parts) -> Said {
+    first_in(alloc, parts, &RULES)
+}
