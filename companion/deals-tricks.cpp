@@ -22,6 +22,8 @@
 #include <utility>
 #include <vector>
 
+#include <unistd.h>
+
 #include <dds/dll.h>
 
 namespace {
@@ -34,7 +36,7 @@ d (13); then, where the board has a dealer and a vulnerability, the side and the
 
     97b8997b892624426244 NS 450 4H-NS+1
 
-Exit status: 0; 1 if a deal can't be read or the output can't be written; 2 for words other than --help.
+Exit status: 0; 1 if a deal can't be read, there is none, or the output fails; 2 for words other than --help.
 )";
 
 constexpr int SEATS = 4;
@@ -280,6 +282,10 @@ class Reader {
 public:
     explicit Reader(Queue &queue) : queue(queue) {}
 
+    // How many deals there were, and whether there was anything else.
+    size_t count = 0;
+    bool has_text = false;
+
     size_t read(std::istream &input) {
         std::string line;
         for (size_t number = 1; std::getline(input, line); number++) {
@@ -296,6 +302,7 @@ public:
 
 private:
     bool read_line(const std::string &line) {
+        has_text = has_text || line[0] != '%';
         const auto tag = in_comment || line[0] == '%' ? std::nullopt : tag_of(line);
         if (!tag) {
             follow_comment(line);
@@ -333,6 +340,7 @@ private:
 
     void hand_on() {
         queue.put(board);
+        count++;
         has_deal = false;
     }
 
@@ -359,13 +367,19 @@ int run() {
     std::vector<std::thread> pool;
     for (int thread = 0; thread < workers; thread++)
         pool.emplace_back([&queue, thread] { queue.work(thread); });
-    const size_t wrong = Reader(queue).read(std::cin);
+    if (isatty(STDIN_FILENO))
+        std::cerr << "deals-tricks: reads boards from the keyboard: for a file write deals-tricks < FILE\n";
+    Reader reader(queue);
+    const size_t wrong = reader.read(std::cin);
     queue.end();
     for (auto &thread : pool)
         thread.join();
     if (wrong)
         std::cerr << "deals-tricks: line " << wrong << ": the deal can't be read\n";
-    return wrong || queue.is_broken() ? 1 : 0;
+    const bool is_other = !wrong && reader.count == 0 && reader.has_text;
+    if (is_other)
+        std::cerr << "deals-tricks: no deal: the input has to be PBN, as deals make writes it\n";
+    return wrong || is_other || queue.is_broken() ? 1 : 0;
 }
 
 } // namespace

@@ -147,6 +147,8 @@ def refusals():
     with open("/dev/full", "w", encoding="ascii") as full:
         run = subprocess.run([PROGRAM], input=game(GOOD), stdout=full, stderr=subprocess.PIPE, text=True, check=False)
     yield "a full output", run.returncode == 1 and "can't be written" in run.stderr
+    run = subprocess.run([PROGRAM], input="hello\n", capture_output=True, text=True, check=False)
+    yield "a text without a deal", run.returncode == 1 and "no deal" in run.stderr and run.stdout == ""
     run = subprocess.run([PROGRAM, "--what"], capture_output=True, text=True, check=False)
     yield "an unknown word", run.returncode == 2 and run.stderr.startswith("usage: ")
     run = subprocess.run([PROGRAM, "--help"], capture_output=True, text=True, check=False)
