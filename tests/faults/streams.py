@@ -50,7 +50,7 @@ def of_output():
         (WORDS, 2, REFUSED),
         (WORDS + HINTS, 2, REFUSED + below),
         (where, 3, line),
-        (where + HINTS, 3, line + b"  y\n  ^\n"),
+        (where + HINTS, 3, line + b"  y\n  ^\n  hint: deals conditions has all words, with examples\n"),
     ):
         yield Check(f"refused to a full disk, {words}", f"$DEALS {words} >/dev/full", status, err=text)
         yield Check(f"refused to a closed output, {words}", f"$DEALS {words} >&-", status, err=text)
