@@ -39,9 +39,18 @@ def told(condition):
 
 
 def fault_of_suggestion(said):
-    """Why the condition that a hint tells to write isn't accepted, or no deal meets it, or None."""
+    """Why the condition that a hint tells to write isn't accepted, or no deal meets it, or None.
+
+    A test of a class is one for the brackets of the class.
+    """
     suggested = re.search(r"write: (.*)\n", said)
-    return fault_of_note(suggested.group(1), "none") if suggested else None
+    if not suggested:
+        return None
+    condition = suggested.group(1)
+    of_class = re.search(r"\b(suit|major|minor)\b", condition)
+    if of_class and not re.search(r"\b(any|every)\b", condition):
+        condition = f"any {of_class.group()} ({condition})"
+    return fault_of_note(condition, "none")
 
 
 def fault_of_note(condition, note):

@@ -5,7 +5,8 @@
 //!
 //! | Placeholder | What it means |
 //! |---|---|
-//! | `%uN` | `%nN` if it is a seat behind a bracket, else `north` |
+//! | `%uN` | `%nN` if it is a seat behind a bracket, else the part in front of that if it is one, |
+//! | | else the last seat before the fault, or `north`: `%u2` fits `word(seat` and `word seat` |
 //! | `%mN` | the part with the fault in small letters |
 //! | `%zN` | the number `%nN` without zeros in front |
 //! | `%iN` | the number `%bN` and one more |
@@ -13,7 +14,6 @@
 //! | `%aN` | the amount that begins with `%nN`, as ` in 15-17` or `>=15` |
 //! | `%kN`, `%sN` | the word that counts what it is said of, and what comes after its seat |
 //! | `%xN` | that amount, or where a test ends a comparison for one suit |
-//! | `%oN`, `%qN` | brackets, if more is in the text than the call and that amount |
 //! | `%fN`, `%rN` | the range from `%b1`, or from `%n1`, to `%nN` |
 //! | `%tN` | `not ` if `%bN` is `!=` |
 //! | `%vN` | the value that ends with `%bN`; `hcp(north)` where none is |
@@ -56,7 +56,8 @@ pub(crate) fn first_in(
     Ok(None)
 }
 
-/// The condition that a hint tells to write, if it tells one.
+/// What follows `write: ` in a hint, if anything does: a whole condition, which has to be accepted.
+/// A value is told as `write "..."`.
 pub fn suggested(hint: &[u8]) -> Option<&[u8]> {
     let mut rest = hint;
     while let [_, more @ ..] = rest {
@@ -85,16 +86,80 @@ fn filled(alloc: Global, parts: &Parts, hint: &str) -> Result<Option<Vec<u8>>, A
             _ => out.push(*first)?,
         }
     }
-    let is_said = is_sound(alloc, out.as_slice())?;
-    Ok(is_said.then_some(out))
+    sound(alloc, parts, out)
 }
 
-/// Whether the language has what the hint suggests, if it suggests anything.
-fn is_sound(alloc: Global, hint: &[u8]) -> Result<bool, AllocError> {
-    match suggested(hint) {
-        Some(condition) => is_accepted(alloc, condition),
-        None => Ok(true),
+/// The hint, if the language has what it suggests; in brackets, where the text would tear that.
+fn sound(alloc: Global, parts: &Parts, hint: Vec<u8>) -> Result<Option<Vec<u8>>, AllocError> {
+    let Some(condition) = suggested(hint.as_slice()) else {
+        return Ok(Some(hint));
+    };
+    if !is_accepted_in(alloc, parts, condition)? {
+        return Ok(None);
     }
+    if !is_torn(parts, condition) {
+        return Ok(Some(hint));
+    }
+    let mut out = Vec::new(alloc);
+    let (before, _) = hint
+        .as_slice()
+        .split_at(hint.len().saturating_sub(condition.len()));
+    out.extend_from_slice(before)?;
+    out.push(b'(')?;
+    out.extend_from_slice(condition)?;
+    out.push(b')')?;
+    Ok(Some(out))
+}
+
+/// Whether other words of the text may bind tighter than what joins the condition's tests: `not`
+/// binds tighter than `and`, and `and` tighter than `or`.
+fn is_torn(parts: &Parts, condition: &[u8]) -> bool {
+    if is_joined(condition, b" or ") {
+        parts.has("and not")
+    } else {
+        is_joined(condition, b" and ") && parts.has("not")
+    }
+}
+
+/// Whether the word joins tests of the condition, outside of brackets.
+fn is_joined(condition: &[u8], word: &[u8]) -> bool {
+    let mut depth: usize = 0;
+    for (i, byte) in condition.iter().enumerate() {
+        match *byte {
+            b'(' => depth = depth.saturating_add(1),
+            b')' => depth = depth.saturating_sub(1),
+            _ if depth == 0 && begins_at(condition, i, word) => return true,
+            _ => {}
+        }
+    }
+    false
+}
+
+/// Whether the word begins at the byte.
+fn begins_at(text: &[u8], at: usize, word: &[u8]) -> bool {
+    text.get(at..at.saturating_add(word.len())) == Some(word)
+}
+
+/// Whether the text's other words let the condition be in it: as it is, or where a class is named.
+fn is_accepted_in(alloc: Global, parts: &Parts, condition: &[u8]) -> Result<bool, AllocError> {
+    if is_accepted(alloc, condition)? {
+        return Ok(true);
+    }
+    if !parts.has("any every") {
+        return Ok(false);
+    }
+    for class in ["suit", "major", "minor"] {
+        let mut out = Vec::new(alloc);
+        out.extend_from_slice(b"any ")?;
+        out.extend_from_slice(class.as_bytes())?;
+        out.extend_from_slice(b" (")?;
+        out.extend_from_slice(condition)?;
+        out.push(b')')?;
+        if is_accepted(alloc, out.as_slice())? {
+            return Ok(true);
+        }
+    }
+    Ok(false)
 }
 
 /// Whether the language has the condition.
@@ -134,7 +199,8 @@ fn text_of<'t>(parts: &'t Parts, kind: u8, back: usize, next: usize) -> &'t [u8]
         b'u' if is(parts.at(next.saturating_sub(1)), "(") && is_seat(parts.at(next)) => parts.at(
             next,
         ),
-        b'u' => b"north",
+        b'u' if is_seat(parts.at(next.saturating_sub(1))) => parts.at(next.saturating_sub(1)),
+        b'u' => parts.last_seat(),
         b'm' => parts.word.as_slice(),
         b'w' => parts.call(),
         b'z' => without_zeros(parts.at(next)),
@@ -145,8 +211,6 @@ fn text_of<'t>(parts: &'t Parts, kind: u8, back: usize, next: usize) -> &'t [u8]
         }),
         b'c' => comparison(parts, back).as_bytes(),
         b't' if is(parts.at(back), "!=") => b"not ",
-        b'o' if !is_whole(parts, next) => b"(",
-        b'q' if !is_whole(parts, next) => b")",
         b'k' => counted_at(parts, next).0.as_bytes(),
         b's' => counted_at(parts, next).1.as_bytes(),
         _ => b"",
@@ -161,16 +225,6 @@ fn behind_seat(call: &[u8]) -> &'static [u8] {
         }
     }
     b")"
-}
-
-/// Whether the text is the call with the fault and the amount that begins with the part, if one
-/// does, and no more.
-fn is_whole(parts: &Parts, i: usize) -> bool {
-    let end = match amount_at(parts, i) {
-        Some(amount) => amount.end,
-        None => i,
-    };
-    parts.call_at() <= 1 && parts.at(end).is_empty()
 }
 
 fn put_amount(out: &mut Vec<u8>, amount: Option<Amount>) -> Result<(), AllocError> {

@@ -3,8 +3,9 @@
 use crate::kinds::Kinds;
 use crate::parts::Parts;
 use crate::tables::{
-    calls, compared, honours, instead, joins, letters, more_or_less, names, nouns, plain, ranges,
-    rest, scripts, several, shapes, short, sides, signs, suits, texts, whole,
+    calls, classes, compared, honours, instead, joins, letters, limits, lists, more_or_less, names,
+    nouns, or_more, phrases, plain, ranges, ranks, rest, scripts, several, shapes, short, sides,
+    signs, suits, texts, whole,
 };
 use crate::{bounds, likeness, outside};
 use cond_lang::Kind;
@@ -36,6 +37,8 @@ pub fn of_piece(alloc: Global, text: &[u8], at: usize) -> Said {
     let parts = Parts::of(alloc, text, at, can)?;
     first_of!(
         of_either(alloc, &parts),
+        or_more::hint(alloc, &parts),
+        limits::hint(alloc, &parts),
         compared::hint(alloc, &parts),
         letters::hint(alloc, &parts),
         nouns::hint(alloc, &parts),
@@ -43,6 +46,7 @@ pub fn of_piece(alloc: Global, text: &[u8], at: usize) -> Said {
         short::hint(alloc, &parts),
         instead::hint(alloc, &parts),
         honours::hint(alloc, &parts),
+        ranks::hint(alloc, &parts),
         names::hint(alloc, &parts),
         likeness::hint(alloc, &parts),
         signs::hint(alloc, &parts),
@@ -73,9 +77,12 @@ fn of_either(alloc: Global, parts: &Parts) -> Said {
         plain::hint(alloc, parts),
         sides::hint(alloc, parts),
         outside::hint(alloc, parts),
+        phrases::hint(alloc, parts),
         suits::hint(alloc, parts),
+        classes::hint(alloc, parts),
         bounds::hint(alloc, parts),
         several::hint(alloc, parts),
+        lists::hint(alloc, parts),
         ranges::hint(alloc, parts),
     );
     more_or_less::hint(alloc, parts)

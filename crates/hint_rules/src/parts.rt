@@ -3,7 +3,7 @@
 ghost use Rattle.std.specs.Prelude.{◌<◌, ◌≤◌, length};
 
 use crate::kinds::Kinds;
-use crate::words::{is, is_in_value, is_number};
+use crate::words::{is, is_in_value, is_number, is_one_of, is_seat};
 use std::alloc::{AllocError, Global};
 
 /// What a byte belongs to.
@@ -138,6 +138,22 @@ impl<'t> Parts<'t> {
     /// How many there are, with the empty one in front.
     pub(crate) fn count(&self) -> usize {
         self.parts.len()
+    }
+
+    /// Whether a part is one of these texts.
+    pub(crate) fn has(&self, texts: &str) -> bool {
+        self.parts.iter().any(|part| is_one_of(part.bytes, texts))
+    }
+
+    /// The last seat before the fault, or North.
+    pub(crate) fn last_seat(&self) -> &'t [u8] {
+        for back in 0..self.fault {
+            let part = self.at(self.fault - back);
+            if is_seat(part) {
+                return part;
+            }
+        }
+        b"north"
     }
 
     /// What is written from the first of these parts to the last.

@@ -155,6 +155,24 @@ fn is_in_vain(alloc: Global, condition: &[u8]) -> Result<bool, AllocError> {
     match parse(alloc, condition) {
         Ok(condition) => Ok(is_never(&condition)),
         Err(CondError::Memory) => Err(AllocError),
-        Err(_) => Ok(false),
+        Err(_) => is_in_vain_within(alloc, condition),
     }
+}
+
+/// Whether no deal meets the test in the brackets of a class of suits.
+fn is_in_vain_within(alloc: Global, test: &[u8]) -> Result<bool, AllocError> {
+    for class in ["suit", "major", "minor"] {
+        let mut text = Vec::new(alloc);
+        text.extend_from_slice(b"any ")?;
+        text.extend_from_slice(class.as_bytes())?;
+        text.extend_from_slice(b" (")?;
+        text.extend_from_slice(test)?;
+        text.push(b')')?;
+        match parse(alloc, text.as_slice()) {
+            Ok(condition) => return Ok(is_never(&condition)),
+            Err(CondError::Memory) => return Err(AllocError),
+            Err(_) => {}
+        }
+    }
+    Ok(false)
 }

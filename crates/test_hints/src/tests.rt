@@ -1,5 +1,5 @@
 //! The functions of hints, each with values from outside. All that is said of mistakes, the notes
-//! and the page of the language are asked of the built program: by tests/mistakes.
+//! and the page of the language are asked of the built program: by `tests/rows`.
 
 use cond_lang::{Cond, CondError, LANGUAGE, parse};
 use hints::{explain, explain_question, is_never, note, put_shown};
@@ -66,7 +66,7 @@ const QUESTIONS: [(&[u8], CondError, &str); 5] = [
         "  hcp(north) hcp(south)
              ^^^
   expected \"+\", a comparison such as >=, \"in\" or the end
-  hint: to compare it write: hcp(north)>=15
+  hint: compare it, as in hcp(north)>=15
 ",
     ),
     (

@@ -1,4 +1,4 @@
-//! Honours, and cards of a rank.
+//! Honours, top honours, and key cards.
 
 use super::*;
 
@@ -6,7 +6,10 @@ const HONOURS: &str = "honours honors honour honor";
 
 const TOPS: &str = "top tops";
 
-static RULES: [Rule; 22] = rules! {
+/// The aces and the king of trumps.
+const KEYCARDS: &str = "keycards keycard rkc rkcb";
+
+static RULES: [Rule; 14] = rules! {
     [NotInCall] [] [Named(HONOURS), Is("("), Seat, Is(","), OneOf(SUITS), Is(")")] =>
         "for ace to ten write \"cards(%n2,%n4,akqjt)\", for ace to queen \"cards(%n2,%n4,akq)\"";
     [NotInCall] [] [Named(HONOURS), Is("("), Seat, Is(")")] =>
@@ -29,23 +32,12 @@ static RULES: [Rule; 22] = rules! {
     [NotInCall] [] [Named(TOPS), Is("("), Seat, Is(")")] => "write \"cards(%n2,akq)\"";
     [NotInCall] [] [Named(TOPS)] =>
         "for top honours write cards with ranks, as in cards(north,spades,akq)";
-
-    [NotInCall] [] [Named("ace aces"), Is("("), Seat, Is(","), OneOf(SUITS)] =>
-        "write \"cards(%n2,%n4,a)\"";
-    [NotInCall] [] [Named("king kings"), Is("("), Seat, Is(","), OneOf(SUITS)] =>
-        "write \"cards(%n2,%n4,k)\"";
-    [NotInCall] [] [Named("queen queens"), Is("("), Seat, Is(","), OneOf(SUITS)] =>
-        "write \"cards(%n2,%n4,q)\"";
-    [NotInCall] [] [Named("jack jacks"), Is("("), Seat, Is(","), OneOf(SUITS)] =>
-        "write \"cards(%n2,%n4,j)\"";
-    [NotInCall] [] [Named("ten tens"), Is("("), Seat, Is(","), OneOf(SUITS)] =>
-        "write \"cards(%n2,%n4,t)\"";
-    [NotInCall] [] [Named("ace aces")] => "write \"cards(%u2,a)\"";
-    [NotInCall] [] [Named("king kings")] => "write \"cards(%u2,k)\"";
-    [NotInCall] [] [Named("queen queens")] => "write \"cards(%u2,q)\"";
-    [NotInCall] [] [Named("jack jacks")] => "write \"cards(%u2,j)\"";
-    [NotInCall] [] [Named("ten tens")] => "write \"cards(%u2,t)\"";
     [In("cards")] [Except("(")] [Named(TOPS)] => "name the ranks, as in akq";
+
+    [NotInCall] [] [Named(KEYCARDS), Is("("), Seat, Is(","), OneOf(SUITS), Is(")")] =>
+        "for key cards write \"cards(%n2,a)+cards(%n2,%n4,k)\"";
+    [NotInCall] [] [Named(KEYCARDS)] =>
+        "for key cards add the king of trumps, as in cards(%u2,a)+cards(%u2,spades,k)";
 };
 
 pub(crate) fn hint(alloc: Global, parts: &Parts) -> Said {

@@ -27,7 +27,7 @@ static RULES: [Rule; 13] = rules! {
         "for a stopper write \"stops\", as in stops(north,%n2)";
     [] [] [OneOf("stopper stoppers stop stopped guard guards")] =>
         "for a stopper write \"stops\", as in stops(north,spades)";
-    [] [] [Is("tricks")] => "count losers, as in losers(north), or controls";
+    [] [] [Is("tricks")] => "for eight tricks ask for few losers, as in losers(north)<=5";
     [] [] [Is("fit")] =>
         "for a fit add lengths up, as in len(north,spades)+len(south,spades)";
     [] [] [Named(PEOPLE)] => "name the seat: north, east, south or west";

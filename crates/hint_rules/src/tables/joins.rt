@@ -8,7 +8,7 @@ const OPEN: &str = "a \")\" is missing at the end";
 
 const JOIN: &str = "join the tests with \"and\" or \"or\"";
 
-static RULES: [Rule; 25] = rules! {
+static RULES: [Rule; 32] = rules! {
     [Can(Kind::Number)] [OneOf("and or not")] [Nothing] =>
         "a test is missing after \"%b1\", such as balanced(north)";
     [Can(Kind::Number)] [OneOf("and or")] [OneOf("and or")] =>
@@ -32,12 +32,30 @@ static RULES: [Rule; 25] = rules! {
     [Can(Kind::Relation)] [] [Is("<>")] => UNEQUAL;
     [Can(Kind::Relation)] [Number] [Suit, Is("in"), Seat] =>
         "with the seat in brackets write: len(%n2,%n0)==%b1";
+    [Can(Kind::Relation)] [Is("not"), Number] [Suit] =>
+        "for a suit's length write len, as in len(north,%n0)!=%b1";
     [Can(Kind::Relation)] [Number] [Suit] =>
         "for a suit's length write len, as in len(north,%n0)>=%b1";
-    [Can(Kind::Relation)] [Value] [] => "to compare it write: %v1%c1";
+    [Can(Kind::Relation)] [Call] [
+        Is("and"), Measure, Is("("), Seat, Is(")"), Relation, Number
+    ] => "together that is %v1+%n1(%n3)%n5%n6; for each write: %v1%n5%n6 and %n1(%n3)%n5%n6";
+    [Can(Kind::Relation)] [Call] [
+        Is("and"), Measure, Is("("), Seat, Is(","), Suit, Is(")"), Relation, Number
+    ] => "together that is %v1+%n1(%n3,%n5)%n7%n8; \
+        for each write: %v1%n7%n8 and %n1(%n3,%n5)%n7%n8";
+    [Can(Kind::Relation)] [Call] [
+        Is("or"), Measure, Is("("), Seat, Is(")"), Relation, Number
+    ] => "to compare each write: %v1%n5%n6 or %n1(%n3)%n5%n6";
+    [Can(Kind::Relation)] [OneOf(STARTS), Number] [] =>
+        "say of what, as in hcp(north)>=%b1";
+    [Can(Kind::Relation)] [Value] [] => "compare it, as in %v1%c1";
 
     [Can(Kind::And), Can(Kind::End)] [] [Is(")")] => "this \")\" closes nothing";
     [Can(Kind::And), Cannot(Kind::End)] [] [Nothing] => OPEN;
+    [Can(Kind::And), Cannot(Kind::Plus)] [] [Is("=="), Is("0")] =>
+        "write \"not\" before this test, and leave \"%n0%n1\" out";
+    [Can(Kind::And), Cannot(Kind::Plus)] [] [Is("<"), Is("1")] =>
+        "write \"not\" before this test, and leave \"%n0%n1\" out";
     [Can(Kind::And), Cannot(Kind::Plus)] [] [Relation] =>
         "this test is whole, and needs no comparison";
     [Can(Kind::And)] [] [Is(",")] => "for \",\" write \"and\"";

@@ -7,7 +7,7 @@ const UP: &str = "in == >= >";
 
 const DOWN: &str = "in == <= <";
 
-static RULES: [Rule; 16] = rules! {
+static RULES: [Rule; 18] = rules! {
     [] [OneOf(UP), Number, Is("+")] [NoValue] => "for %b2 or more write: %v4>=%b2";
     [] [OneOf(UP), Number] [Is("+"), NoValue] => "for %b1 or more write: %v3>=%b1";
     [] [] [Is("="), Number, Is("+"), NoValue] => "for %n1 or more write: %v1>=%n1";
@@ -30,6 +30,8 @@ static RULES: [Rule; 16] = rules! {
         "with \"not\" first write: not %v1%a1";
     [] [Value] [Is("not"), Number, Is("-"), Number] =>
         "with \"not\" first write: not %v1%a1";
+    [] [Call] [Is("not"), Relation, Number] => "with \"not\" first write: not %v1%n1%n2";
+    [] [Call] [Is("not"), Number] => "for another number write: %v1!=%n1";
     [] [Value] [Is("-")] =>
         "there is no \"-\" of values: add to the other side, as in hcp(north)>=hcp(south)+5";
 };

@@ -2,7 +2,7 @@
 
 use super::*;
 
-static RULES: [Rule; 23] = rules! {
+static RULES: [Rule; 25] = rules! {
     [InCall] [Is("(")] [Named("n nord")] => "write \"north\"";
     [InCall] [Is("(")] [Named("e ost est")] => "write \"east\"";
     [InCall] [Is("(")] [Named("s sud sued")] => "write \"south\"";
@@ -28,6 +28,8 @@ static RULES: [Rule; 23] = rules! {
     [NotInCall] [] [Named("oder ou")] => "write \"or\"";
     [NotInCall] [] [Named("no nicht")] => "write \"not\"";
     [NotInCall] [] [Named("is equals equal")] => "write \"==\"";
+    [NotInCall] [] [Is("either")] => "leave \"either\" out";
+    [NotInCall] [] [Named("the")] => "leave \"the\" out";
     [NotInCall] [] [Named("plus")] => "write \"+\"";
 };
 

@@ -10,11 +10,19 @@ const IN_DIGITS: &str = "write the number in digits, as in hcp(north)>=15";
 
 const COUNTED: &str = "to count deals, or for an average: deals count --of";
 
-static RULES: [Rule; 20] = rules! {
+static RULES: [Rule; 23] = rules! {
     [] [Relation] [Named(NUMBERS)] => IN_DIGITS;
     [] [Is("in")] [Named(NUMBERS)] => IN_DIGITS;
     [NotInCall] [] [Named("hpc hcps hpcs punkte pkt fp")] => "write \"hcp\"";
-    [NotInCall] [] [Named("bal balance semibalanced")] => "write \"balanced\"";
+    [NotInCall] [] [Named("bal balance")] => "write \"balanced\"";
+    [NotInCall] [] [Named("semibalanced")] =>
+        "for semi-balanced write: \
+        balanced(%u2) or pattern(%u2,5-4-2-2) or pattern(%u2,6-3-2-2)";
+    [NotInCall] [] [Named("semi"), Is("-"), Is("balanced")] =>
+        "for semi-balanced write: \
+        balanced(%u4) or pattern(%u4,5-4-2-2) or pattern(%u4,6-3-2-2)";
+    [NotInCall] [] [OneOf("two"), Is("-"), OneOf("suiter suited suiters")] =>
+        "for two five-card suits write: pattern(%u4,5-5-x-x)";
     [NotInCall] [] [Named("verlierer perdantes")] => "write \"losers\"";
     [NotInCall] [] [Named("kontrollen controles")] => "write \"controls\"";
     [NotInCall] [] [Named("s spade pik pique piques"), Is("("), Seat] =>

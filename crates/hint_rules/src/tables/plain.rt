@@ -15,7 +15,7 @@ const UNEQUAL: &str = "!= <>";
 /// What a person writes between a seat and what its hand has.
 const HAS: &str = "has have holds with is hat mit";
 
-static RULES: [Rule; 14] = rules! {
+static RULES: [Rule; 21] = rules! {
     [] [Is("balanced"), Is("("), Seat, Is(")")] [OneOf(EQUAL), OneOf(SO)] =>
         "without a comparison write: balanced(%b2)";
     [] [Is("balanced"), Is("("), Seat, Is(")"), OneOf(EQUAL)] [OneOf(SO)] =>
@@ -33,6 +33,18 @@ static RULES: [Rule; 14] = rules! {
     [] [Is("balanced"), Is("("), Seat, Is(")"), OneOf(UNEQUAL)] [OneOf(SO)] =>
         "without a comparison write: not balanced(%b3)";
 
+    [] [Seat, OneOf("and or"), Seat] [OneOf(HAS)] =>
+        "name one seat in each test, or add values up, as in hcp(%b3)+hcp(%b1)>=25";
+    [] [Seat] [OneOf(HAS), Counted, Any, Is("or"), OneOf(MORE)] =>
+        "with the seat in brackets write: %k1(%b1%s1)>=%n1";
+    [] [Seat] [OneOf(HAS), Counted, Any, Is("or"), OneOf(FEWER)] =>
+        "with the seat in brackets write: %k1(%b1%s1)<=%n1";
+    [] [Seat] [OneOf(HAS), Counted, Any, OneOf("max maximum")] =>
+        "with the seat in brackets write: %k1(%b1%s1)<=%n1";
+    [] [Is("balanced"), Is("("), Seat, Is(")")] [Is("plus")] => "write \"and\"";
+    [] [Is("balanced"), Is("("), Seat] [Is(","), Amount] =>
+        "with a test for the points write: balanced(%b1) and hcp(%b1)%a1";
+    [] [Is("balanced")] [Is("hand")] => "say whose, as in balanced(north)";
     [] [Seat] [OneOf(HAS), Is("balanced")] =>
         "with the seat in brackets write: balanced(%b1)";
     [] [] [Seat, Is("balanced")] => "with the seat in brackets write: balanced(%n0)";

@@ -12,7 +12,7 @@ static RULES: [Rule; 18] = rules! {
     [] [Relation, Number] [Number, Is("-")] => "join the tests with \"and\" or \"or\"";
     [] [Value] [Number, Is("-"), Number] => "for a range write: %v1%a0";
     [] [Value] [Is(":"), Amount] => "without \":\" write: %v1%a1";
-    [] [OneOf(IN), Number] [Number, Except("-")] => "for a range write: %t2%v3 in %f0";
+    [] [OneOf(IN), Number] [Number, Except(COUNTED)] => "for a range write: %t2%v3 in %f0";
     [] [OneOf(IN), Number] [Is("."), Is("."), Number] => "for a range write: %t2%v3 in %f2";
     [] [] [Is("between"), Number, Any, Number] => "for a range write: %v1 in %r3";
     [] [OneOf(IN), Number] [OneOf(TO), Number] => "for a range write: %t2%v3 in %f1";
@@ -23,13 +23,13 @@ static RULES: [Rule; 18] = rules! {
         Is("-"), Number, Measure, Is("("), Any, Is(","), Any, Is(")")
     ] => "for a range write: %n2(%n4,%n6) in %f1";
     [] [Measure] [Number, Is("-"), Number] =>
-        "with a seat in brackets write: %b1(north%e1%a0";
+        "with a seat in brackets write: %b1(%u0%e1%a0";
     [] [Measure] [Is("="), Number, Is("-"), Number] =>
-        "with a seat in brackets write: %b1(north%e1%a0";
+        "with a seat in brackets write: %b1(%u0%e1%a0";
     [] [Measure] [Number, OneOf("+ -"), NoValue] =>
-        "with a seat in brackets write: %b1(north%e1%a0";
+        "with a seat in brackets write: %b1(%u0%e1%a0";
     [] [Measure] [Is("="), Number, OneOf("+ -"), NoValue] =>
-        "with a seat in brackets write: %b1(north%e1%a0";
+        "with a seat in brackets write: %b1(%u0%e1%a0";
 };
 
 pub(crate) fn hint(alloc: Global, parts: &Parts) -> Said {

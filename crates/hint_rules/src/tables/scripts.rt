@@ -10,8 +10,9 @@ const PRINTS: &str = "action print printall printpbn printcompact printoneline p
 /// What a hand of a seat has by itself.
 const HAS: &str = "hcp controls losers longest second shortest balanced";
 
-static RULES: [Rule; 14] = rules! {
-    [] [] [OneOf("dealer vul vulnerable vulnerability")] => HANDS_ALONE;
+static RULES: [Rule; 15] = rules! {
+    [] [] [Is("dealer")] => "with --rotate the dealer has the hand that is north's here";
+    [] [] [OneOf("vul vulnerable vulnerability")] => HANDS_ALONE;
     [] [Nothing] [Word, Is("="), Word] =>
         "tests have no names: in place of a name write the test itself";
     [] [Nothing] [Is("produce")] =>

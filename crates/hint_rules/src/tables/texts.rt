@@ -4,7 +4,7 @@ use super::*;
 
 const FILE: &str = "the condition itself stands here; from a file: --where \"$(cat FILE)\"";
 
-static RULES: [Rule; 14] = rules! {
+static RULES: [Rule; 13] = rules! {
     [] [Nothing] [Nothing] => "for 15 points or more with North write: hcp(north)>=15";
     [] [Nothing] [Is("@")] => FILE;
     [] [Nothing] [OneOf("/ . ~"), OneOf(". /")] => FILE;
@@ -23,8 +23,6 @@ static RULES: [Rule; 14] = rules! {
         "for any order write \"pattern\", as in pattern(north,5-3-3-2)";
     [] [Nothing, Is("any")] [Number, Is("-"), Number, Is("-")] =>
         "for any order write \"pattern\", as in pattern(north,5-3-3-2)";
-    [] [OneOf("any a"), Number, Is("-")] [OneOf("card cards"), OneOf("suit major minor")] =>
-        "for some %n1 write: any %n1 (len(north,%n1)>=%b2)";
     [] [] [OneOf("any some"), Suit] => "a suit is named alone, as in len(north,%n1)";
 };
 

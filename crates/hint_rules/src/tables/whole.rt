@@ -3,16 +3,14 @@
 
 use super::*;
 
-const MAJORS: &str = "with a test for each write: len(%b2,spades)>=%n3 and len(%b2,hearts)>=%n5 \
-    or len(%b2,hearts)>=%n3 and len(%b2,spades)>=%n5";
+const MAJORS: &str = "for both ways round write: shape(%b2,%n3-%n5-x-x) or shape(%b2,%n5-%n3-x-x)";
 
-const MINORS: &str = "with a test for each write: len(%b2,clubs)>=%n3 and len(%b2,diamonds)>=%n5 \
-    or len(%b2,diamonds)>=%n3 and len(%b2,clubs)>=%n5";
+const MINORS: &str = "for both ways round write: shape(%b2,x-x-%n3-%n5) or shape(%b2,x-x-%n5-%n3)";
 
 /// How a person says that something is equal.
 const EQUAL: &str = "= == is in";
 
-static RULES: [Rule; 13] = rules! {
+static RULES: [Rule; 14] = rules! {
     [] [OneOf(SHAPES), Is("("), Seat, Is(")")] [
         OneOf(EQUAL), Number, Is("-"), Number, Is("-"), Number, Is("-"), Number
     ] => "in any order of the suits write: pattern(%b2,%n1-%n3-%n5-%n7)";
@@ -28,6 +26,8 @@ static RULES: [Rule; 13] = rules! {
     [] [Number] [
         Is("-"), Number, Is("-"), Number, Is("-"), Number, Is("("), Seat, Is(")")
     ] => "in any order of the suits write: pattern(%n7,%b1-%n1-%n3-%n5)";
+    [] [OneOf(STARTS), Number] [Is("-"), Number, Is("("), Seat, Is(")")] =>
+        "for these lengths write: pattern(%n3,%b1-%n1-x-x)";
     [] [OneOf(STARTS), Number] [
         Is("-"), Number, Is("-"), Number, Is("-"), Number, OneOf(ENDS)
     ] => "for a shape in any order write pattern, as in pattern(north,%b1-%n1-%n3-%n5)";
