@@ -54,6 +54,16 @@ fn hint_for(alloc: Global, words: &[String], refused: Refused<'_>) -> Option<Str
     }
 }
 
+/// Whether the word is one of these, which have blanks between them.
+fn has(words: &str, word: &str) -> bool {
+    for known in words.split(' ') {
+        if known == word {
+            return true;
+        }
+    }
+    false
+}
+
 fn owned(alloc: Global, text: &str) -> Option<String> {
     String::from_str(alloc, text).ok()
 }

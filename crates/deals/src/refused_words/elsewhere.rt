@@ -9,6 +9,8 @@ const FOR_TRICKS: &str = "deals make takes --tricks";
 
 const FOR_BOARDS: &str = "deals count writes a table: deals make writes boards";
 
+const FOR_NORTH: &str = "leave --rotate out: it changes no count, and north has the dealer's hand";
+
 const FOR_SEARCH: &str = "deals pick reads the numbers of deals: deals find searches for them";
 
 const FOR_SEED: &str = "deals seed draws a seed, and takes no options";
@@ -51,6 +53,7 @@ pub(crate) fn of_option(command: &str, option: &str) -> Option<&'static str> {
         "make" | "find" | "pick" if is_in(&COUNTED, option) => Some(BY_COUNT),
         "find" | "pick" if option == "--tricks" => Some(FOR_TRICKS),
         "find" if is_in(&LOOK, option) => Some(FOR_LOOK),
+        "count" if option == "--rotate" => Some(FOR_NORTH),
         "count" if is_in(&LOOK, option) => Some(FOR_BOARDS),
         "pick" if is_in(&SEARCH, option) => Some(FOR_SEARCH),
         "seed" => Some(FOR_SEED),

@@ -1,5 +1,6 @@
 //! Options, commands and words that people try first, and what to write in their place.
 
+use super::has;
 use std::alloc::Global;
 
 const TO_A_FILE: &str =
@@ -65,172 +66,92 @@ const FIND: &str =
 
 const CONDITIONS: &str = "write deals conditions";
 
-/// Options that people try first.
-static OPTIONS: &[(&str, &str)] = &[
-    ("--output", TO_A_FILE),
-    ("--out", TO_A_FILE),
-    ("--outfile", TO_A_FILE),
-    ("--file", TO_A_FILE),
-    ("--save", TO_A_FILE),
-    ("-o", TO_A_FILE),
-    ("--condition", BY_WHERE),
-    ("--conditions", BY_WHERE),
-    ("--filter", BY_WHERE),
-    ("--if", BY_WHERE),
-    ("--accept", BY_WHERE),
-    ("--constraint", BY_WHERE),
-    ("--script", FROM_A_FILE),
-    ("--where-file", FROM_A_FILE),
-    ("--count", HOW_MANY),
-    ("--number", HOW_MANY),
-    ("--deals", HOW_MANY),
-    ("--deal", HOW_MANY),
-    ("--num", HOW_MANY),
-    ("--amount", HOW_MANY),
-    ("--limit", HOW_MANY),
-    ("-n", HOW_MANY),
-    ("-c", HOW_MANY),
-    ("--average", BY_COUNT),
-    ("--mean", BY_COUNT),
-    ("--frequency", BY_COUNT),
-    ("--stats", BY_COUNT),
-    ("--statistics", BY_COUNT),
-    ("--pbn", FORMS),
-    ("--html", FORMS),
-    ("--lin", FORMS),
-    ("--json", FORMS),
-    ("--hands", FORMS),
-    ("--pdf", FORMS),
-    ("--type", FORMS),
-    ("--title", THE_EVENT),
-    ("--name", THE_EVENT),
-    ("--tournament", THE_EVENT),
-    ("--place", THE_PLACE),
-    ("--location", THE_PLACE),
-    ("--club", THE_PLACE),
-    ("--threads", THREADS),
-    ("--jobs", THREADS),
-    ("--cores", THREADS),
-    ("--parallel", THREADS),
-    ("-j", THREADS),
-    ("-t", THREADS),
-    ("--vulnerability", ZONE),
-    ("--vul", ZONE),
-    ("--zone", ZONE),
-    ("--skip", GO_ON),
-    ("--offset", GO_ON),
-    ("--start", FROM_WHERE),
-    ("--start-at", FROM_WHERE),
-    ("--from", FROM_WHERE),
-    ("--begin", FROM_WHERE),
-    ("--continue", GO_ON),
-    ("--resume", GO_ON),
-    ("--board", BOARD_NUMBER),
-    ("--start-board", BOARD_NUMBER),
-    ("--board-number", BOARD_NUMBER),
-    ("--from-board", BOARD_NUMBER),
-    ("--random", THE_SEED),
-    ("--random-seed", THE_SEED),
-    ("--predeal", PREDEALT),
-    ("--hand", PREDEALT),
+/// Options that people try first, with blanks between those of a row.
+static OPTIONS: [(&str, &str); 21] = [
+    ("--output --out --outfile --file --save -o", TO_A_FILE),
+    (
+        "--condition --conditions --filter --if --accept --constraint",
+        BY_WHERE,
+    ),
+    ("--script --where-file", FROM_A_FILE),
+    (
+        "--count --number --deals --deal --num --amount --limit -n -c",
+        HOW_MANY,
+    ),
+    (
+        "--average --mean --frequency --stats --statistics",
+        BY_COUNT,
+    ),
+    ("--pbn --html --lin --json --hands --pdf --type", FORMS),
+    ("--title --name --tournament", THE_EVENT),
+    ("--place --location --club", THE_PLACE),
+    ("--threads --jobs --cores --parallel -j -t", THREADS),
+    ("--vulnerability --vul --zone", ZONE),
+    ("--skip --offset --continue --resume", GO_ON),
+    ("--start --start-at --from --begin", FROM_WHERE),
+    (
+        "--board --start-board --board-number --from-board",
+        BOARD_NUMBER,
+    ),
+    ("--random --random-seed", THE_SEED),
+    ("--predeal --hand", PREDEALT),
     ("--turn", TURNED),
-    ("--par", WITH_TRICKS),
-    ("--dd", WITH_TRICKS),
-    ("--double-dummy", WITH_TRICKS),
-    ("--makes", WITH_TRICKS),
-    ("--hide", SHOWN),
-    ("--only", SHOWN),
-    ("--print", SHOWN),
-    ("--quiet", QUIET),
-    ("--silent", QUIET),
-    ("-q", QUIET),
-    ("--verbose", MORE_SAID),
-    ("-v", MORE_SAID),
+    ("--par --dd --double-dummy --makes", WITH_TRICKS),
+    ("--hide --only --print --handout --handouts", SHOWN),
+    ("--quiet --silent -q", QUIET),
+    ("--verbose -v", MORE_SAID),
     ("--version", VERSION),
 ];
 
 /// First words, in place of a command.
-static FIRST_WORDS: &[(&str, &str)] = &[
-    ("-v", VERSION),
-    ("-version", VERSION),
-    ("--ver", VERSION),
-    ("-help", HELP),
-    ("--usage", HELP),
-    ("-?", HELP),
+static FIRST_WORDS: [(&str, &str); 2] = [
+    ("-v -version --ver", VERSION),
+    ("-help --usage -?", HELP),
 ];
 
 /// Commands that people try first.
-static COMMANDS: &[(&str, &str)] = &[
-    ("deal", MAKE),
-    ("deals", MAKE),
-    ("generate", MAKE),
-    ("gen", MAKE),
-    ("create", MAKE),
-    ("new", MAKE),
-    ("run", MAKE),
-    ("boards", MAKE),
-    ("hands", MAKE),
-    ("shuffle", MAKE),
-    ("write", MAKE),
-    ("stats", COUNT),
-    ("stat", COUNT),
-    ("statistics", COUNT),
-    ("average", COUNT),
-    ("mean", COUNT),
-    ("frequency", COUNT),
-    ("probability", COUNT),
-    ("odds", COUNT),
-    ("simulate", COUNT),
-    ("search", FIND),
-    ("filter", FIND),
-    ("list", FIND),
-    ("where", FIND),
-    ("random", DRAW),
-    ("draw", DRAW),
-    ("seeds", DRAW),
-    ("tricks", SOLVE),
-    ("solve", SOLVE),
-    ("par", SOLVE),
-    ("language", CONDITIONS),
-    ("syntax", CONDITIONS),
+static COMMANDS: [(&str, &str); 8] = [
+    (
+        "deal deals generate gen create new run boards hands shuffle write print lesson",
+        MAKE,
+    ),
+    (
+        "stats stat statistics average mean frequency probability odds howoften how-often \
+        simulate",
+        COUNT,
+    ),
+    ("search filter list where", FIND),
+    ("random draw seeds", DRAW),
+    ("tricks solve par", SOLVE),
+    ("language syntax", CONDITIONS),
     ("version", VERSION),
-    ("usage", HELP),
-    ("man", HELP),
-    ("examples", HELP),
-    ("?", HELP),
+    ("usage man examples ?", HELP),
 ];
 
 /// Words that are no option.
-static WORDS: &[(&str, &str)] = &[
-    ("pbn", FORMS),
-    ("hands", FORMS),
-    ("lin", FORMS),
-    ("html", FORMS),
-    ("json", FORMS),
-    ("pdf", FORMS),
-    ("help", HELP),
-];
+static WORDS: [(&str, &str); 2] = [("pbn hands lin html json pdf", FORMS), ("help", HELP)];
 
 const BEHIND_OPTIONS: &str = "each value comes after its option, as --seed 7 --boards 36";
 
-fn find(table: &[(&str, &'static str)], word: &str) -> Option<&'static str> {
-    let (_, text) = table.iter().find(|(tried, _)| *tried == word)?;
+/// The text of the row that has the word.
+fn find(table: &[(&'static str, &'static str)], word: &str) -> Option<&'static str> {
+    let (_, text) = table.iter().find(|(tried, _)| has(tried, word))?;
     Some(*text)
 }
 
 /// What to write in the place of this option, in small letters.
 pub(crate) fn of_option(name: &str) -> Option<&'static str> {
-    find(OPTIONS, name)
+    find(&OPTIONS, name)
 }
 
 /// What to write in the place of this command, in any case.
 pub(crate) fn of_command(alloc: Global, name: &str) -> Option<&'static str> {
-    find(COMMANDS, name.to_ascii_lowercase(alloc).ok()?.as_str())
+    find(&COMMANDS, name.to_ascii_lowercase(alloc).ok()?.as_str())
 }
 
 /// What to write in the place of this first word, which is an option.
 pub(crate) fn of_first(alloc: Global, word: &str) -> Option<&'static str> {
-    find(FIRST_WORDS, word.to_ascii_lowercase(alloc).ok()?.as_str())
+    find(&FIRST_WORDS, word.to_ascii_lowercase(alloc).ok()?.as_str())
 }
 
 /// What to write in the place of a word that belongs to no option.
@@ -241,5 +162,5 @@ pub(crate) fn of_word(word: &str) -> &'static str {
     if word.parse::<u64>().is_ok() {
         return HOW_MANY;
     }
-    find(WORDS, word).unwrap_or(BEHIND_OPTIONS)
+    find(&WORDS, word).unwrap_or(BEHIND_OPTIONS)
 }

@@ -20,6 +20,14 @@ const SEED_OF_SEARCH: &str =
 
 const FOR_ROWS: &str = "--by comes beside --of: --of 'hcp(south)' --by 'longest(south)'";
 
+const ONE_QUESTION: &str =
+    "ask one thing here and the other by --by, or in a second run: --of 'hcp(south)' --by \
+    'longest(south)'";
+
+const ONE_CONDITION: &str = "join conditions by and: --where 'hcp(north)>=15 and balanced(north)'";
+
+const HOW_MANY_TRIED: &str = "--candidates 1000000 says how many deals are tried";
+
 const HOW_MANY_NUMBERS: &str = "write --count 3 for three numbers";
 
 pub(crate) const NO_COMMAND: &str =
@@ -34,7 +42,10 @@ pub(crate) fn of_options(command: &str, missing: &str) -> Option<&'static str> {
         });
     }
     if missing.contains("--candidates") {
-        return Some(HOW_MANY);
+        return Some(match command {
+            "count" => HOW_MANY_TRIED,
+            _ => HOW_MANY,
+        });
     }
     if missing.contains("--of") {
         return Some(FOR_ROWS);
@@ -53,12 +64,9 @@ pub(crate) fn of_value(alloc: Global, option: &str) -> Option<String> {
 
 /// What helps where this option occurs twice.
 pub(crate) fn of_repeat(alloc: Global, option: &str) -> Option<String> {
-    if option == "--where" {
-        return String::from_str(
-            alloc,
-            "join conditions by and: --where 'hcp(north)>=15 and balanced(north)'",
-        )
-        .ok();
+    match option {
+        "--where" => String::from_str(alloc, ONE_CONDITION).ok(),
+        "--of" => String::from_str(alloc, ONE_QUESTION).ok(),
+        _ => format!(in alloc; "write {option} once").ok(),
     }
-    format!(in alloc; "write {option} once").ok()
 }
