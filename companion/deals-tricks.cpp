@@ -36,7 +36,7 @@ d (13); then, where the board has a dealer and a vulnerability, the side and the
 
     97b8997b892624426244 NS 450 4H-NS+1
 
-Exit status: 0; 1 if a deal can't be read, there is none, or the output fails; 2 for words other than --help.
+Exit status: 0; 1 if a deal can't be read, it isn't PBN, or the output fails; 2 for words other than --help.
 )";
 
 constexpr int SEATS = 4;
@@ -390,6 +390,7 @@ int main(int count, char **words) {
     const std::string word = words[1];
     if (count == 2 && (word == "--help" || word == "-h"))
         return std::fputs(USAGE, stdout) < 0;
+    std::fputs("deals-tricks: boards come from its input: for those of a file write deals-tricks < FILE\n\n", stderr);
     std::fputs(USAGE, stderr);
     return 2;
 }

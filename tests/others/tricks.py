@@ -149,8 +149,10 @@ def refusals():
     yield "a full output", run.returncode == 1 and "can't be written" in run.stderr
     run = subprocess.run([PROGRAM], input="hello\n", capture_output=True, text=True, check=False)
     yield "a text without a deal", run.returncode == 1 and "no deal" in run.stderr and run.stdout == ""
-    run = subprocess.run([PROGRAM, "--what"], capture_output=True, text=True, check=False)
-    yield "an unknown word", run.returncode == 2 and run.stderr.startswith("usage: ")
+    for word in ("--what", "boards.pbn"):
+        run = subprocess.run([PROGRAM, word], capture_output=True, text=True, check=False)
+        says = "write deals-tricks < FILE\n\nusage: " in run.stderr
+        yield f"an unknown word: {word}", run.returncode == 2 and says and run.stdout == ""
     run = subprocess.run([PROGRAM, "--help"], capture_output=True, text=True, check=False)
     yield "help", run.returncode == 0 and run.stdout.startswith("usage: ") and max(map(len, run.stdout.split("\n"))) <= 120
 
