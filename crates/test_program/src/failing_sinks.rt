@@ -1,4 +1,4 @@
-//! Sinks that fail, and the values of a seed in a sink. `tests/program` asks the built program for
+//! Sinks that fail, and the values of a seed in a sink. `tests/rows` asks the built program for
 //! more values.
 
 use crate::support::same;

@@ -1,4 +1,4 @@
-//! The program over sinks in memory. `tests/program` gives the built program many more words.
+//! The program over sinks in memory. `tests/rows` gives the built program many more words.
 
 use crate::support::same;
 use dealrun::{Fuse, MemSink};

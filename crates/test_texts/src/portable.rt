@@ -1,4 +1,4 @@
-//! The plain form of Portable Bridge Notation: games written by hand. `tests/program` asks the
+//! The plain form of Portable Bridge Notation: games written by hand. `tests/rows` asks the
 //! built program for the same games, and for labels.
 
 use crate::support::same;
