@@ -4,7 +4,7 @@
 ghost use Rattle.std.specs.Prelude.{◌≡◌, ◌+◌, ◌<◌, ◌≤◌, ◌^◌};
 ghost use Rattle.cards.specs.Deals.{IsPartition};
 ghost use Rattle.cards.specs.Packed.{HasNumber, deal_in, flag_in, undealt, whole};
-ghost use Rattle.cards.specs.internal.PackedMasks.{fixed_told, joined, told};
+ghost use Rattle.cards.specs.internal.PackedMasks.{IsPacked, fixed_told, joined, shown, told};
 
 use crate::around::mask_fixed;
 use crate::{Candidates, Deal, Fixed, Seat};
@@ -55,6 +55,7 @@ impl Model for Packed {
 
 impl Packed {
     /// The deal with the flag.
+    #[inline(always)]
     pub fn of_deal(deal: &Deal, flag: bool) -> Packed
         ensures { result ≡ whole deal.now flag }
     {
@@ -83,6 +84,7 @@ impl Packed {
     }
 
     /// The flag, which is not set of an undealt candidate.
+    #[inline(always)]
     pub fn flag(&self) -> bool
         ensures { result ≡ flag_in self.now }
     {
@@ -91,20 +93,33 @@ impl Packed {
 
     /// The deal of the candidate, which has this number. One that is not dealt yet has a number
     /// below 2^40, and is dealt now: that takes far longer than the next one of `Candidates`.
+    #[inline(always)]
     pub fn deal(&self, number: u64) -> Deal
         requires { HasNumber self.now number }
         ensures value { result ≡ deal_in self.now number }
         ensures partition { IsPartition result }
     {
-        let (first, second, third) = (self.first % ABOVE, self.second, self.third);
         if self.first < UNDEALT {
-            return Deal::of_three_masks(first, second, third);
+            return Deal::of_three_masks(self.first % ABOVE, self.second, self.third);
         }
-        let high = (self.first / ABOVE - 2) * PART + third / ABOVE;
-        let seed = (high * PART + second / ABOVE) as u32;
-        let fixed = Fixed::of_seats(seats_told(first, second % ABOVE, third % ABOVE));
-        Candidates::around(seed, number, 1, &fixed).next()
+        deal_source(self.first, self.second, self.third, number)
     }
+}
+
+/// The deal of the undealt candidate of these three words, which has this number.
+// A call, so that the deal of one that is dealt is read in line.
+#[inline(never)]
+fn deal_source(first: u64, second: u64, third: u64, number: u64) -> Deal
+    requires packed { IsPacked first second third }
+    requires undealt { 2 ^ 53 ≤ first }
+    requires number { HasNumber (shown first second third) number }
+    ensures value { result ≡ deal_in (shown first second third) number }
+    ensures partition { IsPartition result }
+{
+    let high = (first / ABOVE - 2) * PART + third / ABOVE;
+    let seed = (high * PART + second / ABOVE) as u32;
+    let seats = seats_told(first % ABOVE, second % ABOVE, third % ABOVE);
+    Candidates::around(seed, number, 1, &Fixed::of_seats(seats)).next()
 }
 
 /// A word with these cards, and this above them.

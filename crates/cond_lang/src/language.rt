@@ -38,7 +38,7 @@ Tests:        and, or, not, and brackets around tests; and binds tighter than
 Some suit:    any suit (len(north,suit)>=6) is true with some suit in the place
               of the word suit, every suit (..) with each of the four; major is
               spades or hearts, minor diamonds or clubs, and inside the brackets
-              any other (..) goes through the suits that are left
+              any other (..) goes through all suits but that one
 
 Everything is written in small letters. Spaces and new lines don't matter, and a
 comment goes from # to the end of its line. A condition has at most 1024 bytes,

@@ -310,6 +310,7 @@ impl LaneOut {
 
     /// Whether a verdict waits to be taken. It looks at the other end only if none is known. Never
     /// blocks.
+    #[inline(always)]
     pub fn has_verdict(&mut self) -> bool
         ensures same { (self.new.ring ≡ self.old.ring) × (self.new.settled ≡ self.old.settled) }
         ensures taken { self.new.taken ≡ self.old.taken }
@@ -359,6 +360,7 @@ impl LaneOut {
     }
 
     /// Takes the next verdict, which is known to wait, as the lane keeps it. Never blocks.
+    #[inline(always)]
     pub fn take_slot(&mut self) -> Slot
         requires { 0 < self.old.known }
         ensures same { (self.new.ring ≡ self.old.ring) × (self.new.settled ≡ self.old.settled) }

@@ -52,6 +52,7 @@ impl Turns {
     }
 
     /// The lane whose turn it is.
+    #[inline(always)]
     pub fn lane(&self) -> u32
         ensures lane { result ≡ self.now.turn % self.now.workers }
         ensures below { result < self.now.workers }
@@ -60,6 +61,7 @@ impl Turns {
     }
 
     /// Goes on to the next turn.
+    #[inline(always)]
     pub fn advance(&mut self)
         requires { self.old.turn < 2 ^ 40 }
         ensures turn { self.new.turn ≡ self.old.turn + 1 }

@@ -62,6 +62,7 @@ impl Model for Slot {
 
 impl Slot {
     /// The slot of a verdict, with its deal.
+    #[inline(always)]
     pub(crate) fn of(verdict: &Verdict) -> Slot
         ensures { verdict_in result ≡ verdict.now }
     {
@@ -83,6 +84,7 @@ impl Slot {
     }
 
     /// The number of the verdict's candidate.
+    #[inline(always)]
     pub fn number(&self) -> u64
         ensures { result ≡ (verdict_in self.now).number }
     {
@@ -90,6 +92,7 @@ impl Slot {
     }
 
     /// Whether the candidate is accepted.
+    #[inline(always)]
     pub fn accepted(&self) -> bool
         ensures { result ≡ (verdict_in self.now).accepted }
     {
@@ -97,6 +100,7 @@ impl Slot {
     }
 
     /// The candidate's deal. It is drawn now if the slot has only what it is dealt from.
+    #[inline(always)]
     pub fn deal(&self) -> Deal
         ensures value { result ≡ (verdict_in self.now).deal }
         ensures partition { IsPartition result }
@@ -165,6 +169,7 @@ impl Block {
 
     /// Whether there is no verdict.
     #[tactic(auto, using(crate::proofs::Blocks::length_part))]
+    #[inline(always)]
     pub(crate) fn is_empty(&self) -> bool
         ensures { IsTrue result ↔ (length self.now ≡ 0) }
     {
@@ -172,6 +177,7 @@ impl Block {
     }
 
     /// Takes the oldest verdict.
+    #[inline(always)]
     pub(crate) fn take_first(&mut self) -> Slot
         requires { 0 < length self.old }
         ensures { self.old ≡ result ∷ self.new }

@@ -93,6 +93,7 @@ impl LaneIn {
 impl LaneOut {
     /// Waits until a verdict can be taken. Returns true once one can, and false if the stop flag is
     /// up and none waits. It may wait: on a settled lane with nothing left until the flag is up.
+    #[inline(always)]
     pub fn wait_for_verdict<R: Wait>(&mut self, rt: &R, stop: &AtomicBool) -> bool
         ensures same { (self.new.ring ≡ self.old.ring) × (self.new.settled ≡ self.old.settled) }
         ensures taken { self.new.taken ≡ self.old.taken }
@@ -105,6 +106,7 @@ impl LaneOut {
     }
 
     /// As `wait_for_verdict`, when no verdict is known yet.
+    #[inline(never)]
     fn pause_for_verdict<R: Wait>(&mut self, rt: &R, stop: &AtomicBool) -> bool
         ensures same { (self.new.ring ≡ self.old.ring) × (self.new.settled ≡ self.old.settled) }
         ensures taken { self.new.taken ≡ self.old.taken }

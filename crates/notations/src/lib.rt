@@ -23,5 +23,5 @@ mod sheet;
 mod show;
 mod table;
 
-pub use printer::{AnyPrinter, FORMAT_HELP, FORMAT_WORDS, FORMATS, Format};
-pub use show::{SHOW_HELP, SHOW_WORDS, SHOWS, Show};
+pub use printer::{AnyPrinter, FORMAT_WORDS, FORMATS, Format};
+pub use show::{SHOW_WORDS, SHOWS, Show};

@@ -50,11 +50,6 @@ pub const FORMATS: &[(&str, Format)] = &[
 /// Their names, as help lists them.
 pub const FORMAT_WORDS: &str = "pbn, hands, lin, html, sheet, json";
 
-/// What help says of the option that asks for one.
-pub const FORMAT_HELP: &str = "The notation: Portable Bridge Notation, hand records for print, \
-    LIN, a page of HTML, a club's sheet in HTML, or lines of JSON [default: pbn] \
-    [possible values: pbn, hands, lin, html, sheet, json]";
-
 impl Format {
     /// Whether the boards have numbers of their own.
     pub fn numbers_boards(self) -> bool

@@ -40,10 +40,6 @@ pub const SHOWS: &[(&str, Show)] = &[
 /// These words, as help lists them.
 pub const SHOW_WORDS: &str = "all, dealer, north, east, south, west, ns, ew";
 
-/// What help says of the option that asks for hands.
-pub const SHOW_HELP: &str = "The hands that are written: all, the dealer's, one, or a side's \
-    [default: all] [possible values: all, dealer, north, east, south, west, ns, ew]";
-
 impl Show {
     /// Whether all hands are written.
     pub(crate) fn is_all(self) -> bool

@@ -24,5 +24,5 @@ mod title;
 mod two;
 
 pub use counter::Counter;
-pub use style::{STYLE_HELP, STYLE_WORDS, STYLES, Style};
+pub use style::{STYLE_WORDS, STYLES, Style};
 pub use subject::{Asked, MAX_CELLS, Subject};

@@ -20,7 +20,3 @@ pub const STYLES: &[(&str, Style)] = &[
 
 /// Their names, as help lists them.
 pub const STYLE_WORDS: &str = "table, csv, html";
-
-/// What help says of the option that asks for one.
-pub const STYLE_HELP: &str = "The table: columns for people, comma-separated values for programs, \
-    or a page of HTML [default: table] [possible values: table, csv, html]";
