@@ -31,10 +31,8 @@ use cond_lang::{CondError, parse};
 use itoa::Buffer;
 use std::alloc::{AllocError, Global};
 
-/// What comes after a word and a seat, where it isn't the bracket.
+/// What comes after a word and a seat, where it isn't a suit or the bracket.
 static BEHIND_SEATS: &[(&str, &str)] = &[
-    ("len", ",spades)"),
-    ("stops", ",spades)"),
     ("cards", ",akq)"),
     ("shape", ",5-3-3-2)"),
     ("pattern", ",5-3-3-2)"),
@@ -176,6 +174,8 @@ fn put(out: &mut Vec<u8>, parts: &Parts, kind: u8, n: usize) -> Result<bool, All
     let back = parts.fault.saturating_sub(n);
     let next = parts.fault.saturating_add(n);
     match kind {
+        b'e' if n == 0 => put_behind_seat(out, parts, parts.call())?,
+        b'e' => put_behind_seat(out, parts, parts.at(back))?,
         b'x' if is_one_of(parts.at(next), ENDS) => {
             out.extend_from_slice(sample(parts.call(), true, false).as_bytes())?
         }
@@ -204,11 +204,6 @@ fn text_of<'t>(parts: &'t Parts, kind: u8, back: usize, next: usize) -> &'t [u8]
         b'm' => parts.word.as_slice(),
         b'w' => parts.call(),
         b'z' => without_zeros(parts.at(next)),
-        b'e' => behind_seat(if back == parts.fault {
-            parts.call()
-        } else {
-            parts.at(back)
-        }),
         b'c' => comparison(parts, back).as_bytes(),
         b't' if is(parts.at(back), "!=") => b"not ",
         b'k' => counted_at(parts, next).0.as_bytes(),
@@ -217,14 +212,22 @@ fn text_of<'t>(parts: &'t Parts, kind: u8, back: usize, next: usize) -> &'t [u8]
     }
 }
 
-/// What comes after the word and a seat.
-fn behind_seat(call: &[u8]) -> &'static [u8] {
-    for (word, behind) in BEHIND_SEATS {
-        if is(call, word) {
-            return behind.as_bytes();
+/// Appends what comes after the word and a seat. A suit is that of the brackets of any or every.
+fn put_behind_seat(out: &mut Vec<u8>, parts: &Parts, word: &[u8]) -> Result<(), AllocError> {
+    if is_one_of(word, "len stops") {
+        let class = parts.class();
+        out.push(b',')?;
+        out.extend_from_slice(if class.is_empty() { b"spades" } else { class })?;
+        out.push(b')')?;
+        return Ok(());
+    }
+    for (asked, behind) in BEHIND_SEATS {
+        if is(word, asked) {
+            return out.extend_from_slice(behind.as_bytes());
         }
     }
-    b")"
+    out.push(b')')?;
+    Ok(())
 }
 
 fn put_amount(out: &mut Vec<u8>, amount: Option<Amount>) -> Result<(), AllocError> {

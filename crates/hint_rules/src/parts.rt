@@ -222,6 +222,23 @@ impl<'t> Parts<'t> {
         0
     }
 
+    /// The class of the innermost `any` or `every` in whose brackets the fault is, or none.
+    pub(crate) fn class(&self) -> &'t [u8] {
+        let mut depth: usize = 0;
+        for back in 1..self.fault.saturating_add(1) {
+            let i = self.fault - back;
+            let bytes = self.at(i);
+            if is(bytes, ")") {
+                depth = depth.saturating_add(1);
+            } else if is(bytes, "(") && depth > 0 {
+                depth -= 1;
+            } else if is(bytes, "(") && is_one_of(self.at(i.saturating_sub(2)), "any every") {
+                return self.at(i.saturating_sub(1));
+            }
+        }
+        b""
+    }
+
     /// The word of the call in which the fault is.
     pub(crate) fn call(&self) -> &'t [u8] {
         self.at(self.call_at())

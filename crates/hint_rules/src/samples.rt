@@ -1,7 +1,7 @@
 //! A comparison for each kind of value that a person could use as it is.
 
 use crate::parts::Parts;
-use crate::words::{is, is_measure, is_number, is_suit};
+use crate::words::{are_ranks, is, is_measure, is_number, is_suit};
 
 /// For each word that counts a comparison for a hand, for one suit, for hands and for suits.
 static SAMPLES: &[(&str, [&str; 4])] = &[
@@ -17,12 +17,18 @@ static SAMPLES: &[(&str, [&str; 4])] = &[
 /// The comparison for a value in which nothing is asked of a hand, or of which little is known.
 const ANY: &str = ">=1";
 
+/// The comparisons for two ranks of a suit, and for more.
+const BOTH: &str = "==2";
+
+const TWO: &str = ">=2";
+
 /// A comparison for the value that ends with the part.
 pub(crate) fn comparison(parts: &Parts, last: usize) -> &'static str {
     let mut word: &[u8] = b"";
     let mut has_suit = false;
     let mut has_several = false;
     let mut is_mixed = false;
+    let mut ranks = 0;
     for i in parts.value_start(last)..last.saturating_add(1) {
         let part = parts.at(i);
         if is_measure(part) && !word.is_empty() {
@@ -32,12 +38,16 @@ pub(crate) fn comparison(parts: &Parts, last: usize) -> &'static str {
             word = part;
         }
         has_suit = has_suit || is_suit(part);
+        ranks = if are_ranks(part) { part.len() } else { ranks };
         is_mixed = is_mixed || is_number(part);
     }
     if is_mixed {
-        of_mixed(sample(word, false, false))
-    } else {
-        sample(word, has_suit, has_several)
+        return of_mixed(sample(word, false, false));
+    }
+    match ranks {
+        2 if has_suit && !has_several => BOTH,
+        3..=5 if has_suit && !has_several => TWO,
+        _ => sample(word, has_suit, has_several),
     }
 }
 

@@ -8,12 +8,14 @@ const OPEN: &str = "a \")\" is missing at the end";
 
 const JOIN: &str = "join the tests with \"and\" or \"or\"";
 
-static RULES: [Rule; 32] = rules! {
+static RULES: [Rule; 33] = rules! {
     [Can(Kind::Number)] [OneOf("and or not")] [Nothing] =>
         "a test is missing after \"%b1\", such as balanced(north)";
     [Can(Kind::Number)] [OneOf("and or")] [OneOf("and or")] =>
         "leave out \"%b1\" or \"%n0\"";
     [Can(Kind::Number)] [Nothing] [OneOf("and or")] => "begin with a test: leave out \"%n0\"";
+    [Can(Kind::Number)] [Relation, Number, Is("or")] [Suit, Relation, Number] =>
+        "for a suit's length write: %v4%b3%b2 or len(%u0,%n0)%n1%n2";
     [Can(Kind::Number)] [] [Suit] => "for a suit's length write \"len(%u2,%n0)\"";
     [Can(Kind::Number)] [] [Seat] => "begin with what you ask of the seat, as in hcp(%n0)";
     [Can(Kind::Number)] [] [Is("<>")] => UNEQUAL;

@@ -4,17 +4,24 @@ use super::*;
 
 const CARD: &str = "card cards";
 
+/// What may come before the number of one suit.
+const ONE: &str = "one a an some";
+
 const MAJORS: &str = "majors major";
 
 const MINORS: &str = "minors minor";
 
-static RULES: [Rule; 22] = rules! {
+static RULES: [Rule; 25] = rules! {
     [] [Number] [OneOf(CARD), OneOf(CLASSES)] =>
         "for exactly %b1 with \"==\", for %b1 or more write: any %n1 (len(%u3,%n1)>=%b1)";
     [] [Number, OneOf("- +")] [OneOf(CARD), OneOf(CLASSES)] =>
         "for exactly %b2 with \"==\", for %b2 or more write: any %n1 (len(%u3,%n1)>=%b2)";
     [] [Number] [OneOf(CARD), OneOf("in of"), Is("a"), OneOf(CLASSES)] =>
         "for exactly %b1 with \"==\", for %b1 or more write: any %n3 (len(%u5,%n3)>=%b1)";
+    [] [OneOf(STARTS)] [OneOf(ONE), Number, OneOf(CARD), OneOf(CLASSES)] =>
+        "for exactly %n1 with \"==\", for %n1 or more write: any %n3 (len(%u5,%n3)>=%n1)";
+    [] [Seat] [OneOf(HOLDS), OneOf(ONE), Number, OneOf(CARD), OneOf(CLASSES)] =>
+        "for exactly %n2 with \"==\", for %n2 or more write: any %n4 (len(%b1,%n4)>=%n2)";
     [] [Number] [OneOf(CARD), Suit] =>
         "for a suit's length write len, as in len(north,%n1)>=%b1";
     [] [Number, Is("-")] [OneOf(CARD), Suit] =>
@@ -52,6 +59,8 @@ static RULES: [Rule; 22] = rules! {
         "for points write hcp, as in hcp(north)>=%b1";
     [] [OneOf(STARTS), Number] [OneOf(POINTS), Is("or"), OneOf(FEWER)] =>
         "for points write hcp, as in hcp(north)<=%b1";
+    [] [OneOf(STARTS), Number] [OneOf(POINTS), Is("each")] =>
+        "with a test for each seat write: hcp(north)>=%b1 and hcp(south)>=%b1";
     [] [OneOf(STARTS), Number] [OneOf(POINTS), OneOf(ENDS)] =>
         "for points write hcp, as in hcp(north)>=%b1";
 };

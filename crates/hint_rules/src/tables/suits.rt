@@ -10,13 +10,17 @@ const OR: &str = "or / | ||";
 
 const AND: &str = "and & &&";
 
-static RULES: [Rule; 25] = rules! {
+static RULES: [Rule; 27] = rules! {
     [Can(Kind::Class(Class::Major))] [Seat, Is(",")] [OneOf("suit suits")] =>
         "in these brackets write \"major\"";
     [Can(Kind::Class(Class::Minor))] [Seat, Is(",")] [OneOf("suit suits")] =>
         "in these brackets write \"minor\"";
     [InMeasure, NotIn(OTHERS)] [Seat, Is(",")] [OneOf(CLASSES), Is(")"), OneOf("< <=")] =>
         "for each %n0 write: every %n0 (%w0(%b2,%n0)%x2)";
+    [In("len")] [Seat, Is(",")] [Is("suit"), Is(")"), Is(">="), OneOf("1 2 3")] =>
+        "for each suit write: every suit (len(%b2,suit)%x2)";
+    [In("len")] [Seat, Is(",")] [Is("suit"), Is(")"), Is(">"), OneOf("0 1 2")] =>
+        "for each suit write: every suit (len(%b2,suit)%x2)";
     [InMeasure, NotIn(OTHERS)] [Seat, Is(",")] [OneOf(CLASSES)] =>
         "for some %n0 write: any %n0 (%w0(%b2,%n0)%x2)";
     [InMeasure, NotIn(OTHERS)] [Seat, Is(",")] [Is("majors"), Is(")"), OneOf("< <=")] =>
