@@ -14,7 +14,7 @@ static RULES: [Rule; 23] = rules! {
     [] [Relation] [Named(NUMBERS)] => IN_DIGITS;
     [] [Is("in")] [Named(NUMBERS)] => IN_DIGITS;
     [NotInCall] [] [Named("hpc hcps hpcs punkte pkt fp")] => "write \"hcp\"";
-    [NotInCall] [] [Named("bal balance")] => "write \"balanced\"";
+    [NotInCall] [] [Named("bal balance flat")] => "write \"balanced\"";
     [NotInCall] [] [Named("semibalanced")] =>
         "for semi-balanced write: \
         balanced(%u2) or pattern(%u2,5-4-2-2) or pattern(%u2,6-3-2-2)";
