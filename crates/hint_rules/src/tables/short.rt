@@ -8,7 +8,7 @@ const OF: &str = "in ( of";
 /// Suits that are short.
 const SHORT: &str = "void voids singleton singletons";
 
-static RULES: [Rule; 19] = rules! {
+static RULES: [Rule; 20] = rules! {
     [] [] [Is("no"), OneOf("ace aces king kings queen queens jack jacks ten tens")] =>
         "for none write cards with ranks and ==0, as in cards(%u3,a)==0";
     [] [] [Is("no"), Suit] => "for no %n1 write: len(%u1,%n1)==0";
@@ -42,6 +42,8 @@ static RULES: [Rule; 19] = rules! {
         "for a doubleton in one suit write len, as in len(north,%n2)==2";
     [] [] [Is("doubleton")] =>
         "in the language's own words write: any suit (len(%u2,suit)==2)";
+    [] [] [Is("short"), OneOf(OF), Suit] =>
+        "for at most two cards in a suit write len, as in len(%u3,%n2)<=2";
 };
 
 pub(crate) fn hint(alloc: Global, parts: &Parts) -> Said {
