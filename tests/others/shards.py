@@ -12,6 +12,7 @@ import harness
 import packages
 
 SHARD = harness.TOP / "examples" / "shard"
+RESUME = harness.TOP / "examples" / "resume"
 SEED = ["--seed", "2024"]
 WHERE = ["--where", "hcp(north)+hcp(south)>=37"]
 
@@ -28,6 +29,8 @@ SHARDS = [
 LONGEST = SHARDS[4]
 CANDIDATES = 12_000_000
 SECONDS = 120
+# What takes long enough to be stopped twice.
+LONG = 40_000_000
 
 
 @functools.cache
@@ -77,6 +80,30 @@ def start(folder, log, *more):
     process.stdin.write("".join(f"{first} {count}\n" for first, count in SHARDS).encode())
     process.stdin.close()
     return process
+
+
+def resumed(deals):
+    """A search of its own that is stopped, by its script and as a whole, cut in a line, and resumed to its end."""
+    where = ["--where", "hcp(north)+hcp(south)>=33"]
+    with tempfile.TemporaryDirectory(prefix="resume-") as folder:
+        file = pathlib.Path(folder) / "found"
+        words = ["sh", str(RESUME), str(file), str(LONG), *SEED, *where]
+        settings = {"env": {**os.environ, "DEALS": str(harness.PROGRAM)}, "stderr": subprocess.PIPE}
+        for stop, sign in ((os.kill, signal.SIGTERM), (os.killpg, signal.SIGKILL)):
+            process = subprocess.Popen(words, start_new_session=True, **settings)
+            time.sleep(0.2)
+            busy = subprocess.run(words, **settings)
+            stop(process.pid, sign)
+            process.communicate(timeout=SECONDS)
+            ended = process.returncode in (143, -sign)
+            refused = busy.returncode == 1 and b"is running" in busy.stderr
+            yield f"stopped by {sign.name}", None if ended and refused else f"{process.returncode}, {busy}"
+        with file.open("ab") as found:
+            found.write(b"1")
+        run = subprocess.run(words, timeout=SECONDS, **settings)
+        whole = deals("find", *SEED, *where, "--candidates", str(LONG)).stdout
+        right = run.returncode == 0 and b"are searched" in run.stderr and file.read_bytes() == whole != b""
+        yield "a search resumed", None if right else f"{run}, {len(file.read_bytes())} of {len(whole)} bytes"
 
 
 def array(deals):
