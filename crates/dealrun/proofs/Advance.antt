@@ -14,7 +14,7 @@ use Rattle.sinks.specs.Appended.{append_known, AppendsPart}
 use Rattle.plans.specs.Text.{board_of, text_of_boards}
 use Rattle.dealrun.specs.MergedVerdicts.{in_turn, boards_in, boards_after}
 use Rattle.dealrun.specs.internal.Writing.{board_text, printed, board_count, taken_lists, TakenInTurn, StaysShort, WriterSoFar, WriterBrokeOff}
-use Rattle.sinks.proofs.SinkLemmas.{append_known-append}
+use Rattle.sinks.proofs.SinkLemmas.{append_known-append, append_known-nil}
 use Rattle.plans.proofs.BoardLists.{IsWithin, within_more, text_of_boards-none, text_of_boards-more}
 use Rattle.dealrun.proofs.VerdictBoards.{boards_in-none, boards_in-push}
 use Rattle.dealrun.proofs.Printing.{in_turn-none, in_turn-kept, in_turn-grown, grown}
@@ -162,6 +162,24 @@ pub on_to : (layout now : Layout) (has has' : List Board → Type 0) (plan : Pla
 on_to layout now has has' plan lanes t boards base bytes v old new place t' boards' bytes' some h less place_is old_is took t_is boards_is same bytes_is grows =
     let at = taken_at plan lanes t v old new place some h.in_turn place_is old_is took in
     rw (place_is, t_is, boards_is, bytes_is, same) (step_on layout plan lanes t v new some h.in_turn at has has' boards base bytes h less grows)
+
+-- a rejected candidate's verdict was taken, and nothing was written
+pub passed_to : (layout : Layout) (has : List Board → Type 0) (plan : Planned) (lanes : List OutView) (t boards : ℕ) (base bytes : Option (List ℕ)) (v : Verdict) (old new : OutView) (place t' boards' : ℕ)
+    → 0 < plan.workers → WriterSoFar layout has plan lanes t boards base bytes → plan.limit ≢ Some boards → place ≡ t % plan.workers → old ≡ get_or lanes place old → new.taken ≡ old.taken ++ v ∷ []
+    → t' ≡ t + 1 → v.accepted ≡ false → boards' ≡ boards → WriterSoFar layout has plan (set lanes place new) t' boards' base bytes
+passed_to layout has plan lanes t boards base bytes v old new place t' boards' some h less place_is old_is took t_is rejected boards_is =
+    on_to layout layout has has plan lanes t boards base bytes v old new place t' boards' bytes some h less place_is old_is took t_is
+    (boards_is ∙ sym (ap (λ b. cond b (boards + 1) boards) rejected)) refl
+    (sym (ap (λ b. append_known bytes (cond b (board_text layout plan boards v) [])) rejected ∙ append_known-nil bytes))
+    (λ bs known. subst has (sym (ap (λ b. cond b (bs ++ board_of plan boards v.number v.deal ∷ []) bs) rejected)) known)
+
+-- what goes on for the boards printed before, goes on for any notation that has printed them
+pub with_notation : (layout : Layout) (has : List Board → Type 0) (plan plan' : Planned) (lanes lanes' : List OutView) (t t' boards boards' : ℕ) (base bytes : Option (List ℕ)) → WriterSoFar layout has plan lanes t boards base bytes
+    → ((bs : List Board) → WriterSoFar layout (λ printed. printed ≡ bs) plan lanes t boards base bytes → WriterSoFar layout (λ printed. printed ≡ bs) plan' lanes' t' boards' base bytes)
+    → WriterSoFar layout has plan' lanes' t' boards' base bytes
+with_notation layout has plan _ lanes _ t _ boards _ base bytes h pass =
+    let s = pass (boards_after plan (taken_lists lanes) t) (record { in_turn = h.in_turn; written = h.written; printed = refl; within = h.within; short = h.short }) in
+    record { in_turn = s.in_turn; written = s.written; printed = subst has (sym s.printed) h.printed; within = s.within; short = s.short }
 
 pub broken_to : (layout now : Layout) (has : List Board → Type 0) (plan : Planned) (lanes : List OutView) (t boards : ℕ) (base bytes : Option (List ℕ)) (v : Verdict) (old new : OutView) (place t' boards' : ℕ) (bytes' : Option (List ℕ))
     → 0 < plan.workers → WriterSoFar layout has plan lanes t boards base bytes → plan.limit ≢ Some boards → place ≡ t % plan.workers → old ≡ get_or lanes place old → new.taken ≡ old.taken ++ v ∷ []

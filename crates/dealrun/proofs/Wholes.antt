@@ -37,6 +37,10 @@ held_same old new same all = by_cases old.settled new.settled (contents_of old) 
     by_cases true false xs ys same all = absurd cc
     by_cases false true xs ys same all = absurd cc
 
+-- what is kept twice is kept
+pub keeps_on : (first mid last : List OutView) → KeepsLanes first mid → KeepsLanes mid last → KeepsLanes first last
+keeps_on _ _ _ h k = record { rings = k.rings ∙ h.rings; settled = k.settled ∙ h.settled; contents = k.contents ∙ h.contents }
+
 -- one lane more was looked at
 pub keeps_more : (first lanes : List OutView) (w : ℕ) (old new : OutView) → KeepsLanes first lanes → old ≡ get_or lanes w old → (new.ring ≡ old.ring) × (new.settled ≡ old.settled)
     → (old.settled ≡ true → contents_of new ≡ contents_of old) → KeepsLanes first (set lanes w new)

@@ -10,8 +10,8 @@ use sinks::{Sink, SinkFault, put_all};
 use std::sync::Wait;
 use std::sync::atomic::AtomicBool;
 
-/// After how many verdicts the sink hears how far the run has come. That is some milliseconds at
-/// most, and the sink may read a clock each time.
+/// After how many verdicts, or a few more, the sink hears how far the run has come. That is some
+/// milliseconds at most, and the sink may read a clock each time.
 const BETWEEN_WATCHES: u64 = 4096;
 
 /// How far the writer has come: whose turn it is, how many verdicts were taken, and how many boards
@@ -36,7 +36,7 @@ impl Progress {
     ghost use Rattle.plans.specs.Text.{board_of};
 
     /// Counts a verdict that was taken, and writes its board if it is accepted. Only then it asks
-    /// for the deal. Now and then the sink hears how far that is.
+    /// for the deal.
     // In line, since to copy a verdict that was made just now takes 10 ns.
     #[inline(always)]
     fn write<N: Notation, S: Sink>(
@@ -75,10 +75,31 @@ impl Progress {
             put_board(plan, notation, board, slot.number(), &slot.deal(), sink)?;
             self.boards += 1;
         }
-        if self.taken % BETWEEN_WATCHES == 0 {
+        Ok(())
+    }
+
+    /// Counts the verdict of a rejected candidate.
+    #[inline(always)]
+    fn pass(&mut self)
+        requires { self.old.taken < 2 ^ 40 }
+        ensures taken { (self.new.taken ≡ self.old.taken + 1)
+            × (self.new.turns.workers ≡ self.old.turns.workers) }
+        ensures boards { self.new.boards ≡ self.old.boards }
+    {
+        self.turns.advance();
+        self.taken += 1;
+    }
+
+    /// Tells the sink how far the run has come, each time that `BETWEEN_WATCHES` more verdicts were
+    /// taken. At the last call `before` were.
+    #[inline(always)]
+    fn tell<S: Sink>(&self, before: u64, sink: &mut S)
+        ensures bytes { S.bytes sink.new ≡ S.bytes sink.old }
+        ensures faults { S.faults sink.new ≡ S.faults sink.old }
+    {
+        if self.taken / BETWEEN_WATCHES != before / BETWEEN_WATCHES {
             sink.watch(self.taken, self.boards);
         }
-        Ok(())
     }
 }
 
@@ -95,8 +116,10 @@ pub(crate) struct Writer {
 }
 
 impl Writer {
-    ghost use Rattle.std.specs.Prelude.{◌≡◌, ◌-◌, ◌^◌, ◌<◌, ◌↔◌, [], ℕ, IsTrue, List};
+    ghost use Rattle.std.specs.Prelude.{◌≡◌, ◌≢◌, ◌-◌, ◌^◌, ◌<◌, ◌≤◌, ◌↔◌, [], ℕ, IsTrue, List};
     ghost use Rattle.std.specs.Prelude.{MatchResult, OnOk, Option, Some, vec_len};
+    ghost use Rattle.boards.specs.declared.board.Board.{Board};
+    ghost use Rattle.boards.specs.Layouts.{Layout};
     ghost use Rattle.conditions.specs.Form.{Form};
     ghost use Rattle.dealrun.specs.Interrupted.{InterruptedIn};
     ghost use Rattle.dealrun.specs.declared.cause.Cause.TheVariants.{Output};
@@ -131,6 +154,28 @@ impl Writer {
         is_full(&self.plan, self.progress.boards)
     }
 
+    /// Takes the verdicts of rejected candidates in turn, up to the first that has to be waited for
+    /// or is accepted.
+    // A loop of its own, since nearly all verdicts on a rare condition are taken here.
+    fn pass_rejected(&mut self)
+        ensures plan { self.new.plan ≡ self.old.plan }
+        ensures boards { self.new.progress.boards ≡ self.old.progress.boards }
+        ensures taken { self.old.progress.taken ≤ self.new.progress.taken }
+        ensures lanes { KeepsLanes self.old.lanes.items self.new.lanes.items }
+        ensures wrote { (layout : Layout) (base bytes : Option (List ℕ)) (boards : List Board)
+            → self.old.plan.limit ≢ Some self.old.progress.boards
+            → GoesOn layout (λ printed. printed ≡ boards) self.old base bytes
+            → GoesOn layout (λ printed. printed ≡ boards) self.new base bytes }
+    {
+        for _taken in self.progress.taken..self.plan.count() {
+            let lane = &mut self.lanes[self.progress.turns.lane() as usize];
+            if !lane.take_rejected() {
+                return;
+            }
+            self.progress.pass();
+        }
+    }
+
     /// Takes the verdicts in turn and writes their boards, until all were taken, the limit of
     /// boards is met, or there is none and the flag is up.
     fn write_boards<R: Wait, N: Notation, S: Sink>(
@@ -157,8 +202,13 @@ impl Writer {
             (S.bytes sink.old)
             → HasEnough self.new) }
     {
-        for _taken in self.progress.taken..self.plan.count() {
-            if self.is_full() {
+        if self.is_full() {
+            return Ok(());
+        }
+        for _turn in self.progress.taken..self.plan.count() {
+            let before = self.progress.taken;
+            self.pass_rejected();
+            if self.progress.taken == self.plan.count() {
                 return Ok(());
             }
             let lane = &mut self.lanes[self.progress.turns.lane() as usize];
@@ -169,6 +219,10 @@ impl Writer {
             }
             let slot = lane.take_slot();
             self.progress.write(&self.plan, notation, sink, &slot)?;
+            self.progress.tell(before, sink);
+            if self.is_full() {
+                return Ok(());
+            }
         }
         Ok(())
     }

@@ -1,10 +1,11 @@
 -- The verdicts of a block, and those that were taken before them.
-use Rattle.std.proofs.Common.{ℕ, ◌+◌, ◌-◌, ◌≤◌, ◌<◌, ◌≡◌, List, [], ◌∷◌, ◌++◌, length, take, drop, sym, refl, ◌∙◌, ap, arith, get_or}
+use Rattle.std.proofs.Common.{ℕ, ◌+◌, ◌-◌, ◌≤◌, ◌<◌, ◌≡◌, List, [], ◌∷◌, ◌++◌, length, take, drop, sym, refl, subst, ◌∙◌, ap, arith, get_or, Bool, true, false}
 use Rattle.std.proofs.lemmas.List.{at_drop_more, get_or-take, length-drop, length-take-le, take_at}
 use Rattle.std.proofs.lemmas.List.{length-append, append_assoc, length-map, map-append, take-map}
 use Rattle.lanes.specs.Slots.{SlotView, verdict_in, verdicts_in}
 use Rattle.lanes.specs.declared.verdict.Verdict.{Verdict}
 use Rattle.lanes.specs.Prefixes.{IsProperPrefix}
+use Rattle.lanes.specs.internal.Rejected.{FirstIsRejected}
 use Rattle.lanes.specs.internal.Rings.{without_last}
 use Rattle.lanes.proofs.Prefixes.{proper_with}
 
@@ -44,6 +45,13 @@ pub rest_is_last : (received block rest : List SlotView) (v : SlotView)
 rest_is_last received block rest v is first =
     first_is_next received block rest v is first
     ∙ ap (λ xs. xs ++ rest) (sym (taken_with_first received block rest v is first))
+
+-- ---- a rejected candidate's verdict may have been taken out of a block
+pub still_last : (b : Bool) (received block rest : List SlotView)
+    → received ≡ without_last (length block) received ++ block → (b ≡ true → FirstIsRejected block rest) → (b ≡ false → rest ≡ block)
+    → received ≡ without_last (length rest) received ++ rest
+still_last true received block rest is took _ = let t = took refl in rest_is_last received block rest t.first is t.rest
+still_last false received block rest is _ same = subst (λ xs. received ≡ without_last (length xs) received ++ xs) (sym (same refl)) is
 
 -- ---- the verdicts of slots
 pub verdicts-more : (slots : List SlotView) (slot : SlotView) → verdicts_in (slots ++ slot ∷ []) ≡ verdicts_in slots ++ verdict_in slot ∷ []

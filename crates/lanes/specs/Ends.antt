@@ -1,6 +1,6 @@
 -- What contracts see of the end of a lane into which a worker sends, of a closed end, and of the
 -- turns.
-use Rattle.std.specs.Prelude.{◌≡◌, ℕ, true, List, ◌∷◌}
+use Rattle.std.specs.Prelude.{◌≡◌, ℕ, ◌+◌, true, false, List, [], ◌∷◌, ◌++◌}
 use Rattle.lanes.specs.declared.verdict.Verdict.{Verdict}
 use Rattle.lanes.specs.Views.{Ring, OutView}
 
@@ -23,3 +23,11 @@ pub record TurnsView : Type 0 where
 -- on a settled lane this verdict was the next of those that were left
 abbrev pub TakesOfLeft : OutView → Verdict → OutView → Type 0
 TakesOfLeft before v after = before.settled ≡ true → before.left ≡ v ∷ after.left
+
+-- the next verdict was a rejected candidate's, and it was taken
+pub record TakesRejected (old new : OutView) : Type 0 where
+  pub verdict : Verdict
+  pub rejected : verdict.accepted ≡ false
+  pub taken : new.taken ≡ old.taken ++ verdict ∷ []
+  pub known : old.known ≡ new.known + 1
+  pub left : TakesOfLeft old verdict new

@@ -2,3 +2,4 @@
 pub mod Rings
 pub mod Cores
 pub mod Screens
+pub mod Rejected

@@ -288,7 +288,7 @@ impl LaneIn {
 }
 
 impl LaneOut {
-    ghost use Rattle.lanes.specs.Ends.{TakesOfLeft};
+    ghost use Rattle.lanes.specs.Ends.{TakesOfLeft, TakesRejected};
 
     /// Takes the next verdict, or returns `None` if none waits. Never blocks. Once the lane
     /// is settled, it returns what is left, one after another, and then `None`.
@@ -373,6 +373,18 @@ impl LaneOut {
             return self.consumer.pop_known();
         }
         self.block.take_first()
+    }
+
+    /// Takes the next verdict if it is out of the ring already and its candidate was rejected, and
+    /// returns whether it did. It doesn't look at the other end. Never blocks.
+    #[inline(always)]
+    pub fn take_rejected(&mut self) -> bool
+        ensures same { (self.new.ring ≡ self.old.ring) × (self.new.settled ≡ self.old.settled) }
+        ensures taken { result ≡ true → TakesRejected self.old self.new }
+        ensures kept { result ≡ false → self.new ≡ self.old }
+    {
+        // This is the core's Take while the run goes on, and no event afterwards.
+        self.block.take_rejected()
     }
 
     /// Settles the lane by what its closed end left, and returns how many verdicts are left to

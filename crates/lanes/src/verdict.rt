@@ -6,11 +6,13 @@
 //! So the writer takes what is there out of the ring at once, up to a block.
 
 ghost use Rattle.std.specs.Prelude.{◌≡◌, ◌<◌, ◌≤◌, ◌↔◌, [], ◌∷◌, ◌++◌, length, IsTrue};
+ghost use Rattle.std.specs.Prelude.{true, false};
 ghost use Rattle.cards.specs.Deals.{IsPartition};
 ghost use Rattle.cards.specs.Packed.{HasNumber};
 ghost use Rattle.rtrb.specs.Ring.{received, known_items, SameConsumer};
 ghost use Rattle.lanes.specs.Prefixes.{IsPrefix};
 ghost use Rattle.lanes.specs.Slots.{verdict_in};
+ghost use Rattle.lanes.specs.internal.Rejected.{FirstIsRejected};
 
 use cards::{Deal, Packed, Places};
 use lcg48::Lcg48;
@@ -185,6 +187,19 @@ impl Block {
         let slot = self.slots[self.start];
         self.start += 1;
         slot
+    }
+
+    /// Takes the oldest verdict if its candidate was rejected, and returns whether it did.
+    #[inline(always)]
+    pub(crate) fn take_rejected(&mut self) -> bool
+        ensures taken { result ≡ true → FirstIsRejected self.old self.new }
+        ensures kept { result ≡ false → self.new ≡ self.old }
+    {
+        if self.start == self.end || self.slots[self.start].accepted() {
+            return false;
+        }
+        self.start += 1;
+        true
     }
 
     /// Takes out of the ring what is there, up to a block. Never blocks.
