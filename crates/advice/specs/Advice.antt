@@ -12,12 +12,12 @@ use Rattle.predeal.specs.declared.fault.HandFault.{HandFault}
 use Rattle.hints.specs.Excerpt.{shown}
 use Rattle.plans.specs.declared.plan.PlanError.{PlanError}
 use Rattle.plans.specs.declared.plan.PlanError.TheVariants as plan
-use Rattle.requests.specs.Makings.{candidates_of, first_board_of, lane_of, workers_in}
-use Rattle.requests.specs.Requests.{Look, Search}
+use Rattle.request_types.specs.Defaults.{candidates_of, first_board_of, lane_of, workers_in}
+use Rattle.request_types.specs.Requests.{Look, Search}
 use Rattle.requests.specs.declared.failure.Failure.{Failure}
 use Rattle.requests.specs.declared.failure.Failure.TheVariants.{Plan, Label, Hand}
-use Rattle.requests.specs.declared.failure.LabelName.{LabelName}
-use Rattle.requests.specs.declared.failure.LabelName.TheVariants as label
+use Rattle.request_types.specs.declared.names.LabelName.{LabelName}
+use Rattle.request_types.specs.declared.names.LabelName.TheVariants as label
 
 -- a number that an option was given, and the least and the greatest that it takes
 abbrev pub range_line : List ℕ → ℕ → ℕ → ℕ → List ℕ → List ℕ

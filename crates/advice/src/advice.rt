@@ -6,7 +6,7 @@ ghost use Rattle.std.specs.Prelude.{IfOk, OnOk};
 ghost use Rattle.advice.specs.Advice.{IsAdviceOn, IsAdviceOnHand, candidates_advice, given_text};
 ghost use Rattle.advice.specs.Advice.{label_advice, plan_advice, range_line, seat_option};
 ghost use Rattle.advice.specs.Advice.{shown_text, text_line};
-ghost use Rattle.requests.specs.Requests.{look_of, search_of};
+ghost use Rattle.request_types.specs.Requests.{look_of, search_of};
 
 use boards::MAX_LABEL_LEN;
 use cards::{MAX_CANDIDATES, Seat};

@@ -2,12 +2,12 @@
 
 ghost use Rattle.std.specs.Prelude.{◌-◌, ◌<◌, ◌^◌};
 
-use crate::refused_words::without_far_tips;
 use crate::streams::Said;
 use requests::{Failure, Report};
 use sinks::{Sink, put_all};
 use std::io;
 use std::io::{ErrorKind, IsTerminal};
+use word_hints::without_far_tips;
 
 /// Says how it ended, as a program reads it: the report if one was asked for, or what failed.
 /// Returns the status.

@@ -7,7 +7,6 @@
 
 mod endings;
 mod notes;
-mod refused_words;
 mod streams;
 mod unread;
 

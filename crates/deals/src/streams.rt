@@ -2,7 +2,6 @@
 
 ghost use Rattle.std.specs.Prelude.{◌≡◌, IfOk};
 
-use crate::refused_words;
 use advice::advise;
 use clap::Error;
 use cond_lang::CondError;
@@ -255,7 +254,7 @@ pub fn help(
     reasons: Reasons<'_>,
 ) -> Option<String> {
     match failure {
-        Failure::CommandLine(text) => refused_words::hint(alloc, words, text.as_str()),
+        Failure::CommandLine(text) => word_hints::hint(alloc, words, text.as_str()),
         Failure::Plan(_) | Failure::Label(_) | Failure::Hand(_) => {
             let (search, look) = read.as_ref().ok()?.plans()?;
             advise(alloc, &search, &look, failure).unwrap_or(None)

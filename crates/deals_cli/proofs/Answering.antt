@@ -12,7 +12,7 @@ use Rattle.requests.specs.Failures.{is_refusal, status_of}
 use Rattle.requests.specs.FirstRefusal.{IsDueFor}
 use Rattle.requests.specs.Interruptions.{LeavesFrom}
 use Rattle.requests.specs.Jobs.{IsReady, IsRefused, ReadsInput, Serves}
-use Rattle.requests.specs.Requests.{Wish, conditions, count, draw, make, make_with_tricks, pick, stream}
+use Rattle.request_types.specs.Requests.{Wish, conditions, count, draw, make, make_with_tricks, pick, stream}
 use Rattle.requests.specs.Wishes.{AppendsFrom, HasInput, IsStatusOf}
 use Rattle.requests.specs.declared.failure.Failure.{Failure}
 use Rattle.requests.specs.declared.failure.Failure.TheVariants.{CommandLine, Plan, Label, Hand, Condition, Question, Cells, Interrupted, Line, Input, EndOfInput}
@@ -21,8 +21,9 @@ use Rattle.requests.specs.declared.job.Job.TheVariants.{Boards, Conditions, Coun
 use Rattle.requests.specs.declared.report.Report.{Report}
 use Rattle.requests.proofs.FirstDue.{output_due}
 use Rattle.requests.proofs.Statuses.{no_memory, served}
-use Rattle.deals_cli.specs.CommandLine.{asked, kinds_for}
-use Rattle.deals_cli.specs.Program.{Answers, AreRead, AreRefused, IsStatusFor, IsTaskFor, MayShow, ReadsTask, WantsInput, is_shown}
+use Rattle.command_line.specs.CommandLine.{asked, kinds_for}
+use Rattle.command_line.specs.CommandLine.{AreRead}
+use Rattle.deals_cli.specs.Program.{Answers, AreRefused, IsStatusFor, IsTaskFor, MayShow, ReadsTask, WantsInput, is_shown}
 use Rattle.deals_cli.specs.declared.task.Task.{Task}
 use Rattle.deals_cli.specs.declared.task.Task.TheVariants.{Do, Show}
 use Rattle.deals_cli.specs.internal.Kinds.{RefusesError}

@@ -1,12 +1,3 @@
-pub mod Rows
-pub mod Walks
-pub mod Plain
-pub mod Help
-pub mod Entered
-pub mod OptionValues
-pub mod Numbers
-pub mod Numerals
-pub mod Asked
 pub mod Statuses
 pub mod Answering
 pub mod Reporting

@@ -1,7 +1,7 @@
-pub use Rattle.requests.specs.Requests
+pub use Rattle.request_types.specs.Requests
 pub use Rattle.requests.specs.Makings
 pub use Rattle.requests.specs.Wishes
-pub mod Commands
-pub mod CommandLine
+pub use Rattle.command_line.specs.Commands
+pub use Rattle.command_line.specs.CommandLine
 pub mod Program
 pub mod internal

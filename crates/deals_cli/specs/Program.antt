@@ -16,14 +16,14 @@ use Rattle.requests.specs.Interruptions.{LeavesFrom}
 use Rattle.requests.specs.Lines.{line_of}
 use Rattle.requests.specs.Reported.{Reports, ReportsFor, wants_report}
 use Rattle.requests.specs.Jobs.{IsReady, ReadsInput}
-use Rattle.requests.specs.Requests.{Look, Search, Wish, draw, make, make_with_tricks, wish_of}
+use Rattle.request_types.specs.Requests.{Look, Search, Wish, draw, make, make_with_tricks, wish_of}
 use Rattle.requests.specs.Wishes.{HasInput}
 use Rattle.requests.specs.declared.report.Report.{Report}
-use Rattle.requests.specs.declared.request.Notices.{Notices}
-use Rattle.requests.specs.declared.request.Request.{Request}
+use Rattle.request_types.specs.declared.request.Notices.{Notices}
+use Rattle.request_types.specs.declared.request.Request.{Request}
 use Rattle.requests.specs.declared.failure.Failure.{Failure}
 use Rattle.requests.specs.declared.failure.Failure.TheVariants.{Interrupted, Input}
-use Rattle.deals_cli.specs.CommandLine.{asked, kinds_for}
+use Rattle.command_line.specs.CommandLine.{asked, kinds_for}
 use Rattle.deals_cli.specs.declared.task.Task.{Task}
 use Rattle.deals_cli.specs.declared.task.Task.TheVariants.{Show, Do}
 pub use Rattle.requests.specs.Makings.{CanDate, CanLabel, HasLabels, HasNumbers, IsPlanned}
@@ -72,13 +72,6 @@ abbrev pub MayLeave : Wish → Failure → (before behind old new : Option (List
 MayLeave w failure before behind old new =
     LeavesFrom w failure before behind old new
     ⊎ ((failure ≡ Interrupted Output) × AppendsFrom w before behind old new)
-
--- what was read of the words: what they ask for, or clap's error. Of words that ask for something
--- only that memory ran out is one
-abbrev pub AreRead : List Text → Result Request Error → Type 0
-AreRead words (Ok request) = asked words ≡ Some (wish_of request)
-AreRead words (Err error) =
-    (IsSome (asked words) → kind_of error ≡ kind.OutOfMemory) × HasKind (kinds_for words) error
 
 -- the task is what the words ask for: a text of clap, or a job
 abbrev pub IsTaskFor : List Text → Task → Type 0

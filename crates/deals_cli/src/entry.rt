@@ -2,15 +2,15 @@
 
 ghost use Rattle.std.specs.Prelude.{◌≡◌, ◌≢◌, ◌⊎◌, ◌+◌, ◌-◌, ◌^◌, ◌<◌, ◌≤◌, ◌==◌};
 ghost use Rattle.std.specs.Prelude.{Some, if◌then◌else◌, map, string_bytes};
-ghost use Rattle.deals_cli.specs.CommandLine.{asked};
+ghost use Rattle.command_line.specs.CommandLine.{asked};
 ghost use Rattle.deals_cli.specs.Program.{Answers, HasReport, IsFlushedAfter, IsStatusFor};
 ghost use Rattle.deals_cli.specs.Program.{TellsWhy, TellsWhyFrom, WantsBytes, WantsInput};
 ghost use Rattle.requests.specs.Failures.{CountsInput, faults_in, status_in};
-ghost use Rattle.requests.specs.Requests.{Wish};
+ghost use Rattle.request_types.specs.Requests.{Wish};
 ghost use Rattle.requests.specs.Wishes.{Appends, AppendsFrom, IsStatus, IsStatusWithInput};
 
 use crate::task::{perform, prepare};
-use crate::words::read_words;
+use command_line::read_words;
 use picking::{NoBytes, Source};
 use requests::{Failure, Report};
 use sinks::Sink;

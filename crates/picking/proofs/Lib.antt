@@ -3,7 +3,7 @@ pub mod Stops
 pub mod Scanned
 pub mod ReadBack
 pub mod Boards
-pub mod Finding
 pub mod Pieces
 pub mod LineEnds
 pub mod LinesRead
+pub mod FourBytes

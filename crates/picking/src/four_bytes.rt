@@ -1,8 +1,9 @@
 //! Four bytes that are read from a source.
 
-ghost use Rattle.std.specs.Prelude.{◌≡◌, ◌-◌, ◌<◌, ◌^◌, ◌∷◌, [], IfOk};
+ghost use Rattle.std.specs.Prelude.{◌≡◌, ◌-◌, ◌<◌, ◌^◌, ◌∷◌, [], IfOk, IsErrOf};
 ghost use Rattle.std.specs.Io.KnownBytes.{Consumes};
-ghost use Rattle.picking.specs.FourBytes.{CountsBytes};
+ghost use Rattle.picking.specs.FourBytes.{CountsBytes, EndsBefore};
+ghost use Rattle.picking.specs.declared.four_bytes.BytesFault.TheVariants.{Ended};
 
 use crate::source::Source;
 
@@ -19,6 +20,7 @@ pub enum BytesFault {
 fn read_byte<I: Source>(input: &mut I) -> Result<u8, BytesFault>
     requires { I.faults input.old < 2 ^ 64 - 1 }
     ensures given { IfOk result (λ b. Consumes (I.rest input.old) (I.rest input.new) (b ∷ [])) }
+    ensures ended { IsErrOf result Ended → EndsBefore 1 (I.rest input.old) (I.rest input.new) }
     ensures faults { CountsBytes result (I.faults input.old) (I.faults input.new) }
 {
     let mut piece = [0u8];
@@ -33,9 +35,11 @@ fn read_byte<I: Source>(input: &mut I) -> Result<u8, BytesFault>
 ///
 /// # Errors
 /// `Ended` if the input has fewer; `Failed` if it couldn't be read.
+#[tactic(auto, using(crate::proofs::FourBytes::ends_third, crate::proofs::FourBytes::ends_fourth))]
 pub fn read_four<I: Source>(input: &mut I) -> Result<[u8; 4], BytesFault>
     requires { I.faults input.old < 2 ^ 64 - 1 }
     ensures given { IfOk result (λ bytes. Consumes (I.rest input.old) (I.rest input.new) bytes) }
+    ensures ended { IsErrOf result Ended → EndsBefore 4 (I.rest input.old) (I.rest input.new) }
     ensures faults { CountsBytes result (I.faults input.old) (I.faults input.new) }
 {
     let first = read_byte(input)?;

@@ -1,18 +1,8 @@
-//! Laws of finding and picking: functions that do nothing, whose contracts are the laws.
+//! A law of this crate's definitions: a function that does nothing, whose contract is the law.
 
-ghost use Rattle.std.specs.Prelude.{◌≡◌, ◌+◌, ◌<◌, ◌≤◌, ◌^◌, ◌++◌, ◌∷◌, [], ℕ, All, List, None};
+ghost use Rattle.std.specs.Prelude.{◌≡◌, ◌<◌, ◌≤◌, ◌^◌, ◌++◌, ◌∷◌, [], ℕ, All, List, None};
 ghost use Rattle.std.specs.Prelude.{decimal, flat_map, length};
-ghost use Rattle.boards.specs.Headings.{HeadingView};
-ghost use Rattle.boards.specs.Layouts.{EndsAlike, Layout};
-ghost use Rattle.boards.specs.declared.setting.Setting.{Setting};
-ghost use Rattle.conditions.specs.Form.{Form};
-ghost use Rattle.plans.specs.Text.{accepted, text_in};
 ghost use Rattle.picking.specs.NumberTexts.{said};
-ghost use Rattle.notations.specs.Formats.{layout_of};
-ghost use Rattle.notations.specs.Numbers.{numbers};
-ghost use Rattle.notations.specs.declared.printer.Format.{Format};
-ghost use Rattle.picking.specs.Picked.{picked_text};
-ghost use Rattle.plans.specs.Plans.{Planned};
 
 /// Numbers that are written in decimal, a line each, are read back. So are those of texts that were
 /// joined, in order.
@@ -20,30 +10,4 @@ pub fn decimal_lines_are_read_back()
     ensures { (numbers : List ℕ) → All (λ n. n < 2 ^ 40) numbers → length numbers ≤ 2 ^ 40
         → said (flat_map (λ n. decimal n ++ 10 ∷ []) numbers)
         ≡ record { numbers = numbers; refused = None } }
-{}
-
-/// Picking what was found is making: the numbers that a plan finds are read back as those of its
-/// accepted candidates, and the text that is picked by them is the plan's own, in any layout whose
-/// footer doesn't depend on how many candidates were tried, as in every format. Finding asks for no
-/// setting and no first board.
-pub fn picking_what_was_found_is_making()
-    ensures read { (plan : Planned) (form : Form) → plan.first + plan.count ≤ 2 ^ 40
-        → said (text_in numbers plan form)
-        ≡ record { numbers = accepted plan form; refused = None } }
-    ensures picked { (layout : Layout) (plan : Planned) (form : Form) (S : Setting) (B : ℕ)
-        → EndsAlike layout → plan.first + plan.count ≤ 2 ^ 40
-        → picked_text layout plan
-        (said (text_in numbers (record plan { setting = S; first_board = B }) form))
-        ≡ text_in layout plan form }
-    ensures formats { (format : Format) (heading : HeadingView)
-        → EndsAlike (layout_of format heading) }
-{}
-
-/// Without a limit, what a plan finds is what its first candidates find, and then the others: so
-/// the texts of shards are joined in order.
-pub fn shards_join()
-    ensures { (plan : Planned) (form : Form) (m n : ℕ) → plan.limit ≡ None → plan.count ≡ m + n
-        → text_in numbers plan form
-        ≡ text_in numbers (record plan { count = m }) form
-        ++ text_in numbers (record plan { first = plan.first + m; count = n }) form }
 {}

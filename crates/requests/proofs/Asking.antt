@@ -7,7 +7,7 @@ use Rattle.conditions.specs.declared.error.CondError.TheVariants.{Memory}
 use Rattle.requests.specs.Counting.{IsQuestion}
 use Rattle.requests.specs.Failures.{question_failure, status_of}
 use Rattle.requests.specs.declared.failure.Failure.{Failure}
-use Rattle.requests.specs.declared.failure.QuestionName.{QuestionName}
+use Rattle.request_types.specs.declared.names.QuestionName.{QuestionName}
 use Rattle.statistics.specs.Counting.{Asked, title_of}
 
 same_asked : (a b : Asked) → a.question ≡ b.question → a.title ≡ b.title → a ≡ b

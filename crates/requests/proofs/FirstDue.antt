@@ -13,18 +13,19 @@ use Rattle.plans.specs.declared.plan.PlanError.{PlanError}
 use Rattle.plans.specs.declared.plan.PlanError.TheVariants.{Range, Workers, Capacity, Boards, FirstBoard}
 use Rattle.requests.specs.Failures.{failure_of, is_refusal, status_of}
 use Rattle.requests.specs.FirstRefusal.{AreRefused, HasCondition, IsConditionDue, IsCountDue, IsDueFor, IsFirstHand, IsFirstOf, IsMakeDue, IsPickDue, IsPlanDue, IsTricksDue, Meets, of_labels, of_numbers}
-use Rattle.requests.specs.Makings.{HasLabels, HasNumbers, IsPlanned, Means, candidates_of, workers_in}
-use Rattle.requests.specs.Requests.{Look, Questions, Search, Wish, conditions, count, draw, make, make_with_tricks, no_search, numbers_look, pick, stream}
+use Rattle.request_types.specs.Defaults.{candidates_of, workers_in}
+use Rattle.requests.specs.Makings.{HasLabels, HasNumbers, IsPlanned, Means}
+use Rattle.request_types.specs.Requests.{Look, Questions, Search, Wish, conditions, count, draw, make, make_with_tricks, no_search, numbers_look, pick, stream}
 use Rattle.requests.specs.Jobs.{IsRefused}
 use Rattle.requests.specs.Wishes.{HasMeaning, HasPlan, IsStatusOf}
 use Rattle.requests.proofs.Statuses.{no_memory as out_of_memory, refused_meaning, refused_plan}
-use Rattle.requests.specs.declared.request.Notices.{Notices}
-use Rattle.requests.specs.declared.when.When.{When}
+use Rattle.request_types.specs.declared.request.Notices.{Notices}
+use Rattle.request_types.specs.declared.when.When.{When}
 use Rattle.predeal.specs.PredealtHands.{GivenHands}
 use Rattle.requests.specs.declared.failure.Failure.{Failure}
 use Rattle.requests.specs.declared.failure.Failure.TheVariants.{CommandLine, Plan, Label, Hand, Condition, Question, Cells, Interrupted, Line, Input, EndOfInput}
-use Rattle.requests.specs.declared.failure.LabelName.TheVariants.{Event, Site, Date}
-use Rattle.requests.specs.declared.failure.QuestionName.TheVariants.{Of, By}
+use Rattle.request_types.specs.declared.names.LabelName.TheVariants.{Event, Site, Date}
+use Rattle.request_types.specs.declared.names.QuestionName.TheVariants.{Of, By}
 use Rattle.requests.specs.Counting.{IsAsked}
 use Rattle.requests.specs.internal.Conditions.{IsConditionFailure}
 use Rattle.requests.specs.internal.QuestionFailures.{AreFailure}

@@ -9,3 +9,4 @@ pub mod Counted
 pub mod OtherWorkers
 pub mod ToldText
 pub mod Telling
+pub mod Finding

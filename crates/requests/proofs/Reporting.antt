@@ -6,8 +6,8 @@ use Rattle.sinks.specs.Appended.{AppendsAll, append_known}
 use Rattle.requests.specs.Makings.{plan_of}
 use Rattle.requests.specs.Reported.{Counts, Reports, ReportsFor, wants_report}
 use Rattle.requests.specs.Reports.{next_line, report_line, report_of}
-use Rattle.requests.specs.Requests.{Look, Search, Wish, conditions, count, draw, make, make_with_tricks, pick, stream}
-use Rattle.requests.specs.declared.request.Notices.{Notices}
+use Rattle.request_types.specs.Requests.{Look, Search, Wish, conditions, count, draw, make, make_with_tricks, pick, stream}
+use Rattle.request_types.specs.declared.request.Notices.{Notices}
 use Rattle.notations.specs.declared.printer.Format.{Format}
 use Rattle.requests.specs.declared.report.Report.{Report}
 

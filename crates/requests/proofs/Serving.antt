@@ -8,7 +8,7 @@ use Rattle.dealrun.specs.declared.cause.Cause.TheVariants.{Memory, Spawn, Output
 use Rattle.requests.specs.Failures.{is_untouched}
 use Rattle.requests.specs.Interruptions.{EndsTold, InterruptsCount, InterruptsMake, LeavesFrom}
 use Rattle.requests.specs.Jobs.{IsReady, Serves}
-use Rattle.requests.specs.Requests.{Look, Questions, Search, Wish, conditions, count, draw, make, make_with_tricks, pick, stream}
+use Rattle.request_types.specs.Requests.{Look, Questions, Search, Wish, conditions, count, draw, make, make_with_tricks, pick, stream}
 use Rattle.requests.specs.Wishes.{language_page}
 use Rattle.requests.specs.declared.failure.Failure.{Failure}
 use Rattle.requests.specs.declared.failure.Failure.TheVariants.{CommandLine, Plan, Label, Hand, Condition, Question, Cells, Interrupted, Line, Input, EndOfInput}
@@ -17,7 +17,7 @@ use Rattle.requests.specs.declared.count_job.CountJob.{CountJob}
 use Rattle.requests.specs.declared.job.PickJob.{PickJob}
 use Rattle.requests.specs.declared.job.Job.TheVariants.{Boards, Conditions, Count, Pick, Seed, Stream, WithTricks}
 use Rattle.requests.specs.declared.report.Report.{Report}
-use Rattle.requests.specs.declared.request.StreamRequest.{StreamRequest}
+use Rattle.request_types.specs.declared.request.StreamRequest.{StreamRequest}
 use Rattle.requests.specs.internal.Ends.{EndsBoards, EndsCount, EndsDraw, EndsPicking, EndsReady}
 use Rattle.requests.specs.WithTricks.{BreaksTold, FailsTold, StopsAtLine}
 use Rattle.picking.specs.declared.refusal.RefusedLine.{RefusedLine}

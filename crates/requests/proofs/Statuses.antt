@@ -3,7 +3,7 @@ use Rattle.std.proofs.Common.{◌≡◌, ◌⊎◌, ℕ, refl, inl, inr, arith}
 use Rattle.dealrun.specs.declared.cause.Cause.{Cause}
 use Rattle.dealrun.specs.declared.cause.Cause.TheVariants as cause
 use Rattle.requests.specs.Failures.{status_of}
-use Rattle.requests.specs.Requests.{Wish}
+use Rattle.request_types.specs.Requests.{Wish}
 use Rattle.requests.specs.Wishes.{HasInput, HasMeaning, HasPlan, HasRun, IsStatusOf}
 use Rattle.requests.specs.declared.failure.Failure.TheVariants.{Interrupted}
 

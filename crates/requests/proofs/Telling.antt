@@ -13,13 +13,13 @@ use Rattle.requests.specs.Failures.{CountsInput, faults_in, status_in, status_of
 use Rattle.requests.specs.Jobs.{IsReadyRun}
 use Rattle.requests.specs.Makings.{plan_of}
 use Rattle.requests.specs.Reported.{Counts}
-use Rattle.requests.specs.Requests.{Look, Search}
+use Rattle.request_types.specs.Requests.{Look, Search}
 use Rattle.requests.specs.WithTricks.{BreaksTold, FailsTold, InterruptsTold, StopsAtLine, WritesTold, layout_told, line_fault, most_lines, plan_told, text_told}
 use Rattle.requests.specs.declared.failure.Failure.{Failure}
 use Rattle.requests.specs.declared.failure.Failure.TheVariants.{CommandLine, Plan, Label, Hand, Condition, Question, Cells, Interrupted, Line, Input, EndOfInput}
 use Rattle.requests.specs.declared.boards_job.BoardsJob.{BoardsJob}
 use Rattle.requests.specs.declared.report.Report.{Report}
-use Rattle.requests.specs.declared.request.Notices.{Notices}
+use Rattle.request_types.specs.declared.request.Notices.{Notices}
 use Rattle.requests.specs.internal.Ends.{EndsReady, EndsTold, EndsTricks, FaultsOfRun, WroteTold, told_of}
 use Rattle.requests.proofs.ToldText.{accepted_told, end_told, few_told, many_told, text_all, text_cut}
 use Rattle.sinks.specs.Appended.{AppendsAll, append_known}

@@ -4,7 +4,7 @@ use Rattle.cond_lang.specs.Asking.{SpellsQuestion}
 use Rattle.cond_lang.specs.Form.{Form}
 use Rattle.plans.specs.Plans.{Planned, candidate_of}
 use Rattle.plans.specs.Text.{accepted, end_of}
-use Rattle.requests.specs.Requests.{Questions, no_question, one_question, two_questions}
+use Rattle.request_types.specs.Requests.{Questions, no_question, one_question, two_questions}
 use Rattle.statistics.specs.Counting.{Asked, Subject, by_one, by_two, cells_of, count_text}
 use Rattle.statistics.specs.Counting.{deals_alone, title_of}
 use Rattle.statistics.specs.declared.style.Style.{Style}

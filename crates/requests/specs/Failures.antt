@@ -7,7 +7,7 @@ use Rattle.requests.specs.declared.failure.Failure.{Failure}
 use Rattle.requests.specs.declared.failure.Failure.TheVariants.{CommandLine, Plan, Label, Hand}
 use Rattle.requests.specs.declared.failure.Failure.TheVariants.{Condition, Question, Cells, Interrupted}
 use Rattle.requests.specs.declared.failure.Failure.TheVariants.{Line, Input, EndOfInput}
-use Rattle.requests.specs.declared.failure.QuestionName.{QuestionName}
+use Rattle.request_types.specs.declared.names.QuestionName.{QuestionName}
 
 -- the exit status of a failure
 abbrev pub status_of : Failure → ℕ

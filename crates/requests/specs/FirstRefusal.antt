@@ -12,17 +12,18 @@ use Rattle.plans.specs.declared.plan.PlanError.TheVariants.{Range, Workers, Capa
 use Rattle.plans.specs.declared.plan.PlanError.TheVariants.{FirstBoard}
 use Rattle.requests.specs.Counting.{Asks, IsAsked, IsQuestion}
 use Rattle.requests.specs.Makings.{CanDate, CanLabel, HasLabels, HasNumbers}
-use Rattle.requests.specs.Makings.{IsPlanned, Means, candidates_of, first_board_of}
-use Rattle.requests.specs.Makings.{lane_of, workers_in}
-use Rattle.requests.specs.Requests.{Look, Questions, Search, Wish, conditions, count, draw}
-use Rattle.requests.specs.Requests.{make, make_with_tricks, no_question, no_search, numbers_look, one_question}
-use Rattle.requests.specs.Requests.{pick, stream, two_questions}
+use Rattle.request_types.specs.Defaults.{candidates_of, first_board_of}
+use Rattle.requests.specs.Makings.{IsPlanned, Means}
+use Rattle.request_types.specs.Defaults.{lane_of, workers_in}
+use Rattle.request_types.specs.Requests.{Look, Questions, Search, Wish, conditions, count, draw}
+use Rattle.request_types.specs.Requests.{make, make_with_tricks, no_question, no_search, numbers_look, one_question}
+use Rattle.request_types.specs.Requests.{pick, stream, two_questions}
 use Rattle.requests.specs.declared.failure.Failure.{Failure}
 use Rattle.requests.specs.declared.failure.Failure.TheVariants.{Plan, Label, Hand}
 use Rattle.requests.specs.declared.failure.Failure.TheVariants.{Cells, Condition, Question}
 use Rattle.requests.specs.declared.failure.Failure.TheVariants.{Interrupted, Line, Input, EndOfInput}
-use Rattle.requests.specs.declared.failure.LabelName.TheVariants.{Event, Site, Date}
-use Rattle.requests.specs.declared.failure.QuestionName.TheVariants.{Of, By}
+use Rattle.request_types.specs.declared.names.LabelName.TheVariants.{Event, Site, Date}
+use Rattle.request_types.specs.declared.names.QuestionName.TheVariants.{Of, By}
 use Rattle.statistics.specs.Counting.{Asked, Subject, cells_of}
 
 -- what a plan has to meet, by the refusal that says that it doesn't

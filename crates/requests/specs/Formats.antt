@@ -8,7 +8,7 @@ use Rattle.notations.specs.declared.show.Show.{Show}
 use Rattle.notations.specs.declared.printer.Format.{Format}
 use Rattle.plans.specs.Plans.{Planned}
 use Rattle.requests.specs.Makings.{plan_of}
-use Rattle.requests.specs.Requests.{Look, Search}
+use Rattle.request_types.specs.Requests.{Look, Search}
 
 -- the whole text of a plan under a condition
 abbrev pub text_as : Format → Planned → Form → List ℕ

@@ -11,8 +11,8 @@ use Rattle.dealrun.specs.Values.{lines}
 use Rattle.requests.specs.Counting.{IsAsked}
 use Rattle.requests.specs.Formats.{layout_in}
 use Rattle.requests.specs.Makings.{AreWorkers, Means, plan_of}
-use Rattle.requests.specs.Requests.{Look, Questions, Search, Wish, conditions, count, draw, make}
-use Rattle.requests.specs.Requests.{make_with_tricks, no_search, numbers_look, pick, stream}
+use Rattle.request_types.specs.Requests.{Look, Questions, Search, Wish, conditions, count, draw, make}
+use Rattle.request_types.specs.Requests.{make_with_tricks, no_search, numbers_look, pick, stream}
 pub use Rattle.requests.specs.Runs.{InterruptsRun}
 use Rattle.requests.specs.WithTricks.{BreaksTold, FailsTold, StopsAtLine}
 use Rattle.requests.specs.Wishes.{IsDrawn, language_page, seed_text}

@@ -6,15 +6,15 @@ use Rattle.requests.specs.FirstRefusal.{IsDueFor}
 use Rattle.requests.specs.Interruptions.{LeavesFrom}
 use Rattle.requests.specs.Makings.{IsPlanned, Means, plan_of}
 use Rattle.requests.specs.Reported.{ReportsFor}
-use Rattle.requests.specs.Requests.{Look, Search, Wish, conditions, count, draw, make}
-use Rattle.requests.specs.Requests.{make_with_tricks, no_search, numbers_look, pick, stream}
+use Rattle.request_types.specs.Requests.{Look, Search, Wish, conditions, count, draw, make}
+use Rattle.request_types.specs.Requests.{make_with_tricks, no_search, numbers_look, pick, stream}
 use Rattle.requests.specs.Wishes.{AppendsFrom, IsStatusOf}
 use Rattle.requests.specs.declared.failure.Failure.{Failure}
 use Rattle.requests.specs.declared.job.Job.{Job}
 use Rattle.requests.specs.declared.boards_job.BoardsJob.{BoardsJob}
 use Rattle.requests.specs.declared.job.Job.TheVariants.{Boards, Conditions, Count, Pick, Seed}
 use Rattle.requests.specs.declared.job.Job.TheVariants.{Stream, WithTricks}
-use Rattle.requests.specs.declared.request.Notices.{Notices}
+use Rattle.request_types.specs.declared.request.Notices.{Notices}
 use Rattle.requests.specs.declared.report.Report.{Report}
 use Rattle.statistics.specs.Subjects.{subject_of}
 

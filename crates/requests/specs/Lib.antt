@@ -1,4 +1,3 @@
-pub mod Requests
 pub mod Makings
 pub mod Counting
 pub mod Jobs

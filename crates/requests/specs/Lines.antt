@@ -13,10 +13,10 @@ use Rattle.plans.specs.declared.plan.PlanError.{PlanError}
 use Rattle.plans.specs.declared.plan.PlanError.TheVariants as plan
 use Rattle.requests.specs.declared.failure.Failure.{Failure}
 use Rattle.requests.specs.declared.failure.Failure.TheVariants as failure
-use Rattle.requests.specs.declared.failure.QuestionName.{QuestionName}
-use Rattle.requests.specs.declared.failure.QuestionName.TheVariants.{Of, By}
-use Rattle.requests.specs.declared.failure.LabelName.{LabelName}
-use Rattle.requests.specs.declared.failure.LabelName.TheVariants as label
+use Rattle.request_types.specs.declared.names.QuestionName.{QuestionName}
+use Rattle.request_types.specs.declared.names.QuestionName.TheVariants.{Of, By}
+use Rattle.request_types.specs.declared.names.LabelName.{LabelName}
+use Rattle.request_types.specs.declared.names.LabelName.TheVariants as label
 
 abbrev pub plan_line : PlanError → List ℕ
 plan_line plan.Range = codes "plan refused: range\n"

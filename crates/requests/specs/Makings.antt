@@ -9,34 +9,15 @@ use Rattle.conditions.specs.declared.tree.Op.TheVariants.{Equal}
 use Rattle.predeal.specs.PredealtHands.{first_refused, fixed_of}
 use Rattle.boards.specs.Labels.{IsDate, IsLabel}
 use Rattle.plans.specs.Plans.{Planned}
-use Rattle.requests.specs.Requests.{Look, Search}
-use Rattle.requests.specs.declared.workers.Workers.{Workers}
-use Rattle.requests.specs.declared.workers.Workers.TheVariants.{Number, Auto}
-
--- how many candidates are tried: as many as are asked for, or all that there are from the first on
-abbrev pub candidates_of : Search → ℕ
-candidates_of s = unwrap_or s.candidates (2 ^ 40 - s.first)
-
--- the number of workers in a plan: 1 with `auto`, until the machine's cores are counted
-abbrev pub workers_in : Workers → ℕ
-workers_in (Number n) = n
-workers_in Auto = 1
+use Rattle.request_types.specs.Defaults.{candidates_of, first_board_of, lane_of, workers_in}
+use Rattle.request_types.specs.Requests.{Look, Search}
+use Rattle.request_types.specs.declared.workers.Workers.{Workers}
+use Rattle.request_types.specs.declared.workers.Workers.TheVariants.{Number, Auto}
 
 -- how many workers a run has: what is asked for; with `auto` some number from 1 to 16
 abbrev pub AreWorkers : Workers → ℕ → Type 0
 AreWorkers (Number n) workers = workers ≡ n
 AreWorkers Auto workers = (0 < workers) × (workers ≤ 16)
-
--- how many verdicts a lane holds, if that isn't given
-abbrev pub usual_lane : Workers → ℕ
-usual_lane (Number n) = 64
-usual_lane Auto = 4096
-
-abbrev pub lane_of : Search → ℕ
-lane_of s = unwrap_or s.lane (usual_lane s.workers)
-
-abbrev pub first_board_of : Look → ℕ
-first_board_of l = unwrap_or l.first_board 1
 
 -- the labels of all boards, and what replaces Law 2
 abbrev pub heading_of : Look → HeadingView

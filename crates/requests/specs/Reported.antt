@@ -7,9 +7,9 @@ use Rattle.requests.specs.Makings.{Means, plan_of}
 use Rattle.requests.specs.Reports.{report_of}
 use Rattle.sinks.specs.Appended.{AppendsAll}
 use Rattle.notations.specs.declared.printer.Format.{Format}
-use Rattle.requests.specs.Requests.{Look, Search, Wish, conditions, count, draw, make}
-use Rattle.requests.specs.Requests.{make_with_tricks, pick, stream}
-use Rattle.requests.specs.declared.request.Notices.{Notices}
+use Rattle.request_types.specs.Requests.{Look, Search, Wish, conditions, count, draw, make}
+use Rattle.request_types.specs.Requests.{make_with_tricks, pick, stream}
+use Rattle.request_types.specs.declared.request.Notices.{Notices}
 use Rattle.requests.specs.declared.report.Report.{Report}
 
 -- the counts of a plan's run under a condition: the candidates are those up to the one whose board

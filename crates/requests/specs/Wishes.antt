@@ -13,8 +13,8 @@ use Rattle.dealrun.specs.Values.{lines}
 use Rattle.requests.specs.Counting.{IsAsked, table_by}
 use Rattle.requests.specs.Formats.{layout_in, text_showing}
 use Rattle.requests.specs.Makings.{IsPlanned, Means, plan_of}
-use Rattle.requests.specs.Requests.{Wish, conditions, count, draw, make, make_with_tricks}
-use Rattle.requests.specs.Requests.{no_search, numbers_look, pick, stream}
+use Rattle.request_types.specs.Requests.{Wish, conditions, count, draw, make, make_with_tricks}
+use Rattle.request_types.specs.Requests.{no_search, numbers_look, pick, stream}
 use Rattle.requests.specs.WithTricks.{WritesTold}
 use Rattle.statistics.specs.Counting.{Subject}
 

@@ -15,7 +15,7 @@ use Rattle.picking.specs.declared.tricks_lines.LinesEnd.TheVariants.{Enough, Fai
 use Rattle.plans.specs.Plans.{Planned}
 use Rattle.plans.specs.Text.{accepted, text_in, text_of}
 use Rattle.requests.specs.Makings.{AreWorkers, plan_of}
-use Rattle.requests.specs.Requests.{Look, Search}
+use Rattle.request_types.specs.Requests.{Look, Search}
 use Rattle.requests.specs.Runs.{InterruptsRun}
 use Rattle.sinks.specs.Appended.{AppendsAll}
 use Rattle.tricks.specs.Lines.{TricksView}

@@ -1,12 +1,12 @@
 //! The job of a `make` or a `find`.
 
 ghost use Rattle.std.specs.Prelude.{◌≡◌};
-ghost use Rattle.requests.specs.Makings.{workers_in};
+ghost use Rattle.request_types.specs.Defaults.{workers_in};
 
-use crate::workers::Workers;
 use cond_lang::Cond;
 use notations::{Format, Show};
 use plans::Plan;
+use request_types::Workers;
 
 /// A run: the boards of the accepted ones among a plan's candidates.
 #[derive(Drop)]

@@ -17,23 +17,9 @@ use cond_lang::CondError;
 use dealrun::Cause;
 use picking::{LineFault, RefusedLine};
 use plans::PlanError;
+use request_types::{LabelName, QuestionName};
 use sinks::{Sink, SinkFault};
 use std::alloc::AllocError;
-
-/// A label of the games.
-#[derive(Clone, Copy, Debug, PartialEq, Eq)]
-pub enum LabelName {
-    Event,
-    Site,
-    Date,
-}
-
-/// A question of a `count`, by the option that has its text.
-#[derive(Clone, Copy, Debug, PartialEq, Eq)]
-pub enum QuestionName {
-    Of,
-    By,
-}
 
 /// Why a request is not served, or not all of it.
 #[derive(Debug, Drop)]

@@ -2,10 +2,9 @@
 
 ghost use Rattle.std.specs.Prelude.{IfErr, IfOk, ◌≡◌, ◌-◌, ◌+◌, ◌^◌, ◌<◌};
 ghost use Rattle.requests.specs.Jobs.{IsReady, IsReadyRun, IsRefused, ReadsInput, Serves};
-ghost use Rattle.requests.specs.Requests.{count, look_of, make, make_with_tricks, questions_of};
-ghost use Rattle.requests.specs.Requests.{search_of, wish_of};
-ghost use Rattle.requests.specs.Requests.{Wish};
-ghost use Rattle.requests.specs.declared.request.Notices.{Notices as ANotices};
+ghost use Rattle.request_types.specs.Requests.{Wish, count, look_of, make, make_with_tricks};
+ghost use Rattle.request_types.specs.Requests.{questions_of, search_of, wish_of};
+ghost use Rattle.request_types.specs.declared.request.Notices.{Notices as ANotices};
 ghost use Rattle.requests.specs.Failures.{CountsInput, faults_in, status_of};
 ghost use Rattle.requests.specs.Wishes.{language_page};
 ghost use Rattle.requests.specs.internal.Ends.{EndsBoards, EndsCount, EndsPicking, FaultsOfRun};
@@ -14,10 +13,9 @@ ghost use Rattle.sinks.specs.Sinks.{AppendsOrBreaksOff, CountsFault};
 use crate::boards_job::BoardsJob;
 use crate::count_job::CountJob;
 use crate::failure::Failure;
-use crate::questions::Questions;
+use crate::questions::read_subject;
 use crate::report::Report;
-use crate::request::{Notices, Request, StreamRequest};
-use crate::search::{Look, Search, planned};
+use crate::search::{planned, read_condition};
 use crate::seed_job::draw;
 use crate::tricks_job::write_with_tricks;
 use crate::workers::worked;
@@ -27,6 +25,7 @@ use lanes::OpenGate;
 use notations::{AnyPrinter, Format, Show};
 use picking::{PickFault, Source, pick};
 use plans::Plan;
+use request_types::{Look, Notices, Questions, Request, Search, StreamRequest};
 use sinks::{Sink, SinkFault, put_all};
 use statistics::{Counter, Style};
 use std::alloc::Global;
@@ -123,7 +122,7 @@ fn boards_job(
         (IsRefused (make_with_tricks (search_of search.now) (look_of look.now) notices.now)) }
 {
     let plan = planned(search, look)?;
-    let condition = search.condition(alloc)?;
+    let condition = read_condition(alloc, search)?;
     Ok(BoardsJob {
         plan,
         condition,
@@ -147,8 +146,8 @@ fn count_job(
         (IsRefused (count (search_of search.now) (questions_of questions.now) style notices)) }
 {
     let plan = planned(search, &Look::plain(Format::Numbers))?;
-    let condition = search.condition(alloc)?;
-    let subject = questions.subject(alloc)?;
+    let condition = read_condition(alloc, search)?;
+    let subject = read_subject(alloc, questions)?;
     Ok(Job::Count(CountJob {
         plan,
         condition,

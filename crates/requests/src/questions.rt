@@ -1,27 +1,18 @@
-//! The questions of a `count`, and what their texts ask.
+//! What the texts of a `count` ask.
 
 ghost use Rattle.std.specs.Prelude.{◌≡◌, ◌⊎◌, IfErr, IfOk};
 ghost use Rattle.requests.specs.Counting.{Asks, IsAsked, IsQuestion};
 ghost use Rattle.requests.specs.Failures.{status_of};
-ghost use Rattle.requests.specs.Requests.{questions_of};
+ghost use Rattle.request_types.specs.Requests.{questions_of};
 ghost use Rattle.requests.specs.internal.QuestionFailures.{AreFailure, IsTextFailure};
 ghost use Rattle.statistics.specs.Counting.{Asked as AnAsked, Subject as ASubject};
 ghost use Rattle.statistics.specs.Subjects.{subject_of};
 
-use crate::failure::{Failure, QuestionName};
+use crate::failure::Failure;
 use cond_lang::parse_question;
+use request_types::{QuestionName, Questions};
 use statistics::{Asked, Subject};
 use std::alloc::Global;
-
-/// The texts of the questions that are asked of the accepted deals.
-#[derive(Clone, Copy, Debug)]
-pub enum Questions<'a> {
-    /// Only how many deals there are.
-    None,
-    One(&'a str),
-    /// One for the rows of the table, and one for its columns.
-    Two { of: &'a str, by: &'a str },
-}
 
 /// Returns what the text of a question asks.
 fn asked_of(alloc: Global, name: QuestionName, text: &str) -> Result<Asked, Failure>
@@ -37,51 +28,39 @@ fn asked_of(alloc: Global, name: QuestionName, text: &str) -> Result<Asked, Fail
     }
 }
 
-impl<'a> Questions<'a> {
-    /// Returns the text of this question, if there is one.
-    pub fn text(&self, name: QuestionName) -> Option<&'a str> {
-        match (self, name) {
-            (Questions::One(text), QuestionName::Of) => Some(*text),
-            (Questions::Two { of, .. }, QuestionName::Of) => Some(*of),
-            (Questions::Two { by, .. }, QuestionName::By) => Some(*by),
-            _ => None,
-        }
+/// Returns what the texts ask. The first that is refused is told, and then that a table of two
+/// questions could have too many cells.
+pub(crate) fn read_subject(alloc: Global, questions: &Questions<'_>) -> Result<Subject, Failure>
+    ensures asked { IfOk result (λ s. IsAsked (questions_of questions.now) (subject_of s)) }
+    ensures refused { IfErr result (AreFailure (questions_of questions.now)) }
+    ensures status { IfErr result (λ e. (status_of e ≡ 5) ⊎ (status_of e ≡ 3)) }
+    ensures memory { IfErr result (λ e. (s : ASubject)
+        → IsAsked (questions_of questions.now) s → status_of e ≡ 5) }
+{
+    let subject = read_texts(alloc, questions)?;
+    if subject.is_too_large() {
+        return Err(Failure::Cells);
     }
+    Ok(subject)
+}
 
-    /// Returns what the texts ask. The first that is refused is told, and then that a table of two
-    /// questions could have too many cells.
-    pub(crate) fn subject(&self, alloc: Global) -> Result<Subject, Failure>
-        ensures asked { IfOk result (λ s. IsAsked (questions_of self.now) (subject_of s)) }
-        ensures refused { IfErr result (AreFailure (questions_of self.now)) }
-        ensures status { IfErr result (λ e. (status_of e ≡ 5) ⊎ (status_of e ≡ 3)) }
-        ensures memory { IfErr result (λ e. (s : ASubject)
-            → IsAsked (questions_of self.now) s → status_of e ≡ 5) }
-    {
-        let subject = self.read(alloc)?;
-        if subject.is_too_large() {
-            return Err(Failure::Cells);
-        }
-        Ok(subject)
-    }
-
-    /// Returns what the texts ask, however many cells its table can have.
-    fn read(&self, alloc: Global) -> Result<Subject, Failure>
-        ensures asks { IfOk result (λ s. Asks (questions_of self.now) (subject_of s)) }
-        ensures only { IfOk result (λ s. (t : ASubject)
-            → Asks (questions_of self.now) t → t ≡ subject_of s) }
-        ensures refused { IfErr result (AreFailure (questions_of self.now)) }
-        ensures status { IfErr result (λ e. (status_of e ≡ 5) ⊎ (status_of e ≡ 3)) }
-        ensures memory { IfErr result (λ e. (s : ASubject)
-            → Asks (questions_of self.now) s → status_of e ≡ 5) }
-    {
-        match self {
-            Questions::None => Ok(Subject::DealsAlone),
-            Questions::One(text) => Ok(Subject::ByOne(asked_of(alloc, QuestionName::Of, text)?)),
-            Questions::Two { of, by } => {
-                let of = asked_of(alloc, QuestionName::Of, of)?;
-                let by = asked_of(alloc, QuestionName::By, by)?;
-                Ok(Subject::ByTwo(of, by))
-            }
+/// Returns what the texts ask, however many cells its table can have.
+fn read_texts(alloc: Global, questions: &Questions<'_>) -> Result<Subject, Failure>
+    ensures asks { IfOk result (λ s. Asks (questions_of questions.now) (subject_of s)) }
+    ensures only { IfOk result (λ s. (t : ASubject)
+        → Asks (questions_of questions.now) t → t ≡ subject_of s) }
+    ensures refused { IfErr result (AreFailure (questions_of questions.now)) }
+    ensures status { IfErr result (λ e. (status_of e ≡ 5) ⊎ (status_of e ≡ 3)) }
+    ensures memory { IfErr result (λ e. (s : ASubject)
+        → Asks (questions_of questions.now) s → status_of e ≡ 5) }
+{
+    match questions {
+        Questions::None => Ok(Subject::DealsAlone),
+        Questions::One(text) => Ok(Subject::ByOne(asked_of(alloc, QuestionName::Of, text)?)),
+        Questions::Two { of, by } => {
+            let of = asked_of(alloc, QuestionName::Of, of)?;
+            let by = asked_of(alloc, QuestionName::By, by)?;
+            Ok(Subject::ByTwo(of, by))
         }
     }
 }

@@ -1,19 +1,12 @@
 //! How many workers judge the candidates of a search.
 
 ghost use Rattle.std.specs.Prelude.{◌≡◌, ◌-◌, max, min};
-ghost use Rattle.requests.specs.Makings.{workers_in};
+ghost use Rattle.request_types.specs.Defaults.{workers_in};
 ghost use Rattle.requests.specs.internal.Ends.{IsWorked};
 
 use plans::Plan;
+use request_types::Workers;
 use std::thread::{self, Threads};
-
-/// How many workers are asked for. The same is written with any number of them.
-#[derive(Clone, Copy, PartialEq, Eq, Debug)]
-pub enum Workers {
-    Number(u32),
-    /// As many as suit the machine.
-    Auto,
-}
 
 /// Returns how many workers suit a process that may use this many cores: one fewer, so that the
 /// writer has one, but 1 to 16.

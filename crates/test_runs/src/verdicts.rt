@@ -12,14 +12,19 @@ use std::process::Abort;
 use std::sync::atomic::{AtomicBool, Ordering};
 use std::test::Fail;
 
-/// A verdict that accepts this candidate.
-fn verdict(number: u64) -> Verdict {
+/// A verdict on this candidate.
+fn verdict_of(number: u64, accepted: bool) -> Verdict {
     let places = Places::draw(&mut Lcg48::seeded(0));
     Verdict {
         number,
-        accepted: true,
+        accepted,
         deal: Deal::shuffled(&places),
     }
+}
+
+/// A verdict that accepts this candidate.
+fn verdict(number: u64) -> Verdict {
+    verdict_of(number, true)
 }
 
 /// Sends the verdict on this candidate, and says whether there was room for it.
@@ -170,6 +175,40 @@ fn blocks_of_a_lane(rt: HostRuntime) -> Result<(), Fail> {
     counts(&rt, &mut sender, &mut taker, (16, 31));
     holds(&rt, "room for 16", send_all(&mut sender, 32..48));
     holds(&rt, "all are taken", takes_just(&mut taker, 1..48));
+    Ok(())
+}
+
+/// Sends verdicts on candidates 3 to 6, of which 5 alone is accepted, and says whether there was
+/// room for all.
+fn sends_one_accepted(sender: &mut LaneIn) -> bool {
+    for number in 3..7 {
+        if sender.try_send(verdict_of(number, number == 5)).is_err() {
+            return false;
+        }
+    }
+    true
+}
+
+/// Takes rejected verdicts as long as there are some in the block, and says how many.
+fn take_rejected(taker: &mut LaneOut) -> u32 {
+    let mut count = 0;
+    while count < 16 && taker.take_rejected() {
+        count += 1;
+    }
+    count
+}
+
+#[test]
+fn rejected_verdicts_of_a_block(rt: HostRuntime) -> Result<(), Fail> {
+    let (mut sender, mut taker) = lane_in_blocks(rt.alloc(), 64, Pace::Spins)?;
+    holds(&rt, "all are sent", sends_one_accepted(&mut sender));
+    equals(&rt, &take_rejected(&mut taker), &0);
+    // A look for a verdict has a block out of the ring.
+    holds(&rt, "one waits", taker.has_verdict());
+    equals(&rt, &take_rejected(&mut taker), &2);
+    holds(&rt, "the accepted one is next", takes(&mut taker, 5));
+    equals(&rt, &take_rejected(&mut taker), &1);
+    holds(&rt, "no more", taker.take().is_none());
     Ok(())
 }
 

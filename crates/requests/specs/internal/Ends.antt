@@ -8,7 +8,7 @@ use Rattle.notations.specs.Formats.{layout_showing, layout_with}
 use Rattle.plans.specs.Plans.{Planned}
 use Rattle.plans.specs.Text.{accepted, end_of, text_in}
 use Rattle.requests.specs.Makings.{AreWorkers, plan_of}
-use Rattle.requests.specs.Requests.{Look, Search}
+use Rattle.request_types.specs.Requests.{Look, Search}
 use Rattle.cond_lang.specs.Form.{Form}
 use Rattle.picking.specs.declared.refusal.RefusedLine.{RefusedLine}
 use Rattle.requests.specs.Wishes.{IsDrawn, seed_text}
@@ -16,7 +16,7 @@ use Rattle.requests.specs.WithTricks.{BreaksTold, FailsTold, StopsAtLine, Writes
 use Rattle.requests.specs.WithTricks.{plan_told}
 use Rattle.picking.specs.declared.tricks_lines.LinesEnd.{LinesEnd}
 use Rattle.picking.specs.declared.tricks_lines.LinesEnd.TheVariants.{Enough, Failed, Missing, Refused}
-use Rattle.requests.specs.declared.workers.Workers.{Workers}
+use Rattle.request_types.specs.declared.workers.Workers.{Workers}
 use Rattle.tricks.specs.Lines.{TricksView}
 use Rattle.picking.specs.Outcomes.{Picks}
 use Rattle.picking.specs.declared.fault.PickFault.{PickFault}
@@ -25,7 +25,7 @@ use Rattle.requests.specs.Counting.{table_by}
 use Rattle.requests.specs.Formats.{text_showing}
 use Rattle.requests.specs.Jobs.{IsReadyRun}
 use Rattle.requests.specs.Runs.{InterruptsRun}
-use Rattle.requests.specs.declared.request.Notices.{Notices}
+use Rattle.request_types.specs.declared.request.Notices.{Notices}
 use Rattle.requests.specs.Reported.{Counts}
 use Rattle.requests.specs.declared.failure.Failure.{Failure}
 use Rattle.requests.specs.declared.failure.Failure.TheVariants.{EndOfInput, Input, Interrupted, Line}

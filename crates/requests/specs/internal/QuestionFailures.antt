@@ -3,10 +3,10 @@ use Rattle.std.specs.Prelude.{◌≡◌, ◌⊎◌, ℕ, List}
 use Rattle.conditions.specs.declared.error.CondError.{CondError}
 use Rattle.dealrun.specs.declared.cause.Cause.TheVariants.{Memory}
 use Rattle.requests.specs.FirstRefusal.{AreRefused, IsQuestionDue}
-use Rattle.requests.specs.Requests.{Questions}
+use Rattle.request_types.specs.Requests.{Questions}
 use Rattle.requests.specs.declared.failure.Failure.{Failure}
 use Rattle.requests.specs.declared.failure.Failure.TheVariants.{Interrupted, Question}
-use Rattle.requests.specs.declared.failure.QuestionName.{QuestionName}
+use Rattle.request_types.specs.declared.names.QuestionName.{QuestionName}
 
 -- memory ran out, or the text of this question is refused so
 abbrev pub IsTextFailure : QuestionName → List ℕ → Failure → Type 0

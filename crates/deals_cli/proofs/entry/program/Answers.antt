@@ -1,5 +1,5 @@
 use Rattle.std.proofs.Common.{◌≡◌, ◌+◌, map, string_bytes, arith}
-use Rattle.deals_cli.specs.CommandLine.{asked}
+use Rattle.command_line.specs.CommandLine.{asked}
 use Rattle.deals_cli.proofs.NoInput.{six, without}
 use Rattle.deals_cli.proofs.entry.program.Goals as goal
 

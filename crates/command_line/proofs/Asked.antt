@@ -1,0 +1,210 @@
+-- What words without a fault ask for.
+use Rattle.std.proofs.Common.{◌≡◌, ◌∙◌, Bool, true, false, List, [], ◌∷◌, Option, Some, None, refl, sym, ap, subst, inl, inr, codes, option_map, if◌then◌else◌}
+use Rattle.std.specs.Prelude.{IsSome, Box}
+use Rattle.std.specs.Borrow.{Bor}
+use Rattle.std.specs.Box.{box_value}
+use Rattle.std.specs.Option.{option_map_or}
+use Rattle.std.specs.Str.{bytes_eq}
+use Rattle.clap.specs.Faults.{fault_of, is_simple_and_free}
+use Rattle.clap.specs.Kinds.{HasKind, Kinds, or_else}
+use Rattle.clap.specs.Simple.{App, HasMatchesOf, argument_words, built, subcommand_of, subcommand_rows, subcommand_rows_of}
+use Rattle.clap.specs.Walk.{Row, Text, rows_after}
+use Rattle.clap.specs.Words.{found_of, kind_of, rows_of, subcommand_name_of}
+use Rattle.clap.specs.declared.error.Error.{Error}
+use Rattle.clap.specs.declared.error.kind.ErrorKind.{ErrorKind}
+use Rattle.clap.specs.declared.error.kind.ErrorKind.TheVariants.{InvalidValue, MissingRequiredArgument, OutOfMemory, ValueValidation}
+use Rattle.clap.specs.declared.parser.matches.ArgMatches.{ArgMatches}
+use Rattle.clap.specs.declared.parser.matches.ArgMatches.TheViews.{out-ArgMatches, out-SubCommand}
+use Rattle.clap.specs.declared.parser.matches.SubCommand.{SubCommand}
+use Rattle.command_line.specs.Commands.{deals}
+use Rattle.command_line.specs.CommandLine.{asked, asks_page, further_kinds, has_bad_workers, has_unknown, kinds_by, kinds_for, lacks_option, made_by, missing_kinds, read_kinds, search_in, unless_fault, wish_by, wish_in}
+use Rattle.request_types.specs.Requests.{Wish, conditions}
+use Rattle.command_line.specs.internal.Asking.{AsksMake, Chosen, IsRefused}
+use Rattle.command_line.proofs.OptionValues.{Makes, Reads, each_reads, read_by}
+use Rattle.command_line.proofs.Entered.{enters}
+
+-- the words name this subcommand, and its options have their values
+pub record Named (words : List Text) : Type 0 where
+  pub name : Text
+  pub rows : List Row
+  pub named : subcommand_of deals words ≡ Some (name, rows)
+  pub reads : Reads (name, rows)
+
+pub named : (words : List Text) → fault_of deals words ≡ [] → Named words
+named words f =
+    let e = enters (built deals) (argument_words deals words) refl refl f in
+    record {
+      name = e.sub.name;
+      rows = rows_after e.sub.rules [] e.rest;
+      named = e.entered_it;
+      reads = read_by (built deals).subs each_reads e.sub e.is_sub e.word e.rest e.answers e.no_help e.fault;
+    }
+
+-- ---- a parse
+
+pub no_fault : (app : App) (words : List Text) → app ≡ deals → (is_simple_and_free app ≡ true → fault_of app words ≡ []) → fault_of deals words ≡ []
+no_fault app words is h = subst (λ (a : App). (is_simple_and_free a ≡ true → fault_of a words ≡ []) → fault_of deals words ≡ []) (sym is) (λ k. k refl) h
+
+pub err_kind : (app : App) (words : List Text) (e : Error) → app ≡ deals → (is_simple_and_free app ≡ true → HasKind (fault_of app words) e) → asks_page words ≡ false → IsSome (asked words)
+    → kind_of e ≡ OutOfMemory
+unfolding asked
+err_kind app words e is h page some =
+    go (fault_of deals words) (subst (λ (a : App). (is_simple_and_free a ≡ true → HasKind (fault_of a words) e) → HasKind (fault_of deals words) e) (sym is) (λ k. k refl) h)
+    (subst (λ (b : Bool). IsSome (if b then Some conditions else unless_fault (read_kinds words) (wish_in words))) page some)
+  where
+    go : (ks : Kinds) → HasKind ks e → IsSome (unless_fault (or_else ks (further_kinds words)) (wish_in words)) → kind_of e ≡ OutOfMemory
+    go [] has s = elim has [ inl m ↦ m | inr bad ↦ absurd bad ]
+    go (k ∷ ks) has s = let bad : false ≡ true = s in absurd cc
+
+-- the subcommand that a parse met, with its name and what its options were given
+pub record Met (sub : Option (Bor Text × Bor ArgMatches)) (name : Text) (rows : List Row) : Type 0 where
+  pub pair : Bor Text × Bor ArgMatches
+  pub is : sub ≡ Some pair
+  pub name_is : pair.0.now ≡ name
+  pub rows_are : rows_of (found_of pair.1.now) ≡ rows
+
+name-rows : {Z : Type 0} (o : Option (Box SubCommand Z)) → option_map (λ b. (out-SubCommand (box_value b)).name.now) o ≡ option_map (λ p. p.0) (subcommand_rows o)
+name-rows None = refl
+name-rows (Some b) = refl
+
+met_by : (m : ArgMatches) (sub : Option (Bor Text × Bor ArgMatches)) (name : Text) (rows : List Row)
+    → option_map (λ q. q.0.now) sub ≡ subcommand_name_of m → option_map (λ q. rows_of (found_of q.1.now)) sub ≡ option_map (λ q. q.1) (subcommand_rows_of m)
+    → subcommand_rows_of m ≡ Some (name, rows) → Met sub name rows
+met_by m sub name rows names all is = go sub refl
+  where
+    names_are : subcommand_name_of m ≡ Some name
+    names_are = name-rows (out-ArgMatches m).subcommand ∙ ap (option_map (λ p. p.0)) is
+
+    go : (o : Option (Bor Text × Bor ArgMatches)) → sub ≡ o → Met sub name rows
+    go None e = let bad = rw e at names in absurd cc
+    go (Some pair) e =
+        let a : Some pair.0.now ≡ Some name = ap (option_map (λ q. q.0.now)) (sym e) ∙ names ∙ names_are in
+        let b : Some (rows_of (found_of pair.1.now)) ≡ Some rows = ap (option_map (λ q. rows_of (found_of q.1.now))) (sym e) ∙ all ∙ ap (option_map (λ p. p.1)) is in
+        record { pair = pair; is = e; name_is = cc; rows_are = cc }
+
+pub met : (app : App) (words : List Text) (m : ArgMatches) (sub : Option (Bor Text × Bor ArgMatches)) (name : Text) (rows : List Row) → app ≡ deals → HasMatchesOf app words m
+    → option_map (λ q. q.0.now) sub ≡ subcommand_name_of m → option_map (λ q. rows_of (found_of q.1.now)) sub ≡ option_map (λ q. q.1) (subcommand_rows_of m)
+    → subcommand_of deals words ≡ Some (name, rows) → Met sub name rows
+met app words m sub name rows is has names all named =
+    let at = subst (λ (a : App). HasMatchesOf a words m) is has in
+    met_by m sub name rows names all ((at refl).1 ∙ named)
+
+-- ---- the wish
+
+-- the words aren't `deals help conditions`
+pub record IsRead (words : List Text) : Type 0 where
+  pub no_page : asks_page words ≡ false
+  pub no_fault_is : fault_of deals words ≡ []
+
+by_wish : (words : List Text) (p : Text × List Row) → IsRead words → subcommand_of deals words ≡ Some p → asked words ≡ unless_fault (kinds_by p) (Some (wish_by p))
+unfolding asked
+by_wish words p read is =
+    let f = read.no_fault_is in
+    ap (λ (b : Bool). if b then Some conditions else unless_fault (read_kinds words) (wish_in words)) read.no_page
+    ∙ ap (λ (k : Kinds). unless_fault (or_else k (further_kinds words)) (wish_in words)) f
+    ∙ ap (λ (o : Option (Text × List Row)). unless_fault (option_map_or kinds_by o []) (option_map wish_by o)) is
+
+by_kinds : (words : List Text) (p : Text × List Row) → IsRead words → subcommand_of deals words ≡ Some p → kinds_for words ≡ kinds_by p
+unfolding kinds_for
+by_kinds words p read is =
+    let f = read.no_fault_is in
+    ap (λ (b : Bool). if b then [] else read_kinds words) read.no_page
+    ∙ ap (λ (k : Kinds). or_else k (further_kinds words)) f ∙ ap (λ (o : Option (Text × List Row)). option_map_or kinds_by o []) is
+
+asks_make : (words : List Text) (name : Text) (rows : List Row) → Makes name → IsRead words → subcommand_of deals words ≡ Some (name, rows) → AsksMake words name rows
+asks_make words name rows makes f is = record {
+  ends = λ u w e. by_wish words found f is ∙ wishes ∙ ap (λ (k : Kinds). unless_fault k wish) (known u ∙ counted w ∙ ending e);
+  missing = λ u w e. record {
+    asked_is = by_wish words found f is ∙ wishes ∙ ap (λ (k : Kinds). unless_fault k wish) (known u ∙ counted w ∙ ending e);
+    kinds_are = by_kinds words found f is ∙ known u ∙ counted w ∙ ending e;
+  };
+  bad_workers = λ u w. record {
+    asked_is = by_wish words found f is ∙ wishes ∙ ap (λ (k : Kinds). unless_fault k wish) (known u ∙ counted w);
+    kinds_are = by_kinds words found f is ∙ known u ∙ counted w;
+  };
+  unknown = λ u. record {
+    asked_is = by_wish words found f is ∙ wishes ∙ ap (λ (k : Kinds). unless_fault k wish) (known u);
+    kinds_are = by_kinds words found f is ∙ known u;
+  };
+}
+  where
+    found : Text × List Row
+    found = (name, rows)
+
+    wish : Option Wish
+    wish = Some (made_by name (search_in rows) rows)
+
+    wishes : unless_fault (kinds_by found) (Some (wish_by found)) ≡ unless_fault (kinds_by found) wish
+    wishes = rw (makes.0, makes.1, makes.2) refl
+
+    -- the kinds where each word is one of its option's values
+    further : Kinds
+    further = if has_bad_workers rows then ValueValidation ∷ [] else missing_kinds name (search_in rows) rows
+
+    known : {b : Bool} → has_unknown name rows ≡ b → kinds_by found ≡ (if b then InvalidValue ∷ [] else further)
+    known {b} u = rw (makes.0, makes.1, makes.2) (ap (λ (x : Bool). if x then InvalidValue ∷ [] else further) u)
+
+    counted : {b : Bool} → has_bad_workers rows ≡ b → further ≡ (if b then ValueValidation ∷ [] else missing_kinds name (search_in rows) rows)
+    counted {b} w = ap (λ (x : Bool). if x then ValueValidation ∷ [] else missing_kinds name (search_in rows) rows) w
+
+    ending : {b : Bool} → lacks_option name (search_in rows) rows ≡ b → missing_kinds name (search_in rows) rows ≡ (if b then MissingRequiredArgument ∷ [] else [])
+    ending {b} e = ap (λ (x : Bool). if x then MissingRequiredArgument ∷ [] else []) e
+
+abbrev of_pair : List Text → Bor Text × Bor ArgMatches → Type 0
+of_pair words p = Chosen words p.0.now (rows_of (found_of p.1.now))
+
+chosen_by : (words : List Text) (name : Text) (rows : List Row) → IsRead words → subcommand_of deals words ≡ Some (name, rows) → Reads (name, rows) → Chosen words name rows
+chosen_by words name rows f is (inl (makes, values)) = record {
+  values = record { stream = λ e. no_stream e; make = λ e c d. values };
+  stream = λ e. no_stream e;
+  conditions_too = λ e. let bad : true ≡ false = sym e ∙ makes.1 in absurd cc;
+  seed_too = λ e. let bad : true ≡ false = sym e ∙ makes.2 in absurd cc;
+  make = λ e c d. asks_make words name rows makes f is;
+}
+  where
+    no_stream : {X : Type 0} → bytes_eq name (codes "stream") ≡ true → X
+    no_stream e = let bad : true ≡ false = sym e ∙ makes.0 in absurd cc
+chosen_by words name rows f is (inr (inl same)) = subst (λ (n : Text). subcommand_of deals words ≡ Some (n, rows) → Chosen words n rows) (sym same)
+    (λ at. record { values = record { stream = λ e. absurd cc; make = λ e c d. absurd cc }; stream = λ e. absurd cc; conditions_too = λ e. by_wish words (codes "conditions", rows) f at; seed_too = λ e. absurd cc; make = λ e c d. absurd cc }) is
+chosen_by words name rows f is (inr (inr (inl same))) = subst (λ (n : Text). subcommand_of deals words ≡ Some (n, rows) → Chosen words n rows) (sym same)
+    (λ at. record { values = record { stream = λ e. absurd cc; make = λ e c d. absurd cc }; stream = λ e. absurd cc; conditions_too = λ e. absurd cc; seed_too = λ e. by_wish words (codes "seed", rows) f at; make = λ e c d. absurd cc }) is
+chosen_by words name rows f is (inr (inr (inr (same, values)))) = subst (λ (n : Text). subcommand_of deals words ≡ Some (n, rows) → Chosen words n rows) (sym same)
+    (λ at. record { values = record { stream = λ e. values; make = λ e c d. absurd cc }; stream = λ e. by_wish words (codes "stream", rows) f at; conditions_too = λ e. absurd cc; seed_too = λ e. absurd cc; make = λ e c d. absurd cc }) is
+
+from_met : (words : List Text) (sub : Option (Bor Text × Bor ArgMatches)) (p : Bor Text × Bor ArgMatches) (name : Text) (rows : List Row) → sub ≡ Some p → Met sub name rows
+    → Chosen words name rows → of_pair words p
+from_met words sub p name rows is found h =
+    let both : Some found.pair ≡ Some p = sym found.is ∙ is in
+    let same : found.pair ≡ p = cc in
+    let at : Chosen words found.pair.0.now (rows_of (found_of found.pair.1.now)) =
+    subst (λ (r : List Row). Chosen words found.pair.0.now r) (sym found.rows_are) (subst (λ (n : Text). Chosen words n rows) (sym found.name_is) h) in
+    subst (of_pair words) same at
+
+pub chosen : (app : App) (words : List Text) (m : ArgMatches) (sub : Option (Bor Text × Bor ArgMatches)) (p : Bor Text × Bor ArgMatches) → app ≡ deals → HasMatchesOf app words m
+    → (is_simple_and_free app ≡ true → fault_of app words ≡ [])
+    → option_map (λ q. q.0.now) sub ≡ subcommand_name_of m → option_map (λ q. rows_of (found_of q.1.now)) sub ≡ option_map (λ q. q.1) (subcommand_rows_of m)
+    → sub ≡ Some p → asks_page words ≡ false → Chosen words p.0.now (rows_of (found_of p.1.now))
+chosen app words m sub p is has none names rows sub_is page =
+    let f = no_fault app words is none in
+    let n = named words f in
+    from_met words sub p n.name n.rows sub_is (met app words m sub n.name n.rows is has names rows n.named) (chosen_by words n.name n.rows (record { no_page = page; no_fault_is = f }) n.named n.reads)
+
+-- the kind of an error is one of those that clap may give for the words
+has_first : (a b : Kinds) (e : Error) → HasKind a e → HasKind (or_else a b) e
+has_first [] b e h = elim h [ inl memory ↦ inl memory | inr bad ↦ absurd bad ]
+has_first (k ∷ ks) b e h = h
+
+pub error_kind : (app : App) (words : List Text) (e : Error) → app ≡ deals → (is_simple_and_free app ≡ true → HasKind (fault_of app words) e) → asks_page words ≡ false → HasKind (kinds_for words) e
+unfolding kinds_for
+error_kind app words e is h page =
+    subst (λ (b : Bool). HasKind (if b then [] else read_kinds words) e) (sym page)
+    (has_first (fault_of deals words) (further_kinds words) e
+    (subst (λ (a : App). (is_simple_and_free a ≡ true → HasKind (fault_of a words) e) → HasKind (fault_of deals words) e) (sym is) (λ k. k refl) h))
+
+-- ---- words that clap takes and that are refused
+
+pub refused_kind : (words : List Text) (kind : ErrorKind) (e : Error) → IsRefused words kind → kind_of e ≡ kind → HasKind (kinds_for words) e
+refused_kind words kind e r is = rw r.kinds_are (inr (inl is))
+
+pub refused_asked : {X : Type 0} (words : List Text) (kind : ErrorKind) → IsRefused words kind → IsSome (asked words) → X
+refused_asked words kind r some = let bad : false ≡ true = subst (λ (o : Option Wish). IsSome o) r.asked_is some in absurd cc

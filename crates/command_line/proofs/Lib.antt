@@ -1,0 +1,9 @@
+pub mod Rows
+pub mod Walks
+pub mod Plain
+pub mod Help
+pub mod Entered
+pub mod OptionValues
+pub mod Numbers
+pub mod Numerals
+pub mod Asked

@@ -1,0 +1,62 @@
+use Rattle.std.proofs.Common.{◌∙◌, ap, ap₂, is_some, sym, Some}
+use Rattle.clap.specs.Words.{found_of, rows_of}
+use Rattle.clap.specs.declared.error.kind.ErrorKind.TheVariants.{InvalidValue, MissingRequiredArgument, ValueValidation}
+use Rattle.request_types.specs.Requests.{Wish, stream}
+use Rattle.command_line.specs.CommandLine.{lacks_option, made_by}
+use Rattle.command_line.proofs.Asked.{refused_asked, refused_kind}
+use Rattle.command_line.proofs.words.request_of.Goals as goal
+
+pub stream_request-requires : goal.stream_request-requires
+stream_request-requires c = c.requires.stream (sym c.if-eq.ensures)
+
+pub returns-then-eq : goal.returns-then-eq
+returns-then-eq c words at =
+    at.stream (sym c.if-eq.ensures) ∙ ap₂ (λ x y. Some (stream x y)) (sym c.stream_request.ensures.seed) (sym c.stream_request.ensures.count)
+
+pub returns-then-eq-2 : goal.returns-then-eq-2
+returns-then-eq-2 c words at = at.conditions_too (sym c.if-eq-2.ensures)
+
+pub returns-then-eq-3 : goal.returns-then-eq-3
+returns-then-eq-3 c words at = at.seed_too (sym c.if-eq-3.ensures)
+
+pub search_in-search-requires : goal.search_in-search-requires
+search_in-search-requires c = (c.requires.make (sym c.if-eq.ensures) (sym c.if-eq-2.ensures) (sym c.if-eq-3.ensures)).search
+
+pub request_by-requires : goal.request_by-requires
+request_by-requires c = (c.requires.make (sym c.if-eq.ensures) (sym c.if-eq-2.ensures) (sym c.if-eq-3.ensures)).first_board
+
+pub returns-in-Some : goal.returns-in-Some
+returns-in-Some c words at =
+    let asks = at.make (sym c.if-eq.ensures) (sym c.if-eq-2.ensures) (sym c.if-eq-3.ensures) in
+    let unknown = sym c.unknown_in.ensures ∙ ap is_some c.in-Some.is in
+    (λ some. refused_asked words InvalidValue (asks.unknown unknown) some, refused_kind words InvalidValue c.in_ok-invalid_value.field-0 (asks.unknown unknown) c.in_ok-invalid_value.ensures)
+
+pub returns-in-Some-bad_workers_in : goal.returns-in-Some-bad_workers_in
+returns-in-Some-bad_workers_in c words at =
+    let asks = at.make (sym c.if-eq.ensures) (sym c.if-eq-2.ensures) (sym c.if-eq-3.ensures) in
+    let known = sym c.unknown_in.ensures ∙ ap is_some c.in_default.is in
+    let bad = sym c.bad_workers_in.ensures ∙ ap is_some c.in-Some-bad_workers_in.is in (
+      λ some. refused_asked words ValueValidation (asks.bad_workers known bad) some,
+      refused_kind words ValueValidation c.in_ok-invalid_number.field-0 (asks.bad_workers known bad) c.in_ok-invalid_number.ensures,
+    )
+
+pub returns-in-Some-missing_of : goal.returns-in-Some-missing_of
+returns-in-Some-missing_of c words at =
+    let asks = at.make (sym c.if-eq.ensures) (sym c.if-eq-2.ensures) (sym c.if-eq-3.ensures) in
+    let known = sym c.unknown_in.ensures ∙ ap is_some c.in_default.is in
+    let counted = sym c.bad_workers_in.ensures ∙ ap is_some c.in_default-bad_workers_in.is in
+    let rows = rows_of (found_of c.args.matches.now) in
+    let lacks = ap (λ s. lacks_option c.args.name.now s rows) (sym c.search_in-search.ensures) ∙ sym c.missing_of.ensures ∙ ap is_some c.in-Some-missing_of.is in (
+      λ some. refused_asked words MissingRequiredArgument (asks.missing known counted lacks) some,
+      refused_kind words MissingRequiredArgument c.in_ok-missing_option.field-0 (asks.missing known counted lacks) c.in_ok-missing_option.ensures,
+    )
+
+pub returns : goal.returns
+returns c words at =
+    let asks = at.make (sym c.if-eq.ensures) (sym c.if-eq-2.ensures) (sym c.if-eq-3.ensures) in
+    let known = sym c.unknown_in.ensures ∙ ap is_some c.in_default.is in
+    let counted = sym c.bad_workers_in.ensures ∙ ap is_some c.in_default-bad_workers_in.is in
+    let rows = rows_of (found_of c.args.matches.now) in
+    let lacks = ap (λ s. lacks_option c.args.name.now s rows) (sym c.search_in-search.ensures) ∙ sym c.missing_of.ensures ∙ ap is_some c.in_default-missing_of.is in
+    asks.ends known counted lacks ∙ ap (λ s. Some (made_by c.args.name.now s rows)) (sym c.search_in-search.ensures)
+    ∙ ap (λ (w : Wish). Some w) (sym c.request_by.ensures)

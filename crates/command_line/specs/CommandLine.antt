@@ -1,0 +1,275 @@
+-- The command line: what the program's words ask for, by clap's own functions of the words.
+use Rattle.std.specs.Prelude.{◌&&◌, ◌||◌, ◌==◌, ℕ, Bool, false, not, List, [], ◌∷◌, Option, Some, None, is_some, codes, get_or, length, nat_lt, option_map, unwrap_or, if◌then◌else◌}
+use Rattle.std.specs.Option.{option_and_then, option_map_or}
+use Rattle.std.specs.Str.{bytes_eq}
+use Rattle.std.specs.Str.Parse.{digits_value, without_leading_plus}
+use Rattle.std.specs.Char.{digit_value}
+use Rattle.std.specs.List.{list_all}
+use Rattle.clap.specs.Words.{Kinds, Row, Text, fault_of, first_of, one_of, subcommand_of}
+use Rattle.clap.specs.Kinds.{or_else}
+use Rattle.clap.specs.declared.error.kind.ErrorKind.TheVariants.{InvalidValue, ValueValidation}
+use Rattle.clap.specs.declared.error.kind.ErrorKind.TheVariants.{MissingRequiredArgument}
+use Rattle.command_line.specs.Commands.{deals, finders}
+use Rattle.boards.specs.declared.setting.Vul.{Vul}
+use Rattle.boards.specs.declared.setting.Vul.TheVariants.{Neither, NorthSouth, EastWest, Both}
+use Rattle.cards.specs.declared.seat.Seat.{Seat}
+use Rattle.cards.specs.declared.seat.Seat.TheVariants.{North, East, South, West}
+use Rattle.predeal.specs.PredealtHands.{GivenHands}
+use Rattle.request_types.specs.Requests.{Look, Questions, Search, Wish, conditions, count, draw}
+use Rattle.request_types.specs.Requests.{look_as, make, make_with_tricks, no_question, one_question, pick, stream, two_questions}
+use Rattle.request_types.specs.declared.request.Notices.{Notices}
+use Rattle.notations.specs.Formats.{formats}
+use Rattle.notations.specs.declared.printer.Format.{Format}
+use Rattle.notations.specs.declared.printer.Format.TheVariants.{Pbn}
+use Rattle.notations.specs.declared.show.Show.{Show}
+use Rattle.notations.specs.declared.show.Show.TheVariants.{All, Dealer}
+use Rattle.notations.specs.declared.show.Show.TheVariants as shown
+use Rattle.request_types.specs.declared.workers.Workers.{Workers}
+use Rattle.request_types.specs.declared.workers.Workers.TheVariants.{Number}
+use Rattle.request_types.specs.declared.workers.Workers.TheVariants as workers
+use Rattle.request_types.specs.declared.when.When.{When}
+use Rattle.request_types.specs.declared.when.When.TheVariants.{Auto, Always, Never}
+use Rattle.statistics.specs.declared.style.Style.{Style}
+use Rattle.statistics.specs.declared.style.Style.TheVariants.{Csv, Html, Table}
+
+-- the number that an option was given in decimal, if it was given
+abbrev pub number_in : Text → List Row → Option ℕ
+number_in id rows = option_map (λ t. digits_value 10 (without_leading_plus t)) (one_of id rows)
+
+abbrev pub number_or : ℕ → Text → List Row → ℕ
+number_or default id rows = unwrap_or (number_in id rows) default
+
+-- clap reads a flag as the text `true` if it is given, and else as `false`
+abbrev pub is_set : Text → List Row → Bool
+is_set id rows = option_map_or (λ t. bytes_eq t (codes "true")) (first_of id rows) false
+
+-- the options that have one of a few words, as `formats` of the notations, and what each word
+-- means, in just this case
+abbrev pub dealers : List (Text × Seat)
+dealers =
+    (codes "N", North) ∷ (codes "E", East) ∷ (codes "S", South) ∷ (codes "W", West) ∷ []
+
+abbrev pub shows : List (Text × Show)
+shows =
+    (codes "all", All) ∷ (codes "dealer", Dealer) ∷ (codes "north", shown.North)
+    ∷ (codes "east", shown.East) ∷ (codes "south", shown.South) ∷ (codes "west", shown.West)
+    ∷ (codes "ns", shown.NorthSouth) ∷ (codes "ew", shown.EastWest) ∷ []
+
+abbrev pub sides : List (Text × Vul)
+sides =
+    (codes "None", Neither) ∷ (codes "NS", NorthSouth) ∷ (codes "EW", EastWest)
+    ∷ (codes "All", Both) ∷ []
+
+abbrev pub times : List (Text × When)
+times = (codes "auto", Auto) ∷ (codes "always", Always) ∷ (codes "never", Never) ∷ []
+
+abbrev pub styles : List (Text × Style)
+styles = (codes "table", Table) ∷ (codes "csv", Csv) ∷ (codes "html", Html) ∷ []
+
+-- what a word means in such a table
+abbrev pub meant_by : {A : Type 0} → List (Text × A) → Text → Option A
+meant_by [] word = None
+meant_by (p ∷ table) word = if bytes_eq word p.0 then Some p.1 else meant_by table word
+
+-- what the word means that an option was given
+abbrev pub choice_in : {A : Type 0} → List (Text × A) → Text → List Row → Option A
+choice_in table id rows = option_and_then (meant_by table) (first_of id rows)
+
+-- an option was given a word that means nothing
+abbrev pub is_unknown : {A : Type 0} → List (Text × A) → Text → List Row → Bool
+is_unknown table id rows =
+    option_map_or (λ word. not (is_some (meant_by table word))) (first_of id rows) false
+
+-- the format of `count` is that of a table
+abbrev pub has_unknown_format : Text → List Row → Bool
+has_unknown_format name rows =
+    if bytes_eq name (codes "count") then is_unknown styles (codes "format") rows
+    else is_unknown formats (codes "format") rows
+
+abbrev pub has_unknown : Text → List Row → Bool
+has_unknown name rows =
+    has_unknown_format name rows
+    || (is_unknown shows (codes "show") rows
+    || (is_unknown dealers (codes "dealer") rows
+    || (is_unknown sides (codes "vulnerable") rows
+    || (is_unknown times (codes "progress") rows
+    || is_unknown times (codes "hints") rows))))
+
+-- the number of 32 bits that a text writes in digits, perhaps behind a +
+abbrev pub number32 : Text → Option ℕ
+number32 text =
+    let ds = without_leading_plus text in
+    if nat_lt 0 (length ds) && (list_all (λ d. nat_lt (digit_value d) 10) ds
+    && nat_lt (digits_value 10 ds) 4294967296) then Some (digits_value 10 ds) else None
+
+-- what a text of `--workers` means
+abbrev pub workers_meant : Text → Option Workers
+workers_meant text =
+    if bytes_eq text (codes "auto") then Some workers.Auto else option_map Number (number32 text)
+
+-- how many workers were asked for, one if the option was not given
+abbrev pub workers_in : List Row → Workers
+workers_in rows =
+    unwrap_or (option_and_then workers_meant (first_of (codes "workers") rows)) (Number 1)
+
+-- the option was given a text that is neither a number nor `auto`
+abbrev pub has_bad_workers : List Row → Bool
+has_bad_workers rows = option_map_or (λ text. not (is_some (workers_meant text)))
+    (first_of (codes "workers") rows) false
+
+abbrev pub stream_wish : List Row → Wish
+stream_wish rows = stream (number_or 0 (codes "seed") rows) (number_or 0 (codes "count") rows)
+
+-- the texts of hands that the options were given
+abbrev pub hands_in : List Row → GivenHands
+hands_in rows = record {
+  north = first_of (codes "north") rows;
+  east = first_of (codes "east") rows;
+  south = first_of (codes "south") rows;
+  west = first_of (codes "west") rows;
+}
+
+-- what options of a search were given, or their defaults
+abbrev pub search_in : List Row → Search
+search_in rows = record {
+  seed = number_or 0 (codes "seed") rows;
+  candidates = number_in (codes "candidates") rows;
+  first = number_or 0 (codes "first") rows;
+  workers = workers_in rows;
+  lane = number_in (codes "lane") rows;
+  where_text = first_of (codes "where") rows;
+  boards = number_in (codes "boards") rows;
+  hands = hands_in rows;
+}
+
+-- what options of the boards' look were given, or their defaults
+abbrev pub look_in : List Row → Look
+look_in rows = record {
+  format = unwrap_or (choice_in formats (codes "format") rows) Pbn;
+  show = unwrap_or (choice_in shows (codes "show") rows) All;
+  first_board = number_in (codes "first-board") rows;
+  event = first_of (codes "event") rows;
+  site = first_of (codes "site") rows;
+  date = first_of (codes "date") rows;
+  dealer = choice_in dealers (codes "dealer") rows;
+  vulnerable = choice_in sides (codes "vulnerable") rows;
+  rotate = is_set (codes "rotate") rows;
+}
+
+abbrev pub when_in : Text → List Row → When
+when_in id rows = unwrap_or (choice_in times id rows) Auto
+
+abbrev pub notices_in : List Row → Notices
+notices_in rows = record {
+  report = is_set (codes "report") rows;
+  progress = when_in (codes "progress") rows;
+  hints = when_in (codes "hints") rows;
+}
+
+-- the texts of the questions that the options were given
+abbrev pub questions_from : Option Text → Option Text → Questions
+questions_from None by = no_question
+questions_from (Some text) None = one_question text
+questions_from (Some text) (Some by) = two_questions text by
+
+abbrev pub questions_in : List Row → Questions
+questions_in rows = questions_from (first_of (codes "of") rows) (first_of (codes "by") rows)
+
+abbrev pub style_in : List Row → Style
+style_in rows = unwrap_or (choice_in styles (codes "format") rows) Table
+
+-- `find` has one look; the boards of `make` have their tricks if the flag is given
+abbrev pub boards_made_by : Option Format → Search → List Row → Wish
+boards_made_by (Some format) s rows = make s (look_as format) (notices_in rows)
+boards_made_by None s rows =
+    if is_set (codes "tricks") rows then make_with_tricks s (look_in rows) (notices_in rows)
+    else make s (look_in rows) (notices_in rows)
+
+-- `pick` deals the candidates whose numbers it reads; the others search, and `count` has a table
+abbrev pub made_by : Text → Search → List Row → Wish
+made_by name s rows =
+    if bytes_eq name (codes "pick")
+    then pick s.seed s.hands (look_in rows) (when_in (codes "hints") rows)
+    else if bytes_eq name (codes "count")
+    then count s (questions_in rows) (style_in rows) (notices_in rows)
+    else boards_made_by (meant_by finders name) s rows
+
+-- by the subcommand's name and what its options were given
+abbrev pub wish_by : Text × List Row → Wish
+wish_by p =
+    if bytes_eq p.0 (codes "stream") then stream_wish p.1
+    else (if bytes_eq p.0 (codes "conditions") then conditions
+    else (if bytes_eq p.0 (codes "seed") then draw
+    else made_by p.0 (search_in p.1) p.1))
+
+-- the wish of the subcommand that the words name, by clap's function of the words
+abbrev pub wish_in : List Text → Option Wish
+wish_in words = option_map wish_by (subcommand_of deals words)
+
+-- all but `pick` need a number of candidates, or a limit of boards
+abbrev pub has_no_end : Text → Search → Bool
+has_no_end name s =
+    not (bytes_eq name (codes "pick")) && (not (is_some s.candidates) && not (is_some s.boards))
+
+-- there is a question for the columns of a table, and none for its rows
+abbrev pub has_by_alone : List Row → Bool
+has_by_alone rows =
+    is_some (first_of (codes "by") rows) && not (is_some (first_of (codes "of") rows))
+
+-- an option is missing
+abbrev pub lacks_option : Text → Search → List Row → Bool
+lacks_option name s rows = has_no_end name s || has_by_alone rows
+
+abbrev pub missing_kinds : Text → Search → List Row → Kinds
+missing_kinds name s rows =
+    if lacks_option name s rows then MissingRequiredArgument ∷ [] else []
+
+-- clap reads those words as texts: one that means nothing is refused as clap refuses a value
+abbrev pub make_kinds : Text → List Row → Kinds
+make_kinds name rows =
+    if has_unknown name rows then InvalidValue ∷ []
+    else (if has_bad_workers rows then ValueValidation ∷ []
+    else missing_kinds name (search_in rows) rows)
+
+-- by the subcommand's name and what its options were given
+abbrev pub kinds_by : Text × List Row → Kinds
+kinds_by p =
+    if bytes_eq p.0 (codes "stream") then []
+    else (if bytes_eq p.0 (codes "conditions") then []
+    else (if bytes_eq p.0 (codes "seed") then [] else make_kinds p.0 p.1))
+
+-- the kinds of error in words that clap takes
+abbrev pub further_kinds : List Text → Kinds
+further_kinds words = option_map_or kinds_by (subcommand_of deals words) []
+
+-- a wish, unless there is a fault
+abbrev pub unless_fault : Kinds → Option Wish → Option Wish
+unless_fault [] wish = wish
+unless_fault (k ∷ kinds) wish = None
+
+-- of words that clap reads: clap's first
+abbrev pub read_kinds : List Text → Kinds
+read_kinds words = or_else (fault_of deals words) (further_kinds words)
+
+-- `deals help conditions` asks for the page of the language, and not for how to call the command
+-- that prints it
+abbrev pub asks_page : List Text → Bool
+asks_page words =
+    length words == 3 && (bytes_eq (get_or words 1 []) (codes "help")
+    && bytes_eq (get_or words 2 []) (codes "conditions"))
+
+-- the kinds of error of which one is given for these words: none if they ask for something
+unfoldable pub kinds_for : List Text → Kinds
+kinds_for words = if asks_page words then [] else read_kinds words
+
+-- what the words ask for, if their parse can't fail unless memory runs out
+unfoldable pub asked : List Text → Option Wish
+asked words =
+    if asks_page words then Some conditions else unless_fault (read_kinds words) (wish_in words)
+
+-- what was read of the words: what they ask for, or clap's error. Of words that ask for something
+-- only that memory ran out is one
+abbrev pub AreRead : List Text → Result Request Error → Type 0
+AreRead words (Ok request) = asked words ≡ Some (wish_of request)
+AreRead words (Err error) =
+    (IsSome (asked words) → kind_of error ≡ kind.OutOfMemory) × HasKind (kinds_for words) error

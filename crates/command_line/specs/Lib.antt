@@ -1,0 +1,4 @@
+pub use Rattle.request_types.specs.Requests
+pub mod Commands
+pub mod CommandLine
+pub mod internal

@@ -1,0 +1,28 @@
+-- The rules of the rows that the commands and their options are written as.
+use Rattle.std.specs.Prelude.{map}
+use Rattle.clap.specs.Simple.{Shape}
+use Rattle.clap.specs.Words.{App, Rule, Text}
+use Rattle.clap.specs.declared.builder.value_parser.ValueParser.TheVariants.{String}
+use Rattle.command_line.specs.declared.options.Subcommand.{Subcommand}
+use Rattle.command_line.specs.declared.options.Row.{Row}
+use Rattle.command_line.specs.declared.options.Takes.{Takes}
+use Rattle.command_line.specs.declared.options.Takes.TheVariants as kinds
+use Rattle.command_line.specs.Commands.{asking_rule, command_with, count_parser, flag_rule, option_rule, u32_parser, u64_parser}
+
+abbrev pub taking : Takes → Text → Rule
+taking kinds.Nothing id = flag_rule id
+taking kinds.Help id = asking_rule id
+taking (kinds.Text _) id = option_rule id String
+taking (kinds.U32 _) id = option_rule id u32_parser
+taking (kinds.U64 _) id = option_rule id u64_parser
+taking (kinds.Count _) id = option_rule id count_parser
+
+abbrev pub rule_for : Row → Rule
+rule_for row =
+    record (taking row.takes row.id.now) { required = row.is_required; short = row.short }
+
+abbrev pub app_for : Subcommand → App
+app_for sub = command_with sub.name.now (map rule_for sub.rows.now)
+
+abbrev pub top_for : Subcommand → Shape
+top_for sub = (app_for sub).top

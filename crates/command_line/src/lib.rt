@@ -1,0 +1,17 @@
+//! What the words of a command line ask for.
+//!
+//! `options.rt` has the subcommands and their options as tables, `helps.rt` and `texts.rt` what is
+//! said of them, `choices.rt` the words that an option may have, and `words.rt` reads words as a
+//! request.
+#![tactic(auto)]
+
+mod choices;
+mod helps;
+pub mod laws;
+mod options;
+mod refusals;
+mod texts;
+mod words;
+mod workers;
+
+pub use words::read_words;

@@ -1,0 +1,365 @@
+//! The commands of the program and their options, as tables, in the order of the help.
+
+ghost use Rattle.std.specs.Prelude.{◌≡◌, IfOk, false, fold, map};
+ghost use Rattle.clap.specs.Words.{app_of, rule_of, with_rule, with_subcommand};
+ghost use Rattle.clap.specs.declared.Command.TheViews.{out-Command as fields_of};
+ghost use Rattle.command_line.specs.Commands.{asking_rule, deals, deals_top, flag_rule};
+ghost use Rattle.command_line.specs.Commands.{option_rule};
+ghost use Rattle.command_line.specs.internal.Rows.{rule_for, app_for, top_for};
+
+use self::Takes::{Count, Help, Nothing, Text, U32, U64};
+use crate::helps::{about_of, examples_of, help_of};
+use crate::texts::{ABOUT, PROGRAM_EXAMPLES};
+use clap::builder::ValueParser;
+use clap::{Arg, ArgAction, Command, value_parser};
+use notations::Format;
+use std::alloc::{AllocError, Global};
+
+/// The most values that `stream` prints: the same as the most candidates of a seed.
+const MAX_VALUES: i64 = 1099511627776;
+
+/// What an option takes, with the name that the help gives to its value.
+pub(crate) enum Takes {
+    /// A flag, which takes none.
+    Nothing,
+    /// clap's flag for help, which takes none either.
+    Help,
+    Text(&'static str),
+    U32(&'static str),
+    U64(&'static str),
+    /// A number up to 2^40.
+    Count(&'static str),
+}
+
+/// An option `--id`. What help says of it is in `helps`: with its text each row would be too
+/// large for the prover, which computes the whole table.
+pub(crate) struct Row {
+    pub(crate) id: &'static str,
+    /// The letter of `-s`, where it has one.
+    pub(crate) short: Option<char>,
+    pub(crate) takes: Takes,
+    pub(crate) is_required: bool,
+}
+
+/// An option `--id NAME`.
+fn option<'a>(alloc: Global, id: &'a str, parser: ValueParser<'a>, name: &'a str) -> Arg<'a>
+    ensures rule { rule_of result ≡ option_rule id.entry.now parser.entry }
+    ensures local { result.global ≡ false }
+{
+    Arg::new(alloc, id)
+        .long(id)
+        .value_parser(parser)
+        .value_name(name)
+}
+
+/// The flag `--help`.
+fn help_flag<'a>(alloc: Global, id: &'a str) -> Arg<'a>
+    ensures rule { rule_of result ≡ asking_rule id.entry.now }
+    ensures local { result.global ≡ false }
+{
+    Arg::new(alloc, id).long(id).action(ArgAction::Help)
+}
+
+/// A flag `--id`.
+fn flag<'a>(alloc: Global, id: &'a str) -> Arg<'a>
+    ensures rule { rule_of result ≡ flag_rule id.entry.now }
+    ensures local { result.global ≡ false }
+{
+    Arg::new(alloc, id).long(id).action(ArgAction::SetTrue)
+}
+
+/// The row as `clap` has it, in the subcommand of this name.
+fn arg_of<'a>(alloc: Global, name: &str, row: &Row) -> Arg<'a>
+    ensures rule { rule_of result ≡ rule_for row.entry.now }
+    ensures local { result.global ≡ false }
+{
+    let arg = match row.takes {
+        Takes::Nothing => flag(alloc, row.id),
+        Takes::Help => help_flag(alloc, row.id),
+        Takes::Text(name) => option(alloc, row.id, ValueParser::String, name),
+        Takes::U32(name) => option(alloc, row.id, value_parser!(u32), name),
+        Takes::U64(name) => option(alloc, row.id, value_parser!(u64), name),
+        Takes::Count(name) => {
+            option(alloc, row.id, value_parser!(u64).range(..=MAX_VALUES), name)
+        }
+    };
+    let (heading, text) = help_of(name, row.id);
+    let arg = arg
+        .required(row.is_required)
+        .help_heading(heading)
+        .help(text);
+    match row.short {
+        Some(letter) => arg.short(letter),
+        None => arg,
+    }
+}
+
+/// The command with one more option.
+fn with_option<'a>(command: Command<'a>, arg: Arg<'a>) -> Result<Command<'a>, AllocError>
+    requires { arg.global ≡ false }
+    ensures app { IfOk result (λ c. app_of c
+        ≡ with_rule (app_of command.entry) (rule_of arg.entry)) }
+    ensures local { IfOk result (λ c. (fields_of c).has_globals
+        ≡ (fields_of command.entry).has_globals) }
+{
+    command.arg(arg)
+}
+
+/// The command of this name with an option for each row.
+pub(crate) fn with_rows<'a>(
+    alloc: Global,
+    name: &str,
+    command: Command<'a>,
+    rows: &[Row],
+) -> Result<Command<'a>, AllocError>
+    ensures app { IfOk result (λ c. app_of c
+        ≡ fold with_rule (app_of command.entry) (map rule_for rows.entry.now)) }
+    ensures local { IfOk result (λ c. (fields_of c).has_globals
+        ≡ (fields_of command.entry).has_globals) }
+{
+    let mut command = command;
+    for row in rows {
+        command = with_option(command, arg_of(alloc, name, row))?;
+    }
+    Ok(command)
+}
+
+/// An option by its id, and what it takes.
+macro_rules! optional {
+    ($id:literal $takes:expr) => {
+        Row {
+            id: $id,
+            short: None,
+            takes: $takes,
+            is_required: false,
+        }
+    };
+    ($letter:literal $id:literal $takes:expr) => {
+        Row {
+            id: $id,
+            short: Some($letter),
+            takes: $takes,
+            is_required: false,
+        }
+    };
+}
+
+macro_rules! required {
+    ($id:literal $takes:expr) => {
+        Row {
+            id: $id,
+            short: None,
+            takes: $takes,
+            is_required: true,
+        }
+    };
+    ($letter:literal $id:literal $takes:expr) => {
+        Row {
+            id: $id,
+            short: Some($letter),
+            takes: $takes,
+            is_required: true,
+        }
+    };
+}
+
+const SEED: Row = required! { 's' "seed" U32("S") };
+
+const WHERE: Row = optional! { 'w' "where" Text("TEXT") };
+
+const BOARDS: Row = optional! { 'n' "boards" U32("M") };
+
+const CANDIDATES: Row = optional! { "candidates" U64("N") };
+
+const FIRST: Row = optional! { "first" U64("K") };
+
+const NORTH: Row = optional! { "north" Text("HAND") };
+
+const EAST: Row = optional! { "east" Text("HAND") };
+
+const SOUTH: Row = optional! { "south" Text("HAND") };
+
+const WEST: Row = optional! { "west" Text("HAND") };
+
+const OF: Row = optional! { "of" Text("TEXT") };
+
+const BY: Row = optional! { "by" Text("TEXT") };
+
+const FORMAT: Row = optional! { 'f' "format" Text("FORMAT") };
+
+const SHOW: Row = optional! { "show" Text("WHO") };
+
+const TRICKS: Row = optional! { "tricks" Nothing };
+
+const DEALER: Row = optional! { "dealer" Text("SEAT") };
+
+const VULNERABLE: Row = optional! { "vulnerable" Text("SIDES") };
+
+const ROTATE: Row = optional! { "rotate" Nothing };
+
+const FROM_BOARD: Row = optional! { "first-board" U64("B") };
+
+const EVENT: Row = optional! { "event" Text("TEXT") };
+
+const SITE: Row = optional! { "site" Text("TEXT") };
+
+const DATE: Row = optional! { "date" Text("DATE") };
+
+const WORKERS: Row = optional! { "workers" Text("W") };
+
+const LANE: Row = optional! { "lane" U32("C") };
+
+const REPORT: Row = optional! { "report" Nothing };
+
+const PROGRESS: Row = optional! { "progress" Text("WHEN") };
+
+const HINTS: Row = optional! { "hints" Text("WHEN") };
+
+const HELP: Row = optional! { 'h' "help" Help };
+
+const VALUES: Row = required! { "count" Count("N") };
+
+// Which deals, how they look, speed, and what is said: each in the order in which people need them.
+
+pub(crate) const MAKE: &[Row] = &[
+    SEED, WHERE, BOARDS, CANDIDATES, FIRST, NORTH, EAST, SOUTH, WEST, FORMAT, SHOW, TRICKS, DEALER,
+    VULNERABLE, ROTATE, FROM_BOARD, EVENT, SITE, DATE, WORKERS, LANE, REPORT, PROGRESS, HINTS,
+    HELP,
+];
+
+pub(crate) const FIND: &[Row] = &[
+    SEED, WHERE, BOARDS, CANDIDATES, FIRST, NORTH, EAST, SOUTH, WEST, WORKERS, LANE, REPORT,
+    PROGRESS, HINTS, HELP,
+];
+
+pub(crate) const COUNT: &[Row] = &[
+    SEED, WHERE, BOARDS, CANDIDATES, FIRST, NORTH, EAST, SOUTH, WEST, OF, BY, FORMAT, WORKERS,
+    LANE, PROGRESS, HINTS, HELP,
+];
+
+pub(crate) const PICK: &[Row] = &[
+    SEED, NORTH, EAST, SOUTH, WEST, FORMAT, SHOW, DEALER, VULNERABLE, ROTATE, FROM_BOARD, EVENT,
+    SITE, DATE, HINTS, HELP,
+];
+
+/// The options of a command that needs none.
+pub(crate) const ALONE: &[Row] = &[HELP];
+
+pub(crate) const STREAM: &[Row] = &[SEED, VALUES, HELP];
+
+/// The subcommands that search and write one format alone.
+pub(crate) const FINDERS: &[(&str, Format)] = &[("find", Format::Numbers)];
+
+/// A subcommand. What help says of it is in `helps`.
+pub(crate) struct Subcommand {
+    pub(crate) name: &'static str,
+    /// The program's name and its own, as `clap` names it in a refusal.
+    in_full: &'static str,
+    pub(crate) rows: &'static [Row],
+}
+
+/// The subcommands, in the order of the help.
+static SUBCOMMANDS: [Subcommand; 7] = [
+    Subcommand {
+        name: "make",
+        in_full: "deals make",
+        rows: MAKE,
+    },
+    Subcommand {
+        name: "find",
+        in_full: "deals find",
+        rows: FIND,
+    },
+    Subcommand {
+        name: "count",
+        in_full: "deals count",
+        rows: COUNT,
+    },
+    Subcommand {
+        name: "pick",
+        in_full: "deals pick",
+        rows: PICK,
+    },
+    Subcommand {
+        name: "conditions",
+        in_full: "deals conditions",
+        rows: ALONE,
+    },
+    Subcommand {
+        name: "seed",
+        in_full: "deals seed",
+        rows: ALONE,
+    },
+    Subcommand {
+        name: "stream",
+        in_full: "deals stream",
+        rows: STREAM,
+    },
+];
+
+/// The subcommand as `clap` has it. Its flag for help is a row, so that it is with others in the
+/// help, and not before them.
+fn command_of<'a>(alloc: Global, sub: &Subcommand) -> Result<Command<'a>, AllocError>
+    ensures app { IfOk result (λ c. app_of c ≡ app_for sub.now) }
+    ensures local { IfOk result (λ c. (fields_of c).has_globals ≡ false) }
+{
+    let command = Command::new(alloc, sub.name)
+        .disable_help_flag(true)
+        .about(about_of(sub.name))
+        .after_help(examples_of(sub.name));
+    with_rows(alloc, sub.name, command, sub.rows)
+}
+
+/// The command `make`, or `find`, `count` or `pick` if it has that name, as `clap` names it in a
+/// refusal.
+///
+/// # Errors
+/// `AllocError` if an allocation failed.
+pub fn named_command<'a>(alloc: Global, name: &str) -> Result<Command<'a>, AllocError> {
+    let [make, find, count, pick, ..] = &SUBCOMMANDS;
+    let sub = match name {
+        "find" => find,
+        "count" => count,
+        "pick" => pick,
+        _ => make,
+    };
+    command_of(alloc, sub)?.bin_name(sub.in_full)
+}
+
+/// The program's name, without subcommands.
+fn top<'a>(alloc: Global) -> Command<'a>
+    ensures app { app_of result ≡ deals_top }
+    ensures local { (fields_of result).has_globals ≡ false }
+{
+    Command::new(alloc, "deals")
+        .version("0.2.0")
+        .about(ABOUT)
+        .after_help(PROGRAM_EXAMPLES)
+        .subcommand_required(true)
+}
+
+/// The command with each of these subcommands.
+fn with_subcommands<'a>(
+    alloc: Global,
+    command: Command<'a>,
+    subs: &[Subcommand],
+) -> Result<Command<'a>, AllocError>
+    ensures { IfOk result (λ c. app_of c
+        ≡ fold with_subcommand (app_of command.entry) (map top_for subs.entry.now)) }
+{
+    let mut command = command;
+    for sub in subs {
+        command = command.subcommand(command_of(alloc, sub)?)?;
+    }
+    Ok(command)
+}
+
+/// The program's whole command line.
+///
+/// # Errors
+/// `AllocError` if an allocation failed.
+pub fn command<'a>(alloc: Global) -> Result<Command<'a>, AllocError>
+    ensures { IfOk result (λ c. app_of c ≡ deals) }
+{
+    with_subcommands(alloc, top(alloc), &SUBCOMMANDS)
+}

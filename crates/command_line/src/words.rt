@@ -1,0 +1,262 @@
+//! From the words of a command line to a request.
+
+ghost use Rattle.std.specs.Prelude.{◌≡◌, List, codes, is_some, map, option_map, string_bytes};
+ghost use Rattle.clap.specs.Walk.{Text};
+ghost use Rattle.clap.specs.Words.{first_of, found_of, rows_of};
+ghost use Rattle.command_line.specs.CommandLine.{asks_page, hands_in, has_by_alone, has_no_end};
+ghost use Rattle.command_line.specs.CommandLine.{lacks_option, look_in, made_by, notices_in};
+ghost use Rattle.command_line.specs.CommandLine.{number_in, number_or, questions_in, search_in};
+ghost use Rattle.command_line.specs.CommandLine.{is_set, AreRead};
+ghost use Rattle.command_line.specs.internal.Asking.{Chosen, HasValues};
+ghost use Rattle.command_line.specs.internal.Readings.{MayGive32, MayGive64, SearchValues};
+ghost use Rattle.command_line.specs.internal.Readings.{StreamValues};
+ghost use Rattle.predeal.specs.PredealtHands.{given_by};
+ghost use Rattle.request_types.specs.Requests.{look_of, questions_of, search_of, wish_of};
+
+use crate::choices::{
+    DEALER, FORMAT, HINTS, PROGRESS, SHOW, STYLE, VULNERABLE, look_up, unknown_in,
+};
+use crate::options::{FINDERS, command};
+use crate::refusals::{NO_END, NO_QUESTION, invalid_number, invalid_value, missing_option};
+use crate::workers::{bad_workers_in, workers_in};
+use clap::{ArgMatches, Error};
+use notations::Show;
+use predeal::PredealtHands;
+use request_types::{
+    Format, Look, Notices, Questions, Request, Search, StreamRequest, Style, When,
+};
+use std::alloc::Global;
+
+/// What an option of 32 bits was given.
+fn u32_in(matches: &ArgMatches, id: &str) -> Option<u32>
+    requires { MayGive32 id.now (rows_of (found_of matches.now)) }
+    ensures { result ≡ number_in id.now (rows_of (found_of matches.now)) }
+{
+    matches.get_one::<u32>(id)
+}
+
+/// What an option of 64 bits was given.
+fn u64_in(matches: &ArgMatches, id: &str) -> Option<u64>
+    requires { MayGive64 id.now (rows_of (found_of matches.now)) }
+    ensures { result ≡ number_in id.now (rows_of (found_of matches.now)) }
+{
+    matches.get_one::<u64>(id)
+}
+
+/// What the options of `stream` were given.
+fn stream_request(matches: &ArgMatches) -> StreamRequest
+    requires { StreamValues (rows_of (found_of matches.now)) }
+    ensures seed { result.seed ≡ number_or 0 (codes "seed") (rows_of (found_of matches.now)) }
+    ensures count { result.count ≡ number_or 0 (codes "count") (rows_of (found_of matches.now)) }
+{
+    StreamRequest {
+        seed: u32_in(matches, "seed").unwrap(),
+        count: u64_in(matches, "count").unwrap(),
+    }
+}
+
+/// The text that an option was given.
+pub fn text_in<'a>(matches: &ArgMatches<'a>, id: &str) -> Option<&'a str>
+    ensures { option_map (λ s. s.now) result ≡ first_of id.now (rows_of (found_of matches.now)) }
+{
+    matches.get_str(id)
+}
+
+/// Whether a flag is given.
+fn is_set(matches: &ArgMatches, id: &str) -> bool
+    ensures { result ≡ is_set id.now (rows_of (found_of matches.now)) }
+{
+    match text_in(matches, id) {
+        Some(text) => text == "true",
+        None => false,
+    }
+}
+
+/// The texts of hands that the options were given.
+fn hands_in<'a>(matches: &ArgMatches<'a>) -> PredealtHands<'a>
+    ensures { given_by result ≡ hands_in (rows_of (found_of matches.now)) }
+{
+    PredealtHands {
+        north: text_in(matches, "north"),
+        east: text_in(matches, "east"),
+        south: text_in(matches, "south"),
+        west: text_in(matches, "west"),
+    }
+}
+
+/// What the options of a search were given, or their defaults.
+fn search_in<'a>(matches: &ArgMatches<'a>) -> Search<'a>
+    requires { SearchValues (rows_of (found_of matches.now)) }
+    ensures { search_of result ≡ search_in (rows_of (found_of matches.now)) }
+{
+    Search {
+        seed: u32_in(matches, "seed").unwrap(),
+        candidates: u64_in(matches, "candidates"),
+        first: u64_in(matches, "first").unwrap_or(0),
+        workers: workers_in(matches),
+        lane: u32_in(matches, "lane"),
+        where_text: text_in(matches, "where"),
+        boards: u32_in(matches, "boards"),
+        hands: hands_in(matches),
+    }
+}
+
+/// What the options of the boards' look were given, or their defaults.
+fn look_in<'a>(matches: &ArgMatches<'a>) -> Look<'a>
+    requires { MayGive64 (codes "first-board") (rows_of (found_of matches.now)) }
+    ensures { look_of result ≡ look_in (rows_of (found_of matches.now)) }
+{
+    Look {
+        format: FORMAT.given(matches).unwrap_or(Format::Pbn),
+        show: SHOW.given(matches).unwrap_or(Show::All),
+        first_board: u64_in(matches, "first-board"),
+        event: text_in(matches, "event"),
+        site: text_in(matches, "site"),
+        date: text_in(matches, "date"),
+        dealer: DEALER.given(matches),
+        vulnerable: VULNERABLE.given(matches),
+        rotate: is_set(matches, "rotate"),
+    }
+}
+
+/// What the options of notices were given, or their defaults.
+fn notices_in(matches: &ArgMatches) -> Notices
+    ensures { result ≡ notices_in (rows_of (found_of matches.now)) }
+{
+    Notices {
+        report: is_set(matches, "report"),
+        progress: PROGRESS.given(matches).unwrap_or(When::Auto),
+        hints: HINTS.given(matches).unwrap_or(When::Auto),
+    }
+}
+
+/// What the options of questions were given. One for the columns counts only beside one for the
+/// rows.
+fn questions_in<'a>(matches: &ArgMatches<'a>) -> Questions<'a>
+    ensures { questions_of result ≡ questions_in (rows_of (found_of matches.now)) }
+{
+    match (text_in(matches, "of"), text_in(matches, "by")) {
+        (None, _) => Questions::None,
+        (Some(text), None) => Questions::One(text),
+        (Some(of), Some(by)) => Questions::Two { of, by },
+    }
+}
+
+/// Whether neither a number of candidates nor a limit of boards was given, where one is needed.
+fn has_no_end(name: &str, search: &Search<'_>) -> bool
+    ensures { result ≡ has_no_end name.now (search_of search.now) }
+{
+    name != "pick" && search.candidates.is_none() && search.boards.is_none()
+}
+
+/// Whether there is a question for the columns of a table, and none for its rows.
+fn has_by_alone(matches: &ArgMatches) -> bool
+    ensures { result ≡ has_by_alone (rows_of (found_of matches.now)) }
+{
+    text_in(matches, "by").is_some() && text_in(matches, "of").is_none()
+}
+
+/// The options of which one is missing, as clap's refusal names them.
+fn missing_of(name: &str, search: &Search<'_>, matches: &ArgMatches) -> Option<&'static str>
+    ensures { is_some result
+        ≡ lacks_option name.now (search_of search.now) (rows_of (found_of matches.now)) }
+{
+    if has_no_end(name, search) {
+        return Some(NO_END);
+    }
+    if has_by_alone(matches) {
+        return Some(NO_QUESTION);
+    }
+    None
+}
+
+/// What the subcommand of this name asks for, one of those that deal candidates.
+fn request_by<'a>(name: &str, search: Search<'a>, matches: &ArgMatches<'a>) -> Request<'a>
+    requires { MayGive64 (codes "first-board") (rows_of (found_of matches.now)) }
+    ensures { wish_of result
+        ≡ made_by name.now (search_of search.entry) (rows_of (found_of matches.now)) }
+{
+    let notices = notices_in(matches);
+    let look = look_in(matches);
+    if name == "pick" {
+        return Request::Pick {
+            seed: search.seed,
+            hands: search.hands,
+            look,
+            hints: notices.hints,
+        };
+    }
+    if name == "count" {
+        return Request::Count {
+            search,
+            questions: questions_in(matches),
+            style: STYLE.given(matches).unwrap_or(Style::Table),
+            notices,
+        };
+    }
+    if let Some(format) = look_up(FINDERS, name) {
+        return Request::Find {
+            search,
+            format,
+            notices,
+        };
+    }
+    Request::Make {
+        search,
+        look,
+        tricks: is_set(matches, "tricks"),
+        notices,
+    }
+}
+
+/// Whether the words ask for the page of the language by `help`.
+fn asks_page(words: &[String]) -> bool
+    ensures { result ≡ asks_page (map string_bytes words.now) }
+{
+    words.len() == 3 && words[1].as_str() == "help" && words[2].as_str() == "conditions"
+}
+
+/// What the words ask for, the program's name first.
+///
+/// # Errors
+///
+/// `Error` if the words ask for nothing, with clap's text, as for help; for words that ask for
+/// something only if memory ran out.
+pub fn read_words<'a>(alloc: Global, words: &'a [String]) -> Result<Request<'a>, Error>
+    ensures { AreRead (map string_bytes words.entry.now) result }
+{
+    if asks_page(words) {
+        return Ok(Request::Conditions);
+    }
+    let matches = command(alloc)?.try_get_matches_from(words)?;
+    let (name, inner) = matches.subcommand().unwrap();
+    request_of(alloc, name, inner)
+}
+
+/// What the words ask for that name this subcommand and give its options these values.
+fn request_of<'a>(alloc: Global, name: &str, matches: &ArgMatches<'a>) -> Result<Request<'a>, Error>
+    requires { HasValues name.now (rows_of (found_of matches.now)) }
+    ensures { (words : List Text) → Chosen words name.now (rows_of (found_of matches.now))
+        → AreRead words result }
+{
+    if name == "stream" {
+        return Ok(Request::Stream(stream_request(matches)));
+    }
+    if name == "conditions" {
+        return Ok(Request::Conditions);
+    }
+    if name == "seed" {
+        return Ok(Request::Seed);
+    }
+    if let Some(unknown) = unknown_in(name, matches) {
+        return Err(invalid_value(alloc, name, &unknown)?);
+    }
+    if let Some(word) = bad_workers_in(matches) {
+        return Err(invalid_number(alloc, name, word)?);
+    }
+    let search = search_in(matches);
+    if let Some(options) = missing_of(name, &search, matches) {
+        return Err(missing_option(alloc, name, options)?);
+    }
+    Ok(request_by(name, search, matches))
+}

@@ -1,8 +1,0 @@
-use Rattle.std.proofs.Common.{refl}
-use Rattle.clap.proofs.OnLiterals.{clap_on_literals}
-use Rattle.deals_cli.specs.CommandLine.{asked, kinds_for}
-use Rattle.deals_cli.proofs.laws.example_of_seed.Goals as goal
-
-pub returns : goal.returns
-unfolding asked kinds_for clap_on_literals
-returns c = refl

@@ -1,8 +1,0 @@
--- The tables that the options of a few words are written as.
-use Rattle.std.specs.Prelude.{List, map}
-use Rattle.clap.specs.Words.{Text}
-use Rattle.deals_cli.specs.declared.choices.Choice.{Choice}
-
--- what each word means
-abbrev pub table_of : {A : Type 0} → Choice A → List (Text × A)
-table_of choice = map (λ p. (p.0.now, p.1)) choice.table.now

@@ -1,5 +1,0 @@
-use Rattle.picking.proofs.Finding.{shards}
-use Rattle.picking.proofs.laws.shards_join.Goals as goal
-
-pub returns : goal.returns
-returns c plan form m n none all = shards plan form m n none all

@@ -1,0 +1,107 @@
+//! The requests: one variant for each subcommand.
+
+ghost use Rattle.std.specs.Prelude.{◌≤◌, ◌^◌};
+
+use crate::look::Look;
+use crate::names::QuestionName;
+use crate::questions::Questions;
+use crate::search::Search;
+use crate::when::When;
+use notations::Format;
+use predeal::PredealtHands;
+use statistics::Style;
+
+/// What a person is told while a run lasts and when it has ended. Nothing else depends on it.
+#[derive(Clone, Copy, Debug)]
+pub struct Notices {
+    /// Whether the boards and the candidates are counted for a report.
+    pub report: bool,
+    /// When the counts are shown while the run lasts.
+    pub progress: When,
+    /// When lines that help a person are below a refusal.
+    pub hints: When,
+}
+
+/// The first `count` values of a seed, at most 2^40.
+#[derive(Clone, Copy, Debug)]
+pub struct StreamRequest {
+    pub seed: u32,
+    pub count: u64,
+    ghost few: { count ≤ 2 ^ 40 },
+}
+
+/// What is asked for.
+#[derive(Clone, Copy, Debug)]
+pub enum Request<'a> {
+    /// The boards of the accepted candidates.
+    Make {
+        search: Search<'a>,
+        look: Look<'a>,
+        /// Whether the input tells the boards' tricks, a line for each.
+        tricks: bool,
+        notices: Notices,
+    },
+    /// What the format writes of the accepted candidates, where no option of the boards' look is
+    /// given: their numbers.
+    Find {
+        search: Search<'a>,
+        format: Format,
+        notices: Notices,
+    },
+    /// A table of what the accepted deals answer.
+    Count {
+        search: Search<'a>,
+        questions: Questions<'a>,
+        style: Style,
+        notices: Notices,
+    },
+    /// The boards of the candidates whose numbers the input gives.
+    Pick {
+        seed: u32,
+        hands: PredealtHands<'a>,
+        look: Look<'a>,
+        hints: When,
+    },
+    /// The page of the language.
+    Conditions,
+    /// A seed that the first bytes of the input draw.
+    Seed,
+    Stream(StreamRequest),
+}
+
+impl<'a> Request<'a> {
+    /// Returns the search and the look that a plan is made of, if the request has one.
+    pub fn plans(&self) -> Option<(Search<'a>, Look<'a>)> {
+        match self {
+            Request::Make { search, look, .. } => Some((*search, *look)),
+            Request::Find { search, format, .. } => Some((*search, Look::plain(*format))),
+            Request::Count { search, .. } => Some((*search, Look::plain(Format::Numbers))),
+            Request::Pick {
+                seed,
+                hands,
+                look,
+                ..
+            } => Some((Search::none(*seed, *hands), *look)),
+            Request::Conditions | Request::Seed | Request::Stream(_) => None,
+        }
+    }
+
+    /// Returns the text of this question, if the request has it.
+    pub fn question(&self, name: QuestionName) -> Option<&'a str> {
+        match self {
+            Request::Count { questions, .. } => questions.text(name),
+            _ => None,
+        }
+    }
+
+    /// Returns when lines that help a person are below a refusal.
+    pub fn hints(&self) -> When {
+        match self {
+            Request::Make { notices, .. }
+            | Request::Find { notices, .. }
+            | Request::Count { notices, .. } => notices.hints,
+            Request::Pick { hints, .. } => *hints,
+            Request::Conditions | Request::Seed | Request::Stream(_) => When::Auto,
+        }
+    }
+}

@@ -1,0 +1,79 @@
+//! Which candidates are tried and accepted.
+
+ghost use Rattle.std.specs.Prelude.{◌≡◌};
+ghost use Rattle.predeal.specs.PredealtHands.{given_by};
+ghost use Rattle.request_types.specs.Defaults.{candidates_of, lane_of, workers_in};
+ghost use Rattle.request_types.specs.Requests.{no_search, search_of};
+
+use crate::workers::Workers;
+use cards::MAX_CANDIDATES;
+use predeal::PredealtHands;
+
+/// Which candidates of a seed are tried, and which of them are accepted. What an option was not
+/// given has its default.
+#[derive(Clone, Copy, Debug)]
+pub struct Search<'a> {
+    pub seed: u32,
+    /// How many candidates are tried; all that there are from the first on, if it isn't given.
+    pub candidates: Option<u64>,
+    /// The number of the first candidate.
+    pub first: u64,
+    /// How many workers judge them.
+    pub workers: Workers,
+    /// How many verdicts a worker's lane holds: 64 if it isn't given, and 4,096 if the machine says
+    /// how many workers there are.
+    pub lane: Option<u32>,
+    /// The text of the condition.
+    pub where_text: Option<&'a str>,
+    /// How many boards are written at most.
+    pub boards: Option<u32>,
+    /// The cards that are fixed at the seats, as texts of hands.
+    pub hands: PredealtHands<'a>,
+}
+
+impl<'a> Search<'a> {
+    /// Returns the search of a `pick`, which tries no candidates of its own.
+    pub fn none(seed: u32, hands: PredealtHands<'a>) -> Search<'a>
+        ensures { search_of result ≡ no_search seed (given_by hands.entry) }
+    {
+        Search {
+            seed,
+            candidates: Some(0),
+            first: 0,
+            workers: Workers::Number(1),
+            lane: Some(1),
+            where_text: None,
+            boards: None,
+            hands,
+        }
+    }
+
+    /// Returns how many candidates are tried.
+    pub fn candidates(&self) -> u64
+        ensures { result ≡ candidates_of (search_of self.now) }
+    {
+        let all = MAX_CANDIDATES.saturating_sub(self.first);
+        self.candidates.unwrap_or(all)
+    }
+
+    /// Returns how many workers a plan has: 1 until it is known how many suit the machine.
+    pub fn workers(&self) -> u32
+        ensures { result ≡ workers_in self.now.workers }
+    {
+        match self.workers {
+            Workers::Number(number) => number,
+            Workers::Auto => 1,
+        }
+    }
+
+    /// Returns how many verdicts a worker's lane holds.
+    pub fn lane(&self) -> u32
+        ensures { result ≡ lane_of (search_of self.now) }
+    {
+        let default = match self.workers {
+            Workers::Number(_) => 64,
+            Workers::Auto => 4096,
+        };
+        self.lane.unwrap_or(default)
+    }
+}

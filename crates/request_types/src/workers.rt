@@ -1,0 +1,9 @@
+//! How many workers are asked for.
+
+/// How many workers are asked for. The same is written with any number of them.
+#[derive(Clone, Copy, PartialEq, Eq, Debug)]
+pub enum Workers {
+    Number(u32),
+    /// As many as suit the machine.
+    Auto,
+}

@@ -1,0 +1,36 @@
+//! Options without their two hyphens: a word processor makes a dash of them, a person writes one.
+
+use crate::options;
+use std::alloc::Global;
+
+/// The dashes that word processors write, and the minus sign.
+const DASHES: [char; 3] = ['\u{2013}', '\u{2014}', '\u{2212}'];
+
+/// What helps with the first word that has such a dash, or one hyphen in the place of two.
+pub(crate) fn hint(alloc: Global, words: &[String]) -> Option<String> {
+    words.iter().find_map(|word| hint_of(alloc, word.as_str()))
+}
+
+fn hint_of(alloc: Global, word: &str) -> Option<String> {
+    if let Some(rest) = word.strip_prefix(DASHES) {
+        let name = name_of(rest.trim_start_matches(DASHES).trim_start_matches('-'));
+        let hyphens = if name.len() == 1 { "-" } else { "--" };
+        return format!(in alloc; "write hyphens, and not a dash: {hyphens}{name}").ok();
+    }
+    let rest = word.strip_prefix('-')?;
+    if rest.len() < 2 {
+        return None;
+    }
+    let twice = format!(in alloc; "--{}", name_of(rest)).ok()?;
+    let known = options::named(twice.as_str())?;
+    let option = known.option;
+    format!(in alloc; "write two hyphens: {option}").ok()
+}
+
+/// The name of an option at the start of a word, as far as letters go.
+fn name_of(word: &str) -> &str {
+    match word.split_once(|c: char| !c.is_ascii_lowercase() && c != '-') {
+        Some((name, _)) => name,
+        None => word,
+    }
+}

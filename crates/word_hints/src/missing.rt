@@ -1,0 +1,72 @@
+//! Options that are missing, that have no value, and that occur twice.
+
+use crate::instead::HOW_MANY;
+use crate::options;
+use std::alloc::Global;
+
+/// How to come to a seed for new boards: two hints.
+const HOW_TO_SEED: &str = "  hint: for a lesson any number is a good seed: --seed 7
+  hint: for a club draw one that nobody can guess: deals seed
+";
+
+/// What is perhaps so where a seed has no value.
+const NO_SEED: &str = "a variable may be empty here: write the number of your boards, as --seed 7";
+
+/// How to come to a seed.
+pub(crate) const TO_DRAW: &str = "; to draw one: deals seed";
+
+const SEED_OF_SEARCH: &str =
+    "write the seed of the search that found the numbers: deals pick --seed 7";
+
+const FOR_ROWS: &str = "--by comes beside --of: --of 'hcp(south)' --by 'longest(south)'";
+
+const ONE_QUESTION: &str =
+    "ask one thing here and the other by --by, or in a second run: --of 'hcp(south)' --by \
+    'longest(south)'";
+
+const ONE_CONDITION: &str = "join conditions by and: --where 'hcp(north)>=15 and balanced(north)'";
+
+const HOW_MANY_TRIED: &str = "--candidates 1000000 says how many deals are tried";
+
+const HOW_MANY_NUMBERS: &str = "write --count 3 for three numbers";
+
+pub(crate) const NO_COMMAND: &str =
+    "write deals make --seed 7 --boards 36 for boards, or deals --help";
+
+/// What helps where these options are missing.
+pub(crate) fn of_options(command: &str, missing: &str) -> Option<&'static str> {
+    if missing.contains("--seed") {
+        return Some(match command {
+            "pick" => SEED_OF_SEARCH,
+            _ => HOW_TO_SEED,
+        });
+    }
+    if missing.contains("--candidates") {
+        return Some(match command {
+            "count" => HOW_MANY_TRIED,
+            _ => HOW_MANY,
+        });
+    }
+    if missing.contains("--of") {
+        return Some(FOR_ROWS);
+    }
+    missing.contains("--count").then_some(HOW_MANY_NUMBERS)
+}
+
+/// What helps where this option has no value.
+pub(crate) fn of_value(alloc: Global, option: &str) -> Option<String> {
+    if option == "--seed" {
+        return format!(in alloc; "{NO_SEED}{TO_DRAW}").ok();
+    }
+    let sample = options::named(option)?.sample;
+    format!(in alloc; "write its value after it: {option} {sample}").ok()
+}
+
+/// What helps where this option occurs twice.
+pub(crate) fn of_repeat(alloc: Global, option: &str) -> Option<String> {
+    match option {
+        "--where" => String::from_str(alloc, ONE_CONDITION).ok(),
+        "--of" => String::from_str(alloc, ONE_QUESTION).ok(),
+        _ => format!(in alloc; "write {option} once").ok(),
+    }
+}

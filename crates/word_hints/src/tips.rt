@@ -1,0 +1,68 @@
+//! clap's own tips, which are shown to a person only where the word that was tried is close to the
+//! one that there is: clap names the nearest of all, however far it is.
+
+use crate::refused;
+use crate::refused::Refused;
+use std::alloc::Global;
+use strsim::osa_distance;
+
+/// How clap begins a tip that it guessed.
+const TIP: &str = "\n  tip: ";
+
+const GUESSES: [&str; 2] = ["a similar ", "some similar "];
+
+/// The shortest word in which two letters may differ, and the shortest beginning that says a word.
+const LONG: usize = 6;
+
+const BEGINNING: usize = 3;
+
+/// clap's refusal without a tip that is far from what was tried, and without the usage, which names
+/// the tip's option then; none if there is no such tip.
+pub fn without_far_tips(alloc: Global, refusal: &str) -> Option<String> {
+    let tried = match refused::read(refusal)? {
+        Refused::Argument(word) | Refused::Command(word) => word,
+        _ => return None,
+    };
+    let (head, rest) = refusal.split_once(TIP)?;
+    let (tip, rest) = rest.split_once("\n")?;
+    if !is_guess(tip) || has_close(alloc, tried, tip) {
+        return None;
+    }
+    let head = head.trim();
+    let end = match rest.rsplit_once("\n\n") {
+        Some((_, end)) => end,
+        None => rest,
+    };
+    format!(in alloc; "{head}\n\n{end}").ok()
+}
+
+fn is_guess(tip: &str) -> bool {
+    GUESSES.iter().any(|guess| tip.starts_with(*guess))
+}
+
+/// Whether one of the words in quotes is close to what was tried.
+fn has_close(alloc: Global, tried: &str, tip: &str) -> bool {
+    let tried = tried.trim_start_matches('-');
+    let mut is_quoted = false;
+    for part in tip.split('\'') {
+        if is_quoted && is_close(alloc, tried, part.trim_start_matches('-')) {
+            return true;
+        }
+        is_quoted = !is_quoted;
+    }
+    false
+}
+
+/// Whether a person who wrote the one may have meant the other: one letter differs, or two in a
+/// long word, or one is the beginning of the other.
+fn is_close(alloc: Global, tried: &str, word: &str) -> bool {
+    let Ok(tried) = tried.to_ascii_lowercase(alloc) else {
+        return false;
+    };
+    let tried = tried.as_str();
+    if tried.len() >= BEGINNING && (word.starts_with(tried) || tried.starts_with(word)) {
+        return true;
+    }
+    let most = if tried.len() < LONG { 1 } else { 2 };
+    matches!(osa_distance(alloc, tried, word), Ok(distance) if distance <= most)
+}
