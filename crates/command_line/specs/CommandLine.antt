@@ -266,10 +266,3 @@ kinds_for words = if asks_page words then [] else read_kinds words
 unfoldable pub asked : List Text → Option Wish
 asked words =
     if asks_page words then Some conditions else unless_fault (read_kinds words) (wish_in words)
-
--- what was read of the words: what they ask for, or clap's error. Of words that ask for something
--- only that memory ran out is one
-abbrev pub AreRead : List Text → Result Request Error → Type 0
-AreRead words (Ok request) = asked words ≡ Some (wish_of request)
-AreRead words (Err error) =
-    (IsSome (asked words) → kind_of error ≡ kind.OutOfMemory) × HasKind (kinds_for words) error

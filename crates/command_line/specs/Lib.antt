@@ -1,4 +1,5 @@
 pub use Rattle.request_types.specs.Requests
 pub mod Commands
 pub mod CommandLine
+pub mod Reading
 pub mod internal

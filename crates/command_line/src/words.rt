@@ -4,9 +4,10 @@ ghost use Rattle.std.specs.Prelude.{◌≡◌, List, codes, is_some, map, option
 ghost use Rattle.clap.specs.Walk.{Text};
 ghost use Rattle.clap.specs.Words.{first_of, found_of, rows_of};
 ghost use Rattle.command_line.specs.CommandLine.{asks_page, hands_in, has_by_alone, has_no_end};
-ghost use Rattle.command_line.specs.CommandLine.{lacks_option, look_in, made_by, notices_in};
-ghost use Rattle.command_line.specs.CommandLine.{number_in, number_or, questions_in, search_in};
-ghost use Rattle.command_line.specs.CommandLine.{is_set, AreRead};
+ghost use Rattle.command_line.specs.CommandLine.{is_set, lacks_option, look_in, made_by};
+ghost use Rattle.command_line.specs.CommandLine.{notices_in, number_in, number_or, questions_in};
+ghost use Rattle.command_line.specs.CommandLine.{search_in};
+ghost use Rattle.command_line.specs.Reading.{AreRead};
 ghost use Rattle.command_line.specs.internal.Asking.{Chosen, HasValues};
 ghost use Rattle.command_line.specs.internal.Readings.{MayGive32, MayGive64, SearchValues};
 ghost use Rattle.command_line.specs.internal.Readings.{StreamValues};

@@ -22,7 +22,7 @@ use Rattle.requests.specs.declared.report.Report.{Report}
 use Rattle.requests.proofs.FirstDue.{output_due}
 use Rattle.requests.proofs.Statuses.{no_memory, served}
 use Rattle.command_line.specs.CommandLine.{asked, kinds_for}
-use Rattle.command_line.specs.CommandLine.{AreRead}
+use Rattle.command_line.specs.Reading.{AreRead}
 use Rattle.deals_cli.specs.Program.{Answers, AreRefused, IsStatusFor, IsTaskFor, MayShow, ReadsTask, WantsInput, is_shown}
 use Rattle.deals_cli.specs.declared.task.Task.{Task}
 use Rattle.deals_cli.specs.declared.task.Task.TheVariants.{Do, Show}

@@ -3,5 +3,6 @@ pub use Rattle.requests.specs.Makings
 pub use Rattle.requests.specs.Wishes
 pub use Rattle.command_line.specs.Commands
 pub use Rattle.command_line.specs.CommandLine
+pub use Rattle.command_line.specs.Reading
 pub mod Program
 pub mod internal

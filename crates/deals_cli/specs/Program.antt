@@ -1,10 +1,8 @@
 -- How the program ends for words that ask for nothing, for others `Wishes` of `requests` says it;
 -- and what it says and leaves of a failure.
 use Rattle.std.specs.Prelude.{◌≡◌, ◌⊎◌, ℕ, Bool, true, false, List, [], Option, None, Some}
-use Rattle.std.specs.Prelude.{Result, Ok, Err, IfErr, IfOk, IsSome, OnOk}
-use Rattle.clap.specs.Kinds.{HasKind, IsAmong}
-use Rattle.clap.specs.Words.{kind_of}
-use Rattle.clap.specs.declared.error.Error.{Error}
+use Rattle.std.specs.Prelude.{Result, IfErr, IfOk, OnOk}
+use Rattle.clap.specs.Kinds.{IsAmong}
 use Rattle.clap.specs.Walk.{Text}
 use Rattle.clap.specs.declared.error.kind.ErrorKind.{ErrorKind}
 use Rattle.clap.specs.declared.error.kind.ErrorKind.TheVariants as kind
@@ -16,11 +14,10 @@ use Rattle.requests.specs.Interruptions.{LeavesFrom}
 use Rattle.requests.specs.Lines.{line_of}
 use Rattle.requests.specs.Reported.{Reports, ReportsFor, wants_report}
 use Rattle.requests.specs.Jobs.{IsReady, ReadsInput}
-use Rattle.request_types.specs.Requests.{Look, Search, Wish, draw, make, make_with_tricks, wish_of}
+use Rattle.request_types.specs.Requests.{Look, Search, Wish, draw, make, make_with_tricks}
 use Rattle.requests.specs.Wishes.{HasInput}
 use Rattle.requests.specs.declared.report.Report.{Report}
 use Rattle.request_types.specs.declared.request.Notices.{Notices}
-use Rattle.request_types.specs.declared.request.Request.{Request}
 use Rattle.requests.specs.declared.failure.Failure.{Failure}
 use Rattle.requests.specs.declared.failure.Failure.TheVariants.{Interrupted, Input}
 use Rattle.command_line.specs.CommandLine.{asked, kinds_for}

@@ -4,7 +4,7 @@ ghost use Rattle.std.specs.Prelude.{◌≡◌, ◌-◌, ◌+◌, ◌^◌, ◌<�
 ghost use Rattle.std.specs.Prelude.{string_bytes, true};
 ghost use Rattle.clap.specs.Walk.{Text};
 ghost use Rattle.clap.specs.Words.{kind_of};
-ghost use Rattle.command_line.specs.CommandLine.{AreRead};
+ghost use Rattle.command_line.specs.Reading.{AreRead};
 ghost use Rattle.deals_cli.specs.Program.{Answers, AreRefused, IsFlushedAfter, IsTaskFor};
 ghost use Rattle.deals_cli.specs.Program.{ReadsTask, is_shown};
 ghost use Rattle.deals_cli.specs.internal.Kinds.{RefusesError};
