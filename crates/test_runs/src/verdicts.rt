@@ -191,11 +191,12 @@ fn sends_one_accepted(sender: &mut LaneIn) -> bool {
 
 /// Takes rejected verdicts as long as there are some in the block, and says how many.
 fn take_rejected(taker: &mut LaneOut) -> u32 {
-    let mut count = 0;
-    while count < 16 && taker.take_rejected() {
-        count += 1;
+    for count in 0..16 {
+        if !taker.take_rejected() {
+            return count;
+        }
     }
-    count
+    16
 }
 
 #[test]
