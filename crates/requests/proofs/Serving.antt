@@ -368,7 +368,7 @@ drawn (stream seed n) value before behind old new ready ends = absurd ready
 pub draw_fails : (T : Type 0) (w : Wish) (f : Failure) (before behind old new : Option (List ℕ)) → IsReady w Seed → EndsDraw {T = T} (Err f) before behind old new → Serves w (Err f) before behind old new
 draw_fails T draw (Interrupted Output) before behind old new ready ends = record { text = tt; report = tt; status = served draw 4 (inr refl) tt tt; untouched = λ bad. absurd cc; stands = ends; due = tt }
 draw_fails T draw Input before behind old new ready ends = record { text = tt; report = tt; status = failed_input draw 7 refl tt tt tt; untouched = λ bad. absurd cc; stands = ends; due = tt }
-draw_fails T draw EndOfInput before behind old new ready ends = record { text = tt; report = tt; status = failed_input draw 7 refl tt tt tt; untouched = λ _. ends; stands = ends; due = tt }
+draw_fails T draw EndOfInput before behind old new ready ends = record { text = tt; report = tt; status = failed_input draw 7 refl tt tt tt; untouched = λ _. ends.0; stands = ends; due = tt }
 draw_fails T draw (Interrupted Memory) before behind old new ready ends = absurd ends
 draw_fails T draw (Interrupted Spawn) before behind old new ready ends = absurd ends
 draw_fails T draw (Interrupted (Stopped worker)) before behind old new ready ends = absurd ends

@@ -3,6 +3,7 @@ use Rattle.std.specs.Prelude.{◌≡◌, ◌⊎◌, ℕ, List, [], Err, Option, 
 use Rattle.cond_lang.specs.Form.{Form}
 use Rattle.dealrun.specs.declared.cause.Cause.{Cause}
 use Rattle.dealrun.specs.declared.cause.Cause.TheVariants.{Memory}
+use Rattle.picking.specs.FourBytes.{EndsBefore}
 use Rattle.picking.specs.Outcomes.{Picks}
 use Rattle.picking.specs.declared.fault.PickFault.{PickFault}
 use Rattle.picking.specs.declared.fault.PickFault.TheVariants as picks
@@ -17,7 +18,7 @@ pub use Rattle.requests.specs.Runs.{InterruptsRun}
 use Rattle.requests.specs.WithTricks.{BreaksTold, FailsTold, StopsAtLine}
 use Rattle.requests.specs.Wishes.{IsDrawn, language_page, seed_text}
 use Rattle.requests.specs.declared.failure.Failure.{Failure}
-use Rattle.requests.specs.declared.failure.Failure.TheVariants.{Interrupted, Line, Input}
+use Rattle.requests.specs.declared.failure.Failure.TheVariants.{EndOfInput, Interrupted, Line, Input}
 use Rattle.statistics.specs.Counting.{Subject, counting}
 use Rattle.statistics.specs.declared.style.Style.{Style}
 
@@ -85,13 +86,15 @@ EndsFor draw picks.Input before behind old new = new ≡ old
 EndsFor w fault before behind old new = ⊥
 
 -- what a wish leaves that fails so: nothing, unless it was broken off. `before` and `behind` are
--- what the input had to give before and behind it
+-- what the input had to give before and behind it; it has ended too soon for a seed if it had fewer
+-- than four bytes
 abbrev pub LeavesFrom : Wish → Failure → (before behind old new : Option (List ℕ)) → Type 0
 LeavesFrom w (Interrupted Memory) before behind old new = new ≡ old
 LeavesFrom w (Interrupted cause) before behind old new = BreaksOff w cause before behind old new
 LeavesFrom w (Line line) before behind old new =
     EndsFor w (picks.Refused line) before behind old new
 LeavesFrom w Input before behind old new = EndsFor w picks.Input before behind old new
+LeavesFrom w EndOfInput before behind old new = (new ≡ old) × EndsBefore 4 before behind
 LeavesFrom w failure before behind old new = new ≡ old
 
 -- the same without an input

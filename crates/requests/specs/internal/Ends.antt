@@ -18,6 +18,7 @@ use Rattle.picking.specs.declared.tricks_lines.LinesEnd.{LinesEnd}
 use Rattle.picking.specs.declared.tricks_lines.LinesEnd.TheVariants.{Enough, Failed, Missing, Refused}
 use Rattle.request_types.specs.declared.workers.Workers.{Workers}
 use Rattle.tricks.specs.Lines.{TricksView}
+use Rattle.picking.specs.FourBytes.{EndsBefore}
 use Rattle.picking.specs.Outcomes.{Picks}
 use Rattle.picking.specs.declared.fault.PickFault.{PickFault}
 use Rattle.picking.specs.declared.fault.PickFault.TheVariants as picks
@@ -138,7 +139,7 @@ EndsDraw (Err (Interrupted Output)) before behind old new =
     (new ≡ old)
     ⊎ ((bytes : List ℕ) × IsDrawn bytes before behind × AppendsPart old new (seed_text bytes))
 EndsDraw (Err Input) before behind old new = new ≡ old
-EndsDraw (Err EndOfInput) before behind old new = new ≡ old
+EndsDraw (Err EndOfInput) before behind old new = (new ≡ old) × EndsBefore 4 before behind
 EndsDraw (Err failure) before behind old new = ⊥
 
 -- a failure of the input is told before any other but the output's
