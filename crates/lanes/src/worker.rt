@@ -304,8 +304,14 @@ fn send_block<R: Wait, G: Gate>(
         (lane.old.sent ++ verdicts_in block.now) }
 {
     // A load of the stop flag isn't an event of the core.
-    if gate.is_open() && !stop.load(Ordering::SeqCst) && lane.try_send_block(block) {
-        return true;
+    if gate.is_open() && !stop.load(Ordering::SeqCst) {
+        // If the lane is full, the block waits for room once: to send its verdicts one by one moves
+        // the ring's cache lines between the cores for each.
+        if lane.try_send_block(block)
+            || lane.wait_for_room(rt, stop) && lane.try_send_block(block)
+        {
+            return true;
+        }
     }
     send_each(rt, job, lane, gate, stop, block)
 }

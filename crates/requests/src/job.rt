@@ -19,9 +19,9 @@ use crate::search::{planned, read_condition};
 use crate::seed_job::draw;
 use crate::tricks_job::write_with_tricks;
 use crate::workers::worked;
+use crate::written::write_plan;
 use cond_lang::{Cond, LANGUAGE};
-use dealrun::{Cause, RunFault, run_and_count};
-use lanes::OpenGate;
+use dealrun::Cause;
 use notations::{AnyPrinter, Format, Show};
 use picking::{PickFault, Source, pick};
 use plans::Plan;
@@ -29,7 +29,7 @@ use request_types::{Look, Notices, Questions, Request, Search, StreamRequest};
 use sinks::{Sink, SinkFault, put_all};
 use statistics::{Counter, Style};
 use std::alloc::Global;
-use std::sync::{Arc, Wait};
+use std::sync::Wait;
 use std::thread::Threads;
 
 /// What is ready to be done, and was asked for by a request.
@@ -180,18 +180,13 @@ fn write_boards<R: Threads + Wait + Clone + Send + 'static, O: Sink>(
     let Ok(mut printer) = AnyPrinter::showing(alloc, format, show, plan.heading()) else {
         return Err(Cause::Memory);
     };
-    let Ok(gate) = Arc::new(alloc, OpenGate) else {
-        return Err(Cause::Memory);
-    };
-    match run_and_count(rt, alloc, &run, condition, &mut printer, out, gate) {
-        Ok(counted) => Ok(Report {
-            plan,
-            format,
-            candidates: counted.candidates,
-            boards: counted.report.boards,
-        }),
-        Err(fault) => Err(fault.cause),
-    }
+    let written = write_plan(rt, alloc, &run, condition, &mut printer, out)?;
+    Ok(Report {
+        plan,
+        format,
+        candidates: written.candidates,
+        boards: written.boards,
+    })
 }
 
 /// Writes the table. It stands apart, so that no other job takes its stack.
@@ -219,14 +214,18 @@ fn write_table<R: Threads + Wait + Clone + Send + 'static, O: Sink>(
     let Ok(mut counter) = Counter::new(alloc, style, subject) else {
         return Err(Cause::Memory);
     };
-    let Ok(gate) = Arc::new(alloc, OpenGate) else {
-        return Err(Cause::Memory);
-    };
-    match run_and_count(rt, alloc, &run, condition, &mut counter, out, gate) {
+    let ended = write_plan(rt, alloc, &run, condition, &mut counter, out);
+    let_go(counter);
+    match ended {
         Ok(_) => Ok(()),
-        Err(RunFault { cause, .. }) => Err(cause),
+        Err(cause) => Err(cause),
     }
 }
+
+/// Lets a counter go. It stands apart, since a proof takes apart what its function lets go: in
+/// `write_table` that takes a minute more.
+#[inline(never)]
+fn let_go(_counter: Counter) {}
 
 /// Writes the boards of the candidates whose numbers the input gives. What was written before a
 /// fault of the input is passed on.

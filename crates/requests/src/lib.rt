@@ -17,6 +17,7 @@ mod search;
 mod seed_job;
 mod tricks_job;
 mod workers;
+mod written;
 
 pub use boards_job::BoardsJob;
 pub use count_job::CountJob;

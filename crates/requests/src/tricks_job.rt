@@ -11,14 +11,14 @@ use crate::boards_job::BoardsJob;
 use crate::failure::Failure;
 use crate::report::Report;
 use crate::workers::worked;
-use dealrun::{Cause, run_and_count};
-use lanes::OpenGate;
+use crate::written::write_plan;
+use dealrun::Cause;
 use notations::AnyPrinter;
 use picking::{LineFault, LinesEnd, RefusedLine, Source, TricksRead, read_tricks};
 use plans::Plan;
 use sinks::Sink;
 use std::alloc::Global;
-use std::sync::{Arc, Wait};
+use std::sync::Wait;
 use std::thread::Threads;
 use tricks::Tricks;
 
@@ -87,18 +87,13 @@ fn write_told<R: Threads + Wait + Clone + Send + 'static, O: Sink>(
     else {
         return Err(Cause::Memory);
     };
-    let Ok(gate) = Arc::new(alloc, OpenGate) else {
-        return Err(Cause::Memory);
-    };
-    match run_and_count(rt, alloc, &run, condition, &mut printer, out, gate) {
-        Ok(counted) => Ok(Report {
-            plan,
-            format,
-            candidates: counted.candidates,
-            boards: counted.report.boards,
-        }),
-        Err(fault) => Err(fault.cause),
-    }
+    let written = write_plan(rt, alloc, &run, condition, &mut printer, out)?;
+    Ok(Report {
+        plan,
+        format,
+        candidates: written.candidates,
+        boards: written.boards,
+    })
 }
 
 /// Returns what is told of a run that was interrupted: that the input failed, if it did, unless

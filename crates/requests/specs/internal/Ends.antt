@@ -1,5 +1,6 @@
 -- How the parts of a job end.
-use Rattle.std.specs.Prelude.{◌≡◌, ◌⊎◌, ◌+◌, nat_lt, if◌then◌else◌, ℕ, length, List, Option, Result, Ok, Err}
+use Rattle.std.specs.Prelude.{◌≡◌, ◌⊎◌, ◌+◌, ◌≤◌, nat_lt, if◌then◌else◌, ℕ, length, List, Option, Result, Ok, Err}
+use Rattle.dealrun.specs.Headline.{WritesTextIn}
 use Rattle.dealrun.specs.Interrupted.{FaultsAfter}
 use Rattle.dealrun.specs.declared.cause.Cause.{Cause}
 use Rattle.dealrun.specs.declared.cause.Cause.TheVariants.{Memory, Output, Spawn, Stopped, Unclosed}
@@ -34,9 +35,29 @@ use Rattle.requests.specs.declared.boards_job.BoardsJob.{BoardsJob}
 use Rattle.requests.specs.declared.count_job.CountJob.{CountJob}
 use Rattle.requests.specs.declared.job.PickJob.{PickJob}
 use Rattle.requests.specs.declared.report.Report.{Report}
+use Rattle.requests.specs.declared.written.Written.{Written}
 use Rattle.sinks.specs.Appended.{AppendsAll, AppendsPart}
 use Rattle.statistics.specs.Counting.{counting}
 use Rattle.statistics.specs.Subjects.{subject_of}
+
+-- a run of the plan over some of the workers that are asked for was interrupted
+abbrev pub InterruptsWorked : Layout → Planned → Workers → Form → Cause
+    → (old new : Option (List ℕ)) → Type 0
+InterruptsWorked layout plan asked form cause old new =
+    (workers : ℕ) × AreWorkers asked workers
+    × InterruptsRun layout (record plan { workers = workers }) form cause old new
+
+-- a run wrote the plan's text, and was counted
+pub record Wrote (layout : Layout) (plan : Planned) (form : Form) (written : Written)
+    (old new : Option (List ℕ)) : Type 0 where
+  pub text : WritesTextIn layout plan form written.boards old new
+  pub candidates_are : written.candidates ≡ end_of plan form
+  pub few : (written.boards ≤ written.candidates) × (written.candidates ≤ plan.count)
+
+abbrev pub EndsWritten : Layout → Planned → Form → Result Written Cause
+    → (old new : Option (List ℕ)) → Type 0
+EndsWritten layout plan form (Ok written) old new = Wrote layout plan form written old new
+EndsWritten layout plan form (Err cause) old new = InterruptsRun layout plan form cause old new
 
 -- a run wrote its text and was counted, or was interrupted
 abbrev pub EndsBoards : BoardsJob → Result Report Cause → (old new : Option (List ℕ)) → Type 0
@@ -44,9 +65,8 @@ EndsBoards job (Ok report) old new =
     AppendsAll old new (text_showing job.format job.show job.plan job.condition)
     × Counts job.format job.plan job.condition report
 EndsBoards job (Err cause) old new =
-    (workers : ℕ) × AreWorkers job.workers workers
-    × InterruptsRun (layout_showing job.format job.show job.plan.heading)
-    (record job.plan { workers = workers }) job.condition cause old new
+    InterruptsWorked (layout_showing job.format job.show job.plan.heading) job.plan job.workers
+    job.condition cause old new
 
 -- the plan with this many workers as are asked for
 abbrev pub IsWorked : Planned → Workers → Planned → Type 0
@@ -73,9 +93,8 @@ abbrev pub EndsTold : BoardsJob → List TricksView → Result Report Cause
     → (old new : Option (List ℕ)) → Type 0
 EndsTold job table (Ok report) old new = WroteTold job table report old new
 EndsTold job table (Err cause) old new =
-    (workers : ℕ) × AreWorkers job.workers workers
-    × InterruptsRun (layout_by job table)
-    (record (plan_told job.plan (length table)) { workers = workers }) job.condition cause old new
+    InterruptsWorked (layout_by job table) (plan_told job.plan (length table)) job.workers
+    job.condition cause old new
 
 -- a run wrote its table, or was interrupted
 abbrev pub EndsCount : {T : Type 0} → CountJob → Result T Cause
@@ -83,9 +102,8 @@ abbrev pub EndsCount : {T : Type 0} → CountJob → Result T Cause
 EndsCount job (Ok value) old new =
     AppendsAll old new (table_by job.style (subject_of job.subject) job.plan job.condition)
 EndsCount job (Err cause) old new =
-    (workers : ℕ) × AreWorkers job.workers workers
-    × InterruptsRun (counting job.style (subject_of job.subject))
-    (record job.plan { workers = workers }) job.condition cause old new
+    InterruptsWorked (counting job.style (subject_of job.subject)) job.plan job.workers
+    job.condition cause old new
 
 -- the output failed once if the cause is that, and else not
 abbrev pub FaultsOfRun : {T : Type 0} → Result T Cause → ℕ → ℕ → Type 0
