@@ -294,6 +294,18 @@ class Checks:
             it.build_by(BUILDS)
             yield "changed during the build", it.builds() == 1 and it.call()[0] == 0 and it.builds() == 1
 
+    def check_noted(self):
+        """`./check` reads the launcher for what it does, and notes the program that its gate built."""
+        with self.checkout() as it:
+            os.makedirs(it.path("crates/deals/out"))
+            shutil.copy(self.shown, it.path("crates/deals/out/deals"))
+            words = ["bash", "-euc", '. "$1"; note_built', "bash", it.path("deals")]
+            end = subprocess.run(words, cwd="/", env=it.environment(), capture_output=True, timeout=PATIENCE)
+            yield "noted", (end.returncode, end.stdout, end.stderr) == (0, b"", b"")
+            yield "noted, not built", it.call("x") == (0, shown("x"), b"") and it.builds() == 0
+            it.put("crates/low/src/lib.rt", "// changed\n")
+            yield "noted, and a source changed", it.call("x") == (0, shown("x"), FIRST_LINE) and it.builds() == 1
+
     def check_failed(self):
         with self.checkout() as it:
             it.build_by(FAILS)

@@ -43,14 +43,20 @@ pub(crate) struct Parts<'t> {
 }
 
 fn class_of(byte: u8) -> Class {
-    match byte {
-        b' ' | b'\t' | b'\n' | b'\r' => Class::Blank,
-        b'#' => Class::Comment,
-        b'a'..=b'z' | b'A'..=b'Z' => Class::Letter,
-        b'0'..=b'9' => Class::Digit,
-        b'=' | b'!' | b'<' | b'>' | b'&' | b'|' => Class::Relation,
-        0x80..=0xFF => Class::Wide,
-        _ => Class::Single,
+    if byte.is_ascii_alphabetic() {
+        Class::Letter
+    } else if byte.is_ascii_digit() {
+        Class::Digit
+    } else if !byte.is_ascii() {
+        Class::Wide
+    } else if b" \t\n\r".contains(&byte) {
+        Class::Blank
+    } else if b"=!<>&|".contains(&byte) {
+        Class::Relation
+    } else if byte == b'#' {
+        Class::Comment
+    } else {
+        Class::Single
     }
 }
 

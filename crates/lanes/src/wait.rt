@@ -23,6 +23,9 @@ use std::sync::Wait;
 use std::sync::atomic::{AtomicBool, Ordering};
 use std::{hint, thread};
 
+/// The fewest spins between two looks, for a lane of one verdict.
+const MIN_SPINS: usize = 4;
+
 /// The most spins between two looks: some microseconds, so that a flag that goes up is soon seen.
 const MAX_SPINS: usize = 4096;
 
@@ -149,7 +152,10 @@ impl Pause {
             Pace::Yields => (1, true),
         };
         Pause {
-            spins: capacity.saturating_mul(SPINS_A_VERDICT).min(MAX_SPINS),
+            spins: capacity
+                .saturating_mul(SPINS_A_VERDICT)
+                .max(MIN_SPINS)
+                .min(MAX_SPINS),
             enough,
             seen: 0,
             yields,
