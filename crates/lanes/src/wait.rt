@@ -9,8 +9,8 @@
 //!
 //! While an end knows of a slot or a verdict, it goes on and looks at nobody. When it knows of
 //! none, it looks at the other end's counter, whose cache line then moves between the cores. So it
-//! does not look at once for each verdict, but pauses between two looks, and goes on with about half
-//! a lane's content.
+//! does not look at once for each verdict, but pauses between two looks, and goes on with about
+//! half a lane's content.
 //!
 //! One loop a lane's end: look at the stop flag, pause, count. It ends with enough, with less once
 //! the other end makes no progress, or without when the flag is up.
@@ -29,8 +29,8 @@ const MIN_SPINS: usize = 4;
 /// The most spins between two looks: some microseconds, so that a flag that goes up is soon seen.
 const MAX_SPINS: usize = 4096;
 
-/// How many spins a verdict of the other end takes, about, so that a pause lasts about half a lane's
-/// content.
+/// How many spins a verdict of the other end takes, about, so that a pause lasts about half a
+/// lane's content.
 const SPINS_A_VERDICT: usize = 2;
 
 /// A spinning end goes on with a lane's capacity divided by this: with half of it, one end works
