@@ -17,7 +17,7 @@ use crate::tree::Value;
 use cards::{Fixed, Seat};
 
 /// A bound of a value, for any hands that may become known.
-#[derive(Debug, Drop)]
+#[derive(Drop)]
 pub(crate) struct Estimate {
     /// What the value is beside its cards, and what is taken for each card of the pack.
     pub(crate) total: u32,

@@ -16,7 +16,7 @@ use cards::{CardWeights, Fixed, Hand};
 use std::alloc::{AllocError, Global};
 
 /// A test of the hands that are known. What it excludes can become no deal that is accepted.
-#[derive(Debug, Drop)]
+#[derive(Drop)]
 pub(crate) enum Test {
     /// It excludes nothing.
     Never,

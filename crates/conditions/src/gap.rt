@@ -10,7 +10,7 @@ use cards::{CardWeights, Hand};
 
 /// A comparison that opens a gap: once the low side, with the losses of the known hands, is less
 /// than the high side, with their gains, no deal that is still possible brings them together.
-#[derive(Debug, Drop)]
+#[derive(Drop)]
 pub(crate) struct Gap {
     /// The most that one value can be.
     pub(crate) low: u32,
@@ -23,14 +23,14 @@ pub(crate) struct Gap {
 }
 
 /// How much a seat's cards open a gap, and how much they close it. `None` weighs nothing.
-#[derive(Debug, Drop)]
+#[derive(Drop)]
 pub(crate) struct Shift {
     pub(crate) gain: Option<CardWeights>,
     pub(crate) loss: Option<CardWeights>,
 }
 
 /// A card's weight is 16 or more.
-#[derive(Debug, Drop)]
+#[derive(Drop)]
 pub(crate) struct TooHeavy;
 
 impl Gap {

@@ -12,7 +12,6 @@ use std::sync::atomic::{AtomicBool, Ordering};
 const QUIET_MILLIS: u64 = 1000;
 
 /// Draws a run's counts on a writer.
-#[derive(Drop)]
 pub struct Counts<E> {
     err: E,
     alloc: Global,
@@ -23,6 +22,22 @@ pub struct Counts<E> {
     /// Whether a line was drawn.
     shows: bool,
     drawn: Drawn,
+}
+
+// By hand, so that to drop one is a call (docs/DECISIONS.md).
+impl<E: Drop> Drop for Counts<E> {
+    fn drop(self) {
+        let Counts {
+            err: _,
+            alloc: _,
+            style: _,
+            all: _,
+            started: _,
+            due: _,
+            shows: _,
+            drawn: _,
+        } = self;
+    }
 }
 
 impl<E: Write> Counts<E> {
@@ -143,12 +158,22 @@ impl Drawn {
 
 /// A writer that wipes the line of counts on the error output before it writes. Each piece is
 /// written at once.
-#[derive(Drop)]
 pub struct OverLine<W, E> {
     writer: W,
     err: E,
     /// None where the writer's bytes don't come to the terminal that the line is on.
     drawn: Option<Drawn>,
+}
+
+// By hand, so that to drop one is a call (docs/DECISIONS.md).
+impl<W: Drop, E: Drop> Drop for OverLine<W, E> {
+    fn drop(self) {
+        let OverLine {
+            writer: _,
+            err: _,
+            drawn: _,
+        } = self;
+    }
 }
 
 impl<W: Write, E: Write> OverLine<W, E> {

@@ -28,7 +28,6 @@ pub fn millis(clock: &impl Clock) -> Option<u64> {
 ///
 /// Any error of the writer is a fault, and so is a count of 0 for a piece that isn't empty. If
 /// passing on fails, the next `write` or `flush` is a fault.
-#[derive(Drop)]
 pub struct Prompt<W: Write, C, E> {
     writer: W,
     // The writer as it was handed in, for proofs alone: it takes no memory.
@@ -46,6 +45,24 @@ pub struct Prompt<W: Write, C, E> {
     reason: Option<Error>,
     faults: u64,
     ghost tells: { IsSome (W.contents first.value) → IsSome (W.contents writer) },
+}
+
+// By hand, so that to drop one is a call (docs/DECISIONS.md).
+impl<W: Write + Drop, C: Drop, E: Drop> Drop for Prompt<W, C, E> {
+    fn drop(self) {
+        let Prompt {
+            writer: _,
+            first: _,
+            clock: _,
+            counts: _,
+            gathered_millis: _,
+            gathers: _,
+            passed_on: _,
+            fails: _,
+            reason: _,
+            faults: _,
+        } = self;
+    }
 }
 
 impl<W: Write, C: Clock, E: Write> Prompt<W, C, E> {

@@ -10,12 +10,18 @@ mod notes;
 mod streams;
 mod unread;
 
+ghost use Rattle.std.specs.Prelude.{◌-◌, ◌^◌, ◌<◌, map, string_bytes};
+ghost use Rattle.command_line.specs.Reading.{AreRead};
+
 use crate::endings::{cut_off, for_person, say, say_more};
 use crate::notes::{note, typed};
-use crate::streams::{Given, Reasons, help, hints_of, is_time, open};
-use deals_cli::{perform, prepare, read_words};
+use crate::streams::{Given, Reasons, Said, help, hints_of, is_time, open};
+use clap::Error;
+use command_line::read_words;
+use deals_cli::{Task, perform, prepare};
 use picking::Reader;
-use sinks::{Piped, put_all};
+use requests::{Failure, Report, Request};
+use sinks::{Piped, Sink, put_all};
 use std::cell::Cell;
 use std::io::ErrorKind;
 use std::process::ExitCode;
@@ -43,6 +49,42 @@ fn not_begun(rt: &HostRuntime, error: &io::Error) -> ExitCode {
     ExitCode::from(5)
 }
 
+/// The task that the words ask for, with notes on it for a person if hints are said.
+fn noted(
+    rt: &HostRuntime,
+    words: &[String],
+    read: &Result<Request<'_>, Error>,
+    hints: bool,
+) -> Result<Task, Failure>
+    requires { AreRead (map string_bytes words.now) read.now }
+{
+    let task = prepare(rt.alloc(), words, read)?;
+    if hints {
+        put_note(rt, note(rt.alloc(), words, read, &task));
+        put_note(rt, typed(rt, &task));
+    }
+    Ok(task)
+}
+
+/// Says how it ended to a person, and what helps with a failure. Returns the status.
+fn tell(
+    rt: &HostRuntime,
+    words: &[String],
+    read: &Result<Request<'_>, Error>,
+    ended: Result<Option<Report>, Failure>,
+    reasons: Reasons<'_>,
+    err: &mut Said,
+) -> u8
+    requires { ⟦<Said as Sink>⟧.faults err.old < 2 ^ 64 - 1 }
+{
+    let ended = for_person(rt, ended);
+    let status = say(&ended, err);
+    if let Err(failure) = &ended {
+        say_more(help(rt.alloc(), words, read, failure, reasons), err);
+    }
+    status
+}
+
 fn main(rt: HostRuntime) -> ExitCode {
     let words = match words_of(&rt) {
         Ok(words) => words,
@@ -57,29 +99,19 @@ fn main(rt: HostRuntime) -> ExitCode {
     let hints = is_time(&rt, hints_of(words, &read));
     let reason = Cell::new(None);
     let mut input = Reader::new(Given::new(&rt, &read, &reason));
-    let ended = match prepare(rt.alloc(), words, &read) {
-        Ok(task) => {
-            if hints {
-                put_note(&rt, note(rt.alloc(), words, &read, &task));
-                put_note(&rt, typed(&rt, &task));
-            }
-            perform(&rt, rt.alloc(), task, &mut input, &mut out)
-        }
+    let ended = match noted(&rt, words, &read, hints) {
+        Ok(task) => perform(&rt, rt.alloc(), task, &mut input, &mut out),
         Err(failure) => Err(failure),
     };
-    if hints && let Some(status) = cut_off(&rt, &ended, out.reason()) {
+    if !hints {
+        return ExitCode::from(say(&ended, &mut err));
+    }
+    if let Some(status) = cut_off(&rt, &ended, out.reason()) {
         return ExitCode::from(status);
     }
-    let ended = if hints { for_person(&rt, ended) } else { ended };
-    let status = say(&ended, &mut err);
-    if let Err(failure) = &ended
-        && hints
-    {
-        let reasons = Reasons {
-            output: out.reason(),
-            input: reason.get(),
-        };
-        say_more(help(rt.alloc(), words, &read, failure, reasons), &mut err);
-    }
-    ExitCode::from(status)
+    let reasons = Reasons {
+        output: out.reason(),
+        input: reason.get(),
+    };
+    ExitCode::from(tell(&rt, words, &read, ended, reasons, &mut err))
 }

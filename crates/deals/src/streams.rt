@@ -9,7 +9,7 @@ use console::{Counts, Drawn, GATHERED_MILLIS, OverLine, Prompt, Style, millis};
 use dealrun::Cause;
 use hints::{explain, explain_question};
 use picking::LineFault;
-use requests::{Failure, QuestionName, Request, Search, When};
+use requests::{Failure, QuestionName, Request, When};
 use sinks::{Piped, Sink};
 use std::alloc::Global;
 use std::cell::Cell;
@@ -212,28 +212,50 @@ pub fn is_time(rt: &HostRuntime, when: When) -> bool {
     }
 }
 
+/// What helps with a plan, a label or a hand that is refused.
+fn plan_help(
+    alloc: Global,
+    read: &Result<Request<'_>, Error>,
+    failure: &Failure,
+) -> Option<String> {
+    let (search, look) = read.as_ref().ok()?.plans()?;
+    advise(alloc, &search, &look, failure).unwrap_or(None)
+}
+
 /// What helps with the text of a condition that is refused.
-fn explanation(alloc: Global, search: &Search<'_>, error: CondError) -> Option<String> {
+fn condition_help(
+    alloc: Global,
+    read: &Result<Request<'_>, Error>,
+    error: CondError,
+) -> Option<String> {
+    let (search, _) = read.as_ref().ok()?.plans()?;
     explain(alloc, search.where_text?.as_bytes(), error).ok()
 }
 
 /// What helps with the text of a question that is refused.
 fn question_help(
     alloc: Global,
-    request: &Request<'_>,
+    read: &Result<Request<'_>, Error>,
     name: QuestionName,
     error: CondError,
 ) -> Option<String> {
-    explain_question(alloc, request.question(name)?.as_bytes(), error).ok()
+    let text = read.as_ref().ok()?.question(name)?;
+    explain_question(alloc, text.as_bytes(), error).ok()
 }
 
 /// What helps with a table that could be too large.
 const TOO_LARGE: &str =
     "  hint: rows of --of times columns of --by: add up fewer values, or ask for a condition\n";
 
-/// The system's reason, by the number of its error.
-fn reason_of(alloc: Global, number: i32) -> Option<String> {
-    let error = io::Error::from_raw_os_error(number);
+/// The system's reason why the output failed.
+fn reason_of_output(alloc: Global, reasons: Reasons<'_>) -> Option<String> {
+    let reason = reasons.output?;
+    format!(in alloc; "  {reason}\n").ok()
+}
+
+/// The system's reason why the input couldn't be read, by the number of its error.
+fn reason_of_input(alloc: Global, reasons: Reasons<'_>) -> Option<String> {
+    let error = io::Error::from_raw_os_error(reasons.input?);
     format!(in alloc; "  {error}\n").ok()
 }
 
@@ -255,23 +277,12 @@ pub fn help(
 ) -> Option<String> {
     match failure {
         Failure::CommandLine(text) => word_hints::hint(alloc, words, text.as_str()),
-        Failure::Plan(_) | Failure::Label(_) | Failure::Hand(_) => {
-            let (search, look) = read.as_ref().ok()?.plans()?;
-            advise(alloc, &search, &look, failure).unwrap_or(None)
-        }
-        Failure::Condition(error) => {
-            let (search, _) = read.as_ref().ok()?.plans()?;
-            explanation(alloc, &search, *error)
-        }
-        Failure::Question(name, error) => {
-            question_help(alloc, read.as_ref().ok()?, *name, *error)
-        }
+        Failure::Plan(_) | Failure::Label(_) | Failure::Hand(_) => plan_help(alloc, read, failure),
+        Failure::Condition(error) => condition_help(alloc, read, *error),
+        Failure::Question(name, error) => question_help(alloc, read, *name, *error),
         Failure::Cells => String::from_str(alloc, TOO_LARGE).ok(),
-        Failure::Interrupted(Cause::Output) => {
-            let reason = reasons.output?;
-            format!(in alloc; "  {reason}\n").ok()
-        }
-        Failure::Input => reason_of(alloc, reasons.input?),
+        Failure::Interrupted(Cause::Output) => reason_of_output(alloc, reasons),
+        Failure::Input => reason_of_input(alloc, reasons),
         Failure::Line(line) => String::from_str(alloc, line_help(line.fault)).ok(),
         Failure::Interrupted(_) | Failure::EndOfInput => None,
     }

@@ -45,16 +45,20 @@ pub fn hint(rt: &HostRuntime) -> Option<String> {
 fn said_of(alloc: Global, word: &[u8], len: usize) -> Option<String> {
     let (line, start) = last_line(word.get(..len)?);
     let before = word.get(start.max(len.saturating_sub(SHOWN))..len)?;
+    let place = place_of(alloc, line, before)?;
+    let place = place.as_str();
+    format!(in alloc; "  hint: the text has to be UTF-8, and a byte {place} isn't\n").ok()
+}
+
+/// Where a byte of this line is, behind these bytes.
+fn place_of(alloc: Global, line: usize, before: &[u8]) -> Option<String> {
     let mut shown = String::new(alloc);
     put_shown(&mut shown, before).ok()?;
     let shown = shown.as_str();
-    let place = if shown.is_empty() {
-        format!(in alloc; "at the start of line {line}").ok()?
-    } else {
-        format!(in alloc; "in line {line} behind \"{shown}\"").ok()?
-    };
-    let place = place.as_str();
-    format!(in alloc; "  hint: the text has to be UTF-8, and a byte {place} isn't\n").ok()
+    if shown.is_empty() {
+        return format!(in alloc; "at the start of line {line}").ok();
+    }
+    format!(in alloc; "in line {line} behind \"{shown}\"").ok()
 }
 
 /// The number of the last line, and where it begins.

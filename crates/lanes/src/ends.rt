@@ -30,7 +30,6 @@ pub enum LaneError {
 
 /// The end that a worker sends into. Contracts see all that was sent so far, how many slots are
 /// known to be free, and which ring it is.
-#[derive(Drop)]
 pub struct LaneIn {
     producer: Producer<Slot>,
     // How many candidates the worker judges before it sends their verdicts.
@@ -78,7 +77,6 @@ impl Model for Closed {
 
 /// The end that the writer takes from. Contracts see all that was taken so far, how many verdicts
 /// are known to wait, which ring it is, whether it is settled, and from then on what is left.
-#[derive(Drop)]
 pub struct LaneOut {
     consumer: Consumer<Slot>,
     block: Block,
@@ -183,6 +181,17 @@ fn ends_with_blocks(
     Ok((sender, taker))
 }
 
+// By hand, so that to drop one is a call (docs/DECISIONS.md).
+impl Drop for LaneIn {
+    fn drop(self) {
+        let LaneIn {
+            producer: _,
+            ahead: _,
+            pace: _,
+        } = self;
+    }
+}
+
 impl LaneIn {
     /// Sends a verdict. Never blocks.
     ///
@@ -280,10 +289,26 @@ impl LaneIn {
     pub fn close(self) -> Option<Closed>
         ensures { IfSome result (λ c. (c.sent ≡ self.sent) × (c.ring ≡ self.ring)) }
     {
-        let LaneIn { producer, .. } = self;
+        let LaneIn {
+            producer,
+            ahead: _,
+            pace: _,
+        } = self;
         // Giving up the producing end is the core's Close.
         let finished = producer.finish()?;
         Some(Closed { finished })
+    }
+}
+
+// By hand, so that to drop one is a call (docs/DECISIONS.md).
+impl Drop for LaneOut {
+    fn drop(self) {
+        let LaneOut {
+            consumer: _,
+            block: _,
+            settled: _,
+            pace: _,
+        } = self;
     }
 }
 

@@ -33,6 +33,10 @@ const MAX_SPINS: usize = 4096;
 /// lane's content.
 const SPINS_A_VERDICT: usize = 2;
 
+/// How many spins without progress an end waits before it lets other threads run. That takes a
+/// microsecond or more, as to yield does: an end of a short lane looks again some times instead.
+const PATIENCE: usize = 64;
+
 /// A spinning end goes on with a lane's capacity divided by this: with half of it, one end works
 /// while the other does.
 const PARTS_OF_A_LANE: usize = 2;
@@ -135,21 +139,21 @@ impl LaneOut {
 }
 
 /// The pauses of an end that waits. One that spins does so again as long as the other end makes
-/// progress, and yields once that stops.
+/// progress, and yields once that stopped and its patience is used up.
 #[derive(Drop)]
 struct Pause {
     spins: usize,
     enough: usize,
     seen: usize,
-    yields: bool,
+    patience: usize,
 }
 
 impl Pause {
     /// The pauses at a lane of this capacity.
     fn new(capacity: usize, pace: Pace) -> Pause {
-        let (enough, yields) = match pace {
-            Pace::Spins => (capacity / PARTS_OF_A_LANE, false),
-            Pace::Yields => (1, true),
+        let (enough, patience) = match pace {
+            Pace::Spins => (capacity / PARTS_OF_A_LANE, PATIENCE),
+            Pace::Yields => (1, 0),
         };
         Pause {
             spins: capacity
@@ -158,13 +162,13 @@ impl Pause {
                 .min(MAX_SPINS),
             enough,
             seen: 0,
-            yields,
+            patience,
         }
     }
 
     /// Waits a little.
     fn wait(&self) {
-        if self.yields {
+        if self.patience == 0 {
             thread::yield_now();
             return;
         }
@@ -179,7 +183,9 @@ impl Pause {
     {
         let stands_still = count == self.seen;
         self.seen = count;
-        self.yields = self.yields || stands_still;
+        if stands_still {
+            self.patience = self.patience.saturating_sub(self.spins);
+        }
         count > 0 && (stands_still || count >= self.enough)
     }
 }

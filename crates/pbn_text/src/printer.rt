@@ -34,7 +34,6 @@ use std::marker::Model;
 ///
 /// It is made for many games: to create one costs as much as to print some thousand games. It takes
 /// 128 KiB of memory once, when it is created, and none to print.
-#[derive(Drop)]
 pub struct Printer {
     heading: Heading,
     letters: SuitLetters,
@@ -57,6 +56,19 @@ impl Model for Printer {
 
     ghost invariant = { λ p.
         IsPrinted p.buffer p.heading p.prefix.start p.prefix.number_start p.prefix.number p.end };
+}
+
+// By hand, so that to drop one is a call (docs/DECISIONS.md).
+impl Drop for Printer {
+    fn drop(self) {
+        let Printer {
+            heading: _,
+            letters: _,
+            buffer: _,
+            prefix: _,
+            end: _,
+        } = self;
+    }
 }
 
 impl Printer {

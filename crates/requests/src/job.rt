@@ -189,7 +189,8 @@ fn write_boards<R: Threads + Wait + Clone + Send + 'static, O: Sink>(
     })
 }
 
-/// Writes the table. It stands apart, so that no other job takes its stack.
+/// Writes the table.
+// Not in line, so that no other job takes its stack.
 #[inline(never)]
 fn write_table<R: Threads + Wait + Clone + Send + 'static, O: Sink>(
     rt: &R,
@@ -214,18 +215,9 @@ fn write_table<R: Threads + Wait + Clone + Send + 'static, O: Sink>(
     let Ok(mut counter) = Counter::new(alloc, style, subject) else {
         return Err(Cause::Memory);
     };
-    let ended = write_plan(rt, alloc, &run, condition, &mut counter, out);
-    let_go(counter);
-    match ended {
-        Ok(_) => Ok(()),
-        Err(cause) => Err(cause),
-    }
+    write_plan(rt, alloc, &run, condition, &mut counter, out)?;
+    Ok(())
 }
-
-/// Lets a counter go. It stands apart, since a proof takes apart what its function lets go: in
-/// `write_table` that takes a minute more.
-#[inline(never)]
-fn let_go(_counter: Counter) {}
 
 /// Writes the boards of the candidates whose numbers the input gives. What was written before a
 /// fault of the input is passed on.

@@ -138,7 +138,8 @@ fn told_of(ended: Result<Report, Cause>, end: LinesEnd, lines: u64) -> Result<Re
 }
 
 /// Writes boards with the tricks that the input tells, and counts them. What was written before a
-/// fault of the input is passed on. It stands apart, so that no other job takes its stack.
+/// fault of the input is passed on.
+// Not in line, so that no other job takes its stack.
 #[inline(never)]
 pub(crate) fn write_with_tricks<R: Threads + Wait + Clone + Send + 'static, I: Source, O: Sink>(
     rt: &R,

@@ -9,7 +9,6 @@ use conditions::Question;
 use std::marker::Model;
 
 /// A question, and the title that it has in a table.
-#[derive(Drop)]
 pub struct Asked {
     pub(crate) question: Question,
     pub(crate) title: Title,
@@ -24,6 +23,16 @@ impl Model for Asked {
     ghost coded = { asked_code };
 
     ghost view = { λ a. record { question = a.question; title = a.title } };
+}
+
+// By hand, so that to drop one is a call (docs/DECISIONS.md).
+impl Drop for Asked {
+    fn drop(self) {
+        let Asked {
+            question: _,
+            title: _,
+        } = self;
+    }
 }
 
 impl Asked {
