@@ -42,14 +42,17 @@ named words f =
 
 -- ---- a parse
 
+is_simple : is_simple_and_free deals ≡ true
+is_simple = refl
+
 pub no_fault : (app : App) (words : List Text) → app ≡ deals → (is_simple_and_free app ≡ true → fault_of app words ≡ []) → fault_of deals words ≡ []
-no_fault app words is h = subst (λ (a : App). (is_simple_and_free a ≡ true → fault_of a words ≡ []) → fault_of deals words ≡ []) (sym is) (λ k. k refl) h
+no_fault app words is h = subst (λ (a : App). (is_simple_and_free a ≡ true → fault_of a words ≡ []) → fault_of deals words ≡ []) (sym is) (λ k. k is_simple) h
 
 pub err_kind : (app : App) (words : List Text) (e : Error) → app ≡ deals → (is_simple_and_free app ≡ true → HasKind (fault_of app words) e) → asks_page words ≡ false → IsSome (asked words)
     → kind_of e ≡ OutOfMemory
 unfolding asked
 err_kind app words e is h page some =
-    go (fault_of deals words) (subst (λ (a : App). (is_simple_and_free a ≡ true → HasKind (fault_of a words) e) → HasKind (fault_of deals words) e) (sym is) (λ k. k refl) h)
+    go (fault_of deals words) (subst (λ (a : App). (is_simple_and_free a ≡ true → HasKind (fault_of a words) e) → HasKind (fault_of deals words) e) (sym is) (λ k. k is_simple) h)
     (subst (λ (b : Bool). IsSome (if b then Some conditions else unless_fault (read_kinds words) (wish_in words))) page some)
   where
     go : (ks : Kinds) → HasKind ks e → IsSome (unless_fault (or_else ks (further_kinds words)) (wish_in words)) → kind_of e ≡ OutOfMemory
@@ -87,7 +90,7 @@ pub met : (app : App) (words : List Text) (m : ArgMatches) (sub : Option (Bor Te
     → subcommand_of deals words ≡ Some (name, rows) → Met sub name rows
 met app words m sub name rows is has names all named =
     let at = subst (λ (a : App). HasMatchesOf a words m) is has in
-    met_by m sub name rows names all ((at refl).1 ∙ named)
+    met_by m sub name rows names all ((at is_simple).1 ∙ named)
 
 -- ---- the wish
 
@@ -199,12 +202,12 @@ unfolding kinds_for
 error_kind app words e is h page =
     subst (λ (b : Bool). HasKind (if b then [] else read_kinds words) e) (sym page)
     (has_first (fault_of deals words) (further_kinds words) e
-    (subst (λ (a : App). (is_simple_and_free a ≡ true → HasKind (fault_of a words) e) → HasKind (fault_of deals words) e) (sym is) (λ k. k refl) h))
+    (subst (λ (a : App). (is_simple_and_free a ≡ true → HasKind (fault_of a words) e) → HasKind (fault_of deals words) e) (sym is) (λ k. k is_simple) h))
 
 -- ---- words that clap takes and that are refused
 
-pub refused_kind : (words : List Text) (kind : ErrorKind) (e : Error) → IsRefused words kind → kind_of e ≡ kind → HasKind (kinds_for words) e
-refused_kind words kind e r is = rw r.kinds_are (inr (inl is))
+pub refused_kind : (words : List Text) (kind : ErrorKind) (e : Error) → IsRefused words kind → HasKind (kind ∷ []) e → HasKind (kinds_for words) e
+refused_kind words kind e r is = rw r.kinds_are is
 
 pub refused_asked : {X : Type 0} (words : List Text) (kind : ErrorKind) → IsRefused words kind → IsSome (asked words) → X
 refused_asked words kind r some = let bad : false ≡ true = subst (λ (o : Option Wish). IsSome o) r.asked_is some in absurd cc
