@@ -156,23 +156,26 @@ asks_make words name rows makes f is = record {
 abbrev of_pair : List Text → Bor Text × Bor ArgMatches → Type 0
 of_pair words p = Chosen words p.0.now (rows_of (found_of p.1.now))
 
+never : {X : Type 0} → false ≡ true → X
+never e = absurd cc
+
 chosen_by : (words : List Text) (name : Text) (rows : List Row) → IsRead words → subcommand_of deals words ≡ Some (name, rows) → Reads (name, rows) → Chosen words name rows
 chosen_by words name rows f is (inl (makes, values)) = record {
   values = record { stream = λ e. no_stream e; make = λ e c d. values };
   stream = λ e. no_stream e;
-  conditions_too = λ e. let bad : true ≡ false = sym e ∙ makes.1 in absurd cc;
-  seed_too = λ e. let bad : true ≡ false = sym e ∙ makes.2 in absurd cc;
+  conditions_too = λ e. never (sym makes.1 ∙ e);
+  seed_too = λ e. never (sym makes.2 ∙ e);
   make = λ e c d. asks_make words name rows makes f is;
 }
   where
     no_stream : {X : Type 0} → bytes_eq name (codes "stream") ≡ true → X
-    no_stream e = let bad : true ≡ false = sym e ∙ makes.0 in absurd cc
+    no_stream e = never (sym makes.0 ∙ e)
 chosen_by words name rows f is (inr (inl same)) = subst (λ (n : Text). subcommand_of deals words ≡ Some (n, rows) → Chosen words n rows) (sym same)
-    (λ at. record { values = record { stream = λ e. absurd cc; make = λ e c d. absurd cc }; stream = λ e. absurd cc; conditions_too = λ e. by_wish words (codes "conditions", rows) f at; seed_too = λ e. absurd cc; make = λ e c d. absurd cc }) is
+    (λ at. record { values = record { stream = λ e. never e; make = λ e c d. never (sym c) }; stream = λ e. never e; conditions_too = λ e. by_wish words (codes "conditions", rows) f at; seed_too = λ e. never e; make = λ e c d. never (sym c) }) is
 chosen_by words name rows f is (inr (inr (inl same))) = subst (λ (n : Text). subcommand_of deals words ≡ Some (n, rows) → Chosen words n rows) (sym same)
-    (λ at. record { values = record { stream = λ e. absurd cc; make = λ e c d. absurd cc }; stream = λ e. absurd cc; conditions_too = λ e. absurd cc; seed_too = λ e. by_wish words (codes "seed", rows) f at; make = λ e c d. absurd cc }) is
+    (λ at. record { values = record { stream = λ e. never e; make = λ e c d. never (sym d) }; stream = λ e. never e; conditions_too = λ e. never e; seed_too = λ e. by_wish words (codes "seed", rows) f at; make = λ e c d. never (sym d) }) is
 chosen_by words name rows f is (inr (inr (inr (same, values)))) = subst (λ (n : Text). subcommand_of deals words ≡ Some (n, rows) → Chosen words n rows) (sym same)
-    (λ at. record { values = record { stream = λ e. values; make = λ e c d. absurd cc }; stream = λ e. by_wish words (codes "stream", rows) f at; conditions_too = λ e. absurd cc; seed_too = λ e. absurd cc; make = λ e c d. absurd cc }) is
+    (λ at. record { values = record { stream = λ e. values; make = λ e c d. never (sym e) }; stream = λ e. by_wish words (codes "stream", rows) f at; conditions_too = λ e. never e; seed_too = λ e. never e; make = λ e c d. never (sym e) }) is
 
 from_met : (words : List Text) (sub : Option (Bor Text × Bor ArgMatches)) (p : Bor Text × Bor ArgMatches) (name : Text) (rows : List Row) → sub ≡ Some p → Met sub name rows
     → Chosen words name rows → of_pair words p
