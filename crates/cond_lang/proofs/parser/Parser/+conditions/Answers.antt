@@ -1,0 +1,60 @@
+use Rattle.std.proofs.Common.{arith}
+use Rattle.cond_lang.proofs.Enough.{reads}
+use Rattle.cond_lang.proofs.parser.Parser.+conditions.Goals as goal
+
+pub both-returns-in_err-left-clause-gives : goal.both-returns-in_err-left-clause-gives
+both-returns-in_err-left-clause-gives t c = grind (arith, reads)
+
+pub both-loop-self-init : goal.both-loop-self-init
+both-loop-self-init t c = grind (arith, reads)
+
+pub both-returns-in_err-right-clause-gives : goal.both-returns-in_err-right-clause-gives
+both-returns-in_err-right-clause-gives t c = grind (arith, reads)
+
+pub both-returns-in_err-left-2-clause-gives : goal.both-returns-in_err-left-2-clause-gives
+both-returns-in_err-left-2-clause-gives t c = grind (arith, reads)
+
+pub both-loop-self-preserved : goal.both-loop-self-preserved
+both-loop-self-preserved t c = grind (arith, reads)
+
+pub both-returns-clause-gives : goal.both-returns-clause-gives
+both-returns-clause-gives t c = grind (arith, reads)
+
+pub cond-returns-in_err-left-clause-gives : goal.cond-returns-in_err-left-clause-gives
+cond-returns-in_err-left-clause-gives t c = grind (arith, reads)
+
+pub cond-loop-self-init : goal.cond-loop-self-init
+cond-loop-self-init t c = grind (arith, reads)
+
+pub cond-returns-in_err-right-clause-gives : goal.cond-returns-in_err-right-clause-gives
+cond-returns-in_err-right-clause-gives t c = grind (arith, reads)
+
+pub cond-returns-in_err-left-2-clause-gives : goal.cond-returns-in_err-left-2-clause-gives
+cond-returns-in_err-left-2-clause-gives t c = grind (arith, reads)
+
+pub cond-loop-self-preserved : goal.cond-loop-self-preserved
+cond-loop-self-preserved t c = grind (arith, reads)
+
+pub cond-returns-clause-gives : goal.cond-returns-clause-gives
+cond-returns-clause-gives t c = grind (arith, reads)
+
+pub unit-returns-in_err-inner-in-Some-Not-clause-gives : goal.unit-returns-in_err-inner-in-Some-Not-clause-gives
+unit-returns-in_err-inner-in-Some-Not-clause-gives t c = grind (arith, reads)
+
+pub unit-returns-in_err-inner-in-Some-Open-clause-gives : goal.unit-returns-in_err-inner-in-Some-Open-clause-gives
+unit-returns-in_err-inner-in-Some-Open-clause-gives t c = grind (arith, reads)
+
+pub unit-returns-in_err-close-in-Some-Open-clause-gives : goal.unit-returns-in_err-close-in-Some-Open-clause-gives
+unit-returns-in_err-close-in-Some-Open-clause-gives t c = grind (arith, reads)
+
+pub unit-returns-in_ok-inner-in-Some-Not-clause-gives : goal.unit-returns-in_ok-inner-in-Some-Not-clause-gives
+unit-returns-in_ok-inner-in-Some-Not-clause-gives t c = grind (arith, reads)
+
+pub unit-returns-in_ok-close-in-Some-Open-clause-gives : goal.unit-returns-in_ok-close-in-Some-Open-clause-gives
+unit-returns-in_ok-close-in-Some-Open-clause-gives t c = grind (arith, reads)
+
+pub unit-returns-in-Some-Quantifier-clause-gives : goal.unit-returns-in-Some-Quantifier-clause-gives
+unit-returns-in-Some-Quantifier-clause-gives t c = grind (arith, reads)
+
+pub unit-returns-in_default-clause-gives : goal.unit-returns-in_default-clause-gives
+unit-returns-in_default-clause-gives t c = grind (arith, reads)
