@@ -8,7 +8,7 @@ ghost use Rattle.conditions.specs.Form.{negation, sum};
 ghost use Rattle.cond_lang.specs.Grammar.{joined};
 ghost use Rattle.cond_lang.specs.Text.{kinds};
 ghost use Rattle.cond_lang.specs.internal.Reading.{Gives, front, rest_of_measure, rest_of_cards};
-ghost use Rattle.cond_lang.specs.internal.Reading.{suit_and_ranks};
+ghost use Rattle.cond_lang.specs.internal.Reading.{suit_and_ranks, suit_count};
 ghost use Rattle.cond_lang.specs.internal.Reading.{atom_of, reading, a_value, comparing_by};
 ghost use Rattle.cond_lang.specs.internal.Reading.{test_by, a_unit, a_both, a_cond};
 ghost use Rattle.cond_lang.specs.internal.Reading.{whole, behind, with_suit_by, quantified_by};
@@ -120,6 +120,16 @@ impl<'a> Parser<'a> {
                 let seat = self.open_seat_comma()?;
                 self.rest_of_cards(bound, seat)
             }
+            _ => self.suit_count(),
+        }
+    }
+
+    /// The length of a hand's longest, second longest or shortest suit.
+    fn suit_count(&mut self) -> Result<Value, Refusal>
+        ensures gives { Gives amount_of result self.new (suit_count self.old) }
+        ensures shorter { length self.new ≤ length self.old }
+    {
+        match self.peek() {
             Some(Token::Longest) => {
                 self.advance();
                 Ok(Value::Longest(self.seat_in_brackets()?))
