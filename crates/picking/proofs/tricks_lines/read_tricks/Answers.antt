@@ -1,4 +1,5 @@
-use Rattle.std.proofs.Common.{◌≡◌, length, false, true, take, subst, rules}
+use Rattle.std.proofs.lemmas.Grind.{common_steps}
+use Rattle.std.proofs.Common.{◌≡◌, length, false, true, take, subst, rules, arith}
 use Rattle.picking.specs.internal.LinesRead.{TakesLines}
 use Rattle.picking.proofs.LinesRead.{from_enough, from_refused, from_taken}
 use Rattle.picking.proofs.tricks_lines.read_tricks.Goals as goal
@@ -37,3 +38,6 @@ loop-turn-preserved g c =
       reads = search rules;
       few = search rules;
     }
+
+pub finish-requires : goal.finish-requires
+finish-requires g c = grind (arith, common_steps)
