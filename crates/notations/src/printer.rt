@@ -68,7 +68,6 @@ impl Format {
 ///
 /// It takes 128 KiB of memory once, when it is created, and none to print. Numbers of candidates
 /// need none at all.
-#[derive(Drop)]
 pub struct AnyPrinter {
     show: Show,
     heading: Heading,
@@ -99,6 +98,21 @@ impl Model for AnyPrinter {
     ghost invariant = { λ p. IsUnder p.heading p.pen
         × IsFor p.show p.tricks p.pen
         × (p.header ≡ (layout_in (format_of p.pen) p.show p.heading p.tricks).header) };
+}
+
+/// Written out, a drop is one call to whoever has a printer, and not one of each field.
+impl Drop for AnyPrinter {
+    fn drop(self) {
+        let AnyPrinter {
+            show: _,
+            heading: _,
+            header: _,
+            pen: _,
+            tricks: _,
+            text: _,
+            boards: _,
+        } = self;
+    }
 }
 
 impl AnyPrinter {
