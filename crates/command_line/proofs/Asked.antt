@@ -42,14 +42,17 @@ named words f =
 
 -- ---- a parse
 
+is_simple : is_simple_and_free deals ≡ true
+is_simple = refl
+
 pub no_fault : (app : App) (words : List Text) → app ≡ deals → (is_simple_and_free app ≡ true → fault_of app words ≡ []) → fault_of deals words ≡ []
-no_fault app words is h = subst (λ (a : App). (is_simple_and_free a ≡ true → fault_of a words ≡ []) → fault_of deals words ≡ []) (sym is) (λ k. k refl) h
+no_fault app words is h = subst (λ (a : App). (is_simple_and_free a ≡ true → fault_of a words ≡ []) → fault_of deals words ≡ []) (sym is) (λ k. k is_simple) h
 
 pub err_kind : (app : App) (words : List Text) (e : Error) → app ≡ deals → (is_simple_and_free app ≡ true → HasKind (fault_of app words) e) → asks_page words ≡ false → IsSome (asked words)
     → kind_of e ≡ OutOfMemory
 unfolding asked
 err_kind app words e is h page some =
-    go (fault_of deals words) (subst (λ (a : App). (is_simple_and_free a ≡ true → HasKind (fault_of a words) e) → HasKind (fault_of deals words) e) (sym is) (λ k. k refl) h)
+    go (fault_of deals words) (subst (λ (a : App). (is_simple_and_free a ≡ true → HasKind (fault_of a words) e) → HasKind (fault_of deals words) e) (sym is) (λ k. k is_simple) h)
     (subst (λ (b : Bool). IsSome (if b then Some conditions else unless_fault (read_kinds words) (wish_in words))) page some)
   where
     go : (ks : Kinds) → HasKind ks e → IsSome (unless_fault (or_else ks (further_kinds words)) (wish_in words)) → kind_of e ≡ OutOfMemory
@@ -87,7 +90,7 @@ pub met : (app : App) (words : List Text) (m : ArgMatches) (sub : Option (Bor Te
     → subcommand_of deals words ≡ Some (name, rows) → Met sub name rows
 met app words m sub name rows is has names all named =
     let at = subst (λ (a : App). HasMatchesOf a words m) is has in
-    met_by m sub name rows names all ((at refl).1 ∙ named)
+    met_by m sub name rows names all ((at is_simple).1 ∙ named)
 
 -- ---- the wish
 
@@ -153,23 +156,26 @@ asks_make words name rows makes f is = record {
 abbrev of_pair : List Text → Bor Text × Bor ArgMatches → Type 0
 of_pair words p = Chosen words p.0.now (rows_of (found_of p.1.now))
 
+never : {X : Type 0} → false ≡ true → X
+never e = absurd cc
+
 chosen_by : (words : List Text) (name : Text) (rows : List Row) → IsRead words → subcommand_of deals words ≡ Some (name, rows) → Reads (name, rows) → Chosen words name rows
 chosen_by words name rows f is (inl (makes, values)) = record {
   values = record { stream = λ e. no_stream e; make = λ e c d. values };
   stream = λ e. no_stream e;
-  conditions_too = λ e. let bad : true ≡ false = sym e ∙ makes.1 in absurd cc;
-  seed_too = λ e. let bad : true ≡ false = sym e ∙ makes.2 in absurd cc;
+  conditions_too = λ e. never (sym makes.1 ∙ e);
+  seed_too = λ e. never (sym makes.2 ∙ e);
   make = λ e c d. asks_make words name rows makes f is;
 }
   where
     no_stream : {X : Type 0} → bytes_eq name (codes "stream") ≡ true → X
-    no_stream e = let bad : true ≡ false = sym e ∙ makes.0 in absurd cc
+    no_stream e = never (sym makes.0 ∙ e)
 chosen_by words name rows f is (inr (inl same)) = subst (λ (n : Text). subcommand_of deals words ≡ Some (n, rows) → Chosen words n rows) (sym same)
-    (λ at. record { values = record { stream = λ e. absurd cc; make = λ e c d. absurd cc }; stream = λ e. absurd cc; conditions_too = λ e. by_wish words (codes "conditions", rows) f at; seed_too = λ e. absurd cc; make = λ e c d. absurd cc }) is
+    (λ at. record { values = record { stream = λ e. never e; make = λ e c d. never (sym c) }; stream = λ e. never e; conditions_too = λ e. by_wish words (codes "conditions", rows) f at; seed_too = λ e. never e; make = λ e c d. never (sym c) }) is
 chosen_by words name rows f is (inr (inr (inl same))) = subst (λ (n : Text). subcommand_of deals words ≡ Some (n, rows) → Chosen words n rows) (sym same)
-    (λ at. record { values = record { stream = λ e. absurd cc; make = λ e c d. absurd cc }; stream = λ e. absurd cc; conditions_too = λ e. absurd cc; seed_too = λ e. by_wish words (codes "seed", rows) f at; make = λ e c d. absurd cc }) is
+    (λ at. record { values = record { stream = λ e. never e; make = λ e c d. never (sym d) }; stream = λ e. never e; conditions_too = λ e. never e; seed_too = λ e. by_wish words (codes "seed", rows) f at; make = λ e c d. never (sym d) }) is
 chosen_by words name rows f is (inr (inr (inr (same, values)))) = subst (λ (n : Text). subcommand_of deals words ≡ Some (n, rows) → Chosen words n rows) (sym same)
-    (λ at. record { values = record { stream = λ e. values; make = λ e c d. absurd cc }; stream = λ e. by_wish words (codes "stream", rows) f at; conditions_too = λ e. absurd cc; seed_too = λ e. absurd cc; make = λ e c d. absurd cc }) is
+    (λ at. record { values = record { stream = λ e. values; make = λ e c d. never (sym e) }; stream = λ e. by_wish words (codes "stream", rows) f at; conditions_too = λ e. never e; seed_too = λ e. never e; make = λ e c d. never (sym e) }) is
 
 from_met : (words : List Text) (sub : Option (Bor Text × Bor ArgMatches)) (p : Bor Text × Bor ArgMatches) (name : Text) (rows : List Row) → sub ≡ Some p → Met sub name rows
     → Chosen words name rows → of_pair words p
@@ -199,12 +205,12 @@ unfolding kinds_for
 error_kind app words e is h page =
     subst (λ (b : Bool). HasKind (if b then [] else read_kinds words) e) (sym page)
     (has_first (fault_of deals words) (further_kinds words) e
-    (subst (λ (a : App). (is_simple_and_free a ≡ true → HasKind (fault_of a words) e) → HasKind (fault_of deals words) e) (sym is) (λ k. k refl) h))
+    (subst (λ (a : App). (is_simple_and_free a ≡ true → HasKind (fault_of a words) e) → HasKind (fault_of deals words) e) (sym is) (λ k. k is_simple) h))
 
 -- ---- words that clap takes and that are refused
 
-pub refused_kind : (words : List Text) (kind : ErrorKind) (e : Error) → IsRefused words kind → kind_of e ≡ kind → HasKind (kinds_for words) e
-refused_kind words kind e r is = rw r.kinds_are (inr (inl is))
+pub refused_kind : (words : List Text) (kind : ErrorKind) (e : Error) → IsRefused words kind → HasKind (kind ∷ []) e → HasKind (kinds_for words) e
+refused_kind words kind e r is = rw r.kinds_are is
 
 pub refused_asked : {X : Type 0} (words : List Text) (kind : ErrorKind) → IsRefused words kind → IsSome (asked words) → X
 refused_asked words kind r some = let bad : false ≡ true = subst (λ (o : Option Wish). IsSome o) r.asked_is some in absurd cc

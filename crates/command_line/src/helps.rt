@@ -65,219 +65,158 @@ static EXAMPLES: &[(&str, &str)] = &[
 
 const PRINT_HELP: &str = "Print help";
 
-/// What help says of an option, in every subcommand that has no text of its own for it.
-static TEXTS: &[(&str, Help)] = &[
+// What help says of an option, in every subcommand that has no text of its own for it: a table for
+// each heading.
+
+static WHICH_TEXTS: &[(&str, &str)] = &[
     (
         "seed",
-        (
-            WHICH,
-            "A number from 0 to 4294967295: the same one gives the\n\
-            same deals again. Any number will do for a lesson;\n\
-            for a club draw one by deals seed",
-        ),
+        "A number from 0 to 4294967295: the same one gives the\n\
+        same deals again. Any number will do for a lesson;\n\
+        for a club draw one by deals seed",
     ),
     (
         "where",
-        (
-            WHICH,
-            "What each deal has to meet, in quotes, as\n\
-            'hcp(north)>=15'; deals help conditions explains it\n\
-            [default: every deal]",
-        ),
+        "What each deal has to meet, in quotes, as\n\
+        'hcp(north)>=15'; deals help conditions explains it\n\
+        [default: every deal]",
     ),
     (
         "boards",
-        (
-            WHICH,
-            "How many boards, 1 to 4294967295; fewer come if no more\n\
-            of the deals that are tried match [default: no limit]",
-        ),
+        "How many boards, 1 to 4294967295; fewer come if no more\n\
+        of the deals that are tried match [default: no limit]",
     ),
     (
         "candidates",
-        (
-            WHICH,
-            "How many deals are tried, with --first together at most\n\
-            1099511627776 [default: all, if --boards is given]",
-        ),
+        "How many deals are tried, with --first together at most\n\
+        1099511627776 [default: all, if --boards is given]",
     ),
     (
         "first",
-        (
-            WHICH,
-            "Where to begin: at deal K, to go on after an earlier\n\
-            run [default: 0]",
-        ),
+        "Where to begin: at deal K, to go on after an earlier\n\
+        run [default: 0]",
     ),
     (
         "north",
-        (
-            WHICH,
-            "Cards that North gets, as AKQ32.K..A: spades, hearts,\n\
-            diamonds and clubs, with dots between; the rest is\n\
-            dealt [default: none]",
-        ),
+        "Cards that North gets, as AKQ32.K..A: spades, hearts,\n\
+        diamonds and clubs, with dots between; the rest is\n\
+        dealt [default: none]",
     ),
     (
         "east",
-        (
-            WHICH,
-            "Cards that East gets, in the same form [default: none]",
-        ),
+        "Cards that East gets, in the same form [default: none]",
     ),
     (
         "south",
-        (
-            WHICH,
-            "Cards that South gets, in the same form [default: none]",
-        ),
+        "Cards that South gets, in the same form [default: none]",
     ),
     (
         "west",
-        (
-            WHICH,
-            "Cards that West gets, in the same form [default: none]",
-        ),
+        "Cards that West gets, in the same form [default: none]",
     ),
+];
+
+static COUNTED_TEXTS: &[(&str, &str)] = &[
     (
         "of",
-        (
-            COUNTED,
-            "What is counted of each deal: a value, as\n\
-            'hcp(south)', or a condition [default: only how many\n\
-            deals there are]",
-        ),
+        "What is counted of each deal: a value, as\n\
+        'hcp(south)', or a condition [default: only how many\n\
+        deals there are]",
     ),
     (
         "by",
-        (
-            COUNTED,
-            "A second value or condition, for the columns of the\n\
-            table [default: none]",
-        ),
+        "A second value or condition, for the columns of the\n\
+        table [default: none]",
     ),
+];
+
+static LOOK_TEXTS: &[(&str, &str)] = &[
     (
         "format",
-        (
-            LOOK,
-            "How the boards are written: pbn for dealing machines\n\
-            and bridge programs, hands for text to print, html\n\
-            for a page to look at and print, sheet for 18 boards\n\
-            on each page, lin for BBO, json for programs of your\n\
-            own [default: pbn]\n\
-            [possible values: pbn, hands, lin, html, sheet,\n\
-            json]",
-        ),
+        "How the boards are written: pbn for dealing machines\n\
+        and bridge programs, hands for text to print, html\n\
+        for a page to look at and print, sheet for 18 boards\n\
+        on each page, lin for BBO, json for programs of your\n\
+        own [default: pbn]\n\
+        [possible values: pbn, hands, lin, html, sheet,\n\
+        json]",
     ),
     (
         "show",
-        (
-            LOOK,
-            "Which hands are written, for a page without the\n\
-            answers; dealer: the dealer's alone [default: all]\n\
-            [possible values: all, dealer, north, east, south,\n\
-            west, ns, ew]",
-        ),
+        "Which hands are written, for a page without the\n\
+        answers; dealer: the dealer's alone [default: all]\n\
+        [possible values: all, dealer, north, east, south,\n\
+        west, ns, ew]",
     ),
     (
         "tricks",
-        (
-            LOOK,
-            "Writes what can be made on each board, as standard\n\
-            input tells it: a line for each, from deals-tricks",
-        ),
+        "Writes what can be made on each board, as standard\n\
+        input tells it: a line for each, from deals-tricks",
     ),
     (
         "dealer",
-        (
-            LOOK,
-            "The dealer of every board [default: by the board's\n\
-            number, as in duplicate bridge]\n\
-            [possible values: N, E, S, W]",
-        ),
+        "The dealer of every board [default: by the board's\n\
+        number, as in duplicate bridge]\n\
+        [possible values: N, E, S, W]",
     ),
     (
         "vulnerable",
-        (
-            LOOK,
-            "Who is vulnerable on every board [default: by the\n\
-            board's number, as in duplicate bridge]\n\
-            [possible values: None, NS, EW, All]",
-        ),
+        "Who is vulnerable on every board [default: by the\n\
+        board's number, as in duplicate bridge]\n\
+        [possible values: None, NS, EW, All]",
     ),
     (
         "rotate",
-        (
-            LOOK,
-            "The dealer gets the hand that the condition calls\n\
-            north, the next player east's, and so on",
-        ),
+        "The dealer gets the hand that the condition calls\n\
+        north, the next player east's, and so on",
     ),
     (
         "first-board",
-        (
-            LOOK,
-            "The number of the first board, 1 to 1099511627776;\n\
-            give --first too to go on with new deals\n\
-            [default: 1]",
-        ),
+        "The number of the first board, 1 to 1099511627776;\n\
+        give --first too to go on with new deals\n\
+        [default: 1]",
     ),
     (
         "event",
-        (
-            LOOK,
-            "The event, at most 100 characters of ASCII without\n\
-            \" and \\ [default: no line]",
-        ),
+        "The event, at most 100 characters of ASCII without\n\
+        \" and \\ [default: no line]",
     ),
-    (
-        "site",
-        (LOOK, "The place, like the event [default: no line]"),
-    ),
-    ("date", (LOOK, "The date, as 2024.05.01 [default: no line]")),
+    ("site", "The place, like the event [default: no line]"),
+    ("date", "The date, as 2024.05.01 [default: no line]"),
+];
+
+static SPEED_TEXTS: &[(&str, &str)] = &[
     (
         "workers",
-        (
-            SPEED,
-            "How many threads search, 1 to 16; auto: as many as\n\
-            suit this computer [default: 1]",
-        ),
+        "How many threads search, 1 to 16; auto: as many as\n\
+        suit this computer [default: 1]",
     ),
     (
         "lane",
-        (
-            SPEED,
-            "How far a worker may search ahead, 1 to 4096 deals\n\
-            [default: 64, and 4096 with --workers auto]",
-        ),
+        "How far a worker may search ahead, 1 to 4096 deals\n\
+        [default: 64, and 4096 with --workers auto]",
     ),
+];
+
+static SAID_TEXTS: &[(&str, &str)] = &[
     (
         "report",
-        (
-            SAID,
-            "Says afterwards how many boards there are, and how\n\
-            to go on with the next deals",
-        ),
+        "Says afterwards how many boards there are, and how\n\
+        to go on with the next deals",
     ),
     (
         "progress",
-        (
-            SAID,
-            "When to show how far the search is; auto: on a\n\
-            terminal [default: auto]\n\
-            [possible values: auto, always, never]",
-        ),
+        "When to show how far the search is; auto: on a\n\
+        terminal [default: auto]\n\
+        [possible values: auto, always, never]",
     ),
     (
         "hints",
-        (
-            SAID,
-            "When to say below a refusal what helps; auto: on a\n\
-            terminal [default: auto]\n\
-            [possible values: auto, always, never]",
-        ),
+        "When to say below a refusal what helps; auto: on a\n\
+        terminal [default: auto]\n\
+        [possible values: auto, always, never]",
     ),
-    ("help", (SAID, PRINT_HELP)),
+    ("help", PRINT_HELP),
 ];
 
 /// What help says of options that are others in these subcommands.
@@ -339,13 +278,23 @@ pub(crate) fn examples_of(name: &str) -> &'static str {
     look_up(EXAMPLES, name).unwrap_or("")
 }
 
+/// What help says of an option that is under this heading, if its text is in this table.
+fn under(heading: &'static str, texts: &[(&str, &'static str)], id: &str) -> Option<Help> {
+    Some((heading, look_up(texts, id)?))
+}
+
+/// What help says of an option that no subcommand has a text of its own for.
+fn shared_help(id: &str) -> Option<Help> {
+    under(WHICH, WHICH_TEXTS, id)
+        .or(under(COUNTED, COUNTED_TEXTS, id))
+        .or(under(LOOK, LOOK_TEXTS, id))
+        .or(under(SPEED, SPEED_TEXTS, id))
+        .or(under(SAID, SAID_TEXTS, id))
+}
+
 /// What help says of an option of a subcommand.
 pub(crate) fn help_of(name: &str, id: &str) -> Help {
-    if let Some(help) = look_up(own_texts(name), id) {
-        return help;
-    }
-    match look_up(TEXTS, id) {
-        Some(help) => help,
-        None => (OPTIONS, ""),
-    }
+    look_up(own_texts(name), id)
+        .or(shared_help(id))
+        .unwrap_or((OPTIONS, ""))
 }

@@ -4,8 +4,8 @@ ghost use Rattle.std.specs.Prelude.{◌≡◌, IfOk, false, fold, map};
 ghost use Rattle.clap.specs.Words.{app_of, rule_of, with_rule, with_subcommand};
 ghost use Rattle.clap.specs.declared.Command.TheViews.{out-Command as fields_of};
 ghost use Rattle.command_line.specs.Commands.{asking_rule, deals, deals_top, flag_rule};
-ghost use Rattle.command_line.specs.Commands.{option_rule};
-ghost use Rattle.command_line.specs.internal.Rows.{rule_for, app_for, top_for};
+ghost use Rattle.command_line.specs.Commands.{option_rule, subcommands};
+ghost use Rattle.command_line.specs.internal.Rows.{app_for, rule_for, taking, top_for};
 
 use self::Takes::{Count, Help, Nothing, Text, U32, U64};
 use crate::helps::{about_of, examples_of, help_of};
@@ -68,23 +68,29 @@ fn flag<'a>(alloc: Global, id: &'a str) -> Arg<'a>
     Arg::new(alloc, id).long(id).action(ArgAction::SetTrue)
 }
 
+/// The option or flag of this id.
+fn taking<'a>(alloc: Global, takes: &Takes, id: &'static str) -> Arg<'a>
+    ensures rule { rule_of result ≡ taking takes.now id.now }
+    ensures local { result.global ≡ false }
+{
+    let (parser, name) = match *takes {
+        Takes::Nothing => return flag(alloc, id),
+        Takes::Help => return help_flag(alloc, id),
+        Takes::Text(name) => (ValueParser::String, name),
+        Takes::U32(name) => (value_parser!(u32), name),
+        Takes::U64(name) => (value_parser!(u64), name),
+        Takes::Count(name) => (value_parser!(u64).range(..=MAX_VALUES), name),
+    };
+    option(alloc, id, parser, name)
+}
+
 /// The row as `clap` has it, in the subcommand of this name.
 fn arg_of<'a>(alloc: Global, name: &str, row: &Row) -> Arg<'a>
     ensures rule { rule_of result ≡ rule_for row.entry.now }
     ensures local { result.global ≡ false }
 {
-    let arg = match row.takes {
-        Takes::Nothing => flag(alloc, row.id),
-        Takes::Help => help_flag(alloc, row.id),
-        Takes::Text(name) => option(alloc, row.id, ValueParser::String, name),
-        Takes::U32(name) => option(alloc, row.id, value_parser!(u32), name),
-        Takes::U64(name) => option(alloc, row.id, value_parser!(u64), name),
-        Takes::Count(name) => {
-            option(alloc, row.id, value_parser!(u64).range(..=MAX_VALUES), name)
-        }
-    };
     let (heading, text) = help_of(name, row.id);
-    let arg = arg
+    let arg = taking(alloc, &row.takes, row.id)
         .required(row.is_required)
         .help_heading(heading)
         .help(text);
@@ -297,6 +303,13 @@ static SUBCOMMANDS: [Subcommand; 7] = [
     },
 ];
 
+/// The subcommands: the table stands in one function alone, since a proof reads all of it.
+fn subcommands() -> &'static [Subcommand; 7]
+    ensures { map top_for result.now ≡ map (λ a. a.top) subcommands }
+{
+    &SUBCOMMANDS
+}
+
 /// The subcommand as `clap` has it. Its flag for help is a row, so that it is with others in the
 /// help, and not before them.
 fn command_of<'a>(alloc: Global, sub: &Subcommand) -> Result<Command<'a>, AllocError>
@@ -316,7 +329,7 @@ fn command_of<'a>(alloc: Global, sub: &Subcommand) -> Result<Command<'a>, AllocE
 /// # Errors
 /// `AllocError` if an allocation failed.
 pub fn named_command<'a>(alloc: Global, name: &str) -> Result<Command<'a>, AllocError> {
-    let [make, find, count, pick, ..] = &SUBCOMMANDS;
+    let [make, find, count, pick, ..] = subcommands();
     let sub = match name {
         "find" => find,
         "count" => count,
@@ -361,5 +374,5 @@ fn with_subcommands<'a>(
 pub fn command<'a>(alloc: Global) -> Result<Command<'a>, AllocError>
     ensures { IfOk result (λ c. app_of c ≡ deals) }
 {
-    with_subcommands(alloc, top(alloc), &SUBCOMMANDS)
+    with_subcommands(alloc, top(alloc), subcommands())
 }

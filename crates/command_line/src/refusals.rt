@@ -18,12 +18,19 @@ pub const NO_END: &str = "the following required arguments were not provided:
 pub const NO_QUESTION: &str = "the following required arguments were not provided:
   --of <TEXT>";
 
+/// A refusal of this kind, with this message, by the command of this name.
+fn refusal(alloc: Global, name: &str, kind: ErrorKind, message: &str) -> Result<Error, AllocError>
+    ensures { IfOk result (λ e. kind_of e ≡ kind) }
+{
+    let mut command = named_command(alloc, name)?;
+    command.error(kind, message)
+}
+
 /// clap's refusal of words in which an option is missing.
 pub fn missing_option(alloc: Global, name: &str, missing: &str) -> Result<Error, AllocError>
     ensures { IfOk result (λ e. kind_of e ≡ ErrorKind.MissingRequiredArgument) }
 {
-    let mut command = named_command(alloc, name)?;
-    command.error(ErrorKind::MissingRequiredArgument, missing)
+    refusal(alloc, name, ErrorKind::MissingRequiredArgument, missing)
 }
 
 /// clap's refusal of a number of workers that is none.
@@ -32,8 +39,7 @@ pub fn invalid_number(alloc: Global, name: &str, word: &str) -> Result<Error, Al
 {
     let why = why_no_number(word);
     let message = format!(in alloc; "invalid value '{word}' for '--workers <W>': {why}")?;
-    let mut command = named_command(alloc, name)?;
-    command.error(ErrorKind::ValueValidation, message.as_str())
+    refusal(alloc, name, ErrorKind::ValueValidation, message.as_str())
 }
 
 /// clap's refusal of a word that is none of an option's values.
@@ -46,6 +52,5 @@ pub fn invalid_value(alloc: Global, name: &str, unknown: &Unknown<'_>) -> Result
     let message = format!(in alloc;
         "invalid value '{word}' for '{option}'\n  [possible values: {values}]"
     )?;
-    let mut command = named_command(alloc, name)?;
-    command.error(ErrorKind::InvalidValue, message.as_str())
+    refusal(alloc, name, ErrorKind::InvalidValue, message.as_str())
 }

@@ -1,8 +1,11 @@
 //! From the words of a command line to a request.
 
-ghost use Rattle.std.specs.Prelude.{◌≡◌, List, codes, is_some, map, option_map, string_bytes};
+ghost use Rattle.std.specs.Prelude.{◌≡◌, ◌∷◌, [], IfOk, List, codes, is_some, map, option_map};
+ghost use Rattle.std.specs.Prelude.{string_bytes};
+ghost use Rattle.clap.specs.Kinds.{HasKind};
 ghost use Rattle.clap.specs.Walk.{Text};
-ghost use Rattle.clap.specs.Words.{first_of, found_of, rows_of};
+ghost use Rattle.clap.specs.Words.{first_of, found_of, kind_of, rows_of};
+ghost use Rattle.clap.specs.declared.error.kind.ErrorKind.{ErrorKind};
 ghost use Rattle.command_line.specs.CommandLine.{asks_page, hands_in, has_by_alone, has_no_end};
 ghost use Rattle.command_line.specs.CommandLine.{is_set, lacks_option, look_in, made_by};
 ghost use Rattle.command_line.specs.CommandLine.{notices_in, number_in, number_or, questions_in};
@@ -26,7 +29,7 @@ use predeal::PredealtHands;
 use request_types::{
     Format, Look, Notices, Questions, Request, Search, StreamRequest, Style, When,
 };
-use std::alloc::Global;
+use std::alloc::{AllocError, Global};
 
 /// What an option of 32 bits was given.
 fn u32_in(matches: &ArgMatches, id: &str) -> Option<u32>
@@ -234,6 +237,17 @@ pub fn read_words<'a>(alloc: Global, words: &'a [String]) -> Result<Request<'a>,
     request_of(alloc, name, inner)
 }
 
+/// The refusal, or that memory ran out before its text was written.
+fn written(refusal: Result<Error, AllocError>) -> Error
+    ensures { (kind : ErrorKind) → IfOk refusal (λ e. kind_of e ≡ kind)
+        → HasKind (kind ∷ []) result }
+{
+    match refusal {
+        Ok(error) => error,
+        Err(error) => error.into(),
+    }
+}
+
 /// What the words ask for that name this subcommand and give its options these values.
 fn request_of<'a>(alloc: Global, name: &str, matches: &ArgMatches<'a>) -> Result<Request<'a>, Error>
     requires { HasValues name.now (rows_of (found_of matches.now)) }
@@ -250,14 +264,14 @@ fn request_of<'a>(alloc: Global, name: &str, matches: &ArgMatches<'a>) -> Result
         return Ok(Request::Seed);
     }
     if let Some(unknown) = unknown_in(name, matches) {
-        return Err(invalid_value(alloc, name, &unknown)?);
+        return Err(written(invalid_value(alloc, name, &unknown)));
     }
     if let Some(word) = bad_workers_in(matches) {
-        return Err(invalid_number(alloc, name, word)?);
+        return Err(written(invalid_number(alloc, name, word)));
     }
     let search = search_in(matches);
     if let Some(options) = missing_of(name, &search, matches) {
-        return Err(missing_option(alloc, name, options)?);
+        return Err(written(missing_option(alloc, name, options)));
     }
     Ok(request_by(name, search, matches))
 }

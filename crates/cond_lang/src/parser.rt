@@ -4,11 +4,11 @@
 ghost use Rattle.std.specs.Prelude.{◌≡◌, ◌≢◌, ◌≤◌, ℕ, List, ◌∷◌, length, option_map, IfOk};
 ghost use Rattle.cond_lang.specs.declared.scanner.Token.{Token as AToken};
 ghost use Rattle.conditions.specs.Form.{amount_of, form_of, any_of, all_of};
-ghost use Rattle.conditions.specs.Form.{negation};
+ghost use Rattle.conditions.specs.Form.{negation, sum};
 ghost use Rattle.cond_lang.specs.Grammar.{joined};
 ghost use Rattle.cond_lang.specs.Text.{kinds};
 ghost use Rattle.cond_lang.specs.internal.Reading.{Gives, front, rest_of_measure, rest_of_cards};
-ghost use Rattle.cond_lang.specs.internal.Reading.{suit_and_ranks};
+ghost use Rattle.cond_lang.specs.internal.Reading.{suit_and_ranks, suit_count};
 ghost use Rattle.cond_lang.specs.internal.Reading.{atom_of, reading, a_value, comparing_by};
 ghost use Rattle.cond_lang.specs.internal.Reading.{test_by, a_unit, a_both, a_cond};
 ghost use Rattle.cond_lang.specs.internal.Reading.{whole, behind, with_suit_by, quantified_by};
@@ -120,6 +120,16 @@ impl<'a> Parser<'a> {
                 let seat = self.open_seat_comma()?;
                 self.rest_of_cards(bound, seat)
             }
+            _ => self.suit_count(),
+        }
+    }
+
+    /// The length of a hand's longest, second longest or shortest suit.
+    fn suit_count(&mut self) -> Result<Value, Refusal>
+        ensures gives { Gives amount_of result self.new (suit_count self.old) }
+        ensures shorter { length self.new ≤ length self.old }
+    {
+        match self.peek() {
             Some(Token::Longest) => {
                 self.advance();
                 Ok(Value::Longest(self.seat_in_brackets()?))
@@ -180,7 +190,6 @@ impl<'a> Parser<'a> {
     }
 
     /// Atoms with `+` between them.
-    #[tactic(auto, using(crate::proofs::Enough::reads))]
     fn value(&mut self, bound: Bound) -> Result<Value, Refusal>
         ensures gives { Gives amount_of result self.new (reading bound a_value self.old) }
         ensures shorter { length self.new ≤ length self.old }
@@ -189,9 +198,17 @@ impl<'a> Parser<'a> {
         while let Some(Token::Plus) = self.peek() {
             self.advance();
             let right = self.atom(bound)?;
-            left = Value::Sum(Box::new(self.alloc, left)?, Box::new(self.alloc, right)?);
+            left = self.sum(left, right)?;
         }
         Ok(left)
+    }
+
+    /// The sum of the two.
+    fn sum(&self, left: Value, right: Value) -> Result<Value, Refusal>
+        ensures ok { IfOk result (λ v. amount_of v ≡ sum (amount_of left) (amount_of right)) }
+        ensures err { result ≢ Err Refusal.Syntax }
+    {
+        Ok(Value::Sum(Box::new(self.alloc, left)?, Box::new(self.alloc, right)?))
     }
 
     /// A value, and `in number - number` or `op value`.
@@ -307,7 +324,6 @@ impl<'a> Parser<'a> {
 
     /// One test.
     #[cycle(conditions)]
-    #[tactic(auto, using(crate::proofs::Enough::reads))]
     fn unit(&mut self, bound: Bound) -> Result<Box<Tree>, Refusal>
         ensures gives { Gives (λ b. form_of b.value) result self.new
             (reading bound a_unit self.old) }
@@ -332,7 +348,6 @@ impl<'a> Parser<'a> {
 
     /// Tests with `and` between them.
     #[cycle(conditions)]
-    #[tactic(auto, using(crate::proofs::Enough::reads))]
     fn both(&mut self, bound: Bound) -> Result<Box<Tree>, Refusal>
         ensures gives { Gives (λ b. form_of b.value) result self.new
             (reading bound a_both self.old) }
@@ -349,7 +364,6 @@ impl<'a> Parser<'a> {
 
     /// What `and` joins, with `or` between.
     #[cycle(conditions)]
-    #[tactic(auto, using(crate::proofs::Enough::reads))]
     fn cond(&mut self, bound: Bound) -> Result<Box<Tree>, Refusal>
         ensures gives { Gives (λ b. form_of b.value) result self.new
             (reading bound a_cond self.old) }

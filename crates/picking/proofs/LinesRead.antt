@@ -1,15 +1,15 @@
 -- One byte more of lines of tricks.
-use Rattle.std.proofs.Common.{◌≡◌, ◌∙◌, ◌≤◌, ◌<◌, ℕ, ◌+◌, ◌-◌, ◌==◌, Bool, true, false, List, [], ◌∷◌, ◌++◌, length, Option, None, Some, refl, sym, ap, arith, append_assoc, length-append, eqb-true}
-use Rattle.std.specs.Prelude.{if◌then◌else◌}
+use Rattle.std.proofs.Common.{◌≡◌, ◌∙◌, ◌≤◌, ◌<◌, ℕ, ◌+◌, ◌-◌, ◌==◌, Bool, true, false, List, [], ◌∷◌, ◌++◌, length, take, Option, None, Some, refl, sym, ap, arith, append_assoc, length-append, eqb-true}
+use Rattle.std.specs.Prelude.{if◌then◌else◌, Err, IfOk, Ok, Result}
 use Rattle.std.proofs.lemmas.Bool.{ne_eqb}
 use Rattle.std.proofs.lemmas.List.{append-nil}
 use Rattle.picking.specs.NumberTexts.{ended, has_lf}
-use Rattle.picking.specs.TricksLines.{ReadsTricks, TableTold, by_line, lines_tell, nothing_told, text_lines, text_tells, unless_empty}
+use Rattle.picking.specs.TricksLines.{ReadsTricks, TableTold, Tells, by_line, lines_tell, nothing_told, text_lines, text_tells, unless_empty}
 use Rattle.picking.specs.declared.tricks_lines.LinesEnd.{LinesEnd}
 use Rattle.picking.specs.declared.tricks_lines.LinesEnd.TheVariants.{Enough, Missing, Refused}
 use Rattle.picking.specs.internal.LinesRead.{HasRead, ReadFrom, TakesLines, after_table, without_cr}
 use Rattle.std.proofs.KnownBytes.{Consumes-trans}
-use Rattle.std.specs.Io.KnownBytes.{Consumes}
+use Rattle.std.specs.Io.KnownBytes.{Consumes, IsAtEnd}
 use Rattle.picking.proofs.LineEnds.{line_alone, line_ends, long_line}
 use Rattle.picking.proofs.Scanned.{ended-lf, ended-other, has_lf-other}
 use Rattle.tricks.specs.Lines.{TricksView, told}
@@ -224,3 +224,22 @@ from_taken most kept kept_more table table_more piece before behind further more
   consumed = Consumes-trans before behind further p.given piece p.consumed more;
   read = takes p.given p.read;
 }
+
+-- the input ended, and the last line was read
+pub from_end : {R E : Type 0} (items : R → List TricksView) (end : R → LinesEnd) (most : ℕ) (kept : List ℕ) (table : List TricksView) (count : ℕ) (piece : List ℕ) (before behind further : Option (List ℕ)) (r : Result R E) → count ≡ 0
+    → Consumes behind further (take count piece) → IsAtEnd further
+    → IfOk r (λ r. (given : List ℕ) → HasRead most given kept table → Tells most given (items r) (end r))
+    → ReadFrom most kept table before behind → IfOk r (λ r. ReadsTricks most (items r) (end r) before further)
+from_end items end most kept table count piece before behind further (Err e) none more at_end tells p = tt
+from_end items end most kept table count piece before behind further (Ok r) none more at_end tells p = record {
+  given = p.given;
+  consumed = consumed;
+  all = λ missing. at_end;
+  tells = tells p.given p.read;
+}
+  where
+    nothing : Consumes behind further []
+    nothing = rw none at more
+
+    consumed : Consumes before further p.given
+    consumed = rw append-nil at (Consumes-trans before behind further p.given [] p.consumed nothing)

@@ -35,7 +35,6 @@ fn read_byte<I: Source>(input: &mut I) -> Result<u8, BytesFault>
 ///
 /// # Errors
 /// `Ended` if the input has fewer; `Failed` if it couldn't be read.
-#[tactic(auto, using(crate::proofs::FourBytes::ends_third, crate::proofs::FourBytes::ends_fourth))]
 pub fn read_four<I: Source>(input: &mut I) -> Result<[u8; 4], BytesFault>
     requires { I.faults input.old < 2 ^ 64 - 1 }
     ensures given { IfOk result (λ bytes. Consumes (I.rest input.old) (I.rest input.new) bytes) }

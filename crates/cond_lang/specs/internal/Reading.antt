@@ -148,15 +148,19 @@ abbrev pub range : Reader (ℕ × ℕ)
 range S =
     after (digits S) (λ m S. after (dash S) (λ _ S. after (digits S) (λ n S. got (m, n) S)))
 
+-- how long one of a hand's suits is, by its place among them
+abbrev pub suit_count : Reader Amount
+suit_count (Longest ∷ S) = after (seat_in_brackets S) (λ q R. got (longest q) R)
+suit_count (Second ∷ S) = after (seat_in_brackets S) (λ q R. got (second q) R)
+suit_count (Shortest ∷ S) = after (seat_in_brackets S) (λ q R. got (shortest q) R)
+suit_count S = stuck S
+
 unfoldable pub atom_of : Bound → Reader Amount
 atom_of E (Number n ∷ S) = got (number n) S
 atom_of E (Measure m ∷ S) = after (open_seat S) (rest_of_measure E m)
 atom_of E (Len ∷ S) = after (seat_and_suit E S) (λ p R. got (suit_length p.0 p.1) R)
 atom_of E (Cards ∷ S) = after (open_seat_comma S) (λ q R. rest_of_cards E q R)
-atom_of E (Longest ∷ S) = after (seat_in_brackets S) (λ q R. got (longest q) R)
-atom_of E (Second ∷ S) = after (seat_in_brackets S) (λ q R. got (second q) R)
-atom_of E (Shortest ∷ S) = after (seat_in_brackets S) (λ q R. got (shortest q) R)
-atom_of E S = stuck S
+atom_of E S = suit_count S
 
 unfoldable pub items : Reader (List Item)
 items S =

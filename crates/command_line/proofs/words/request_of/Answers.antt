@@ -29,7 +29,7 @@ pub returns-in-Some : goal.returns-in-Some
 returns-in-Some c words at =
     let asks = at.make (sym c.if-eq.ensures) (sym c.if-eq-2.ensures) (sym c.if-eq-3.ensures) in
     let unknown = sym c.unknown_in.ensures ∙ ap is_some c.in-Some.is in
-    (λ some. refused_asked words InvalidValue (asks.unknown unknown) some, refused_kind words InvalidValue c.in_ok-invalid_value.field-0 (asks.unknown unknown) c.in_ok-invalid_value.ensures)
+    (λ some. refused_asked words InvalidValue (asks.unknown unknown) some, refused_kind words InvalidValue c.written.result (asks.unknown unknown) (c.written.ensures InvalidValue c.invalid_value.ensures))
 
 pub returns-in-Some-bad_workers_in : goal.returns-in-Some-bad_workers_in
 returns-in-Some-bad_workers_in c words at =
@@ -37,7 +37,7 @@ returns-in-Some-bad_workers_in c words at =
     let known = sym c.unknown_in.ensures ∙ ap is_some c.in_default.is in
     let bad = sym c.bad_workers_in.ensures ∙ ap is_some c.in-Some-bad_workers_in.is in (
       λ some. refused_asked words ValueValidation (asks.bad_workers known bad) some,
-      refused_kind words ValueValidation c.in_ok-invalid_number.field-0 (asks.bad_workers known bad) c.in_ok-invalid_number.ensures,
+      refused_kind words ValueValidation c.written-in-Some-bad_workers_in.result (asks.bad_workers known bad) (c.written-in-Some-bad_workers_in.ensures ValueValidation c.invalid_number.ensures),
     )
 
 pub returns-in-Some-missing_of : goal.returns-in-Some-missing_of
@@ -48,7 +48,7 @@ returns-in-Some-missing_of c words at =
     let rows = rows_of (found_of c.args.matches.now) in
     let lacks = ap (λ s. lacks_option c.args.name.now s rows) (sym c.search_in-search.ensures) ∙ sym c.missing_of.ensures ∙ ap is_some c.in-Some-missing_of.is in (
       λ some. refused_asked words MissingRequiredArgument (asks.missing known counted lacks) some,
-      refused_kind words MissingRequiredArgument c.in_ok-missing_option.field-0 (asks.missing known counted lacks) c.in_ok-missing_option.ensures,
+      refused_kind words MissingRequiredArgument c.written-in-Some-missing_of.result (asks.missing known counted lacks) (c.written-in-Some-missing_of.ensures MissingRequiredArgument c.missing_option.ensures),
     )
 
 pub returns : goal.returns

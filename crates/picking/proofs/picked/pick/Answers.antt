@@ -1,9 +1,29 @@
 use Rattle.std.proofs.Common.{◌≡◌, length, arith, refl, rules, subst, sym, take}
-use Rattle.sinks.specs.Appended.{AppendsAll}
+use Rattle.std.proofs.lemmas.Result.{err_from_is_err_and}
+use Rattle.sinks.specs.Appended.{AppendsAll, AppendsPart}
 use Rattle.picking.specs.internal.Picking.{EndsWithin, PickedFrom, TakesMore}
 use Rattle.picking.proofs.Boards.{picked_nothing}
-use Rattle.picking.proofs.Pieces.{from_broken, from_more, from_nothing, lines_in}
+use Rattle.picking.proofs.Pieces.{from_broken, from_failed, from_header, from_more, from_nothing, lines_in}
 use Rattle.picking.proofs.picked.pick.Goals as goal
+
+pub returns-in-Err-clause-picked : goal.returns-in-Err-clause-picked
+returns-in-Err-clause-picked g c =
+    let base = g.S.Sink.bytes c.args.sink.now in
+    let now = g.S.Sink.bytes c.put_all.new.sink in
+    let layout = g.N.Notation.layout c.args.notation.now in
+    from_header layout layout c.args.plan.now (g.I.Source.rest c.args.input.now) base now refl (subst (AppendsPart base now) c.header.ensures c.in-Err.ensures.bytes)
+
+pub returns-in_err-count-clause-picked : goal.returns-in_err-count-clause-picked
+returns-in_err-count-clause-picked g c =
+    let layout = g.N.Notation.layout c.args.notation.now in
+    let has = g.N.Notation.has_printed c.loop-turn.notation in
+    let scanner = c.loop-turn.picker.scanner in
+    let before = g.I.Source.rest c.args.input.now in
+    let behind = g.I.Source.rest c.loop-turn.input in
+    let base = g.S.Sink.bytes c.args.sink.now in
+    let picked = subst (PickedFrom layout has c.args.plan.now scanner before behind base) (sym c.watch.ensures.bytes) c.loop-turn.invariant.picked in
+    let p = err_from_is_err_and c.from_residual.result c.from_residual.ensures.1 in
+    rw (p.1, p.2) (from_failed layout has c.args.plan.now scanner before behind (g.I.Source.rest c.read.new.self) base (g.S.Sink.bytes c.watch.new.self) c.in_err-count.ensures.kept picked)
 
 pub loop-turn-init : goal.loop-turn-init
 loop-turn-init g c =

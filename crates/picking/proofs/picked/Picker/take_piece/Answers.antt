@@ -1,4 +1,5 @@
-use Rattle.std.proofs.Common.{◌+◌, ◌++◌, ◌∷◌, [], take, drop, get_or, subst}
+use Rattle.std.proofs.lemmas.Grind.{common_steps}
+use Rattle.std.proofs.Common.{◌+◌, ◌++◌, ◌∷◌, [], take, drop, get_or, subst, arith}
 use Rattle.picking.specs.internal.Picking.{EndsWithin}
 use Rattle.picking.proofs.Pieces.{broken_at, cut_at}
 use Rattle.picking.proofs.picked.Picker.take_piece.Goals as goal
@@ -15,3 +16,9 @@ returns-in-Err-clause-takes g c given rest base p =
     c.loop-byte.invariant.layout (cut_at given piece rest i c.loop-byte-test.true)
     (subst (λ q. EndsWithin (g.N.Notation.layout c.loop-byte.notation) (g.N.Notation.has_printed c.loop-byte.notation) q c.loop-byte.self.scanner (get_or piece i 0 ∷ []) c.in-Err.fault (g.S.Sink.bytes c.loop-byte.sink) (g.S.Sink.bytes c.take_byte.new.sink)) plan_is c.in-Err.ensures.takes before later base)
     (c.loop-byte.invariant.picked given base p)
+
+pub loop-byte-preserved : goal.loop-byte-preserved
+loop-byte-preserved g c = grind (arith, common_steps)
+
+pub returns-clause-takes : goal.returns-clause-takes
+returns-clause-takes g c = grind (arith, common_steps)

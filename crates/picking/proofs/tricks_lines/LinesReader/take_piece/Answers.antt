@@ -1,4 +1,5 @@
-use Rattle.std.proofs.Common.{◌+◌, ◌++◌, ◌∷◌, ◌∙◌, [], take, drop, get_or, sym, ap, subst, rules}
+use Rattle.std.proofs.lemmas.Grind.{common_steps}
+use Rattle.std.proofs.Common.{◌+◌, ◌++◌, ◌∷◌, ◌∙◌, [], take, drop, get_or, sym, ap, subst, rules, arith}
 use Rattle.std.proofs.lemmas.List.{take_all}
 use Rattle.picking.specs.TricksLines.{text_tells}
 use Rattle.picking.specs.internal.LinesRead.{HasRead, TakesLines}
@@ -23,3 +24,6 @@ returns-clause-takes c given h =
     let self = c.args.self.now in
     let now = c.loop-byte.self in
     subst (λ t. HasRead self.most (given ++ t) now.line.items now.table.items) (take_all c.loop-byte.byte-index c.args.piece.now c.loop-byte-test.false) (c.loop-byte.invariant.read given h)
+
+pub loop-byte-preserved : goal.loop-byte-preserved
+loop-byte-preserved c = grind (arith, common_steps)

@@ -1,0 +1,100 @@
+use Rattle.std.proofs.lemmas.Grind.{common_steps}
+use Rattle.std.proofs.Common.{arith}
+use Rattle.cond_lang.proofs.Enough.{reads}
+use Rattle.cond_lang.proofs.parser.Parser.+conditions.Goals as goal
+
+pub both-returns-in_err-left-clause-gives : goal.both-returns-in_err-left-clause-gives
+both-returns-in_err-left-clause-gives t c = grind (arith, reads)
+
+pub both-loop-self-init : goal.both-loop-self-init
+both-loop-self-init t c = grind (arith, reads)
+
+pub both-returns-in_err-right-clause-gives : goal.both-returns-in_err-right-clause-gives
+both-returns-in_err-right-clause-gives t c = grind (arith, reads)
+
+pub both-loop-self-preserved : goal.both-loop-self-preserved
+both-loop-self-preserved t c = grind (arith, reads)
+
+pub both-returns-clause-gives : goal.both-returns-clause-gives
+both-returns-clause-gives t c = grind (arith, reads)
+
+pub cond-returns-in_err-left-clause-gives : goal.cond-returns-in_err-left-clause-gives
+cond-returns-in_err-left-clause-gives t c = grind (arith, reads)
+
+pub cond-loop-self-init : goal.cond-loop-self-init
+cond-loop-self-init t c = grind (arith, reads)
+
+pub cond-returns-in_err-right-clause-gives : goal.cond-returns-in_err-right-clause-gives
+cond-returns-in_err-right-clause-gives t c = grind (arith, reads)
+
+pub cond-loop-self-preserved : goal.cond-loop-self-preserved
+cond-loop-self-preserved t c = grind (arith, reads)
+
+pub cond-returns-clause-gives : goal.cond-returns-clause-gives
+cond-returns-clause-gives t c = grind (arith, reads)
+
+pub unit-returns-in_err-inner-in-Some-Not-clause-gives : goal.unit-returns-in_err-inner-in-Some-Not-clause-gives
+unit-returns-in_err-inner-in-Some-Not-clause-gives t c = grind (arith, reads)
+
+pub unit-returns-in_err-inner-in-Some-Open-clause-gives : goal.unit-returns-in_err-inner-in-Some-Open-clause-gives
+unit-returns-in_err-inner-in-Some-Open-clause-gives t c = grind (arith, reads)
+
+pub unit-returns-in_err-close-in-Some-Open-clause-gives : goal.unit-returns-in_err-close-in-Some-Open-clause-gives
+unit-returns-in_err-close-in-Some-Open-clause-gives t c = grind (arith, reads)
+
+pub unit-returns-in_ok-inner-in-Some-Not-clause-gives : goal.unit-returns-in_ok-inner-in-Some-Not-clause-gives
+unit-returns-in_ok-inner-in-Some-Not-clause-gives t c = grind (arith, reads)
+
+pub unit-returns-in_ok-close-in-Some-Open-clause-gives : goal.unit-returns-in_ok-close-in-Some-Open-clause-gives
+unit-returns-in_ok-close-in-Some-Open-clause-gives t c = grind (arith, reads)
+
+pub unit-returns-in-Some-Quantifier-clause-gives : goal.unit-returns-in-Some-Quantifier-clause-gives
+unit-returns-in-Some-Quantifier-clause-gives t c = grind (arith, reads)
+
+pub unit-returns-in_default-clause-gives : goal.unit-returns-in_default-clause-gives
+unit-returns-in_default-clause-gives t c = grind (arith, reads)
+
+pub quantified-with_suit-requires : goal.quantified-with_suit-requires
+quantified-with_suit-requires t c = grind (arith, common_steps)
+
+pub quantified-returns-in_err-first-clause-shorter : goal.quantified-returns-in_err-first-clause-shorter
+quantified-returns-in_err-first-clause-shorter t c = grind (arith, common_steps)
+
+pub quantified-with_suit-requires-2 : goal.quantified-with_suit-requires-2
+quantified-with_suit-requires-2 t c = grind (arith, common_steps)
+
+pub quantified-returns-in_err-second-clause-shorter : goal.quantified-returns-in_err-second-clause-shorter
+quantified-returns-in_err-second-clause-shorter t c = grind (arith, common_steps)
+
+pub quantified-with_suit-requires-3 : goal.quantified-with_suit-requires-3
+quantified-with_suit-requires-3 t c = grind (arith, common_steps)
+
+pub quantified-returns-in_err-third-clause-shorter : goal.quantified-returns-in_err-third-clause-shorter
+quantified-returns-in_err-third-clause-shorter t c = grind (arith, common_steps)
+
+pub quantified-with_suit-requires-4 : goal.quantified-with_suit-requires-4
+quantified-with_suit-requires-4 t c = grind (arith, common_steps)
+
+pub quantified-returns-in_err-last-clause-shorter : goal.quantified-returns-in_err-last-clause-shorter
+quantified-returns-in_err-last-clause-shorter t c = grind (arith, common_steps)
+
+pub quantified-returns-in_default-clause-shorter : goal.quantified-returns-in_default-clause-shorter
+quantified-returns-in_default-clause-shorter t c = grind (arith, common_steps)
+
+pub quantified-returns-in_err-close-clause-shorter : goal.quantified-returns-in_err-close-clause-shorter
+quantified-returns-in_err-close-clause-shorter t c = grind (arith, common_steps)
+
+pub quantified-returns-clause-shorter : goal.quantified-returns-clause-shorter
+quantified-returns-clause-shorter t c = grind (arith, common_steps)
+
+pub with_suit-cond-requires : goal.with_suit-cond-requires
+with_suit-cond-requires t c = grind (arith, common_steps)
+
+pub with_suit-returns-in_err-tree-clause-shorter : goal.with_suit-returns-in_err-tree-clause-shorter
+with_suit-returns-in_err-tree-clause-shorter t c = grind (arith, common_steps)
+
+pub with_suit-returns-in_err-behind-clause-shorter : goal.with_suit-returns-in_err-behind-clause-shorter
+with_suit-returns-in_err-behind-clause-shorter t c = grind (arith, common_steps)
+
+pub with_suit-returns-clause-shorter : goal.with_suit-returns-clause-shorter
+with_suit-returns-clause-shorter t c = grind (arith, common_steps)
