@@ -79,16 +79,16 @@ fn filled(alloc: Global, parts: &Parts, hint: &str) -> Said {
 /// Appends the hint with the parts in it, if they are there.
 fn put_hint(out: &mut Vec<u8>, parts: &Parts, hint: &str) -> Result<bool, AllocError> {
     for (i, piece) in hint.split('%').enumerate() {
-        match piece.as_bytes() {
+        let text = match piece.as_bytes() {
             [kind, digit, behind @ ..] if i > 0 => {
-                let n = usize::from(digit.saturating_sub(b'0'));
-                if !put(out, parts, *kind, n)? {
+                if !put(out, parts, *kind, usize::from(digit.saturating_sub(b'0')))? {
                     return Ok(false);
                 }
-                out.extend_from_slice(behind)?;
+                behind
             }
-            text => out.extend_from_slice(text)?,
-        }
+            text => text,
+        };
+        out.extend_from_slice(text)?;
     }
     Ok(true)
 }

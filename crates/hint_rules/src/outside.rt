@@ -121,15 +121,14 @@ fn moved(alloc: Global, parts: &Parts, found: Outside) -> Result<Option<Vec<u8>>
     if !is_clear(parts, found) {
         return Ok(None);
     }
+    let (first, behind) = match around(parts, found.start) {
+        Some((first, last)) => (first, last.saturating_add(1)),
+        None => (found.start, found.end),
+    };
     let mut out = Vec::new(alloc);
-    match around(parts, found.start) {
-        Some((first, last)) => {
-            put(&mut out, parts, first, found.start)?;
-            put_inside(&mut out, parts, found)?;
-            put(&mut out, parts, found.end, last.saturating_add(1))?;
-        }
-        None => put_inside(&mut out, parts, found)?,
-    }
+    put(&mut out, parts, first, found.start)?;
+    put_inside(&mut out, parts, found)?;
+    put(&mut out, parts, found.end, behind)?;
     let is_told = is_plain(out.as_slice()) && is_accepted(alloc, out.as_slice())?;
     Ok(is_told.then_some(out))
 }
@@ -180,12 +179,16 @@ fn put_inside(out: &mut Vec<u8>, parts: &Parts, found: Outside) -> Result<(), Al
     let (first, behind) = (found.open.saturating_add(1), found.close.saturating_add(1));
     let is_wrapped = is(parts.at(behind), "and") && has_or(parts, first, found.close);
     let (open, close) = if is_wrapped { ("(", ")") } else { ("", "") };
-    put(out, parts, found.start, first)?;
-    out.extend_from_slice(open.as_bytes())?;
-    put(out, parts, first, found.close)?;
-    out.extend_from_slice(close.as_bytes())?;
-    put(out, parts, behind, found.end)?;
-    out.extend_from_slice(b")")
+    let pieces = [
+        (found.start, first, open),
+        (first, found.close, close),
+        (behind, found.end, ")"),
+    ];
+    for (from, to, sign) in pieces {
+        put(out, parts, from, to)?;
+        out.extend_from_slice(sign.as_bytes())?;
+    }
+    Ok(())
 }
 
 /// Appends the parts from one up to another on one line, with a blank in front where one belongs.

@@ -140,20 +140,19 @@ static KINDS: [(&str, Kind); 15] = [
 
 /// Whether the pattern fits the fault.
 pub(crate) fn fits(parts: &Parts, pattern: &str) -> bool {
-    let (before, from) = pattern.split_once('^').unwrap_or(("", pattern));
+    let (before, _) = pattern.split_once('^').unwrap_or(("", pattern));
     let mut back = before.split_ascii_whitespace().count();
-    for word in before.split_ascii_whitespace() {
-        if !is_wanted(parts, parts.fault.saturating_sub(back), word) {
-            return false;
+    let mut next: usize = 0;
+    for word in pattern.split_ascii_whitespace() {
+        if word == "^" {
+            continue;
         }
-        back = back.saturating_sub(1);
-    }
-    let mut at = parts.fault;
-    for word in from.split_ascii_whitespace() {
+        let at = parts.fault.saturating_sub(back).saturating_add(next);
         if !is_wanted(parts, at, word) {
             return false;
         }
-        at = at.saturating_add(1);
+        next = next.saturating_add(if back > 0 { 0 } else { 1 });
+        back = back.saturating_sub(1);
     }
     true
 }
@@ -234,7 +233,6 @@ fn is_met(parts: &Parts, i: usize, want: Want, texts: &str) -> bool {
 /// Whether what is wanted is so at the part, by the parts beside it or its letters.
 fn is_met_beside(parts: &Parts, i: usize, want: Want, texts: &str) -> bool {
     let part = parts.at(i);
-    let start = parts.value_start(i);
     let word = parts.word.as_slice();
     match want {
         Want::Above => is_number(part) && number(parts.at(i.saturating_sub(2))) < number(part),
@@ -245,15 +243,18 @@ fn is_met_beside(parts: &Parts, i: usize, want: Want, texts: &str) -> bool {
         Want::CapitalRanks => is_word(part) && part != word && are_ranks(word),
         Want::Value => parts.value(i).is_some(),
         Want::Call => is(part, ")") && parts.value(i).is_some(),
-        Want::Bracketed => {
-            is(parts.at(start.saturating_sub(1)), "(") && parts.value(i).is_some()
-        }
-        Want::Chained => is_relation(parts.at(start.saturating_sub(1))),
+        Want::Bracketed => is(before_value(parts, i), "(") && parts.value(i).is_some(),
+        Want::Chained => is_relation(before_value(parts, i)),
         Want::Suffix => is(part, texts) && parts.is_suffix(i),
         Want::Amount => amount_at(parts, i).is_some(),
         Want::Counted => counted_at(parts, i).0 != "",
         _ => false,
     }
+}
+
+/// The part before the value that ends with this part.
+fn before_value<'t>(parts: &Parts<'t>, last: usize) -> &'t [u8] {
+    parts.at(parts.value_start(last).saturating_sub(1))
 }
 
 /// The digits without the zeros in front, but for the last.
