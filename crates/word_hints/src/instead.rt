@@ -1,6 +1,6 @@
 //! Options, commands and words that people try first, and what to write in their place.
 
-use crate::table::find;
+use crate::table::{find, find_small};
 use std::alloc::Global;
 
 const BY_WHERE: &str = "a condition comes after --where, in quotes: --where 'hcp(north)>=15'";
@@ -69,8 +69,7 @@ const ROWS: &str = "
 
 /// What to write in the place of this option, first word or command, in any case.
 pub(crate) fn of(alloc: Global, kind: &str, word: &str) -> Option<&'static str> {
-    let word = word.to_ascii_lowercase(alloc).ok()?;
-    find(ROWS, kind, word.as_str())
+    find_small(alloc, ROWS, kind, word)
 }
 
 /// What to write in the place of a word that belongs to no option.

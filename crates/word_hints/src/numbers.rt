@@ -29,9 +29,6 @@ static WORDS: [(&str, u64); 21] = [
     ("zero", 0),
 ];
 
-/// Letters behind a number, in small letters, and by what they multiply it.
-const TIMES: [(char, u64); 2] = [('k', 1000), ('m', 1000000)];
-
 /// What helps with the number of this option, which is at most this.
 pub(crate) fn hint(alloc: Global, option: &str, most: u64, word: &str) -> Option<String> {
     if word.is_empty() {
@@ -108,21 +105,24 @@ fn number_of(word: &str, digits: &str) -> Option<u64> {
     if let Some((head, power)) = word.split_once('e') {
         return times_power(head, power);
     }
-    for (letter, factor) in TIMES {
-        if let Some(head) = word.strip_suffix(letter) {
-            return head.trim().parse::<u64>().ok()?.checked_mul(factor);
-        }
+    if let Some(head) = word.strip_suffix('k') {
+        return times(head.trim(), 1000);
     }
-    if is_grouped(word, digits) {
-        return digits.parse().ok();
+    if let Some(head) = word.strip_suffix('m') {
+        return times(head.trim(), 1000000);
     }
-    None
+    let whole = if is_grouped(word, digits) { digits } else { "" };
+    times(whole, 1)
 }
 
 /// The number with so many zeros behind it.
-fn times_power(head: &str, power: &str) -> Option<u64> {
-    let factor = 10u64.checked_pow(power.parse::<u32>().ok()?)?;
-    head.parse::<u64>().ok()?.checked_mul(factor)
+fn times_power(number: &str, power: &str) -> Option<u64> {
+    times(number, 10u64.checked_pow(power.parse().ok()?)?)
+}
+
+/// The number that the text is, so many times.
+fn times(number: &str, factor: u64) -> Option<u64> {
+    number.parse::<u64>().ok()?.checked_mul(factor)
 }
 
 /// Whether the word has these digits alone, parted in threes as in `1,000,000`.

@@ -29,10 +29,9 @@ pub(crate) struct Refused<'a> {
     pub(crate) option: &'a str,
 }
 
-/// How clap's text begins, what is behind the word that it names there, and what is refused.
-type Form = (&'static str, &'static str, What);
-
-static OF_WORDS: [Form; 3] = [
+/// How clap's text begins, what is behind the word that it names there, and what is refused. Where
+/// an option is shown behind that, it is as in `--seed <S>'`.
+static FORMS: [(&str, &str, What); 8] = [
     ("unexpected argument '", "' found", What::Argument),
     ("unrecognized subcommand '", "'\n", What::Command),
     (
@@ -40,10 +39,7 @@ static OF_WORDS: [Form; 3] = [
         "\n\n",
         What::Missing,
     ),
-];
-
-/// The forms in which an option is shown behind that, as in `--seed <S>'`.
-static OF_OPTIONS: [Form; 4] = [
+    ("requires a subcommand", "", What::NoCommand),
     ("invalid value '", "' for '", What::Value),
     ("a value is required for '", "", What::NoValue),
     ("the argument '", "", What::Twice),
@@ -53,29 +49,25 @@ static OF_OPTIONS: [Form; 4] = [
 /// What clap's text says that is refused.
 pub(crate) fn read(refusal: &str) -> Option<Refused<'_>> {
     let text = refusal.strip_prefix("error: ")?;
-    if let Some((what, rest, end)) = form_of(&OF_WORDS, text) {
-        let (word, _) = rest.split_once(end)?;
-        return Some(naming(what, word, ""));
-    }
-    if text.contains("requires a subcommand") {
-        return Some(naming(What::NoCommand, "", ""));
-    }
-    let (what, rest, end) = form_of(&OF_OPTIONS, text)?;
-    let (word, shown) = rest.split_once(end)?;
-    let (option, _) = shown.split_once(['\'', ' '])?;
-    Some(naming(what, word, option))
-}
-
-/// The form that the text has, what is behind its beginning, and what ends the word there.
-fn form_of<'a>(forms: &[Form], text: &'a str) -> Option<(What, &'a str, &'static str)> {
-    for (beginning, end, what) in forms {
-        if let Some(rest) = text.strip_prefix(*beginning) {
-            return Some((*what, rest, *end));
+    for (beginning, end, what) in &FORMS {
+        if let Some(rest) = rest_of(text, beginning, *what) {
+            return naming(*what, rest, end);
         }
     }
     None
 }
 
-fn naming<'a>(what: What, word: &'a str, option: &'a str) -> Refused<'a> {
-    Refused { what, word, option }
+/// What is behind the beginning, if the text has it. A missing command is said later in a text.
+fn rest_of<'a>(text: &'a str, beginning: &str, what: What) -> Option<&'a str> {
+    if what == What::NoCommand {
+        return text.contains(beginning).then_some("");
+    }
+    text.strip_prefix(beginning)
+}
+
+/// What is refused, with the word up to its end, and the option behind that.
+fn naming<'a>(what: What, rest: &'a str, end: &str) -> Option<Refused<'a>> {
+    let (word, shown) = rest.split_once(end)?;
+    let (option, _) = shown.split_once(['\'', ' ']).unwrap_or((shown, ""));
+    Some(Refused { what, word, option })
 }

@@ -3,11 +3,25 @@
 //! A row is what it is of, or some of that with `|` between them, the words, `=>` and a text. The
 //! word `*` is any.
 
+use std::alloc::Global;
+
+/// The text of the first row of this that has the word in small letters.
+pub(crate) fn find_small(
+    alloc: Global,
+    table: &'static str,
+    of: &str,
+    word: &str,
+) -> Option<&'static str> {
+    find(table, of, word.to_ascii_lowercase(alloc).ok()?.as_str())
+}
+
 /// The text of the first row of this that has the word.
 pub(crate) fn find(table: &'static str, of: &str, word: &str) -> Option<&'static str> {
     for line in table.lines() {
-        if let Some((words, text)) = line.split_once(" => ")
-            && has(words, of, word)
+        if let Some((row, text)) = line.trim_ascii_start().split_once(" => ")
+            && let Some((known, words)) = row.split_once(' ')
+            && is_one_of(known, '|', of)
+            && is_one_of(words, ' ', word)
         {
             return Some(text);
         }
@@ -15,13 +29,10 @@ pub(crate) fn find(table: &'static str, of: &str, word: &str) -> Option<&'static
     None
 }
 
-/// Whether the row is of this and has the word.
-fn has(row: &str, of: &str, word: &str) -> bool {
-    let mut is_of = false;
-    for (i, known) in row.split_ascii_whitespace().enumerate() {
-        if i == 0 {
-            is_of = known.split('|').any(|each| each == of);
-        } else if is_of && (known == word || known == "*") {
+/// Whether the text is one of these, which have the sign between them.
+fn is_one_of(texts: &str, sign: char, text: &str) -> bool {
+    for known in texts.split(sign) {
+        if known == text || known == "*" {
             return true;
         }
     }

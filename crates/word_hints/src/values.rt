@@ -1,6 +1,6 @@
 //! Values of options in other spellings, and the word to write.
 
-use crate::table::find;
+use crate::table::find_small;
 use crate::{joined, valued};
 use std::alloc::Global;
 
@@ -65,10 +65,9 @@ const WISHES: &str = "
 pub(crate) fn hint(alloc: Global, command: &str, option: &str, word: &str) -> Option<String> {
     let of_count = command == "count" && option == "--format";
     let of = if of_count { command } else { option };
-    let name = word.to_ascii_lowercase(alloc).ok()?;
-    if let Some(text) = find(WISHES, of, name.as_str()) {
+    if let Some(text) = find_small(alloc, WISHES, of, word) {
         return joined(alloc, &[text]);
     }
-    let value = find(SPELLINGS, of, name.as_str())?;
+    let value = find_small(alloc, SPELLINGS, of, word)?;
     valued(alloc, "write ", option, value, "")
 }
