@@ -1,9 +1,10 @@
 //! Ranges that two comparisons of one value leave.
 
-use crate::filling::put_number;
+use crate::filling::joined;
 use crate::hint::Said;
 use crate::parts::Parts;
 use crate::words::{is, is_number, number};
+use itoa::Buffer;
 use std::alloc::Global;
 
 /// The least or the most that a comparison leaves a value.
@@ -55,12 +56,11 @@ fn left_by(parts: &Parts, sign: usize, number_at: usize, is_left: bool) -> Optio
 }
 
 fn range(alloc: Global, value: &[u8], low: usize, high: usize) -> Said {
-    let mut out = Vec::new(alloc);
-    out.extend_from_slice(b"for a range write: ")?;
-    out.extend_from_slice(value)?;
-    out.extend_from_slice(b" in ")?;
-    put_number(&mut out, low)?;
-    out.push(b'-')?;
-    put_number(&mut out, high)?;
-    Ok(Some(out))
+    let (mut first, mut last) = (Buffer::new(), Buffer::new());
+    let low = first.format(low as u64).as_bytes();
+    let high = last.format(high as u64).as_bytes();
+    joined(
+        alloc,
+        &[b"for a range write: ", value, b" in ", low, b"-", high],
+    )
 }

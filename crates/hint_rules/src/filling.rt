@@ -22,10 +22,11 @@
 //! | `%eN` | what comes after the word `%bN` and a seat; `%e0` of the call |
 
 use crate::amounts::{Amount, amount_at, counted_at, ordered};
+use crate::hint::Said;
+use crate::lists::{ENDS, STARTS};
 use crate::parts::Parts;
-use crate::rule::{Rule, fits, without_zeros};
+use crate::rule::{fits, without_zeros};
 use crate::samples::{comparison, sample};
-use crate::tables::{ENDS, STARTS};
 use crate::words::{is, is_one_of, is_seat, number};
 use cond_lang::{CondError, parse};
 use itoa::Buffer;
@@ -39,15 +40,14 @@ static BEHIND_SEATS: &[(&str, &str)] = &[
 ];
 
 /// What the first rule says that fits and whose hint can be said.
-pub(crate) fn first_in(
-    alloc: Global,
-    parts: &Parts,
-    rules: &[Rule],
-) -> Result<Option<Vec<u8>>, AllocError> {
-    for rule in rules {
-        if fits(parts, rule) {
-            if let Some(hint) = filled(alloc, parts, rule.hint)? {
-                return Ok(Some(hint));
+pub(crate) fn first_in(alloc: Global, parts: &Parts, rules: &str) -> Said {
+    for line in rules.lines() {
+        if let Some((pattern, hint)) = line.split_once(" => ")
+            && fits(parts, pattern)
+        {
+            let said = filled(alloc, parts, hint)?;
+            if said.is_some() {
+                return Ok(said);
             }
         }
     }
@@ -68,45 +68,65 @@ pub fn suggested(hint: &[u8]) -> Option<&[u8]> {
 }
 
 /// The hint with the parts in it, if they are there, and it suggests nothing that is refused.
-fn filled(alloc: Global, parts: &Parts, hint: &str) -> Result<Option<Vec<u8>>, AllocError> {
+fn filled(alloc: Global, parts: &Parts, hint: &str) -> Said {
     let mut out = Vec::new(alloc);
-    let mut rest = hint.as_bytes();
-    while let [first, after @ ..] = rest {
-        rest = after;
-        match after {
-            [kind, digit, behind @ ..] if *first == b'%' => {
-                let n = usize::from(digit.saturating_sub(b'0'));
-                if !put(&mut out, parts, *kind, n)? {
-                    return Ok(None);
-                }
-                rest = behind;
-            }
-            _ => out.push(*first)?,
-        }
-    }
-    sound(alloc, parts, out)
-}
-
-/// The hint, if the language has what it suggests; in brackets, where the text would tear that.
-fn sound(alloc: Global, parts: &Parts, hint: Vec<u8>) -> Result<Option<Vec<u8>>, AllocError> {
-    let Some(condition) = suggested(hint.as_slice()) else {
-        return Ok(Some(hint));
-    };
-    if !is_accepted_in(alloc, parts, condition)? {
+    if !put_hint(&mut out, parts, hint)? || !is_sound(alloc, parts, out.as_slice())? {
         return Ok(None);
     }
-    if !is_torn(parts, condition) {
-        return Ok(Some(hint));
+    in_place(alloc, parts, out)
+}
+
+/// Appends the hint with the parts in it, if they are there.
+fn put_hint(out: &mut Vec<u8>, parts: &Parts, hint: &str) -> Result<bool, AllocError> {
+    for (i, piece) in hint.split('%').enumerate() {
+        let text = match piece.as_bytes() {
+            [kind, digit, behind @ ..] if i > 0 => {
+                if !put(out, parts, *kind, usize::from(digit.saturating_sub(b'0')))? {
+                    return Ok(false);
+                }
+                behind
+            }
+            text => text,
+        };
+        out.extend_from_slice(text)?;
     }
+    Ok(true)
+}
+
+/// Whether the language has what the hint suggests, if it suggests anything.
+fn is_sound(alloc: Global, parts: &Parts, hint: &[u8]) -> Result<bool, AllocError> {
+    match suggested(hint) {
+        Some(condition) => is_accepted_in(alloc, parts, condition),
+        None => Ok(true),
+    }
+}
+
+/// The hint, and in brackets what it suggests where the text would tear that.
+fn in_place(alloc: Global, parts: &Parts, hint: Vec<u8>) -> Said {
+    match suggested(hint.as_slice()) {
+        Some(condition) if is_torn(parts, condition) => {
+            let (before, _) = hint
+                .as_slice()
+                .split_at(hint.len().saturating_sub(condition.len()));
+            joined(alloc, &[before, b"(", condition, b")"])
+        }
+        _ => Ok(Some(hint)),
+    }
+}
+
+/// The texts, one behind the other, as a hint.
+pub(crate) fn joined(alloc: Global, texts: &[&[u8]]) -> Said {
     let mut out = Vec::new(alloc);
-    let (before, _) = hint
-        .as_slice()
-        .split_at(hint.len().saturating_sub(condition.len()));
-    out.extend_from_slice(before)?;
-    out.push(b'(')?;
-    out.extend_from_slice(condition)?;
-    out.push(b')')?;
+    put_all(&mut out, texts)?;
     Ok(Some(out))
+}
+
+/// Appends the texts, one behind the other.
+pub(crate) fn put_all(out: &mut Vec<u8>, texts: &[&[u8]]) -> Result<(), AllocError> {
+    for text in texts {
+        out.extend_from_slice(text)?;
+    }
+    Ok(())
 }
 
 /// Whether other words of the text may bind tighter than what joins the condition's tests: `not`
@@ -147,17 +167,21 @@ fn is_accepted_in(alloc: Global, parts: &Parts, condition: &[u8]) -> Result<bool
         return Ok(false);
     }
     for class in ["suit", "major", "minor"] {
-        let mut out = Vec::new(alloc);
-        out.extend_from_slice(b"any ")?;
-        out.extend_from_slice(class.as_bytes())?;
-        out.extend_from_slice(b" (")?;
-        out.extend_from_slice(condition)?;
-        out.push(b')')?;
-        if is_accepted(alloc, out.as_slice())? {
+        if is_accepted_of(alloc, class, condition)? {
             return Ok(true);
         }
     }
     Ok(false)
+}
+
+/// Whether the language has the condition where the class is named.
+fn is_accepted_of(alloc: Global, class: &str, condition: &[u8]) -> Result<bool, AllocError> {
+    let mut out = Vec::new(alloc);
+    put_all(
+        &mut out,
+        &[b"any ", class.as_bytes(), b" (", condition, b")"],
+    )?;
+    is_accepted(alloc, out.as_slice())
 }
 
 /// Whether the language has the condition.
@@ -173,21 +197,24 @@ pub(crate) fn is_accepted(alloc: Global, condition: &[u8]) -> Result<bool, Alloc
 fn put(out: &mut Vec<u8>, parts: &Parts, kind: u8, n: usize) -> Result<bool, AllocError> {
     let back = parts.fault.saturating_sub(n);
     let next = parts.fault.saturating_add(n);
-    match kind {
-        b'e' if n == 0 => put_behind_seat(out, parts, parts.call())?,
-        b'e' => put_behind_seat(out, parts, parts.at(back))?,
-        b'x' if is_one_of(parts.at(next), ENDS) => {
-            out.extend_from_slice(sample(parts.call(), true, false).as_bytes())?
-        }
-        b'a' | b'x' => put_amount(out, amount_at(parts, next))?,
-        b'f' => put_range(out, parts.at(parts.fault.saturating_sub(1)), parts.at(next))?,
-        b'r' => put_range(out, parts.at(parts.fault.saturating_add(1)), parts.at(next))?,
-        b'd' => put_dashed(out, parts.at(back))?,
-        b'g' => put_dashed(out, parts.at(next))?,
-        b'i' => put_number(out, number(parts.at(back)).saturating_add(1))?,
-        b'v' => return put_value(out, parts, back),
-        _ => out.extend_from_slice(text_of(parts, kind, back, next))?,
+    if kind == b'v' {
+        return put_value(out, parts, back);
     }
+    let done = match kind {
+        b'e' if n == 0 => put_behind_seat(out, parts, parts.call()),
+        b'e' => put_behind_seat(out, parts, parts.at(back)),
+        b'x' if is_one_of(parts.at(next), ENDS) => {
+            out.extend_from_slice(sample(parts.call(), true, false).as_bytes())
+        }
+        b'a' | b'x' => put_amount(out, amount_at(parts, next)),
+        b'f' => put_range(out, parts.at(parts.fault.saturating_sub(1)), parts.at(next)),
+        b'r' => put_range(out, parts.at(parts.fault.saturating_add(1)), parts.at(next)),
+        b'd' => put_dashed(out, parts.at(back)),
+        b'g' => put_dashed(out, parts.at(next)),
+        b'i' => put_number(out, number(parts.at(back)).saturating_add(1)),
+        _ => out.extend_from_slice(text_of(parts, kind, back, next)),
+    };
+    done?;
     Ok(true)
 }
 
@@ -214,37 +241,35 @@ fn text_of<'t>(parts: &'t Parts, kind: u8, back: usize, next: usize) -> &'t [u8]
 
 /// Appends what comes after the word and a seat. A suit is that of the brackets of any or every.
 fn put_behind_seat(out: &mut Vec<u8>, parts: &Parts, word: &[u8]) -> Result<(), AllocError> {
-    if is_one_of(word, "len stops") {
-        let class = parts.class();
-        out.push(b',')?;
-        out.extend_from_slice(if class.is_empty() { b"spades" } else { class })?;
-        out.push(b')')?;
-        return Ok(());
+    if !is_one_of(word, "len stops") {
+        return out.extend_from_slice(behind_seat(word).as_bytes());
     }
+    let class = parts.class();
+    let suit = if class.is_empty() { b"spades" } else { class };
+    put_all(out, &[b",", suit, b")"])
+}
+
+/// What comes after the word and a seat, where no suit does.
+fn behind_seat(word: &[u8]) -> &'static str {
     for (asked, behind) in BEHIND_SEATS {
         if is(word, asked) {
-            return out.extend_from_slice(behind.as_bytes());
+            return behind;
         }
     }
-    out.push(b')')?;
-    Ok(())
+    ")"
 }
 
 fn put_amount(out: &mut Vec<u8>, amount: Option<Amount>) -> Result<(), AllocError> {
-    if let Some(amount) = amount {
-        out.extend_from_slice(amount.sign)?;
-        out.extend_from_slice(amount.low)?;
-        out.extend_from_slice(if amount.high.is_empty() { b"" } else { b"-" })?;
-        out.extend_from_slice(amount.high)?;
-    }
-    Ok(())
+    let Some(amount) = amount else {
+        return Ok(());
+    };
+    let dash: &[u8] = if amount.high.is_empty() { b"" } else { b"-" };
+    put_all(out, &[amount.sign, amount.low, dash, amount.high])
 }
 
 fn put_range(out: &mut Vec<u8>, one: &[u8], other: &[u8]) -> Result<(), AllocError> {
     let (low, high) = ordered(one, other);
-    out.extend_from_slice(low)?;
-    out.push(b'-')?;
-    out.extend_from_slice(high)
+    put_all(out, &[low, b"-", high])
 }
 
 /// Appends the digits with dashes between them.
@@ -264,10 +289,11 @@ pub(crate) fn put_number(out: &mut Vec<u8>, number: usize) -> Result<(), AllocEr
 
 /// Appends the value that ends with the part; if nothing is there, one that could.
 fn put_value(out: &mut Vec<u8>, parts: &Parts, last: usize) -> Result<bool, AllocError> {
-    match parts.value(last) {
-        Some(value) => out.extend_from_slice(value)?,
-        None if is_one_of(parts.at(last), STARTS) => out.extend_from_slice(b"hcp(north)")?,
+    let value = match parts.value(last) {
+        Some(value) => value,
+        None if is_one_of(parts.at(last), STARTS) => b"hcp(north)",
         None => return Ok(false),
-    }
+    };
+    out.extend_from_slice(value)?;
     Ok(true)
 }

@@ -1,5 +1,6 @@
 //! Which hint a fault gets.
 
+use crate::filling::first_in;
 use crate::kinds::Kinds;
 use crate::parts::Parts;
 use crate::tables::{
@@ -14,16 +15,52 @@ use std::alloc::{AllocError, Global};
 /// A hint's bytes, if there is one.
 pub type Said = Result<Option<Vec<u8>>, AllocError>;
 
-/// Returns the first hint that one of these gives.
-macro_rules! first_of {
-    ($($hint:expr),+ $(,)?) => {
-        $(
-            if let Some(hint) = $hint? {
-                return Ok(Some(hint));
-            }
-        )+
-    };
+/// What may have a hint: the rules of a table, or code.
+#[derive(Clone, Copy)]
+enum Source {
+    Rules(&'static str),
+    Outside,
+    Bounds,
+    Likeness,
 }
+
+/// What is asked of a piece that isn't in the language, and of a token that isn't allowed there.
+static EITHER: [Source; 13] = [
+    Source::Rules(texts::RULES),
+    Source::Rules(whole::RULES),
+    Source::Rules(plain::RULES),
+    Source::Rules(sides::RULES),
+    Source::Outside,
+    Source::Rules(phrases::RULES),
+    Source::Rules(suits::RULES),
+    Source::Rules(classes::RULES),
+    Source::Bounds,
+    Source::Rules(several::RULES),
+    Source::Rules(lists::RULES),
+    Source::Rules(ranges::RULES),
+    Source::Rules(more_or_less::RULES),
+];
+
+/// What is asked of a piece behind `EITHER`.
+static PIECE: [Source; 14] = [
+    Source::Rules(or_more::RULES),
+    Source::Rules(limits::RULES),
+    Source::Rules(compared::RULES),
+    Source::Rules(letters::RULES),
+    Source::Rules(nouns::RULES),
+    Source::Rules(scripts::RULES),
+    Source::Rules(short::RULES),
+    Source::Rules(instead::RULES),
+    Source::Rules(honours::RULES),
+    Source::Rules(ranks::RULES),
+    Source::Rules(names::RULES),
+    Source::Likeness,
+    Source::Rules(signs::RULES),
+    Source::Rules(rest::RULES),
+];
+
+/// What is asked of a token behind `EITHER`; before it, the rules for shapes.
+static TOKEN: [Source; 2] = [Source::Rules(calls::RULES), Source::Rules(joins::RULES)];
 
 /// Returns the hint for the piece at the byte `at` of the text, which isn't in the language, if a
 /// rule has one.
@@ -35,23 +72,11 @@ pub fn of_piece(alloc: Global, text: &[u8], at: usize) -> Said {
         holds: [false; Kind::COUNT],
     };
     let parts = Parts::of(alloc, text, at, can)?;
-    first_of!(
-        of_either(alloc, &parts),
-        or_more::hint(alloc, &parts),
-        limits::hint(alloc, &parts),
-        compared::hint(alloc, &parts),
-        letters::hint(alloc, &parts),
-        nouns::hint(alloc, &parts),
-        scripts::hint(alloc, &parts),
-        short::hint(alloc, &parts),
-        instead::hint(alloc, &parts),
-        honours::hint(alloc, &parts),
-        ranks::hint(alloc, &parts),
-        names::hint(alloc, &parts),
-        likeness::hint(alloc, &parts),
-        signs::hint(alloc, &parts),
-    );
-    rest::hint(alloc, &parts)
+    let said = of_either(alloc, &parts)?;
+    if said.is_some() {
+        return Ok(said);
+    }
+    first_of(alloc, &parts, &PIECE)
 }
 
 /// Returns the hint for the token at the byte `at` of the text, or for its end, where only these
@@ -61,29 +86,37 @@ pub fn of_piece(alloc: Global, text: &[u8], at: usize) -> Said {
 /// `AllocError` if an allocation failed.
 pub fn of_syntax(alloc: Global, text: &[u8], at: usize, can: &Kinds) -> Said {
     let parts = Parts::of(alloc, text, at, *can)?;
-    first_of!(
-        shapes::hint(alloc, &parts),
-        of_either(alloc, &parts),
-        calls::hint(alloc, &parts),
-    );
-    joins::hint(alloc, &parts)
+    let said = first_in(alloc, &parts, shapes::RULES)?;
+    if said.is_some() {
+        return Ok(said);
+    }
+    let said = of_either(alloc, &parts)?;
+    if said.is_some() {
+        return Ok(said);
+    }
+    first_of(alloc, &parts, &TOKEN)
 }
 
-/// The hint for what may be a piece that isn't in the language or a token that isn't allowed there.
 fn of_either(alloc: Global, parts: &Parts) -> Said {
-    first_of!(
-        texts::hint(alloc, parts),
-        whole::hint(alloc, parts),
-        plain::hint(alloc, parts),
-        sides::hint(alloc, parts),
-        outside::hint(alloc, parts),
-        phrases::hint(alloc, parts),
-        suits::hint(alloc, parts),
-        classes::hint(alloc, parts),
-        bounds::hint(alloc, parts),
-        several::hint(alloc, parts),
-        lists::hint(alloc, parts),
-        ranges::hint(alloc, parts),
-    );
-    more_or_less::hint(alloc, parts)
+    first_of(alloc, parts, &EITHER)
+}
+
+/// The first hint that one of these has.
+fn first_of(alloc: Global, parts: &Parts, sources: &[Source]) -> Said {
+    for source in sources {
+        let said = hint_of(alloc, parts, *source)?;
+        if said.is_some() {
+            return Ok(said);
+        }
+    }
+    Ok(None)
+}
+
+fn hint_of(alloc: Global, parts: &Parts, source: Source) -> Said {
+    match source {
+        Source::Rules(rules) => first_in(alloc, parts, rules),
+        Source::Outside => outside::hint(alloc, parts),
+        Source::Bounds => bounds::hint(alloc, parts),
+        Source::Likeness => likeness::hint(alloc, parts),
+    }
 }

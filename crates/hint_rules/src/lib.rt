@@ -1,9 +1,10 @@
 //! Rules for hints: what a person perhaps meant where a condition is refused, by what is around
 //! the fault.
 //!
-//! The rules are rows of tables (`tables`): what holds at the fault, the parts around it, and the
-//! text (`rule`, `filling`). Code is left where a text is cut (`parts`), for amounts and bounds,
-//! for classes outside their brackets (`outside`), and for words that are alike (`likeness`).
+//! The rules are lines of tables (`tables`): what holds at the fault, the parts around it, and
+//! the text (`rule`, `lists`, `filling`). Code is left where a text is cut (`parts`), for amounts
+//! and bounds, for classes outside their brackets (`outside`), and for words that are alike
+//! (`likeness`).
 //!
 //! Nothing is claimed of which hint a fault gets. That what is shown of one is printable is claimed
 //! where it is shown.
@@ -15,6 +16,7 @@ mod filling;
 mod hint;
 mod kinds;
 mod likeness;
+mod lists;
 mod outside;
 mod parts;
 mod rule;

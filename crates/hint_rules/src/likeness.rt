@@ -1,5 +1,6 @@
 //! Words that are like one of the language.
 
+use crate::filling::joined;
 use crate::hint::Said;
 use crate::parts::Parts;
 use crate::words::{is, is_call, is_seat, is_suit};
@@ -24,11 +25,7 @@ pub(crate) fn hint(alloc: Global, parts: &Parts) -> Said {
     let Some(name) = nearest(alloc, parts, text)? else {
         return Ok(None);
     };
-    let mut out = Vec::new(alloc);
-    out.extend_from_slice(b"did you mean \"")?;
-    out.extend_from_slice(name.as_bytes())?;
-    out.extend_from_slice(b"\"?")?;
-    Ok(Some(out))
+    joined(alloc, &[b"did you mean \"", name.as_bytes(), b"\"?"])
 }
 
 /// The first of the words that are most like the text, if they are alike at all.

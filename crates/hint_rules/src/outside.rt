@@ -1,6 +1,6 @@
 //! A class of suits outside the brackets of the `any` or `every` that goes through it.
 
-use crate::filling::is_accepted;
+use crate::filling::{is_accepted, joined};
 use crate::hint::Said;
 use crate::parts::Parts;
 use crate::words::{is, is_one_of};
@@ -37,30 +37,14 @@ pub(crate) fn hint(alloc: Global, parts: &Parts) -> Said {
         && let Some(found) = outside_of(parts, class, start)
         && let Some(condition) = moved(alloc, parts, found)?
     {
-        return told(
-            alloc,
-            b"with this test inside the brackets write: ",
-            condition.as_slice(),
-            b"",
-        );
+        let before = b"with this test inside the brackets write: ";
+        return joined(alloc, &[before, condition.as_slice()]);
     }
     let Some(through) = parts.written(start, start.saturating_add(1)) else {
         return Ok(None);
     };
-    told(
-        alloc,
-        b"move this test inside the brackets of \"",
-        through,
-        b"\"",
-    )
-}
-
-fn told(alloc: Global, before: &[u8], text: &[u8], behind: &[u8]) -> Said {
-    let mut out = Vec::new(alloc);
-    out.extend_from_slice(before)?;
-    out.extend_from_slice(text)?;
-    out.extend_from_slice(behind)?;
-    Ok(Some(out))
+    let before = b"move this test inside the brackets of \"";
+    joined(alloc, &[before, through, b"\""])
 }
 
 /// Where the first `any` or `every` of the class stands from the part on.
@@ -137,15 +121,14 @@ fn moved(alloc: Global, parts: &Parts, found: Outside) -> Result<Option<Vec<u8>>
     if !is_clear(parts, found) {
         return Ok(None);
     }
+    let (first, behind) = match around(parts, found.start) {
+        Some((first, last)) => (first, last.saturating_add(1)),
+        None => (found.start, found.end),
+    };
     let mut out = Vec::new(alloc);
-    match around(parts, found.start) {
-        Some((first, last)) => {
-            put(&mut out, parts, first, found.start)?;
-            put_inside(&mut out, parts, found)?;
-            put(&mut out, parts, found.end, last.saturating_add(1))?;
-        }
-        None => put_inside(&mut out, parts, found)?,
-    }
+    put(&mut out, parts, first, found.start)?;
+    put_inside(&mut out, parts, found)?;
+    put(&mut out, parts, found.end, behind)?;
     let is_told = is_plain(out.as_slice()) && is_accepted(alloc, out.as_slice())?;
     Ok(is_told.then_some(out))
 }
@@ -195,12 +178,17 @@ fn around(parts: &Parts, at: usize) -> Option<(usize, usize)> {
 fn put_inside(out: &mut Vec<u8>, parts: &Parts, found: Outside) -> Result<(), AllocError> {
     let (first, behind) = (found.open.saturating_add(1), found.close.saturating_add(1));
     let is_wrapped = is(parts.at(behind), "and") && has_or(parts, first, found.close);
-    put(out, parts, found.start, first)?;
-    out.extend_from_slice(if is_wrapped { b"(" } else { b"" })?;
-    put(out, parts, first, found.close)?;
-    out.extend_from_slice(if is_wrapped { b")" } else { b"" })?;
-    put(out, parts, behind, found.end)?;
-    out.extend_from_slice(b")")
+    let (open, close) = if is_wrapped { ("(", ")") } else { ("", "") };
+    let pieces = [
+        (found.start, first, open),
+        (first, found.close, close),
+        (behind, found.end, ")"),
+    ];
+    for (from, to, sign) in pieces {
+        put(out, parts, from, to)?;
+        out.extend_from_slice(sign.as_bytes())?;
+    }
+    Ok(())
 }
 
 /// Appends the parts from one up to another on one line, with a blank in front where one belongs.
@@ -208,11 +196,22 @@ fn put(out: &mut Vec<u8>, parts: &Parts, from: usize, to: usize) -> Result<(), A
     if to <= from {
         return Ok(());
     }
-    let is_apart = !matches!(out.as_slice(), [] | [.., b'(']) && !is(parts.at(from), ")");
-    out.extend_from_slice(if is_apart { b" " } else { b"" })?;
-    let Some(text) = parts.written(from, to.saturating_sub(1)) else {
-        return Ok(());
-    };
+    if is_apart(out.as_slice()) && !is(parts.at(from), ")") {
+        out.push(b' ')?;
+    }
+    put_line(
+        out,
+        parts.written(from, to.saturating_sub(1)).unwrap_or(b""),
+    )
+}
+
+/// Whether a blank belongs behind the text.
+fn is_apart(text: &[u8]) -> bool {
+    !text.is_empty() && !text.ends_with(b"(")
+}
+
+/// Appends the text on one line.
+fn put_line(out: &mut Vec<u8>, text: &[u8]) -> Result<(), AllocError> {
     for byte in text {
         let is_blank = matches!(byte, b'\t' | b'\n' | b'\r');
         out.push(if is_blank { b' ' } else { *byte })?;

@@ -29,7 +29,6 @@ struct Part<'t> {
 }
 
 /// A text's parts, and which of them is at fault.
-#[derive(Drop)]
 pub(crate) struct Parts<'t> {
     text: &'t [u8],
     /// The parts, behind an empty one: so nothing is at 0, and nothing behind the last.
@@ -40,6 +39,18 @@ pub(crate) struct Parts<'t> {
     pub word: Vec<u8>,
     /// The kinds of tokens that may come there.
     pub can: Kinds,
+}
+
+impl<'t> Drop for Parts<'t> {
+    fn drop(self) {
+        let Parts {
+            text: _,
+            parts: _,
+            fault: _,
+            word: _,
+            can: _,
+        } = self;
+    }
 }
 
 fn class_of(byte: u8) -> Class {

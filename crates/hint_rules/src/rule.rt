@@ -1,160 +1,238 @@
 //! Rules that a table holds: what is around a fault, and what is said of it.
+//!
+//! A table is a text with a rule in each line, its pattern and its hint (`filling`) with `=>`
+//! between them. A pattern is words with blanks between them: what holds at the fault, the parts
+//! before it, `^`, the part with the fault and those behind it. `Seat , ^ suits|majors )` fits
+//! `len(north,majors)` at `majors`. These are the words, for texts T with `|` between them:
+//!
+//! | Word | What it wants |
+//! |---|---|
+//! | `Can:K`, `Cannot:K` | a token of the kind K (`KINDS`) may come at the fault, or could not |
+//! | `In:T`, `NotIn:T` | the fault is in the brackets of one of the words T, or of none of them |
+//! | `InCall`, `NotInCall` | it is in the brackets of a word that takes a seat, or of none |
+//! | `InMeasure` | it is in the brackets of a word that counts something |
+//! | `T`, `Except:T` | one of the texts T, or none of them |
+//! | `Named:T` | the part with the fault is one of them, in letters of any size |
+//! | `Begins:T` | it begins with one of them |
+//! | `Nothing`, `Any` | no part: the text begins or ends there; any part, or none |
+//! | `Number`, `Digits:N` | a number, or one of N digits |
+//! | `Zeros` | a number of more than four digits whose first ones are zeros |
+//! | `Length` | a number, or `x` |
+//! | `Above`, `Follows` | a number above that of two parts before, or the one behind it |
+//! | `Relation`, `Seat`, `Suit`, `Word` | what they say |
+//! | `Ranks` | ranks, whether or not one occurs twice |
+//! | `Capital` | a word that has letters that aren't small |
+//! | `CapitalWord`, `CapitalRanks` | one that is known, or ranks, once they are |
+//! | `Measure`, `NoValue` | a word that counts something; neither that nor a number |
+//! | `Value`, `Call` | the last part of a value, or the bracket that ends one |
+//! | `Bracketed`, `Chained` | the last part of a value behind a bracket, or behind a comparison |
+//! | `Suffix:S` | the sign S right after a part and apart from the next |
+//! | `Amount`, `Counted` | an amount, as `15-17`, or one with a word that says of what |
+//!
+//! No text means no part: `|and|or` is the end, or one of these. A name in capitals stands for a
+//! list of texts (`lists`).
 
 use crate::amounts::{amount_at, counted_at};
+use crate::lists::listed;
 use crate::parts::Parts;
 use crate::words::{
-    are_ranks, begins_with, is, is_call, is_measure, is_number, is_one_of, is_relation, is_seat,
-    is_suit, is_word, number, token_of,
+    are_ranks, is, is_call, is_measure, is_number, is_relation, is_seat, is_suit, is_word, number,
+    token_of,
 };
-use cond_lang::Kind;
+use cond_lang::{Class, Kind};
 
-/// What has to hold at the fault, or what a part has to be.
+/// What a word of a pattern wants, but for a text that stands there.
 #[derive(Clone, Copy)]
-pub(crate) enum Want {
-    /// A token of the kind may come at the fault, or could not.
-    Can(Kind),
-    Cannot(Kind),
-    /// The fault is in the brackets of one of these words, or of none of them.
-    In(&'static str),
-    NotIn(&'static str),
-    /// It is in the brackets of a word that takes a seat, or of none.
+enum Want {
+    Can,
+    Cannot,
+    In,
+    NotIn,
     InCall,
     NotInCall,
-    /// It is in the brackets of a word that counts something.
     InMeasure,
-    /// This text.
-    Is(&'static str),
-    /// One of these texts, with a blank between them; a blank in front: or nothing.
-    OneOf(&'static str),
-    /// None of these texts.
-    Except(&'static str),
-    /// The part with the fault is one of these words, in letters of any size.
-    Named(&'static str),
-    /// It begins with one of these texts.
-    Begins(&'static str),
-    /// No part: the text begins or ends there.
+    Except,
+    Named,
+    Begins,
     Nothing,
-    /// Any part, or none.
     Any,
     Number,
-    /// A number of this many digits, and one of more than four whose first ones are zeros.
-    Digits(usize),
+    Digits,
     Zeros,
-    /// A number, or `x`.
     Length,
-    /// A number that is above, or the one behind, that of two parts before.
     Above,
     Follows,
     Relation,
     Seat,
     Suit,
-    Ranks,
     Word,
-    /// A word that has letters that aren't small; that is known, or ranks, once they are.
+    Ranks,
     Capital,
     CapitalWord,
     CapitalRanks,
-    /// A word that counts something.
     Measure,
-    /// Neither a number nor a word that counts something.
     NoValue,
-    /// The last part of a value.
     Value,
-    /// The bracket that ends a value.
     Call,
-    /// The last part of a value behind a bracket, or of what follows a comparison.
     Bracketed,
     Chained,
-    /// A sign that comes right after a part and apart from the next.
-    Suffix(&'static str),
-    /// An amount, as `15-17`, and one with a word that says of what.
+    Suffix,
     Amount,
     Counted,
 }
 
-/// A rule.
-#[derive(Clone, Copy)]
-pub(crate) struct Rule {
-    /// What holds at the fault, the parts before it, the part with it and those behind it.
-    pub wants: &'static [Want],
-    /// How many wants are before that of the part with the fault.
-    pub here: usize,
-    /// What is said, with placeholders (`filling`).
-    pub hint: &'static str,
-}
+static WANTS: [(&str, Want); 35] = [
+    ("Can", Want::Can),
+    ("Cannot", Want::Cannot),
+    ("In", Want::In),
+    ("NotIn", Want::NotIn),
+    ("InCall", Want::InCall),
+    ("NotInCall", Want::NotInCall),
+    ("InMeasure", Want::InMeasure),
+    ("Except", Want::Except),
+    ("Named", Want::Named),
+    ("Begins", Want::Begins),
+    ("Nothing", Want::Nothing),
+    ("Any", Want::Any),
+    ("Number", Want::Number),
+    ("Digits", Want::Digits),
+    ("Zeros", Want::Zeros),
+    ("Length", Want::Length),
+    ("Above", Want::Above),
+    ("Follows", Want::Follows),
+    ("Relation", Want::Relation),
+    ("Seat", Want::Seat),
+    ("Suit", Want::Suit),
+    ("Word", Want::Word),
+    ("Ranks", Want::Ranks),
+    ("Capital", Want::Capital),
+    ("CapitalWord", Want::CapitalWord),
+    ("CapitalRanks", Want::CapitalRanks),
+    ("Measure", Want::Measure),
+    ("NoValue", Want::NoValue),
+    ("Value", Want::Value),
+    ("Call", Want::Call),
+    ("Bracketed", Want::Bracketed),
+    ("Chained", Want::Chained),
+    ("Suffix", Want::Suffix),
+    ("Amount", Want::Amount),
+    ("Counted", Want::Counted),
+];
 
-/// The rules of a table, one `[what holds] [before] [from the fault on] => hint;` each.
-macro_rules! rules {
-    ($([$($holds:expr),*] [$($before:expr),*] [$($from:expr),*] => $hint:expr;)*) => {
-        [$(Rule {
-            wants: &[$($holds,)* $($before,)* $($from),*],
-            here: 0 $(+ one!($holds))* $(+ one!($before))*,
-            hint: $hint,
-        }),*]
-    };
-}
+/// The kinds of tokens that rules ask for.
+static KINDS: [(&str, Kind); 15] = [
+    ("Not", Kind::Not),
+    ("Open", Kind::Open),
+    ("Number", Kind::Number),
+    ("Relation", Kind::Relation),
+    ("Plus", Kind::Plus),
+    ("Comma", Kind::Comma),
+    ("Seat", Kind::Seat),
+    ("Suit", Kind::Suit),
+    ("Ranks", Kind::Ranks),
+    ("Close", Kind::Close),
+    ("And", Kind::And),
+    ("End", Kind::End),
+    ("SuitClass", Kind::Class(Class::Suit)),
+    ("MajorClass", Kind::Class(Class::Major)),
+    ("MinorClass", Kind::Class(Class::Minor)),
+];
 
-macro_rules! one {
-    ($want:expr) => {
-        1
-    };
-}
-
-pub(crate) use one;
-pub(crate) use rules;
-
-/// Whether the rule fits the fault.
-pub(crate) fn fits(parts: &Parts, rule: &Rule) -> bool {
-    let here = rule.here;
-    for (i, want) in rule.wants.iter().enumerate() {
-        let at = if i < here {
-            parts.fault.saturating_sub(here - i)
-        } else {
-            parts.fault.saturating_add(i - here)
-        };
-        if !is_wanted(parts, at, *want) {
+/// Whether the pattern fits the fault.
+pub(crate) fn fits(parts: &Parts, pattern: &str) -> bool {
+    let (before, _) = pattern.split_once('^').unwrap_or(("", pattern));
+    let mut back = before.split_ascii_whitespace().count();
+    let mut next: usize = 0;
+    for word in pattern.split_ascii_whitespace() {
+        if word == "^" {
+            continue;
+        }
+        let at = parts.fault.saturating_sub(back).saturating_add(next);
+        if !is_wanted(parts, at, word) {
             return false;
         }
+        next = next.saturating_add(if back > 0 { 0 } else { 1 });
+        back = back.saturating_sub(1);
     }
     true
 }
 
-/// Whether the part is what is wanted.
-fn is_wanted(parts: &Parts, i: usize, want: Want) -> bool {
+/// Whether the part is what the word of a pattern wants.
+fn is_wanted(parts: &Parts, i: usize, word: &str) -> bool {
+    let (name, texts) = word.split_once(':').unwrap_or((word, ""));
+    for (known, want) in &WANTS {
+        if *known == name {
+            return is_met(parts, i, *want, texts);
+        }
+    }
+    is_among(parts.at(i), word)
+}
+
+/// Whether the part is one of the texts of a pattern.
+fn is_among(part: &[u8], texts: &str) -> bool {
+    let (texts, sign) = listed(texts);
+    for text in texts.split(sign) {
+        if is(part, text) {
+            return true;
+        }
+    }
+    false
+}
+
+/// Whether the part begins with one of the texts of a pattern.
+fn begins_with(part: &[u8], texts: &str) -> bool {
+    let (texts, sign) = listed(texts);
+    for text in texts.split(sign) {
+        if part.starts_with(text.as_bytes()) {
+            return true;
+        }
+    }
+    false
+}
+
+/// Whether it is so that a token of the kind may come at the fault.
+fn can_be(parts: &Parts, name: &str, is_so: bool) -> bool {
+    for (known, kind) in &KINDS {
+        if *known == name {
+            return parts.can.has(*kind) == is_so;
+        }
+    }
+    false
+}
+
+/// Whether what is wanted is so at the part.
+fn is_met(parts: &Parts, i: usize, want: Want, texts: &str) -> bool {
     let part = parts.at(i);
     match want {
-        Want::Can(kind) => parts.can.has(kind),
-        Want::Cannot(kind) => !parts.can.has(kind),
-        Want::In(words) => is_one_of(parts.call(), words),
-        Want::NotIn(words) => !is_one_of(parts.call(), words),
+        Want::Can => can_be(parts, texts, true),
+        Want::Cannot => can_be(parts, texts, false),
+        Want::In => is_among(parts.call(), texts),
+        Want::NotIn => !is_among(parts.call(), texts),
         Want::InCall => is_call(parts.call()),
         Want::NotInCall => !is_call(parts.call()),
         Want::InMeasure => is_measure(parts.call()),
-        Want::Is(text) => is(part, text),
-        Want::OneOf(texts) => is_one_of(part, texts),
-        Want::Except(texts) => !is_one_of(part, texts),
-        Want::Named(texts) => is_one_of(parts.word.as_slice(), texts),
-        Want::Begins(texts) => begins_with(part, texts),
+        Want::Except => !is_among(part, texts),
+        Want::Named => is_among(parts.word.as_slice(), texts),
+        Want::Begins => begins_with(part, texts),
         Want::Nothing => part.is_empty(),
         Want::Any => true,
         Want::Number => is_number(part),
-        Want::Digits(count) => is_number(part) && part.len() == count,
+        Want::Digits => is_number(part) && part.len() == number(texts.as_bytes()),
         Want::Length => is_number(part) || is(part, "x"),
         Want::Relation => is_relation(part),
         Want::Seat => is_seat(part),
         Want::Suit => is_suit(part),
-        Want::Ranks => is_word(part) && are_ranks(part),
         Want::Word => is_word(part),
+        Want::Ranks => is_word(part) && are_ranks(part),
         Want::Measure => is_measure(part),
         Want::NoValue => !is_number(part) && !is_measure(part),
-        _ => is_wanted_there(parts, i, want),
+        _ => is_met_beside(parts, i, want, texts),
     }
 }
 
-/// Whether the part is what is wanted, beside others.
-fn is_wanted_there(parts: &Parts, i: usize, want: Want) -> bool {
+/// Whether what is wanted is so at the part, by the parts beside it or its letters.
+fn is_met_beside(parts: &Parts, i: usize, want: Want, texts: &str) -> bool {
     let part = parts.at(i);
-    let start = parts.value_start(i);
     let word = parts.word.as_slice();
     match want {
         Want::Above => is_number(part) && number(parts.at(i.saturating_sub(2))) < number(part),
@@ -165,15 +243,18 @@ fn is_wanted_there(parts: &Parts, i: usize, want: Want) -> bool {
         Want::CapitalRanks => is_word(part) && part != word && are_ranks(word),
         Want::Value => parts.value(i).is_some(),
         Want::Call => is(part, ")") && parts.value(i).is_some(),
-        Want::Bracketed => {
-            is(parts.at(start.saturating_sub(1)), "(") && parts.value(i).is_some()
-        }
-        Want::Chained => is_relation(parts.at(start.saturating_sub(1))),
-        Want::Suffix(sign) => is(part, sign) && parts.is_suffix(i),
+        Want::Bracketed => is(before_value(parts, i), "(") && parts.value(i).is_some(),
+        Want::Chained => is_relation(before_value(parts, i)),
+        Want::Suffix => is(part, texts) && parts.is_suffix(i),
         Want::Amount => amount_at(parts, i).is_some(),
         Want::Counted => counted_at(parts, i).0 != "",
         _ => false,
     }
+}
+
+/// The part before the value that ends with this part.
+fn before_value<'t>(parts: &Parts<'t>, last: usize) -> &'t [u8] {
+    parts.at(parts.value_start(last).saturating_sub(1))
 }
 
 /// The digits without the zeros in front, but for the last.

@@ -4,14 +4,14 @@ use crate::parts::Parts;
 use crate::words::{are_ranks, is, is_measure, is_number, is_suit};
 
 /// For each word that counts a comparison for a hand, for one suit, for hands and for suits.
-static SAMPLES: &[(&str, [&str; 4])] = &[
-    ("hcp", [">=15", ">=5", ">=25", ">=10"]),
-    ("controls", [">=4", ">=2", ">=10", ">=4"]),
-    ("losers", ["<=7", "<=1", "<=14", "<=3"]),
-    ("cards", [">=2", ">=1", ">=3", ">=2"]),
-    ("len", [">=5", ">=5", ">=8", ">=8"]),
-    ("longest", [">=6", ">=6", ">=11", ">=11"]),
-    ("shortest", ["<=1", "<=1", "<=2", "<=2"]),
+static SAMPLES: [(&str, &str); 7] = [
+    ("hcp", ">=15 >=5 >=25 >=10"),
+    ("controls", ">=4 >=2 >=10 >=4"),
+    ("losers", "<=7 <=1 <=14 <=3"),
+    ("cards", ">=2 >=1 >=3 >=2"),
+    ("len", ">=5 >=5 >=8 >=8"),
+    ("longest", ">=6 >=6 >=11 >=11"),
+    ("shortest", "<=1 <=1 <=2 <=2"),
 ];
 
 /// The comparison for a value in which nothing is asked of a hand, or of which little is known.
@@ -58,14 +58,15 @@ fn of_mixed(sample: &'static str) -> &'static str {
 
 /// The comparison of the table.
 pub(crate) fn sample(word: &[u8], has_suit: bool, has_several: bool) -> &'static str {
-    for (asked, [hand, suit, hands, suits]) in SAMPLES {
+    let place = match (has_several, has_suit) {
+        (false, false) => 0,
+        (false, true) => 1,
+        (true, false) => 2,
+        (true, true) => 3,
+    };
+    for (asked, comparisons) in &SAMPLES {
         if is(word, asked) {
-            return match (has_several, has_suit) {
-                (false, false) => hand,
-                (false, true) => suit,
-                (true, false) => hands,
-                (true, true) => suits,
-            };
+            return comparisons.split(' ').nth(place).unwrap_or(ANY);
         }
     }
     ANY

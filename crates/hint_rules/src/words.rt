@@ -17,16 +17,6 @@ pub(crate) fn is_one_of(part: &[u8], texts: &str) -> bool {
     false
 }
 
-/// Whether the part begins with one of these texts.
-pub(crate) fn begins_with(part: &[u8], texts: &str) -> bool {
-    for text in texts.split(' ') {
-        if part.starts_with(text.as_bytes()) {
-            return true;
-        }
-    }
-    false
-}
-
 /// The token of a word of the language.
 pub(crate) fn token_of(part: &[u8]) -> Option<Token> {
     for (word, token) in WORDS.iter() {

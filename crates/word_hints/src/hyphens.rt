@@ -1,6 +1,6 @@
 //! Options without their two hyphens: a word processor makes a dash of them, a person writes one.
 
-use crate::options;
+use crate::{joined, options};
 use std::alloc::Global;
 
 /// The dashes that word processors write, and the minus sign.
@@ -12,19 +12,23 @@ pub(crate) fn hint(alloc: Global, words: &[String]) -> Option<String> {
 }
 
 fn hint_of(alloc: Global, word: &str) -> Option<String> {
-    if let Some(rest) = word.strip_prefix(DASHES) {
-        let name = name_of(rest.trim_start_matches(DASHES).trim_start_matches('-'));
-        let hyphens = if name.len() == 1 { "-" } else { "--" };
-        return format!(in alloc; "write hyphens, and not a dash: {hyphens}{name}").ok();
-    }
-    let rest = word.strip_prefix('-')?;
-    if rest.len() < 2 {
+    let Some(rest) = word.strip_prefix(DASHES) else {
+        return of_hyphen(alloc, name_of(word.strip_prefix('-')?));
+    };
+    let name = name_of(rest.trim_start_matches(DASHES).trim_start_matches('-'));
+    let hyphens = if name.len() == 1 { "-" } else { "--" };
+    joined(alloc, &["write hyphens, and not a dash: ", hyphens, name])
+}
+
+/// What helps with a name behind one hyphen.
+fn of_hyphen(alloc: Global, name: &str) -> Option<String> {
+    if name.starts_with('-') {
         return None;
     }
-    let twice = format!(in alloc; "--{}", name_of(rest)).ok()?;
-    let known = options::named(twice.as_str())?;
-    let option = known.option;
-    format!(in alloc; "write two hyphens: {option}").ok()
+    joined(
+        alloc,
+        &["write two hyphens: ", options::named(name)?.option],
+    )
 }
 
 /// The name of an option at the start of a word, as far as letters go.

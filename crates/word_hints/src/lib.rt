@@ -13,10 +13,11 @@ mod numbers;
 mod options;
 mod quotes;
 mod refused;
+mod table;
 mod tips;
 mod values;
 
-use crate::refused::Refused;
+use crate::refused::{Refused, What};
 use std::alloc::Global;
 pub use tips::without_far_tips;
 
@@ -32,50 +33,53 @@ pub fn hint(alloc: Global, words: &[String], refusal: &str) -> Option<String> {
         Some(text) => text,
         None => hint_for(alloc, words, refused::read(refusal)?)?,
     };
-    let text = text.as_str();
     // Two hints stand as the lines that they are.
-    if text.starts_with(HINT) {
-        return String::from_str(alloc, text).ok();
+    if text.as_str().starts_with(HINT) {
+        return Some(text);
     }
-    format!(in alloc; "{HINT}{text}\n").ok()
+    joined(alloc, &[HINT, text.as_str(), "\n"])
 }
 
 /// What helps with what is refused.
 fn hint_for(alloc: Global, words: &[String], refused: Refused<'_>) -> Option<String> {
     let command = words.get(1).map_or("", |word| word.as_str());
-    match refused {
-        Refused::Argument(word) => of_argument(alloc, words, command, word),
-        Refused::Command(name) => owned(alloc, instead::of_command(alloc, name)?),
-        Refused::Value { word, option } => of_value(alloc, command, option, word),
-        Refused::NoValue(option) => missing::of_value(alloc, option),
-        Refused::Twice(option) => missing::of_repeat(alloc, option),
-        Refused::Flag(option) => format!(in alloc; "write {option} alone").ok(),
-        Refused::Missing(options) => owned(alloc, missing::of_options(command, options)?),
-        Refused::NoCommand => owned(alloc, missing::NO_COMMAND),
+    let (word, option) = (refused.word, refused.option);
+    match refused.what {
+        What::Argument => of_argument(alloc, words, command, word),
+        What::Command => told(alloc, instead::of(alloc, "command", word)),
+        What::Value => of_value(alloc, command, option, word),
+        What::NoValue => missing::of_value(alloc, option),
+        What::Twice => missing::of_repeat(alloc, option),
+        What::Flag => joined(alloc, &["write ", option, " alone"]),
+        What::Missing => told(alloc, missing::of_options(command, word)),
+        What::NoCommand => joined(alloc, &[missing::NO_COMMAND]),
     }
 }
 
-/// Whether the word is one of these, which have blanks between them.
-fn has(words: &str, word: &str) -> bool {
-    for known in words.split(' ') {
-        if known == word {
-            return true;
-        }
+/// The texts, one behind the other.
+fn joined(alloc: Global, texts: &[&str]) -> Option<String> {
+    let mut out = String::new(alloc);
+    for text in texts {
+        out.push_str(text).ok()?;
     }
-    false
+    Some(out)
 }
 
-fn owned(alloc: Global, text: &str) -> Option<String> {
-    String::from_str(alloc, text).ok()
+/// What to write: an option with its value, between these texts.
+fn valued(alloc: Global, before: &str, option: &str, value: &str, behind: &str) -> Option<String> {
+    joined(alloc, &[before, option, " ", value, behind])
+}
+
+/// The text, if there is one.
+fn told(alloc: Global, text: Option<&str>) -> Option<String> {
+    joined(alloc, &[text?])
 }
 
 /// What helps with a word that isn't expected.
 fn of_argument(alloc: Global, words: &[String], command: &str, word: &str) -> Option<String> {
     if command.starts_with('-') {
-        return owned(
-            alloc,
-            instead::of_first(alloc, command).unwrap_or(COMMAND_FIRST),
-        );
+        let text = instead::of(alloc, "first", command).unwrap_or(COMMAND_FIRST);
+        return joined(alloc, &[text]);
     }
     if let Some(text) = quotes::hint(alloc, words, word) {
         return Some(text);
@@ -84,9 +88,9 @@ fn of_argument(alloc: Global, words: &[String], command: &str, word: &str) -> Op
         return of_option(alloc, command, word);
     }
     if is_behind_tricks(words, word) {
-        return format!(in alloc; "the lines come from its input: --tricks < {word}").ok();
+        return joined(alloc, &["the lines come from its input: --tricks < ", word]);
     }
-    owned(alloc, instead::of_word(word))
+    joined(alloc, &[instead::of_word(word)])
 }
 
 /// Whether the word is behind the flag `--tricks`, as if that took a file.
@@ -103,22 +107,28 @@ fn is_behind_tricks(words: &[String], word: &str) -> bool {
 
 /// What helps with an option that isn't there.
 fn of_option(alloc: Global, command: &str, word: &str) -> Option<String> {
-    if let Some(text) = numbers::hint_of_sign(alloc, word) {
-        return Some(text);
+    if let Some(digits) = numbers::behind_sign(word) {
+        return joined(alloc, &["numbers have no sign: write ", digits]);
     }
     let known = options::named(word);
-    if let Some(text) = known.and_then(|known| elsewhere::of_option(command, known.option)) {
-        return owned(alloc, text);
+    if let Some(known) = known
+        && let Some(text) = elsewhere::of_option(command, known.option)
+    {
+        return joined(alloc, &[text]);
     }
     let name = word.to_ascii_lowercase(alloc).ok()?;
-    if let Some(text) = instead::of_option(name.as_str()) {
-        return owned(alloc, text);
+    of_name(alloc, name.as_str(), known.is_some())
+}
+
+/// What helps with an option by its name in small letters.
+fn of_name(alloc: Global, name: &str, is_known: bool) -> Option<String> {
+    if let Some(text) = instead::of(alloc, "option", name) {
+        return joined(alloc, &[text]);
     }
-    if known.is_some() {
+    if is_known || options::named(name).is_none() {
         return None;
     }
-    options::named(name.as_str())?;
-    format!(in alloc; "write {name} in small letters").ok()
+    joined(alloc, &["write ", name, " in small letters"])
 }
 
 /// What helps with the value of an option.
@@ -133,6 +143,5 @@ fn of_value(alloc: Global, command: &str, option: &str, word: &str) -> Option<St
     if !word.is_empty() {
         return None;
     }
-    let sample = known.sample;
-    format!(in alloc; "write {option} {sample}").ok()
+    valued(alloc, "write ", option, known.sample, "")
 }

@@ -1,7 +1,7 @@
 //! Options that are missing, that have no value, and that occur twice.
 
 use crate::instead::HOW_MANY;
-use crate::options;
+use crate::{joined, options, valued};
 use std::alloc::Global;
 
 /// How to come to a seed for new boards: two hints.
@@ -33,40 +33,40 @@ const HOW_MANY_NUMBERS: &str = "write --count 3 for three numbers";
 pub(crate) const NO_COMMAND: &str =
     "write deals make --seed 7 --boards 36 for boards, or deals --help";
 
+/// Options that may be missing, the command or all, and what helps there.
+static ROWS: [(&str, &str, &str); 6] = [
+    ("--seed", "pick", SEED_OF_SEARCH),
+    ("--seed", "", HOW_TO_SEED),
+    ("--candidates", "count", HOW_MANY_TRIED),
+    ("--candidates", "", HOW_MANY),
+    ("--of", "", FOR_ROWS),
+    ("--count", "", HOW_MANY_NUMBERS),
+];
+
 /// What helps where these options are missing.
 pub(crate) fn of_options(command: &str, missing: &str) -> Option<&'static str> {
-    if missing.contains("--seed") {
-        return Some(match command {
-            "pick" => SEED_OF_SEARCH,
-            _ => HOW_TO_SEED,
-        });
+    for (option, asked, text) in &ROWS {
+        if missing.contains(*option) && (asked.is_empty() || *asked == command) {
+            return Some(*text);
+        }
     }
-    if missing.contains("--candidates") {
-        return Some(match command {
-            "count" => HOW_MANY_TRIED,
-            _ => HOW_MANY,
-        });
-    }
-    if missing.contains("--of") {
-        return Some(FOR_ROWS);
-    }
-    missing.contains("--count").then_some(HOW_MANY_NUMBERS)
+    None
 }
 
 /// What helps where this option has no value.
 pub(crate) fn of_value(alloc: Global, option: &str) -> Option<String> {
     if option == "--seed" {
-        return format!(in alloc; "{NO_SEED}{TO_DRAW}").ok();
+        return joined(alloc, &[NO_SEED, TO_DRAW]);
     }
     let sample = options::named(option)?.sample;
-    format!(in alloc; "write its value after it: {option} {sample}").ok()
+    valued(alloc, "write its value after it: ", option, sample, "")
 }
 
 /// What helps where this option occurs twice.
 pub(crate) fn of_repeat(alloc: Global, option: &str) -> Option<String> {
     match option {
-        "--where" => String::from_str(alloc, ONE_CONDITION).ok(),
-        "--of" => String::from_str(alloc, ONE_QUESTION).ok(),
-        _ => format!(in alloc; "write {option} once").ok(),
+        "--where" => joined(alloc, &[ONE_CONDITION]),
+        "--of" => joined(alloc, &[ONE_QUESTION]),
+        _ => joined(alloc, &["write ", option, " once"]),
     }
 }

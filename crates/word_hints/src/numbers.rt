@@ -1,6 +1,7 @@
 //! Numbers that aren't written in digits alone, or are too large.
 
-use crate::options;
+use crate::missing::TO_DRAW;
+use crate::{joined, options, valued};
 use std::alloc::Global;
 
 /// Numbers that people write as a word.
@@ -28,49 +29,53 @@ static WORDS: [(&str, u64); 21] = [
     ("zero", 0),
 ];
 
-/// Letters behind a number, in small letters, and by what they multiply it.
-const TIMES: [(char, u64); 2] = [('k', 1000), ('m', 1000000)];
-
 /// What helps with the number of this option, which is at most this.
 pub(crate) fn hint(alloc: Global, option: &str, most: u64, word: &str) -> Option<String> {
     if word.is_empty() {
-        return format!(in alloc; "no value comes after {option}: is a variable empty?").ok();
+        let texts = ["no value comes after ", option, ": is a variable empty?"];
+        return joined(alloc, &texts);
     }
     let digits = digits_of(alloc, word)?;
-    let digits = digits.as_str();
-    if digits == word {
+    if digits.as_str() == word {
         return too_large(alloc, option, most);
     }
-    if !digits.is_empty() && word.trim() == digits {
-        return format!(in alloc; "write digits alone, without a blank: {option} {digits}").ok();
-    }
-    if let Some(number) = meant(alloc, word) {
-        return format!(in alloc; "write digits alone: {option} {number}").ok();
-    }
-    let sample = options::named(option)?.sample;
-    let draw = if option == "--seed" {
-        crate::missing::TO_DRAW
-    } else {
-        ""
-    };
-    format!(in alloc; "write a whole number in digits alone, as {option} {sample}{draw}").ok()
+    of_digits(alloc, option, word, digits.as_str())
 }
 
-/// What helps with a number that has a sign, and so is taken for an option.
-pub(crate) fn hint_of_sign(alloc: Global, word: &str) -> Option<String> {
-    let digits = word.strip_prefix('-')?;
-    if !digits.starts_with(|c: char| c.is_ascii_digit()) {
-        return None;
+/// What helps with a number that is written in digits and other things.
+fn of_digits(alloc: Global, option: &str, word: &str, digits: &str) -> Option<String> {
+    if !digits.is_empty() && word.trim() == digits {
+        let before = "write digits alone, without a blank: ";
+        return valued(alloc, before, option, digits, "");
     }
-    format!(in alloc; "numbers have no sign: write {digits}").ok()
+    match meant(alloc, word, digits) {
+        Some(number) => format!(in alloc; "write digits alone: {option} {number}").ok(),
+        None => whole(alloc, option),
+    }
+}
+
+/// What helps with what is no number.
+fn whole(alloc: Global, option: &str) -> Option<String> {
+    let sample = options::named(option)?.sample;
+    let draw = if option == "--seed" { TO_DRAW } else { "" };
+    let before = "write a whole number in digits alone, as ";
+    valued(alloc, before, option, sample, draw)
+}
+
+/// What is behind the sign of a number, which is taken for an option with that.
+pub(crate) fn behind_sign(word: &str) -> Option<&str> {
+    let number = word.strip_prefix('-')?;
+    matches!(number.as_bytes(), [b'0'..=b'9', ..]).then_some(number)
 }
 
 /// What helps with a number that is too large.
 fn too_large(alloc: Global, option: &str, most: u64) -> Option<String> {
-    if option == "--seed" {
-        return format!(in alloc; "a seed is at most {most}; a smaller one is as good").ok();
-    }
-    format!(in alloc; "{option} is at most {most}").ok()
+    let (what, behind) = if option == "--seed" {
+        ("a seed", "; a smaller one is as good")
+    } else {
+        (option, "")
+    };
+    format!(in alloc; "{what} is at most {most}{behind}").ok()
 }
 
 /// The digits of the word.
@@ -84,41 +89,50 @@ fn digits_of(alloc: Global, word: &str) -> Option<String> {
     Some(digits)
 }
 
-/// The number that is meant by the word.
-fn meant(alloc: Global, word: &str) -> Option<u64> {
+/// The number that is meant by the word, which has these digits.
+fn meant(alloc: Global, word: &str, digits: &str) -> Option<u64> {
     let word = word.trim().to_ascii_lowercase(alloc).ok()?;
-    let word = word.as_str();
-    if let Some((_, number)) = WORDS.iter().find(|(name, _)| *name == word) {
-        return Some(*number);
-    }
-    if let Some((head, power)) = word.split_once('e') {
-        let power: u32 = power.parse().ok()?;
-        return head
-            .parse::<u64>()
-            .ok()?
-            .checked_mul(10u64.checked_pow(power)?);
-    }
-    for (letter, factor) in TIMES {
-        if let Some(head) = word.strip_suffix(letter) {
-            return head.trim().parse::<u64>().ok()?.checked_mul(factor);
-        }
-    }
-    grouped(alloc, word)
+    number_of(word.as_str(), digits)
 }
 
-/// The number of digits that are parted in threes, as `1,000,000`.
-fn grouped(alloc: Global, word: &str) -> Option<u64> {
-    let mut is_first = true;
-    for group in word.split([',', '.', '_', '\'', ' ']) {
-        let is_whole = if is_first {
-            (1..=3).contains(&group.len())
-        } else {
-            group.len() == 3
-        };
-        if !is_whole || !group.bytes().all(|byte| byte.is_ascii_digit()) {
-            return None;
+/// The number that the word in small letters means.
+fn number_of(word: &str, digits: &str) -> Option<u64> {
+    for (name, number) in &WORDS {
+        if *name == word {
+            return Some(*number);
         }
-        is_first = false;
     }
-    digits_of(alloc, word)?.as_str().parse().ok()
+    if let Some((head, power)) = word.split_once('e') {
+        return times_power(head, power);
+    }
+    if let Some(head) = word.strip_suffix('k') {
+        return times(head.trim(), 1000);
+    }
+    if let Some(head) = word.strip_suffix('m') {
+        return times(head.trim(), 1000000);
+    }
+    let whole = if is_grouped(word, digits) { digits } else { "" };
+    times(whole, 1)
+}
+
+/// The number with so many zeros behind it.
+fn times_power(number: &str, power: &str) -> Option<u64> {
+    times(number, 10u64.checked_pow(power.parse().ok()?)?)
+}
+
+/// The number that the text is, so many times.
+fn times(number: &str, factor: u64) -> Option<u64> {
+    number.parse::<u64>().ok()?.checked_mul(factor)
+}
+
+/// Whether the word has these digits alone, parted in threes as in `1,000,000`.
+fn is_grouped(word: &str, digits: &str) -> bool {
+    let mut len: usize = 0;
+    for (i, group) in word.split([',', '.', '_', '\'', ' ']).enumerate() {
+        if group.is_empty() || group.len() > 3 || (i > 0 && group.len() < 3) {
+            return false;
+        }
+        len = len.saturating_add(group.len());
+    }
+    len == digits.len()
 }

@@ -69,12 +69,16 @@ static OPTIONS: [Known; 27] = [
     known! { "--count" "" NUMBER, "3" },
 ];
 
-/// The option of this name or letter.
+/// The option of this name, with its hyphens or without them, or of this letter.
 pub(crate) fn named(name: &str) -> Option<&'static Known> {
     if name.is_empty() {
         return None;
     }
-    OPTIONS
-        .iter()
-        .find(|known| known.option == name || known.letter == name)
+    for known in &OPTIONS {
+        let is_name = known.option == name || known.option.strip_prefix("--") == Some(name);
+        if is_name || known.letter == name {
+            return Some(known);
+        }
+    }
+    None
 }

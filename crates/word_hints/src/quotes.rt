@@ -1,43 +1,38 @@
 //! Texts whose quotes are missing, so that the shell made several words of them.
 
-use crate::options;
 use crate::options::Takes;
-use std::alloc::Global;
+use crate::{joined, options};
+use std::alloc::{AllocError, Global};
 
 /// The longest text that is shown whole.
 const LONGEST: usize = 60;
 
 /// What helps where this word isn't expected and belongs to the text of an option before it.
 pub(crate) fn hint(alloc: Global, words: &[String], word: &str) -> Option<String> {
-    let at = words.iter().position(|given| given.as_str() == word)?;
-    let before = words.get(..at)?;
-    let from = before
-        .iter()
-        .rposition(|given| given.as_str().starts_with('-') && given.len() > 1)?;
+    let (from, at) = place(words, word)?;
     let (option, first) = parts(words.get(from)?.as_str());
     if !matches!(options::named(option)?.takes, Takes::Text) {
         return None;
     }
-    let behind = words.get(from..)?.get(1..)?;
+    let next = from.saturating_add(1);
     if word.starts_with('-') && word.len() > 1 {
-        let is_value = from.checked_add(1) == Some(at);
-        return hint_of_hyphen(alloc, option, word, is_value && first.is_empty());
+        return of_hyphen(alloc, option, word, next == at && first.is_empty());
     }
-    match joined(alloc, first, behind) {
-        Some(text) => {
-            let text = text.as_str();
-            format!(in alloc; "put the whole text between quotes: {option} '{text}'").ok()
-        }
-        None => format!(in alloc; "put the whole text between quotes: {option} '..'").ok(),
-    }
+    of_text(alloc, option, first, words.get(next..)?)
 }
 
-/// What helps with a value that begins with a hyphen.
-fn hint_of_hyphen(alloc: Global, option: &str, word: &str, is_value: bool) -> Option<String> {
-    if !is_value || word.starts_with("--") {
-        return None;
+/// Where the last option before the word is, and where the word is first.
+fn place(words: &[String], word: &str) -> Option<(usize, usize)> {
+    let mut from = None;
+    for (at, given) in words.iter().enumerate() {
+        if given.as_str() == word {
+            return Some((from?, at));
+        }
+        if given.as_str().starts_with('-') && given.len() > 1 {
+            from = Some(at);
+        }
     }
-    format!(in alloc; "a value that begins with - comes after =: {option}={word}").ok()
+    None
 }
 
 /// The option, and what comes after its `=`.
@@ -45,22 +40,50 @@ fn parts(word: &str) -> (&str, &str) {
     word.split_once('=').unwrap_or((word, ""))
 }
 
+/// What helps with a value that begins with a hyphen.
+fn of_hyphen(alloc: Global, option: &str, word: &str, is_value: bool) -> Option<String> {
+    if !is_value || word.starts_with("--") {
+        return None;
+    }
+    let before = "a value that begins with - comes after =: ";
+    joined(alloc, &[before, option, "=", word])
+}
+
+/// What helps with a text of several words, which is shown if a person can type it so.
+fn of_text(alloc: Global, option: &str, first: &str, words: &[String]) -> Option<String> {
+    let text = typed(alloc, first, words);
+    let shown = text.as_ref().map_or("..", |text| text.as_str());
+    let before = "put the whole text between quotes: ";
+    joined(alloc, &[before, option, " '", shown, "'"])
+}
+
 /// The words up to the next option, with a blank between them, if a person can type them so.
-fn joined(alloc: Global, first: &str, words: &[String]) -> Option<String> {
-    let mut text = String::from_str(alloc, first).ok()?;
+fn typed(alloc: Global, first: &str, words: &[String]) -> Option<String> {
+    let mut text = joined(alloc, &[first])?;
+    put_words(&mut text, words).ok()?;
+    is_plain(text.as_str()).then_some(text)
+}
+
+/// Appends the words up to the next option, with a blank between them.
+fn put_words(text: &mut String, words: &[String]) -> Result<(), AllocError> {
     for word in words {
-        let word = word.as_str();
-        if word.starts_with("--") {
+        if word.as_str().starts_with("--") {
             break;
         }
         if !text.is_empty() {
-            text.push_str(" ").ok()?;
+            text.push_str(" ")?;
         }
-        text.push_str(word).ok()?;
+        text.push_str(word.as_str())?;
     }
-    let is_plain = text
-        .as_bytes()
-        .iter()
-        .all(|byte| (32..127).contains(byte) && *byte != b'\'');
-    (is_plain && text.len() <= LONGEST).then_some(text)
+    Ok(())
+}
+
+/// Whether the text is short, and printable between single quotes.
+fn is_plain(text: &str) -> bool {
+    for byte in text.as_bytes() {
+        if !(32..127).contains(byte) || *byte == b'\'' {
+            return false;
+        }
+    }
+    text.len() <= LONGEST
 }

@@ -1,70 +1,73 @@
 //! What clap refuses, by the text that it says of it.
 
 /// What is refused of the words.
-#[derive(Clone, Copy)]
-pub(crate) enum Refused<'a> {
+#[derive(Clone, Copy, PartialEq, Eq)]
+pub(crate) enum What {
     /// An option, or another word, that isn't expected.
-    Argument(&'a str),
+    Argument,
     /// The name of a command.
-    Command(&'a str),
-    /// The value of an option.
-    Value { word: &'a str, option: &'a str },
-    /// This option has no value.
-    NoValue(&'a str),
-    /// This option occurs twice.
-    Twice(&'a str),
-    /// This flag has a value.
-    Flag(&'a str),
+    Command,
     /// These options are missing, with a line for each.
-    Missing(&'a str),
+    Missing,
     /// There is no command.
     NoCommand,
+    /// The value of an option.
+    Value,
+    /// This option has no value.
+    NoValue,
+    /// This option occurs twice.
+    Twice,
+    /// This flag has a value.
+    Flag,
 }
+
+/// What is refused, with the word and the option that clap names, or nothing.
+#[derive(Clone, Copy)]
+pub(crate) struct Refused<'a> {
+    pub(crate) what: What,
+    pub(crate) word: &'a str,
+    pub(crate) option: &'a str,
+}
+
+/// How clap's text begins, what is behind the word that it names there, and what is refused. Where
+/// an option is shown behind that, it is as in `--seed <S>'`.
+static FORMS: [(&str, &str, What); 8] = [
+    ("unexpected argument '", "' found", What::Argument),
+    ("unrecognized subcommand '", "'\n", What::Command),
+    (
+        "the following required arguments were not provided:",
+        "\n\n",
+        What::Missing,
+    ),
+    ("requires a subcommand", "", What::NoCommand),
+    ("invalid value '", "' for '", What::Value),
+    ("a value is required for '", "", What::NoValue),
+    ("the argument '", "", What::Twice),
+    ("unexpected value '", "' for '", What::Flag),
+];
 
 /// What clap's text says that is refused.
 pub(crate) fn read(refusal: &str) -> Option<Refused<'_>> {
     let text = refusal.strip_prefix("error: ")?;
-    if let Some(rest) = text.strip_prefix("unexpected argument '") {
-        return Some(Refused::Argument(rest.split_once("' found")?.0));
+    for (beginning, end, what) in &FORMS {
+        if let Some(rest) = rest_of(text, beginning, *what) {
+            return naming(*what, rest, end);
+        }
     }
-    if let Some(rest) = text.strip_prefix("unrecognized subcommand '") {
-        return Some(Refused::Command(rest.split_once("'\n")?.0));
-    }
-    if let Some(rest) = text.strip_prefix("the following required arguments were not provided:") {
-        return Some(Refused::Missing(rest.split_once("\n\n")?.0));
-    }
-    if text.contains("requires a subcommand") {
-        return Some(Refused::NoCommand);
-    }
-    of_option(text)
+    None
 }
 
-/// What clap's text says of an option's value.
-fn of_option(text: &str) -> Option<Refused<'_>> {
-    if let Some(rest) = text.strip_prefix("invalid value '") {
-        let (word, rest) = rest.split_once("' for '")?;
-        return Some(Refused::Value {
-            word,
-            option: name_in(rest)?,
-        });
+/// What is behind the beginning, if the text has it. A missing command is said later in a text.
+fn rest_of<'a>(text: &'a str, beginning: &str, what: What) -> Option<&'a str> {
+    if what == What::NoCommand {
+        return text.contains(beginning).then_some("");
     }
-    if let Some(rest) = text.strip_prefix("a value is required for '") {
-        return Some(Refused::NoValue(name_in(rest)?));
-    }
-    if let Some(rest) = text.strip_prefix("the argument '") {
-        return Some(Refused::Twice(name_in(rest)?));
-    }
-    let (_, rest) = text
-        .strip_prefix("unexpected value '")?
-        .split_once("' for '")?;
-    Some(Refused::Flag(name_in(rest)?))
+    text.strip_prefix(beginning)
 }
 
-/// The option at the start of a text that shows it as in `--seed <S>'`.
-fn name_in(text: &str) -> Option<&str> {
-    let (shown, _) = text.split_once('\'')?;
-    match shown.split_once(' ') {
-        Some((name, _)) => Some(name),
-        None => Some(shown),
-    }
+/// What is refused, with the word up to its end, and the option behind that.
+fn naming<'a>(what: What, rest: &'a str, end: &str) -> Option<Refused<'a>> {
+    let (word, shown) = rest.split_once(end)?;
+    let (option, _) = shown.split_once(['\'', ' ']).unwrap_or((shown, ""));
+    Some(Refused { what, word, option })
 }

@@ -1,8 +1,8 @@
 //! clap's own tips, which are shown to a person only where the word that was tried is close to the
 //! one that there is: clap names the nearest of all, however far it is.
 
-use crate::refused;
-use crate::refused::Refused;
+use crate::refused::What;
+use crate::{joined, refused};
 use std::alloc::Global;
 use strsim::osa_distance;
 
@@ -19,21 +19,17 @@ const BEGINNING: usize = 3;
 /// clap's refusal without a tip that is far from what was tried, and without the usage, which names
 /// the tip's option then; none if there is no such tip.
 pub fn without_far_tips(alloc: Global, refusal: &str) -> Option<String> {
-    let tried = match refused::read(refusal)? {
-        Refused::Argument(word) | Refused::Command(word) => word,
-        _ => return None,
-    };
-    let (head, rest) = refusal.split_once(TIP)?;
-    let (tip, rest) = rest.split_once("\n")?;
-    if !is_guess(tip) || has_close(alloc, tried, tip) {
+    let refused = refused::read(refusal)?;
+    if !matches!(refused.what, What::Argument | What::Command) {
         return None;
     }
-    let head = head.trim();
-    let end = match rest.rsplit_once("\n\n") {
-        Some((_, end)) => end,
-        None => rest,
-    };
-    format!(in alloc; "{head}\n\n{end}").ok()
+    let (head, rest) = refusal.split_once(TIP)?;
+    let (tip, rest) = rest.split_once("\n")?;
+    if !is_guess(tip) || has_close(alloc, refused.word, tip) {
+        return None;
+    }
+    let (_, end) = rest.rsplit_once("\n\n").unwrap_or(("", rest));
+    joined(alloc, &[head.trim(), "\n\n", end])
 }
 
 fn is_guess(tip: &str) -> bool {
