@@ -158,6 +158,8 @@ fn count_job(
 }
 
 /// Writes the boards, and counts them.
+// Not in line, so that no other job takes its stack.
+#[inline(never)]
 fn write_boards<R: Threads + Wait + Clone + Send + 'static, O: Sink>(
     rt: &R,
     alloc: Global,
@@ -238,7 +240,10 @@ fn pick_boards<I: Source, O: Sink>(
     ensures flushed { IfErr result (λ e. status_of e ≡ 7 → O.is_flushed out.new) }
 {
     let mut printer = AnyPrinter::showing(alloc, job.format, job.show, job.plan.heading())?;
-    match pick(&job.plan, &mut printer, input, out) {
+    let picked = pick(&job.plan, &mut printer, input, out);
+    // Here and not at each end, which would take room on the stack for each.
+    drop(printer);
+    match picked {
         Ok(_) => Ok(()),
         Err(PickFault::Output) => Err(Failure::Interrupted(Cause::Output)),
         Err(PickFault::Refused(line)) => {
