@@ -14,8 +14,8 @@ use Rattle.plans.specs.declared.plan.PlanError.{PlanError}
 use Rattle.plans.specs.declared.plan.PlanError.TheVariants as plan
 use Rattle.request_types.specs.Defaults.{candidates_of, first_board_of, lane_of, workers_in}
 use Rattle.request_types.specs.Requests.{Look, Search}
-use Rattle.requests.specs.declared.failure.Failure.{Failure}
-use Rattle.requests.specs.declared.failure.Failure.TheVariants.{Plan, Label, Hand}
+use Rattle.jobs.specs.declared.failure.Failure.{Failure}
+use Rattle.jobs.specs.declared.failure.Failure.TheVariants.{Plan, Label, Hand}
 use Rattle.request_types.specs.declared.names.LabelName.{LabelName}
 use Rattle.request_types.specs.declared.names.LabelName.TheVariants as label
 

@@ -9,12 +9,12 @@ ghost use Rattle.advice.specs.Advice.{shown_text, text_line};
 ghost use Rattle.request_types.specs.Requests.{look_of, search_of};
 
 use boards::MAX_LABEL_LEN;
-use cards::{MAX_CANDIDATES, Seat};
+use cards::{MAX_CANDIDATES, MAX_CAPACITY, MAX_WORKERS, Seat};
 use hints::put_shown;
 use itoa::Buffer;
-use lanes::{MAX_CAPACITY, MAX_WORKERS};
+use jobs::Failure;
 use plans::PlanError;
-use requests::{Failure, LabelName, Look, Search};
+use request_types::{LabelName, Look, Search};
 use std::alloc::{AllocError, Global};
 
 /// The longest text that is shown whole, and how much of a longer one is shown.

@@ -11,9 +11,11 @@ mod heading;
 pub mod laws;
 mod notation;
 mod setting;
+mod style;
 
 pub use board::Board;
 pub use buffer::{CAPACITY, SuitLetters, TextBuffer};
 pub use heading::{Date, Heading, Label, MAX_LABEL_LEN};
 pub use notation::Notation;
 pub use setting::{Setting, Vul, dealer, vulnerable};
+pub use style::{STYLE_WORDS, STYLES, Style};

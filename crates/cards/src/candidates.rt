@@ -16,11 +16,6 @@ use std::marker::Model;
 /// The draws of one candidate: one for each exchange of the 52 cards.
 pub(crate) const DRAWS: u64 = 51;
 
-/// How many candidates of a seed are told apart by their numbers, 0 to 2^40 - 1.
-///
-/// They take 51 draws each. 51 * 2^40 is below 2^48, the number of states, so no draw comes twice.
-pub const MAX_CANDIDATES: u64 = 1 << 40;
-
 /// Every `step`-th candidate of a seed around fixed cards, from one on. Contracts see the
 /// generator's state before the next candidate's draws, how many draws it is from there to those of
 /// the candidate after it, the fixed cards, and how many hands of the next candidate are dealt:

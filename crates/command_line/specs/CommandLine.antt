@@ -29,8 +29,8 @@ use Rattle.request_types.specs.declared.workers.Workers.TheVariants.{Number}
 use Rattle.request_types.specs.declared.workers.Workers.TheVariants as workers
 use Rattle.request_types.specs.declared.when.When.{When}
 use Rattle.request_types.specs.declared.when.When.TheVariants.{Auto, Always, Never}
-use Rattle.statistics.specs.declared.style.Style.{Style}
-use Rattle.statistics.specs.declared.style.Style.TheVariants.{Csv, Html, Table}
+use Rattle.boards.specs.declared.style.Style.{Style}
+use Rattle.boards.specs.declared.style.Style.TheVariants.{Csv, Html, Table}
 
 -- the number that an option was given in decimal, if it was given
 abbrev pub number_in : Text → List Row → Option ℕ

@@ -11,12 +11,11 @@ ghost use Rattle.command_line.specs.CommandLine.{is_unknown, meant_by};
 ghost use Rattle.command_line.specs.internal.Choices.{table_of};
 
 use crate::words::text_in;
-use boards::Vul;
+use boards::{STYLE_WORDS, STYLES, Style, Vul};
 use cards::Seat;
 use clap::ArgMatches;
 use notations::{FORMAT_WORDS, FORMATS, Format, Show};
 use request_types::When;
-use statistics::{STYLE_WORDS, STYLES, Style};
 
 /// The words that say when something is shown.
 const TIMES: &[(&str, When)] = &[

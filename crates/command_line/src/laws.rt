@@ -17,7 +17,7 @@ ghost use Rattle.notations.specs.declared.printer.Format.TheVariants.{Hands};
 ghost use Rattle.notations.specs.declared.show.Show.TheVariants.{Dealer};
 ghost use Rattle.request_types.specs.declared.workers.Workers.TheVariants as workers;
 ghost use Rattle.request_types.specs.declared.when.When.TheVariants.{Always, Auto, Never};
-ghost use Rattle.statistics.specs.declared.style.Style.TheVariants.{Csv};
+ghost use Rattle.boards.specs.declared.style.Style.TheVariants.{Csv};
 
 /// `deals stream --seed 0 --count 3` asks for the first three values of seed 0.
 pub fn example_of_stream()

@@ -10,7 +10,7 @@ use Rattle.plans.specs.Plans.{Planned}
 use Rattle.dealrun.specs.MergedVerdicts.{verdicts_for}
 use Rattle.dealrun.specs.Headline.{contents_of}
 use Rattle.dealrun.specs.Interrupted.{InterruptedIn, StandsCompleteIn}
-use Rattle.dealrun.specs.declared.cause.Cause.{Cause}
+use Rattle.plans.specs.declared.cause.Cause.{Cause}
 use Rattle.dealrun.specs.declared.join.Written.{Written}
 use Rattle.dealrun.specs.declared.join.Written.TheVariants.{Failed, Full, Open}
 use Rattle.dealrun.specs.declared.writer.Writer.{Writer}

@@ -27,7 +27,7 @@ use Rattle.plans.specs.Plans.{Planned, candidate_of}
 use Rattle.sinks.specs.Appended.{append_known, AppendsAll, AppendsPart}
 use Rattle.plans.specs.Text.{accepted_among, accepted, boards_of, text_of, text_of_boards, end_of}
 use Rattle.dealrun.specs.MergedVerdicts.{verdicts_for, at_turn, in_turn, boards_in, boards_taken, taken_in_all}
-use Rattle.dealrun.specs.declared.cause.Cause.TheVariants.{Output}
+use Rattle.plans.specs.declared.cause.Cause.TheVariants.{Output}
 use Rattle.dealrun.specs.internal.Joins.{AllParts, ByNumber}
 use Rattle.dealrun.specs.internal.Ends.{Closes}
 use Rattle.dealrun.specs.internal.Writing.{board_count, printed, taken_lists, TakenInTurn, StaysShort, WroteTaken, WriterSoFar}

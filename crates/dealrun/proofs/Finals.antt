@@ -17,7 +17,7 @@ use Rattle.dealrun.specs.internal.Joins.{ByNumber, Owes, JoinedAs, Below, WholeI
 use Rattle.dealrun.specs.internal.Writing.{board_count, printed, TakenInTurn, StaysShort, WriterSoFar, WriterBrokeOff}
 use Rattle.dealrun.specs.Headline.{contents_of}
 use Rattle.dealrun.specs.Interrupted.{AreLanesConsistent, BreaksOffLastPiece, IsLeastStopped, IsLeastUnclosed, InterruptedIn, BreaksOffFooter}
-use Rattle.dealrun.specs.declared.cause.Cause.TheVariants.{Spawn}
+use Rattle.plans.specs.declared.cause.Cause.TheVariants.{Spawn}
 use Rattle.dealrun.proofs.Advance.{fresh_turns}
 use Rattle.dealrun.proofs.Endings.{taken_total, stand, each_number, each_lane, no_lane}
 

@@ -7,8 +7,8 @@ use Rattle.conditions.specs.Form.{Form}
 use Rattle.lanes.specs.Verdicts.{turns}
 use Rattle.lanes.specs.Views.{OutView}
 use Rattle.lanes.specs.Prefixes.{IsPrefix, IsProperPrefix}
-use Rattle.dealrun.specs.declared.cause.Cause.{Cause}
-use Rattle.dealrun.specs.declared.cause.Cause.TheVariants.{Memory, Spawn, Output, Stopped, Unclosed}
+use Rattle.plans.specs.declared.cause.Cause.{Cause}
+use Rattle.plans.specs.declared.cause.Cause.TheVariants.{Memory, Spawn, Output, Stopped, Unclosed}
 use Rattle.dealrun.specs.declared.runs.Counted.{Counted}
 use Rattle.dealrun.specs.declared.runs.Report.{Report}
 use Rattle.dealrun.specs.declared.runs.RunFault.{RunFault}

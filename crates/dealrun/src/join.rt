@@ -7,9 +7,9 @@ ghost use Rattle.dealrun.specs.internal.Handles.{owed_by};
 ghost use Rattle.dealrun.specs.internal.Joins.{JoinsAs, JoinedAs};
 ghost use Rattle.dealrun.specs.internal.Causes.{cause_by};
 
-use crate::cause::Cause;
 use crate::start::Started;
 use lanes::{LaneOut, WorkEnd};
+use plans::Cause;
 use std::thread::Threads;
 
 /// The least worker that was stopped, and the least whose lane was not closed.

@@ -12,7 +12,6 @@
 //! without a plan (`values.rt`).
 #![tactic(auto)]
 
-mod cause;
 mod join;
 pub mod laws;
 mod pbn;
@@ -21,9 +20,8 @@ mod start;
 mod values;
 mod writer;
 
-pub use cause::Cause;
 pub use pbn::{run, run_plain};
-pub use plans::{PlainFault, Plan, PlanError, run_plain_in};
+pub use plans::{Cause, PlainFault, Plan, PlanError, run_plain_in};
 pub use runs::{Counted, Report, RunFault, run_and_count, run_in};
 pub use sinks::{Fuse, MemSink, Piped, Sink, SinkFault, put_all};
 pub use values::stream;

@@ -6,7 +6,7 @@
 ghost use Rattle.std.specs.Prelude.{◌≡◌, ◌-◌, ◌^◌, ◌<◌, ◌≤◌, [], false, All, IfOk};
 ghost use Rattle.std.specs.Prelude.{map, vec_len};
 ghost use Rattle.conditions.specs.Form.{Form};
-ghost use Rattle.dealrun.specs.declared.cause.Cause.TheVariants.{Memory};
+ghost use Rattle.plans.specs.declared.cause.Cause.TheVariants.{Memory};
 ghost use Rattle.dealrun.specs.Headline.{TakesWhatIsOwed, WritesTextIn};
 ghost use Rattle.dealrun.specs.Interrupted.{FailsAtOutput, StandsIn};
 ghost use Rattle.dealrun.specs.Interrupted.{report_of};
@@ -15,14 +15,13 @@ ghost use Rattle.dealrun.specs.internal.Ends.{EndsRun};
 ghost use Rattle.dealrun.specs.internal.Handles.{owed_by};
 ghost use Rattle.dealrun.specs.internal.Joins.{Owes};
 
-use crate::cause::Cause;
 use crate::join::{Written, cause_of, join_all};
 use crate::start::{Shared, Started, assign_all, start_all};
 use crate::writer::Writer;
 use boards::Notation;
 use conditions::Cond;
 use lanes::{Gate, LaneOut};
-use plans::Plan;
+use plans::{Cause, Plan};
 use sinks::Sink;
 use std::alloc::Global;
 use std::sync::atomic::{AtomicBool, Ordering};

@@ -122,7 +122,7 @@ impl Writer {
     ghost use Rattle.boards.specs.Layouts.{Layout};
     ghost use Rattle.conditions.specs.Form.{Form};
     ghost use Rattle.dealrun.specs.Interrupted.{InterruptedIn};
-    ghost use Rattle.dealrun.specs.declared.cause.Cause.TheVariants.{Output};
+    ghost use Rattle.plans.specs.declared.cause.Cause.TheVariants.{Output};
     ghost use Rattle.sinks.specs.Sinks.{CountsFault};
     ghost use Rattle.dealrun.specs.internal.Ends.{Closes};
     ghost use Rattle.dealrun.specs.internal.Writing.{BrokeOff, FaultsBeside, GoesOn, HasEnough};

@@ -14,8 +14,9 @@ ghost use Rattle.std.specs.Prelude.{◌-◌, ◌^◌, ◌<◌, map, string_bytes
 ghost use Rattle.command_line.specs.Reading.{AreRead};
 
 use crate::endings::{cut_off, for_person, say, say_more};
-use crate::notes::{note, typed};
-use crate::streams::{Given, Reasons, Said, help, hints_of, is_time, open};
+use crate::notes::{put_note, put_notes};
+use crate::streams::{Given, Said, hints_of, is_time, open};
+use advice::{Reasons, help};
 use clap::Error;
 use command_line::read_words;
 use deals_cli::{Task, perform, prepare};
@@ -26,13 +27,6 @@ use std::cell::Cell;
 use std::io::ErrorKind;
 use std::process::ExitCode;
 use std::{env, io};
-
-/// Notes it for a person, before a line of counts is drawn.
-fn put_note(rt: &HostRuntime, text: Option<String>) {
-    if let Some(text) = text {
-        let _ = put_all(&mut Piped::new(rt.stderr()), text.as_bytes());
-    }
-}
 
 /// The words that the program was called with.
 fn words_of(rt: &HostRuntime) -> io::Result<Vec<String>> {
@@ -60,8 +54,7 @@ fn noted(
 {
     let task = prepare(rt.alloc(), words, read)?;
     if hints {
-        put_note(rt, note(rt.alloc(), words, read, &task));
-        put_note(rt, typed(rt, &task));
+        put_notes(rt, words, read, &task);
     }
     Ok(task)
 }
@@ -80,7 +73,8 @@ fn tell(
     let ended = for_person(rt, ended);
     let status = say(&ended, err);
     if let Err(failure) = &ended {
-        say_more(help(rt.alloc(), words, read, failure, reasons), err);
+        let request = read.as_ref().ok();
+        say_more(help(rt.alloc(), words, request, failure, reasons), err);
     }
     status
 }

@@ -1,17 +1,12 @@
-//! The program's standard streams, and what is said on them for a person below a refusal.
+//! The program's standard streams, and whether hints are said on them.
 
 ghost use Rattle.std.specs.Prelude.{◌≡◌, IfOk};
 
-use advice::advise;
+use advice::hints_among;
 use clap::Error;
-use cond_lang::CondError;
 use console::{Counts, Drawn, GATHERED_MILLIS, OverLine, Prompt, Style, millis};
-use dealrun::Cause;
-use hints::{explain, explain_question};
-use picking::LineFault;
-use requests::{Failure, QuestionName, Request, When};
+use requests::{Request, When};
 use sinks::{Piped, Sink};
-use std::alloc::Global;
 use std::cell::Cell;
 use std::fs::File;
 use std::io;
@@ -178,123 +173,11 @@ pub fn hints_of(words: &[String], read: &Result<Request<'_>, Error>) -> When {
     }
 }
 
-/// When hints are said, by the last word that says it.
-pub fn hints_among(words: &[String]) -> When {
-    let mut when = When::Auto;
-    let mut follows = false;
-    for word in words {
-        let word = word.as_str();
-        match word.strip_prefix("--hints=") {
-            Some(named) => when = when_of(named).unwrap_or(when),
-            None if follows => when = when_of(word).unwrap_or(when),
-            None => {}
-        }
-        follows = word == "--hints";
-    }
-    when
-}
-
-fn when_of(word: &str) -> Option<When> {
-    match word {
-        "auto" => Some(When::Auto),
-        "always" => Some(When::Always),
-        "never" => Some(When::Never),
-        _ => None,
-    }
-}
-
 /// Whether it is time, by what standard error is.
 pub fn is_time(rt: &HostRuntime, when: When) -> bool {
     match when {
         When::Auto => rt.stderr().is_terminal(),
         When::Always => true,
         When::Never => false,
-    }
-}
-
-/// What helps with a plan, a label or a hand that is refused.
-fn plan_help(
-    alloc: Global,
-    read: &Result<Request<'_>, Error>,
-    failure: &Failure,
-) -> Option<String> {
-    let (search, look) = read.as_ref().ok()?.plans()?;
-    advise(alloc, &search, &look, failure).unwrap_or(None)
-}
-
-/// What helps with the text of a condition that is refused.
-fn condition_help(
-    alloc: Global,
-    read: &Result<Request<'_>, Error>,
-    error: CondError,
-) -> Option<String> {
-    let (search, _) = read.as_ref().ok()?.plans()?;
-    explain(alloc, search.where_text?.as_bytes(), error).ok()
-}
-
-/// What helps with the text of a question that is refused.
-fn question_help(
-    alloc: Global,
-    read: &Result<Request<'_>, Error>,
-    name: QuestionName,
-    error: CondError,
-) -> Option<String> {
-    let text = read.as_ref().ok()?.question(name)?;
-    explain_question(alloc, text.as_bytes(), error).ok()
-}
-
-/// What helps with a table that could be too large.
-const TOO_LARGE: &str =
-    "  hint: rows of --of times columns of --by: add up fewer values, or ask for a condition\n";
-
-/// The system's reason why the output failed.
-fn reason_of_output(alloc: Global, reasons: Reasons<'_>) -> Option<String> {
-    let reason = reasons.output?;
-    format!(in alloc; "  {reason}\n").ok()
-}
-
-/// The system's reason why the input couldn't be read, by the number of its error.
-fn reason_of_input(alloc: Global, reasons: Reasons<'_>) -> Option<String> {
-    let error = io::Error::from_raw_os_error(reasons.input?);
-    format!(in alloc; "  {error}\n").ok()
-}
-
-/// Why reading or writing failed, if the system said so.
-#[derive(Clone, Copy)]
-pub struct Reasons<'a> {
-    pub output: Option<&'a io::Error>,
-    /// The number of the system's error.
-    pub input: Option<i32>,
-}
-
-/// What helps with a failure, below the line that names it; none where memory runs out.
-pub fn help(
-    alloc: Global,
-    words: &[String],
-    read: &Result<Request<'_>, Error>,
-    failure: &Failure,
-    reasons: Reasons<'_>,
-) -> Option<String> {
-    match failure {
-        Failure::CommandLine(text) => word_hints::hint(alloc, words, text.as_str()),
-        Failure::Plan(_) | Failure::Label(_) | Failure::Hand(_) => plan_help(alloc, read, failure),
-        Failure::Condition(error) => condition_help(alloc, read, *error),
-        Failure::Question(name, error) => question_help(alloc, read, *name, *error),
-        Failure::Cells => String::from_str(alloc, TOO_LARGE).ok(),
-        Failure::Interrupted(Cause::Output) => reason_of_output(alloc, reasons),
-        Failure::Input => reason_of_input(alloc, reasons),
-        Failure::Line(line) => String::from_str(alloc, line_help(line.fault)).ok(),
-        Failure::Interrupted(_) | Failure::EndOfInput => None,
-    }
-}
-
-/// What helps with a line of the input that is refused.
-fn line_help(fault: LineFault) -> &'static str {
-    match fault {
-        LineFault::NotTricks => "  hint: deals-tricks writes such lines of a file of the boards\n",
-        LineFault::Missing => "  hint: each board needs a line of the tricks of all boards\n",
-        LineFault::NotANumber | LineFault::NotBelow | LineFault::TooMany => {
-            "  hint: a line has the number of a candidate, as deals find writes it\n"
-        }
     }
 }

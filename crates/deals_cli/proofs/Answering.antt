@@ -7,20 +7,22 @@ use Rattle.clap.specs.Walk.{Text}
 use Rattle.clap.specs.declared.error.Error.{Error}
 use Rattle.clap.specs.declared.error.kind.ErrorKind.{ErrorKind}
 use Rattle.clap.specs.declared.error.kind.ErrorKind.TheVariants.{OutOfMemory}
-use Rattle.dealrun.specs.declared.cause.Cause.TheVariants as cause
-use Rattle.requests.specs.Failures.{is_refusal, status_of}
-use Rattle.requests.specs.FirstRefusal.{IsDueFor}
+use Rattle.plans.specs.declared.cause.Cause.TheVariants as cause
+use Rattle.jobs.specs.Failures.{is_refusal, status_of}
+use Rattle.jobs.specs.FirstRefusal.{IsDueFor}
 use Rattle.requests.specs.Interruptions.{LeavesFrom}
-use Rattle.requests.specs.Jobs.{IsReady, IsRefused, ReadsInput, Serves}
+use Rattle.jobs.specs.Jobs.{IsReady, IsRefused, ReadsInput}
+use Rattle.requests.specs.Served.{Serves}
 use Rattle.request_types.specs.Requests.{Wish, conditions, count, draw, make, make_with_tricks, pick, stream}
-use Rattle.requests.specs.Wishes.{AppendsFrom, HasInput, IsStatusOf}
-use Rattle.requests.specs.declared.failure.Failure.{Failure}
-use Rattle.requests.specs.declared.failure.Failure.TheVariants.{CommandLine, Plan, Label, Hand, Condition, Question, Cells, Interrupted, Line, Input, EndOfInput}
-use Rattle.requests.specs.declared.job.Job.{Job}
-use Rattle.requests.specs.declared.job.Job.TheVariants.{Boards, Conditions, Count, Pick, Seed, Stream, WithTricks}
+use Rattle.jobs.specs.Statuses.{HasInput, IsStatusOf}
+use Rattle.requests.specs.Wishes.{AppendsFrom}
+use Rattle.jobs.specs.declared.failure.Failure.{Failure}
+use Rattle.jobs.specs.declared.failure.Failure.TheVariants.{CommandLine, Plan, Label, Hand, Condition, Question, Cells, Interrupted, Line, Input, EndOfInput}
+use Rattle.jobs.specs.declared.job.Job.{Job}
+use Rattle.jobs.specs.declared.job.Job.TheVariants.{Boards, Conditions, Count, Pick, Seed, Stream, WithTricks}
 use Rattle.requests.specs.declared.report.Report.{Report}
-use Rattle.requests.proofs.FirstDue.{output_due}
-use Rattle.requests.proofs.Statuses.{no_memory, served}
+use Rattle.jobs.proofs.FirstDue.{output_due}
+use Rattle.jobs.proofs.Statuses.{no_memory, served}
 use Rattle.command_line.specs.CommandLine.{asked, kinds_for}
 use Rattle.command_line.specs.Reading.{AreRead}
 use Rattle.deals_cli.specs.Program.{Answers, AreRefused, IsStatusFor, IsTaskFor, MayShow, ReadsTask, WantsInput, is_shown}

@@ -2,16 +2,16 @@
 use Rattle.std.proofs.Common.{◌≡◌, ◌∙◌, ℕ, zero, suc, List, [], Option, None, Some, refl, sym, subst, inl, inr, arith}
 use Rattle.std.proofs.lemmas.List.{append-nil}
 use Rattle.clap.specs.Walk.{Text}
-use Rattle.dealrun.specs.declared.cause.Cause.TheVariants as cause
+use Rattle.plans.specs.declared.cause.Cause.TheVariants as cause
 use Rattle.picking.specs.NumberTexts.{said}
 use Rattle.picking.specs.declared.refusal.RefusedLine.{RefusedLine}
 use Rattle.picking.specs.declared.fault.PickFault.TheVariants.{Refused}
-use Rattle.requests.specs.Failures.{status_of}
+use Rattle.jobs.specs.Failures.{status_of}
 use Rattle.requests.specs.Interruptions.{EndsFor}
 use Rattle.request_types.specs.Requests.{Wish, conditions, count, draw, make, make_with_tricks, pick, stream}
-use Rattle.requests.specs.declared.failure.Failure.{Failure}
-use Rattle.requests.specs.declared.failure.Failure.TheVariants.{CommandLine, Plan, Label, Hand, Condition, Question, Cells, Interrupted, Line, Input, EndOfInput}
-use Rattle.requests.specs.Wishes.{IsStatus, IsStatusWithInput}
+use Rattle.jobs.specs.declared.failure.Failure.{Failure}
+use Rattle.jobs.specs.declared.failure.Failure.TheVariants.{CommandLine, Plan, Label, Hand, Condition, Question, Cells, Interrupted, Line, Input, EndOfInput}
+use Rattle.jobs.specs.Statuses.{IsStatus, IsStatusWithInput}
 use Rattle.deals_cli.specs.Program.{IsStatusOfNone, MayFail, MayLeave, NeedsBytes, TellsWhy, TellsWhyFrom}
 
 nothing_refused : (line : RefusedLine) → (said []).refused ≡ Some line → ⊥

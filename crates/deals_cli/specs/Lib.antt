@@ -1,5 +1,5 @@
 pub use Rattle.request_types.specs.Requests
-pub use Rattle.requests.specs.Makings
+pub use Rattle.jobs.specs.Makings
 pub use Rattle.requests.specs.Wishes
 pub use Rattle.command_line.specs.Commands
 pub use Rattle.command_line.specs.CommandLine

@@ -6,27 +6,28 @@ use Rattle.clap.specs.Kinds.{IsAmong}
 use Rattle.clap.specs.Walk.{Text}
 use Rattle.clap.specs.declared.error.kind.ErrorKind.{ErrorKind}
 use Rattle.clap.specs.declared.error.kind.ErrorKind.TheVariants as kind
-use Rattle.dealrun.specs.declared.cause.Cause.TheVariants.{Memory, Output}
+use Rattle.plans.specs.declared.cause.Cause.TheVariants.{Memory, Output}
 use Rattle.sinks.specs.Appended.{AppendsAll}
-use Rattle.requests.specs.Failures.{is_refusal, is_untouched, status_in, status_of}
-use Rattle.requests.specs.FirstRefusal.{IsDueFor}
+use Rattle.jobs.specs.Failures.{is_refusal, is_untouched, status_in, status_of}
+use Rattle.jobs.specs.FirstRefusal.{IsDueFor}
 use Rattle.requests.specs.Interruptions.{LeavesFrom}
-use Rattle.requests.specs.Lines.{line_of}
+use Rattle.jobs.specs.Lines.{line_of}
 use Rattle.requests.specs.Reported.{Reports, ReportsFor, wants_report}
-use Rattle.requests.specs.Jobs.{IsReady, ReadsInput}
+use Rattle.jobs.specs.Jobs.{IsReady, ReadsInput}
 use Rattle.request_types.specs.Requests.{Look, Search, Wish, draw, make, make_with_tricks}
-use Rattle.requests.specs.Wishes.{HasInput}
+use Rattle.jobs.specs.Statuses.{HasInput}
 use Rattle.requests.specs.declared.report.Report.{Report}
 use Rattle.request_types.specs.declared.request.Notices.{Notices}
-use Rattle.requests.specs.declared.failure.Failure.{Failure}
-use Rattle.requests.specs.declared.failure.Failure.TheVariants.{Interrupted, Input}
+use Rattle.jobs.specs.declared.failure.Failure.{Failure}
+use Rattle.jobs.specs.declared.failure.Failure.TheVariants.{Interrupted, Input}
 use Rattle.command_line.specs.CommandLine.{asked, kinds_for}
 use Rattle.deals_cli.specs.declared.task.Task.{Task}
 use Rattle.deals_cli.specs.declared.task.Task.TheVariants.{Show, Do}
-pub use Rattle.requests.specs.Makings.{CanDate, CanLabel, HasLabels, HasNumbers, IsPlanned}
-pub use Rattle.requests.specs.Makings.{Means, plan_of}
-pub use Rattle.requests.specs.Wishes.{Appends, AppendsFrom, HasInput, HasMeaning, HasPlan, HasRun}
-pub use Rattle.requests.specs.Wishes.{IsStatus, IsStatusOf, IsStatusWithInput}
+pub use Rattle.jobs.specs.Makings.{CanDate, CanLabel, HasLabels, HasNumbers, IsPlanned}
+pub use Rattle.jobs.specs.Makings.{Means, plan_of}
+pub use Rattle.jobs.specs.Statuses.{HasInput, HasMeaning, HasPlan, HasRun}
+pub use Rattle.requests.specs.Wishes.{Appends, AppendsFrom}
+pub use Rattle.jobs.specs.Statuses.{IsStatus, IsStatusOf, IsStatusWithInput}
 
 -- clap shows its help and its version; any other kind is a mistake in the words
 abbrev pub is_shown : ErrorKind → Bool

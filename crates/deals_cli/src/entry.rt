@@ -5,9 +5,10 @@ ghost use Rattle.std.specs.Prelude.{Some, if◌then◌else◌, map, string_bytes
 ghost use Rattle.command_line.specs.CommandLine.{asked};
 ghost use Rattle.deals_cli.specs.Program.{Answers, HasReport, IsFlushedAfter, IsStatusFor};
 ghost use Rattle.deals_cli.specs.Program.{TellsWhy, TellsWhyFrom, WantsBytes, WantsInput};
-ghost use Rattle.requests.specs.Failures.{CountsInput, faults_in, status_in};
+ghost use Rattle.jobs.specs.Failures.{CountsInput, faults_in, status_in};
 ghost use Rattle.request_types.specs.Requests.{Wish};
-ghost use Rattle.requests.specs.Wishes.{Appends, AppendsFrom, IsStatus, IsStatusWithInput};
+ghost use Rattle.jobs.specs.Statuses.{IsStatus, IsStatusWithInput};
+ghost use Rattle.requests.specs.Wishes.{Appends, AppendsFrom};
 
 use crate::task::{perform, prepare};
 use command_line::read_words;

@@ -8,7 +8,7 @@ ghost use Rattle.command_line.specs.Reading.{AreRead};
 ghost use Rattle.deals_cli.specs.Program.{Answers, AreRefused, IsFlushedAfter, IsTaskFor};
 ghost use Rattle.deals_cli.specs.Program.{ReadsTask, is_shown};
 ghost use Rattle.deals_cli.specs.internal.Kinds.{RefusesError};
-ghost use Rattle.requests.specs.Failures.{CountsInput, faults_in, status_in, status_of};
+ghost use Rattle.jobs.specs.Failures.{CountsInput, faults_in, status_in, status_of};
 
 use crate::shown::shown_text;
 use clap::Error;

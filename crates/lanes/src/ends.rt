@@ -6,9 +6,9 @@ ghost use Rattle.std.specs.Prelude.{true, false, MatchBool};
 ghost use Rattle.lanes.specs.Slots.{verdict_in, verdicts_in};
 ghost use Rattle.lanes.specs.declared.ends.LaneError.TheVariants.{Capacity, Memory};
 
-use crate::limits::MAX_CAPACITY;
 use crate::verdict::{Block, MAX_BLOCK, Slot, Verdict};
 use crate::wait::Pace;
+use cards::MAX_CAPACITY;
 use rtrb::{Consumer, Finished, Producer, RingBuffer};
 use std::alloc::Global;
 use std::marker::Model;

@@ -4,7 +4,6 @@
 
 mod ends;
 pub mod laws;
-mod limits;
 mod model;
 mod profit;
 mod screening;
@@ -14,8 +13,8 @@ mod verdict;
 mod wait;
 mod worker;
 
+pub use cards::{MAX_CAPACITY, MAX_WORKERS};
 pub use ends::{Closed, LaneError, LaneIn, LaneOut, lane, lane_in_blocks};
-pub use limits::{MAX_CAPACITY, MAX_WORKERS};
 pub use model::{Core, Event};
 pub use share::{Job, JobAround, Share};
 pub use turns::Turns;

@@ -3,8 +3,7 @@
 ghost use Rattle.std.specs.Prelude.{◌≡◌, ◌+◌, ◌*◌, ◌<◌, ◌≤◌, ◌^◌, ◌↔◌, IsSome, IfSome};
 ghost use Rattle.lanes.specs.Verdicts.{turns};
 
-use crate::limits::MAX_WORKERS;
-use cards::{Fixed, MAX_CANDIDATES};
+use cards::{Fixed, MAX_CANDIDATES, MAX_WORKERS};
 use conditions::Cond;
 
 /// Of the `count` candidates from `first` on, every `workers`-th one, from the one numbered `first

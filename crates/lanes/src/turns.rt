@@ -2,7 +2,7 @@
 
 ghost use Rattle.std.specs.Prelude.{◌≡◌, ◌+◌, ◌%◌, ◌<◌, ◌≤◌, ◌^◌, ◌↔◌, IsSome, IfSome};
 
-use crate::limits::MAX_WORKERS;
+use cards::MAX_WORKERS;
 use std::marker::Model;
 
 /// The turns of 1 to 16 lanes, which contracts see as the turn's number and the number of lanes.

@@ -5,10 +5,12 @@
 //! the run over lanes is compared with it.
 #![tactic(auto)]
 
+mod cause;
 mod next_board;
 mod plan;
 mod reference;
 
+pub use cause::Cause;
 pub use next_board::{is_full, put_board};
 pub use plan::{Plan, PlanError};
 pub use reference::{PlainFault, run_plain_in};

@@ -8,8 +8,7 @@ ghost use Rattle.boards.specs.Headings.{no_heading};
 ghost use Rattle.plans.specs.Refusals.{refusal_of};
 
 use boards::{Heading, Setting};
-use cards::{Fixed, MAX_CANDIDATES};
-use lanes::{MAX_CAPACITY, MAX_WORKERS};
+use cards::{Fixed, MAX_CANDIDATES, MAX_CAPACITY, MAX_WORKERS};
 use std::marker::Model;
 use thiserror::Error;
 

@@ -20,7 +20,7 @@ use Rattle.request_types.specs.declared.workers.Workers.{Workers}
 use Rattle.request_types.specs.declared.workers.Workers.TheVariants.{Number}
 use Rattle.request_types.specs.declared.when.When.{When}
 use Rattle.request_types.specs.declared.when.When.TheVariants.{Auto}
-use Rattle.statistics.specs.declared.style.Style.{Style}
+use Rattle.boards.specs.declared.style.Style.{Style}
 
 -- which candidates are tried, and which of them are accepted: what options were given, or their
 -- defaults. A field is named as its option is, and `where` as where_text, since the bare word is

@@ -14,12 +14,12 @@ mod search;
 mod when;
 mod workers;
 
+pub use boards::Style;
 pub use look::Look;
 pub use names::{LabelName, QuestionName};
 pub use notations::{Format, Show};
 pub use questions::Questions;
 pub use request::{Notices, Request, StreamRequest};
 pub use search::Search;
-pub use statistics::Style;
 pub use when::When;
 pub use workers::Workers;

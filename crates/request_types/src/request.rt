@@ -7,9 +7,9 @@ use crate::names::QuestionName;
 use crate::questions::Questions;
 use crate::search::Search;
 use crate::when::When;
+use boards::Style;
 use notations::Format;
 use predeal::PredealtHands;
-use statistics::Style;
 
 /// What a person is told while a run lasts and when it has ended. Nothing else depends on it.
 #[derive(Clone, Copy, Debug)]

@@ -9,10 +9,10 @@ use Rattle.cond_lang.specs.Form.{Form}
 use Rattle.dealrun.specs.Headline.{WritesTextIn}
 use Rattle.plans.specs.Plans.{Planned, candidate_of}
 use Rattle.plans.specs.Text.{accepted, board_of, boards_of, end_of, text_in}
-use Rattle.requests.specs.Counting.{table_by}
+use Rattle.jobs.specs.Counting.{table_by}
 use Rattle.sinks.specs.Appended.{AppendsAll, append_known}
 use Rattle.statistics.specs.Counting.{Subject, count_text, counting, most_deals}
-use Rattle.statistics.specs.declared.style.Style.{Style}
+use Rattle.boards.specs.declared.style.Style.{Style}
 
 no_texts : (boards : List Board) → flat_map {X = Board} {A = ℕ} (λ board. []) boards ≡ []
 no_texts [] = refl

@@ -1,10 +1,6 @@
-pub mod Statuses
-pub mod FirstDue
-pub mod Refusals
 pub mod Saying
 pub mod Serving
 pub mod Reporting
-pub mod Asking
 pub mod Counted
 pub mod OtherWorkers
 pub mod ToldText

@@ -3,7 +3,7 @@ use Rattle.std.proofs.Common.{◌≡◌, ◌∙◌, ◌++◌, ℕ, true, false, 
 use Rattle.cond_lang.specs.Form.{Form}
 use Rattle.plans.specs.Plans.{Planned}
 use Rattle.sinks.specs.Appended.{AppendsAll, append_known}
-use Rattle.requests.specs.Makings.{plan_of}
+use Rattle.jobs.specs.Makings.{plan_of}
 use Rattle.requests.specs.Reported.{Counts, Reports, ReportsFor, wants_report}
 use Rattle.requests.specs.Reports.{next_line, report_line, report_of}
 use Rattle.request_types.specs.Requests.{Look, Search, Wish, conditions, count, draw, make, make_with_tricks, pick, stream}

@@ -1,21 +1,22 @@
 -- From how the parts of a job end to what is promised of a wish.
 use Rattle.std.proofs.Common.{◌≡◌, ◌⊎◌, ℕ, List, Option, None, Some, Ok, Err, true, false, refl, sym, ◌∙◌, inl, inr}
 use Rattle.cond_lang.specs.Form.{Form}
-use Rattle.requests.specs.Makings.{Means}
+use Rattle.jobs.specs.Makings.{Means}
 use Rattle.dealrun.specs.Values.{lines}
-use Rattle.dealrun.specs.declared.cause.Cause.{Cause}
-use Rattle.dealrun.specs.declared.cause.Cause.TheVariants.{Memory, Spawn, Output, Stopped, Unclosed}
-use Rattle.requests.specs.Failures.{is_untouched}
+use Rattle.plans.specs.declared.cause.Cause.{Cause}
+use Rattle.plans.specs.declared.cause.Cause.TheVariants.{Memory, Spawn, Output, Stopped, Unclosed}
+use Rattle.jobs.specs.Failures.{is_untouched}
 use Rattle.requests.specs.Interruptions.{EndsTold, InterruptsCount, InterruptsMake, LeavesFrom}
-use Rattle.requests.specs.Jobs.{IsReady, Serves}
+use Rattle.jobs.specs.Jobs.{IsReady}
+use Rattle.requests.specs.Served.{Serves}
 use Rattle.request_types.specs.Requests.{Look, Questions, Search, Wish, conditions, count, draw, make, make_with_tricks, pick, stream}
 use Rattle.requests.specs.Wishes.{language_page}
-use Rattle.requests.specs.declared.failure.Failure.{Failure}
-use Rattle.requests.specs.declared.failure.Failure.TheVariants.{CommandLine, Plan, Label, Hand, Condition, Question, Cells, Interrupted, Line, Input, EndOfInput}
-use Rattle.requests.specs.declared.boards_job.BoardsJob.{BoardsJob}
-use Rattle.requests.specs.declared.count_job.CountJob.{CountJob}
-use Rattle.requests.specs.declared.job.PickJob.{PickJob}
-use Rattle.requests.specs.declared.job.Job.TheVariants.{Boards, Conditions, Count, Pick, Seed, Stream, WithTricks}
+use Rattle.jobs.specs.declared.failure.Failure.{Failure}
+use Rattle.jobs.specs.declared.failure.Failure.TheVariants.{CommandLine, Plan, Label, Hand, Condition, Question, Cells, Interrupted, Line, Input, EndOfInput}
+use Rattle.jobs.specs.declared.boards_job.BoardsJob.{BoardsJob}
+use Rattle.jobs.specs.declared.count_job.CountJob.{CountJob}
+use Rattle.jobs.specs.declared.job.PickJob.{PickJob}
+use Rattle.jobs.specs.declared.job.Job.TheVariants.{Boards, Conditions, Count, Pick, Seed, Stream, WithTricks}
 use Rattle.requests.specs.declared.report.Report.{Report}
 use Rattle.request_types.specs.declared.request.StreamRequest.{StreamRequest}
 use Rattle.requests.specs.internal.Ends.{EndsBoards, EndsCount, EndsDraw, EndsPicking, EndsReady}
@@ -23,8 +24,8 @@ use Rattle.requests.specs.WithTricks.{BreaksTold, FailsTold, StopsAtLine}
 use Rattle.picking.specs.declared.refusal.RefusedLine.{RefusedLine}
 use Rattle.picking.specs.declared.fault.PickFault.{PickFault}
 use Rattle.picking.specs.declared.fault.PickFault.TheVariants.{Refused, Input as PickInput}
-use Rattle.requests.proofs.FirstDue.{count_run_due, run_due}
-use Rattle.requests.proofs.Statuses.{failed_input, interrupted, no_memory, served}
+use Rattle.jobs.proofs.FirstDue.{count_run_due, run_due}
+use Rattle.jobs.proofs.Statuses.{failed_input, interrupted, no_memory, served}
 use Rattle.sinks.specs.Appended.{AppendsAll, AppendsPart}
 use Rattle.statistics.specs.Subjects.{subject_of}
 

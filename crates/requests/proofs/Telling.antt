@@ -3,21 +3,21 @@ use Rattle.std.proofs.Common.{◌≡◌, ◌∙◌, ◌≤◌, ◌<◌, ℕ, ◌
 use Rattle.std.specs.Prelude.{if◌then◌else◌, nat_le}
 use Rattle.std.proofs.lemmas.Bool.{leb-true, leb-false, ltb-true, ltb-false}
 use Rattle.cond_lang.specs.Form.{Form}
-use Rattle.dealrun.specs.declared.cause.Cause.{Cause}
-use Rattle.dealrun.specs.declared.cause.Cause.TheVariants.{Memory, Spawn, Output, Stopped, Unclosed}
+use Rattle.plans.specs.declared.cause.Cause.{Cause}
+use Rattle.plans.specs.declared.cause.Cause.TheVariants.{Memory, Spawn, Output, Stopped, Unclosed}
 use Rattle.picking.specs.TricksLines.{FailsFor, ReadsTricks}
 use Rattle.picking.specs.declared.tricks_lines.LinesEnd.{LinesEnd}
 use Rattle.picking.specs.declared.tricks_lines.LinesEnd.TheVariants.{Enough, Failed, Missing, Refused}
 use Rattle.plans.specs.Text.{accepted, end_of, text_in}
-use Rattle.requests.specs.Failures.{CountsInput, faults_in, status_in, status_of}
-use Rattle.requests.specs.Jobs.{IsReadyRun}
-use Rattle.requests.specs.Makings.{plan_of}
+use Rattle.jobs.specs.Failures.{CountsInput, faults_in, status_in, status_of}
+use Rattle.jobs.specs.Jobs.{IsReadyRun}
+use Rattle.jobs.specs.Makings.{plan_of}
 use Rattle.requests.specs.Reported.{Counts}
 use Rattle.request_types.specs.Requests.{Look, Search}
 use Rattle.requests.specs.WithTricks.{BreaksTold, FailsTold, InterruptsTold, StopsAtLine, WritesTold, layout_told, line_fault, most_lines, plan_told, text_told}
-use Rattle.requests.specs.declared.failure.Failure.{Failure}
-use Rattle.requests.specs.declared.failure.Failure.TheVariants.{CommandLine, Plan, Label, Hand, Condition, Question, Cells, Interrupted, Line, Input, EndOfInput}
-use Rattle.requests.specs.declared.boards_job.BoardsJob.{BoardsJob}
+use Rattle.jobs.specs.declared.failure.Failure.{Failure}
+use Rattle.jobs.specs.declared.failure.Failure.TheVariants.{CommandLine, Plan, Label, Hand, Condition, Question, Cells, Interrupted, Line, Input, EndOfInput}
+use Rattle.jobs.specs.declared.boards_job.BoardsJob.{BoardsJob}
 use Rattle.requests.specs.declared.report.Report.{Report}
 use Rattle.request_types.specs.declared.request.Notices.{Notices}
 use Rattle.requests.specs.internal.Ends.{EndsReady, EndsTold, EndsTricks, FaultsOfRun, WroteTold, told_of}

@@ -7,7 +7,7 @@ use Rattle.notations.specs.Formats.{layout_of, layout_showing}
 use Rattle.notations.specs.declared.show.Show.{Show}
 use Rattle.notations.specs.declared.printer.Format.{Format}
 use Rattle.plans.specs.Plans.{Planned}
-use Rattle.requests.specs.Makings.{plan_of}
+use Rattle.jobs.specs.Makings.{plan_of}
 use Rattle.request_types.specs.Requests.{Look, Search}
 
 -- the whole text of a plan under a condition

@@ -1,26 +1,26 @@
 -- What is on the output of a wish that wasn't done to its end.
 use Rattle.std.specs.Prelude.{◌≡◌, ◌⊎◌, ℕ, List, [], Err, Option, Some}
 use Rattle.cond_lang.specs.Form.{Form}
-use Rattle.dealrun.specs.declared.cause.Cause.{Cause}
-use Rattle.dealrun.specs.declared.cause.Cause.TheVariants.{Memory}
+use Rattle.plans.specs.declared.cause.Cause.{Cause}
+use Rattle.plans.specs.declared.cause.Cause.TheVariants.{Memory}
 use Rattle.picking.specs.FourBytes.{EndsBefore}
 use Rattle.picking.specs.Outcomes.{Picks}
 use Rattle.picking.specs.declared.fault.PickFault.{PickFault}
 use Rattle.picking.specs.declared.fault.PickFault.TheVariants as picks
 use Rattle.sinks.specs.Appended.{AppendsPart}
 use Rattle.dealrun.specs.Values.{lines}
-use Rattle.requests.specs.Counting.{IsAsked}
+use Rattle.jobs.specs.Counting.{IsAsked}
 use Rattle.requests.specs.Formats.{layout_in}
-use Rattle.requests.specs.Makings.{AreWorkers, Means, plan_of}
+use Rattle.jobs.specs.Makings.{AreWorkers, Means, plan_of}
 use Rattle.request_types.specs.Requests.{Look, Questions, Search, Wish, conditions, count, draw, make}
 use Rattle.request_types.specs.Requests.{make_with_tricks, no_search, numbers_look, pick, stream}
 pub use Rattle.requests.specs.Runs.{InterruptsRun}
 use Rattle.requests.specs.WithTricks.{BreaksTold, FailsTold, StopsAtLine}
 use Rattle.requests.specs.Wishes.{IsDrawn, language_page, seed_text}
-use Rattle.requests.specs.declared.failure.Failure.{Failure}
-use Rattle.requests.specs.declared.failure.Failure.TheVariants.{EndOfInput, Interrupted, Line, Input}
+use Rattle.jobs.specs.declared.failure.Failure.{Failure}
+use Rattle.jobs.specs.declared.failure.Failure.TheVariants.{EndOfInput, Interrupted, Line, Input}
 use Rattle.statistics.specs.Counting.{Subject, counting}
-use Rattle.statistics.specs.declared.style.Style.{Style}
+use Rattle.boards.specs.declared.style.Style.{Style}
 
 -- the run of a `make` or a `find` was interrupted
 pub record InterruptsMake (s : Search) (l : Look) (cause : Cause) (old new : Option (List ℕ))

@@ -1,14 +1,9 @@
-pub mod Makings
-pub mod Counting
-pub mod Jobs
+pub mod Served
 pub mod Formats
 pub mod Wishes
-pub mod FirstRefusal
 pub mod Runs
 pub mod WithTricks
 pub mod Interruptions
-pub mod Failures
-pub mod Lines
 pub mod Reports
 pub mod Reported
 pub mod internal

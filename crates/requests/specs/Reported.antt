@@ -3,7 +3,7 @@ use Rattle.std.specs.Prelude.{◌≡◌, ℕ, Bool, List, length, Option, None, 
 use Rattle.cond_lang.specs.Form.{Form}
 use Rattle.plans.specs.Text.{accepted, end_of}
 use Rattle.plans.specs.Plans.{Planned}
-use Rattle.requests.specs.Makings.{Means, plan_of}
+use Rattle.jobs.specs.Makings.{Means, plan_of}
 use Rattle.requests.specs.Reports.{report_of}
 use Rattle.sinks.specs.Appended.{AppendsAll}
 use Rattle.notations.specs.declared.printer.Format.{Format}

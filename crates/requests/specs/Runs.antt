@@ -3,7 +3,7 @@ use Rattle.std.specs.Prelude.{ℕ, List, Option}
 use Rattle.boards.specs.Layouts.{Layout}
 use Rattle.cond_lang.specs.Form.{Form}
 use Rattle.dealrun.specs.Interrupted.{InterruptedIn}
-use Rattle.dealrun.specs.declared.cause.Cause.{Cause}
+use Rattle.plans.specs.declared.cause.Cause.{Cause}
 use Rattle.lanes.specs.Views.{OutView}
 use Rattle.plans.specs.Plans.{Planned}
 

@@ -4,7 +4,7 @@ use Rattle.std.specs.Prelude.{◌≡◌, ◌≤◌, ◌<◌, ◌⊎◌, ℕ, ◌
 use Rattle.std.specs.Prelude.{Option, Some, if◌then◌else◌, unwrap_or}
 use Rattle.boards.specs.Layouts.{Layout}
 use Rattle.cond_lang.specs.Form.{Form}
-use Rattle.dealrun.specs.declared.cause.Cause.{Cause}
+use Rattle.plans.specs.declared.cause.Cause.{Cause}
 use Rattle.notations.specs.Formats.{layout_with}
 use Rattle.picking.specs.TricksLines.{ReadsTricks}
 use Rattle.picking.specs.declared.refusal.LineFault.{LineFault}
@@ -14,7 +14,7 @@ use Rattle.picking.specs.declared.tricks_lines.LinesEnd.{LinesEnd}
 use Rattle.picking.specs.declared.tricks_lines.LinesEnd.TheVariants.{Enough, Failed, Missing, Refused}
 use Rattle.plans.specs.Plans.{Planned}
 use Rattle.plans.specs.Text.{accepted, text_in, text_of}
-use Rattle.requests.specs.Makings.{AreWorkers, plan_of}
+use Rattle.jobs.specs.Makings.{AreWorkers, plan_of}
 use Rattle.request_types.specs.Requests.{Look, Search}
 use Rattle.requests.specs.Runs.{InterruptsRun}
 use Rattle.sinks.specs.Appended.{AppendsAll}

@@ -6,11 +6,10 @@ ghost use Rattle.sinks.specs.Sinks.{CountsFault};
 ghost use Rattle.requests.specs.Reports.{boards_text, candidates_text, goes_on_at, goes_on_from};
 ghost use Rattle.requests.specs.Reports.{next_line, report_line, shortfall};
 
-use crate::message::Message;
 use cards::MAX_CANDIDATES;
 use notations::Format;
 use plans::Plan;
-use sinks::{Sink, SinkFault, put_all};
+use sinks::{Message, Sink, SinkFault, put_all};
 
 /// How many boards a run wrote, and from how many candidates.
 #[derive(Clone, Copy, Debug)]

@@ -1,14 +1,14 @@
 //! Drawing a seed.
 
 ghost use Rattle.std.specs.Prelude.{◌≡◌, ◌-◌, ◌+◌, ◌^◌, ◌<◌, ◌++◌, ◌∷◌, [], IfErr, decimal};
-ghost use Rattle.requests.specs.Failures.{CountsInput, faults_in, status_of};
+ghost use Rattle.jobs.specs.Failures.{CountsInput, faults_in, status_of};
 ghost use Rattle.requests.specs.internal.Ends.{EndsDraw};
 ghost use Rattle.sinks.specs.Sinks.{AppendsOrBreaksOff, CountsFault};
 
-use crate::failure::Failure;
-use dealrun::Cause;
 use itoa::Buffer;
+use jobs::Failure;
 use picking::{BytesFault, Source, read_four};
+use plans::Cause;
 use sinks::{Sink, SinkFault, put_all};
 
 /// Writes the number that the next four bytes of the input are, the lowest first. What was written

@@ -2,20 +2,18 @@
 //! there can be boards; then the boards that have a line are written, and nothing of the next.
 
 ghost use Rattle.std.specs.Prelude.{◌≡◌, ◌-◌, ◌+◌, ◌^◌, ◌<◌, Err, IfErr, Ok, vec_len};
-ghost use Rattle.requests.specs.Failures.{CountsInput, faults_in, status_of};
+ghost use Rattle.jobs.specs.Failures.{CountsInput, faults_in, status_of};
 ghost use Rattle.requests.specs.WithTricks.{line_fault, most_lines, plan_told};
 ghost use Rattle.requests.specs.internal.Ends.{EndsReady, EndsTold, FaultsOfRun, by_cause};
 ghost use Rattle.requests.specs.internal.Ends.{told_of};
 
-use crate::boards_job::BoardsJob;
-use crate::failure::Failure;
 use crate::report::Report;
 use crate::workers::worked;
 use crate::written::write_plan;
-use dealrun::Cause;
+use jobs::{BoardsJob, Failure};
 use notations::AnyPrinter;
 use picking::{LineFault, LinesEnd, RefusedLine, Source, TricksRead, read_tricks};
-use plans::Plan;
+use plans::{Cause, Plan};
 use sinks::Sink;
 use std::alloc::Global;
 use std::sync::Wait;

@@ -5,9 +5,9 @@ ghost use Rattle.requests.specs.internal.Ends.{EndsWritten, FaultsOfRun};
 
 use boards::Notation;
 use cond_lang::Cond;
-use dealrun::{Cause, run_and_count};
+use dealrun::run_and_count;
 use lanes::OpenGate;
-use plans::Plan;
+use plans::{Cause, Plan};
 use sinks::Sink;
 use std::alloc::Global;
 use std::sync::{Arc, Wait};

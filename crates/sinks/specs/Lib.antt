@@ -1,4 +1,5 @@
 pub mod Appended
 pub mod Sinks
+pub mod Messages
 pub mod Fuses
 pub mod Writers

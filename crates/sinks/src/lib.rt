@@ -4,8 +4,10 @@
 //! appended, also if the sink failed within it.
 #![tactic(auto)]
 
+mod message;
 mod sink;
 mod testing;
 
+pub use message::Message;
 pub use sink::{Piped, Sink, SinkFault, put_all};
 pub use testing::{Fuse, MemSink};

@@ -4,8 +4,8 @@ use Rattle.std.proofs.lemmas.Bool.{eq-eqb, ne_eqb}
 use Rattle.std.proofs.lemmas.List.{append-nil}
 use Rattle.cards.specs.declared.seat.Seat.{Seat}
 use Rattle.statistics.specs.declared.one.table.Widths.{Widths}
-use Rattle.statistics.specs.declared.style.Style.{Style}
-use Rattle.statistics.specs.declared.style.Style.TheVariants.{Csv, Html, Table}
+use Rattle.boards.specs.declared.style.Style.{Style}
+use Rattle.boards.specs.declared.style.Style.TheVariants.{Csv, Html, Table}
 use Rattle.statistics.specs.Answers.{answers_of}
 use Rattle.statistics.specs.Counting.{Subject, by_one, by_two, count_text, csv_text, deals_alone, page_table, pairs_of, table_text}
 use Rattle.statistics.specs.Csv.{csv_total}

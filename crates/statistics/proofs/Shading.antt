@@ -1,8 +1,8 @@
 -- The lines that are written are lines of the table, and no cell of a page is darker than the darkest.
 use Rattle.std.proofs.Common.{◌≡◌, ◌+◌, ◌-◌, ◌<◌, ◌≤◌, ℕ, length, subst, arith}
 use Rattle.statistics.specs.declared.rows.Rows.{Rows}
-use Rattle.statistics.specs.declared.style.Style.{Style}
-use Rattle.statistics.specs.declared.style.Style.TheVariants.{Csv, Html, Table}
+use Rattle.boards.specs.declared.style.Style.{Style}
+use Rattle.boards.specs.declared.style.Style.TheVariants.{Csv, Html, Table}
 use Rattle.statistics.specs.declared.two.table.Line.{Line}
 use Rattle.statistics.specs.declared.two.table.Line.TheVariants.{All, CsvRow, Header, Mean, Page, Row}
 use Rattle.statistics.specs.declared.two.page.PageLine.{PageLine}

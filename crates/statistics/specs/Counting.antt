@@ -5,8 +5,8 @@ use Rattle.std.specs.List.{list_all}
 use Rattle.boards.specs.Layouts.{Layout}
 use Rattle.cards.specs.declared.seat.Seat.{Seat}
 use Rattle.conditions.specs.Questions.{Question, answer, is_condition, rows_of}
-use Rattle.statistics.specs.declared.style.Style.{Style}
-use Rattle.statistics.specs.declared.style.Style.TheVariants.{Csv, Html, Table}
+use Rattle.boards.specs.declared.style.Style.{Style}
+use Rattle.boards.specs.declared.style.Style.TheVariants.{Csv, Html, Table}
 use Rattle.statistics.specs.Answers.{answers_of}
 use Rattle.statistics.specs.Csv.{csv_one, csv_total, csv_two}
 use Rattle.statistics.specs.OneQuestion.{one_table}

@@ -5,9 +5,8 @@ ghost use Rattle.statistics.specs.Counting.{cells_of, counting};
 ghost use Rattle.statistics.specs.Subjects.{subject_of};
 
 use crate::kept::Kept;
-use crate::style::Style;
 use crate::subject::Subject;
-use boards::{Board, Notation};
+use boards::{Board, Notation, Style};
 use sinks::{Sink, SinkFault};
 use std::alloc::{AllocError, Global};
 

@@ -17,12 +17,11 @@ mod page;
 mod pieces;
 mod rows;
 mod sentence;
-mod style;
 mod subject;
 mod sums;
 mod title;
 mod two;
 
+pub use boards::{STYLE_WORDS, STYLES, Style};
 pub use counter::Counter;
-pub use style::{STYLE_WORDS, STYLES, Style};
 pub use subject::{Asked, MAX_CELLS, Subject};

@@ -2,10 +2,10 @@
 use Rattle.std.specs.Prelude.{◌≡◌, ◌≢◌, false}
 use Rattle.clap.specs.declared.error.kind.ErrorKind.{ErrorKind}
 use Rattle.clap.specs.declared.error.kind.ErrorKind.TheVariants.{OutOfMemory}
-use Rattle.dealrun.specs.declared.cause.Cause.TheVariants.{Memory}
+use Rattle.plans.specs.declared.cause.Cause.TheVariants.{Memory}
 use Rattle.deals_cli.specs.Program.{is_shown}
-use Rattle.requests.specs.declared.failure.Failure.{Failure}
-use Rattle.requests.specs.declared.failure.Failure.TheVariants.{CommandLine, Interrupted}
+use Rattle.jobs.specs.declared.failure.Failure.{Failure}
+use Rattle.jobs.specs.declared.failure.Failure.TheVariants.{CommandLine, Interrupted}
 
 -- memory ran out, or the words are a mistake
 abbrev pub RefusesError : ErrorKind → Failure → Type 0

@@ -3,10 +3,9 @@
 ghost use Rattle.std.specs.Prelude.{◌≡◌, ◌+◌, ◌<◌, ◌≤◌, ◌^◌, ◌⊎◌, ◌↔◌, ℕ, true, false, IsSome, IfSome};
 ghost use Rattle.lanes.specs.declared.model.event.Event.TheVariants.{Send, Take, Close, Stop};
 
-use crate::limits::{MAX_CAPACITY, MAX_WORKERS};
 use crate::model::event::Event;
 use crate::share::Share;
-use cards::MAX_CANDIDATES;
+use cards::{MAX_CANDIDATES, MAX_CAPACITY, MAX_WORKERS};
 use std::marker::Model;
 
 /// The counters of a run's lanes, one flag and the turn. Contracts see the machine, with an entry

@@ -2,13 +2,13 @@
 use Rattle.std.specs.Prelude.{◌≡◌, ◌⊎◌, ◌+◌, ◌≤◌, nat_lt, if◌then◌else◌, ℕ, length, List, Option, Result, Ok, Err}
 use Rattle.dealrun.specs.Headline.{WritesTextIn}
 use Rattle.dealrun.specs.Interrupted.{FaultsAfter}
-use Rattle.dealrun.specs.declared.cause.Cause.{Cause}
-use Rattle.dealrun.specs.declared.cause.Cause.TheVariants.{Memory, Output, Spawn, Stopped, Unclosed}
+use Rattle.plans.specs.declared.cause.Cause.{Cause}
+use Rattle.plans.specs.declared.cause.Cause.TheVariants.{Memory, Output, Spawn, Stopped, Unclosed}
 use Rattle.boards.specs.Layouts.{Layout}
 use Rattle.notations.specs.Formats.{layout_showing, layout_with}
 use Rattle.plans.specs.Plans.{Planned}
 use Rattle.plans.specs.Text.{accepted, end_of, text_in}
-use Rattle.requests.specs.Makings.{AreWorkers, plan_of}
+use Rattle.jobs.specs.Makings.{AreWorkers, plan_of}
 use Rattle.request_types.specs.Requests.{Look, Search}
 use Rattle.cond_lang.specs.Form.{Form}
 use Rattle.picking.specs.declared.refusal.RefusedLine.{RefusedLine}
@@ -23,17 +23,17 @@ use Rattle.picking.specs.FourBytes.{EndsBefore}
 use Rattle.picking.specs.Outcomes.{Picks}
 use Rattle.picking.specs.declared.fault.PickFault.{PickFault}
 use Rattle.picking.specs.declared.fault.PickFault.TheVariants as picks
-use Rattle.requests.specs.Counting.{table_by}
+use Rattle.jobs.specs.Counting.{table_by}
 use Rattle.requests.specs.Formats.{text_showing}
-use Rattle.requests.specs.Jobs.{IsReadyRun}
+use Rattle.jobs.specs.Jobs.{IsReadyRun}
 use Rattle.requests.specs.Runs.{InterruptsRun}
 use Rattle.request_types.specs.declared.request.Notices.{Notices}
 use Rattle.requests.specs.Reported.{Counts}
-use Rattle.requests.specs.declared.failure.Failure.{Failure}
-use Rattle.requests.specs.declared.failure.Failure.TheVariants.{EndOfInput, Input, Interrupted, Line}
-use Rattle.requests.specs.declared.boards_job.BoardsJob.{BoardsJob}
-use Rattle.requests.specs.declared.count_job.CountJob.{CountJob}
-use Rattle.requests.specs.declared.job.PickJob.{PickJob}
+use Rattle.jobs.specs.declared.failure.Failure.{Failure}
+use Rattle.jobs.specs.declared.failure.Failure.TheVariants.{EndOfInput, Input, Interrupted, Line}
+use Rattle.jobs.specs.declared.boards_job.BoardsJob.{BoardsJob}
+use Rattle.jobs.specs.declared.count_job.CountJob.{CountJob}
+use Rattle.jobs.specs.declared.job.PickJob.{PickJob}
 use Rattle.requests.specs.declared.report.Report.{Report}
 use Rattle.requests.specs.declared.written.Written.{Written}
 use Rattle.sinks.specs.Appended.{AppendsAll, AppendsPart}

@@ -4,8 +4,8 @@ use Rattle.boards.specs.declared.board.Board.{Board}
 use Rattle.cards.specs.declared.seat.Seat.{Seat}
 use Rattle.statistics.specs.declared.kept.Kept.{Kept}
 use Rattle.statistics.specs.declared.kept.Kept.TheVariants.{Alone, Rows, Cells}
-use Rattle.statistics.specs.declared.style.Style.{Style}
-use Rattle.statistics.specs.declared.style.Style.TheVariants.{Csv, Html, Table}
+use Rattle.boards.specs.declared.style.Style.{Style}
+use Rattle.boards.specs.declared.style.Style.TheVariants.{Csv, Html, Table}
 use Rattle.statistics.specs.Answers.{answers_of}
 use Rattle.statistics.specs.Counting.{Subject, by_one, by_two, csv_text, deals_alone, most_deals}
 use Rattle.statistics.specs.Counting.{page_table, page_title, pairs_of, table_text}

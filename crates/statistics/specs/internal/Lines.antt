@@ -3,8 +3,8 @@ use Rattle.std.specs.Prelude.{◌<◌, ℕ, Bool, true, false, List, [], ◌++�
 use Rattle.std.specs.Prelude.{length, max, slice_index}
 use Rattle.std.specs.List.{flat_map}
 use Rattle.conditions.specs.Questions.{is_condition}
-use Rattle.statistics.specs.declared.style.Style.{Style}
-use Rattle.statistics.specs.declared.style.Style.TheVariants.{Csv, Html, Table}
+use Rattle.boards.specs.declared.style.Style.{Style}
+use Rattle.boards.specs.declared.style.Style.TheVariants.{Csv, Html, Table}
 use Rattle.statistics.specs.declared.two.table.Line.{Line}
 use Rattle.statistics.specs.declared.two.table.Line.TheVariants.{All, CsvRow, Header, Mean, Page}
 use Rattle.statistics.specs.declared.two.table.Line.TheVariants.{Row}

@@ -2,8 +2,8 @@
 use Rattle.std.specs.Prelude.{◌≤◌, ◌<◌, ℕ, List, codes, fold, length, map, max, slice_index}
 use Rattle.conditions.specs.Questions.{is_condition}
 use Rattle.statistics.specs.declared.rows.Rows.{Rows as ARows}
-use Rattle.statistics.specs.declared.style.Style.{Style}
-use Rattle.statistics.specs.declared.style.Style.TheVariants.{Csv, Html, Table}
+use Rattle.boards.specs.declared.style.Style.{Style}
+use Rattle.boards.specs.declared.style.Style.TheVariants.{Csv, Html, Table}
 use Rattle.statistics.specs.declared.two.page.PageLine.{PageLine}
 use Rattle.statistics.specs.declared.two.page.PageLine.TheVariants.{Cells, Heads, Means, Totals}
 use Rattle.statistics.specs.Columns.{label, or_dash}

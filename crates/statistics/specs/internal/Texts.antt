@@ -6,8 +6,8 @@ use Rattle.conditions.specs.Questions.{is_condition}
 use Rattle.statistics.specs.declared.sums.Sums.{Sums}
 use Rattle.statistics.specs.declared.rows.Rows.{Rows as ARows}
 use Rattle.statistics.specs.declared.one.table.Widths.{Widths}
-use Rattle.statistics.specs.declared.style.Style.{Style}
-use Rattle.statistics.specs.declared.style.Style.TheVariants.{Csv, Html, Table}
+use Rattle.boards.specs.declared.style.Style.{Style}
+use Rattle.boards.specs.declared.style.Style.TheVariants.{Csv, Html, Table}
 use Rattle.statistics.specs.Columns.{commas}
 use Rattle.statistics.specs.Csv.{csv_row}
 use Rattle.statistics.specs.OneQuestion.{line, mean_text, row, second_width}

@@ -13,9 +13,8 @@ use crate::one_lines::{Row, put_header, put_mean, put_row};
 use crate::page::{put_page_header, put_page_mean, put_page_row};
 use crate::pieces::{commas_len, first_len, put_piece};
 use crate::rows::{Rows, most_of, rows_shown};
-use crate::style::Style;
 use crate::sums::Sums;
-use boards::TextBuffer;
+use boards::{Style, TextBuffer};
 use sinks::{Sink, SinkFault};
 
 /// How wide the columns are, and how many deals the longest row has.

@@ -12,9 +12,8 @@ use crate::page::{
     COLUMNS_HEAD, COLUMNS_TAIL, put_column_head, put_line_head, put_line_tail, put_plain,
     put_shaded,
 };
-use crate::style::Style;
 use crate::two::Two;
-use boards::TextBuffer;
+use boards::{Style, TextBuffer};
 
 /// What a line of a page tells.
 #[derive(Clone, Copy, Drop)]

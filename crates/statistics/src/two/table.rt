@@ -21,10 +21,9 @@ use crate::numbers::{put_label, put_or_dash, put_right};
 use crate::page::{TOTALS_HEAD, TOTALS_TAIL};
 use crate::pieces::{first_len, put_piece};
 use crate::rows::{Rows, rows_shown};
-use crate::style::Style;
 use crate::two::Two;
 use crate::two::page::PageLine;
-use boards::TextBuffer;
+use boards::{Style, TextBuffer};
 use sinks::{Sink, SinkFault, put_all};
 
 /// What a line tells.

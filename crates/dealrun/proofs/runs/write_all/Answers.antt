@@ -3,7 +3,7 @@ use Rattle.std.proofs.lemmas.List.{length-map}
 use Rattle.std.proofs.lemmas.Option.{MatchOption-at_none, MatchOption-at_some}
 use Rattle.lanes.specs.Views.{OutView}
 use Rattle.dealrun.specs.Interrupted.{InterruptedIn}
-use Rattle.dealrun.specs.declared.cause.Cause.TheVariants.{Output}
+use Rattle.plans.specs.declared.cause.Cause.TheVariants.{Output}
 use Rattle.dealrun.specs.internal.Ends.{Closes}
 use Rattle.dealrun.specs.internal.Handles.{owed_by}
 use Rattle.dealrun.proofs.Causes.{at_join, said_at}

@@ -1,7 +1,7 @@
 use Rattle.std.proofs.Common.{◌∙◌, refl, sym, subst, map, string_bytes}
 use Rattle.requests.specs.Reported.{ReportsFor}
-use Rattle.requests.specs.Wishes.{IsStatusWithInput}
-use Rattle.requests.proofs.Refusals.{status_of-status}
+use Rattle.jobs.specs.Statuses.{IsStatusWithInput}
+use Rattle.jobs.proofs.Refusals.{status_of-status}
 use Rattle.request_types.specs.Requests.{make}
 use Rattle.requests.proofs.Reporting.{none_made, said, some_made}
 use Rattle.command_line.specs.CommandLine.{asked}

@@ -1,7 +1,7 @@
 use Rattle.std.proofs.Common.{◌≡◌, ◌∙◌, length, subst, sym, rules}
 use Rattle.std.proofs.lemmas.Result.{err_from_is_err_and}
 use Rattle.picking.specs.TricksLines.{ReadsTricks}
-use Rattle.requests.specs.Failures.{status_of}
+use Rattle.jobs.specs.Failures.{status_of}
 use Rattle.requests.specs.WithTricks.{most_lines}
 use Rattle.requests.specs.internal.Ends.{EndsReady}
 use Rattle.requests.proofs.Telling.{ready_ends, ready_flush}

@@ -1,6 +1,6 @@
 use Rattle.std.proofs.Common.{subst, sym}
 use Rattle.sinks.specs.Sinks.{AppendsOrBreaksOff}
-use Rattle.statistics.specs.declared.style.Style.{Style}
+use Rattle.boards.specs.declared.style.Style.{Style}
 use Rattle.statistics.specs.Counting.{count_text}
 use Rattle.statistics.specs.internal.Counters.{asked_of, deals_of}
 use Rattle.statistics.proofs.counter.CounterNotation.put_footer.Goals as goal

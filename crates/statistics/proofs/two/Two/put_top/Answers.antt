@@ -2,7 +2,7 @@ use Rattle.std.proofs.Common.{subst, sym}
 use Rattle.std.proofs.lemmas.Result.{MatchResult-from_err}
 use Rattle.sinks.specs.Appended.{AppendsAll, AppendsPart}
 use Rattle.sinks.specs.Sinks.{AppendsOrBreaksOff}
-use Rattle.statistics.specs.declared.style.Style.{Style}
+use Rattle.boards.specs.declared.style.Style.{Style}
 use Rattle.statistics.specs.declared.two.table.Line.TheVariants.{Header}
 use Rattle.statistics.specs.internal.Lines.{line_text, title_line, top_kept}
 use Rattle.statistics.proofs.Parts.{part_more, then_either}

@@ -1,0 +1,98 @@
+//! What helps a person with a failure, below the line that names it.
+
+use crate::advice::advise;
+use cond_lang::CondError;
+use hints::{explain, explain_question};
+use jobs::Failure;
+use picking::LineFault;
+use plans::Cause;
+use request_types::{QuestionName, Request};
+use std::alloc::Global;
+use std::io;
+
+/// What helps with a table that could be too large.
+const TOO_LARGE: &str =
+    "  hint: rows of --of times columns of --by: add up fewer values, or ask for a condition\n";
+
+/// Why reading or writing failed, if the system said so.
+#[derive(Clone, Copy)]
+pub struct Reasons<'a> {
+    pub output: Option<&'a io::Error>,
+    /// The number of the system's error.
+    pub input: Option<i32>,
+}
+
+/// Returns what helps with a failure, to be printed below the line that names it; none if nothing
+/// does, or if memory runs out. The words are those of the command line; without a request they
+/// were refused.
+pub fn help(
+    alloc: Global,
+    words: &[String],
+    request: Option<&Request<'_>>,
+    failure: &Failure,
+    reasons: Reasons<'_>,
+) -> Option<String> {
+    match failure {
+        Failure::CommandLine(text) => word_hints::hint(alloc, words, text.as_str()),
+        Failure::Plan(_) | Failure::Label(_) | Failure::Hand(_) => plan_help(
+            alloc, request, failure,
+        ),
+        Failure::Condition(error) => condition_help(alloc, request, *error),
+        Failure::Question(name, error) => question_help(alloc, request, *name, *error),
+        Failure::Cells => String::from_str(alloc, TOO_LARGE).ok(),
+        Failure::Interrupted(Cause::Output) => reason_of_output(alloc, reasons),
+        Failure::Input => reason_of_input(alloc, reasons),
+        Failure::Line(line) => String::from_str(alloc, line_help(line.fault)).ok(),
+        Failure::Interrupted(_) | Failure::EndOfInput => None,
+    }
+}
+
+/// What helps with a plan, a label or a hand that is refused.
+fn plan_help(alloc: Global, request: Option<&Request<'_>>, failure: &Failure) -> Option<String> {
+    let (search, look) = request?.plans()?;
+    advise(alloc, &search, &look, failure).unwrap_or(None)
+}
+
+/// What helps with the text of a condition that is refused.
+fn condition_help(
+    alloc: Global,
+    request: Option<&Request<'_>>,
+    error: CondError,
+) -> Option<String> {
+    let (search, _) = request?.plans()?;
+    explain(alloc, search.where_text?.as_bytes(), error).ok()
+}
+
+/// What helps with the text of a question that is refused.
+fn question_help(
+    alloc: Global,
+    request: Option<&Request<'_>>,
+    name: QuestionName,
+    error: CondError,
+) -> Option<String> {
+    let text = request?.question(name)?;
+    explain_question(alloc, text.as_bytes(), error).ok()
+}
+
+/// The system's reason why the output failed.
+fn reason_of_output(alloc: Global, reasons: Reasons<'_>) -> Option<String> {
+    let reason = reasons.output?;
+    format!(in alloc; "  {reason}\n").ok()
+}
+
+/// The system's reason why the input couldn't be read, by the number of its error.
+fn reason_of_input(alloc: Global, reasons: Reasons<'_>) -> Option<String> {
+    let error = io::Error::from_raw_os_error(reasons.input?);
+    format!(in alloc; "  {error}\n").ok()
+}
+
+/// What helps with a line of the input that is refused.
+fn line_help(fault: LineFault) -> &'static str {
+    match fault {
+        LineFault::NotTricks => "  hint: deals-tricks writes such lines of a file of the boards\n",
+        LineFault::Missing => "  hint: each board needs a line of the tricks of all boards\n",
+        LineFault::NotANumber | LineFault::NotBelow | LineFault::TooMany => {
+            "  hint: a line has the number of a candidate, as deals find writes it\n"
+        }
+    }
+}

@@ -1,0 +1,386 @@
+-- Which failure is due first.
+use Rattle.std.proofs.Common.{◌≡◌, ◌≢◌, ◌⊎◌, ◌<◌, ◌+◌, ◌^◌, ◌||◌, ◌==◌, ◌∙◌, ◌++◌, ℕ, zero, suc, Bool, true, false, List, [], ◌∷◌, Option, Some, refl, sym, ap, inl, inr, nat_lt, option_map, arith, eqb-true, if◌then◌else◌}
+use Rattle.std.specs.Borrow.{Bor}
+use Rattle.std.proofs.lemmas.Bool.{eqb-false, ltb-true, ltb-false}
+use Rattle.cond_lang.specs.Faults.{IsDue}
+use Rattle.cond_lang.specs.Form.{Form}
+use Rattle.conditions.specs.declared.error.CondError.{CondError}
+use Rattle.conditions.specs.declared.error.CondError.TheVariants.{TooLong, Byte, Word, Number, Syntax, Memory as no_memory}
+use Rattle.plans.specs.declared.cause.Cause.{Cause}
+use Rattle.plans.specs.declared.cause.Cause.TheVariants as cause
+use Rattle.plans.specs.Refusals.{refusal_of}
+use Rattle.plans.specs.declared.plan.PlanError.{PlanError}
+use Rattle.plans.specs.declared.plan.PlanError.TheVariants.{Range, Workers, Capacity, Boards, FirstBoard}
+use Rattle.jobs.specs.Failures.{failure_of, is_refusal, status_of}
+use Rattle.jobs.specs.FirstRefusal.{AreRefused, HasCondition, IsConditionDue, IsCountDue, IsDueFor, IsFirstHand, IsFirstOf, IsMakeDue, IsPickDue, IsPlanDue, IsTricksDue, Meets, of_labels, of_numbers}
+use Rattle.request_types.specs.Defaults.{candidates_of, workers_in}
+use Rattle.jobs.specs.Makings.{HasLabels, HasNumbers, IsPlanned, Means}
+use Rattle.request_types.specs.Requests.{Look, Questions, Search, Wish, conditions, count, draw, make, make_with_tricks, no_search, numbers_look, pick, stream}
+use Rattle.jobs.specs.Jobs.{IsRefused}
+use Rattle.jobs.specs.Statuses.{HasMeaning, HasPlan, IsStatusOf}
+use Rattle.jobs.proofs.Statuses.{no_memory as out_of_memory, refused_meaning, refused_plan}
+use Rattle.request_types.specs.declared.request.Notices.{Notices}
+use Rattle.request_types.specs.declared.when.When.{When}
+use Rattle.predeal.specs.PredealtHands.{GivenHands}
+use Rattle.jobs.specs.declared.failure.Failure.{Failure}
+use Rattle.jobs.specs.declared.failure.Failure.TheVariants.{CommandLine, Plan, Label, Hand, Condition, Question, Cells, Interrupted, Line, Input, EndOfInput}
+use Rattle.request_types.specs.declared.names.LabelName.TheVariants.{Event, Site, Date}
+use Rattle.request_types.specs.declared.names.QuestionName.TheVariants.{Of, By}
+use Rattle.jobs.specs.Counting.{IsAsked}
+use Rattle.jobs.specs.internal.Conditions.{IsConditionFailure}
+use Rattle.jobs.specs.internal.QuestionFailures.{AreFailure}
+use Rattle.statistics.specs.Counting.{Subject}
+use Rattle.boards.specs.declared.style.Style.{Style}
+
+-- ---- the numbers
+
+positive : (n : ℕ) → (n ≡ 0 → ⊥) → 0 < n
+positive zero h = absurd (h refl)
+positive (suc n) h = omega arith
+
+-- what a plan without a limit asks of its numbers
+abbrev pub HasRun : Search → Look → Type 0
+HasRun s l = Meets s l (Plan Range) × Meets s l (Plan Workers) × Meets s l (Plan Capacity)
+
+pub plan_due : (s : Search) (l : Look) (e : PlanError) → e ≡ refusal_of s.first (candidates_of s) (workers_in s.workers) → (HasRun s l → ⊥) → IsFirstOf of_numbers s l (Plan e)
+plan_due s l e is not_so = rw is (at_range (nat_lt (2 ^ 40) (s.first + candidates_of s)) refl)
+  where
+    at_capacity : Meets s l (Plan Range) → Meets s l (Plan Workers) → IsFirstOf of_numbers s l (Plan Capacity)
+    at_capacity range workers = inr (range, inr (workers, inl (refl, λ lane. not_so (range, workers, lane))))
+
+    at_workers : Meets s l (Plan Range) → (b c : Bool) → (workers_in s.workers == 0) ≡ b → nat_lt 16 (workers_in s.workers) ≡ c
+        → IsFirstOf of_numbers s l (Plan (if b || c then Workers else Capacity))
+    at_workers range true c none many =
+        let is_zero = eqb-true (workers_in s.workers) 0 none in
+        inr (range, inl (refl, λ workers. omega (arith, workers.0, is_zero)))
+    at_workers range false true none many =
+        let more = ltb-true 16 (workers_in s.workers) many in
+        inr (range, inl (refl, λ workers. omega (arith, workers.1, more)))
+    at_workers range false false none many =
+        at_capacity range (positive (workers_in s.workers) (eqb-false (workers_in s.workers) 0 none), ltb-false 16 (workers_in s.workers) many)
+
+    at_range : (b : Bool) → nat_lt (2 ^ 40) (s.first + candidates_of s) ≡ b
+        → IsFirstOf of_numbers s l (Plan (if b then Range else (if (workers_in s.workers) == 0 || nat_lt 16 (workers_in s.workers) then Workers else Capacity)))
+    at_range true e =
+        let more = ltb-true (2 ^ 40) (s.first + candidates_of s) e in
+        inl (refl, λ range. omega (arith, range, more))
+    at_range false e =
+        at_workers (ltb-false (2 ^ 40) (s.first + candidates_of s) e) (workers_in s.workers == 0) (nat_lt 16 (workers_in s.workers)) refl refl
+
+pub boards_due : (s : Search) (l : Look) (most : ℕ) → HasRun s l → s.boards ≡ Some most → most ≡ 0 → IsFirstOf of_numbers s l (Plan Boards)
+boards_due s l most run given none =
+    inr (run.0, inr (run.1, inr (run.2, inl (refl, λ sound. sound (given ∙ ap (λ (n : ℕ). Some n) none)))))
+
+pub first_board_due : (s : Search) (l : Look) → HasRun s l → (s.boards ≡ Some 0 → ⊥) → (Meets s l (Plan FirstBoard) → ⊥) → IsFirstOf of_numbers s l (Plan FirstBoard)
+first_board_due s l run boards not_so =
+    inr (run.0, inr (run.1, inr (run.2, inr (boards, inl (refl, not_so)))))
+
+-- each way to refuse a number
+pub ruleset numbers = (plan_due, boards_due, first_board_due)
+
+-- ---- the plan
+
+before_labels : (xs ys : List Failure) (s : Search) (l : Look) (f : Failure) → IsFirstOf xs s l f → IsFirstOf (xs ++ ys) s l f
+before_labels [] ys s l f h = absurd h
+before_labels (x ∷ xs) ys s l f (inl h) = inl h
+before_labels (x ∷ xs) ys s l f (inr h) = inr (h.0, before_labels xs ys s l f h.1)
+
+pub numbers_due : (s : Search) (l : Look) (e : PlanError) → IsFirstOf of_numbers s l (Plan e) → IsPlanDue s l (Plan e)
+numbers_due s l e h = before_labels of_numbers of_labels s l (Plan e) h
+
+after_numbers : (s : Search) (l : Look) (f : Failure) → HasNumbers s l → IsFirstOf of_labels s l f → IsFirstOf (of_numbers ++ of_labels) s l f
+after_numbers s l f n h = inr (n.candidates, inr (n.workers, inr (n.lane, inr (n.boards, inr (n.first_board, h)))))
+
+pub labels_due : (s : Search) (l : Look) (f : Failure) → HasNumbers s l → IsFirstOf of_labels s l f → IsPlanDue s l f
+labels_due s l f n (inl h) = rw h.0 (after_numbers s l (Label Event) n (inl (refl, h.1)))
+labels_due s l f n (inr (event, inl h)) = rw h.0 (after_numbers s l (Label Site) n (inr (event, inl (refl, h.1))))
+labels_due s l f n (inr (event, inr (site, inl h))) = rw h.0 (after_numbers s l (Label Date) n (inr (event, inr (site, inl (refl, h.1)))))
+labels_due s l f n (inr (event, inr (site, inr h))) = absurd h.1
+
+-- ---- the hands
+
+pub hands_due : (s : Search) (l : Look) (f : Failure) → HasNumbers s l → HasLabels l → IsFirstHand s f → IsPlanDue s l f
+hands_due s l (CommandLine text) n t h = absurd h
+hands_due s l (Plan error) n t h = absurd h
+hands_due s l (Label name) n t h = absurd h
+hands_due s l (Hand seat) n t h = (n, t, h)
+hands_due s l (Condition error) n t h = absurd h
+hands_due s l (Question name error) n t h = absurd h
+hands_due s l Cells n t h = absurd h
+hands_due s l (Interrupted cause) n t h = absurd h
+hands_due s l (Line line) n t h = absurd h
+hands_due s l Input n t h = absurd h
+hands_due s l EndOfInput n t h = absurd h
+
+-- each way to refuse a plan
+pub ruleset plans = (numbers_due, labels_due, hands_due)
+
+-- ---- the condition
+
+pub unread : (o : Option (Bor (List ℕ))) (text : Bor (List ℕ)) (bytes : List ℕ) (e : CondError) → o ≡ Some text → bytes ≡ text.now
+    → IsDue bytes e → IsConditionFailure (option_map (λ s. s.now) o) (failure_of e)
+unread o text bytes e given same due = by_error e due
+  where
+    is_given : option_map (λ s. s.now) o ≡ Some bytes
+    is_given = ap (option_map (λ s. s.now)) given ∙ ap (λ (t : List ℕ). Some t) (sym same)
+
+    because : (e : CondError) → IsDue bytes e → e ≢ no_memory → IsConditionDue (option_map (λ s. s.now) o) e
+    because e due refused = record { text = bytes; is_given = is_given; due = due; refused = refused }
+
+    by_error : (e : CondError) → IsDue bytes e → IsConditionFailure (option_map (λ s. s.now) o) (failure_of e)
+    by_error TooLong due = inr (TooLong, refl, because TooLong due (λ bad. cc))
+    by_error (Byte at) due = inr (Byte at, refl, because (Byte at) due (λ bad. cc))
+    by_error (Word at) due = inr (Word at, refl, because (Word at) due (λ bad. cc))
+    by_error (Number at) due = inr (Number at, refl, because (Number at) due (λ bad. cc))
+    by_error (Syntax at) due = inr (Syntax at, refl, because (Syntax at) due (λ bad. cc))
+    by_error no_memory due = inl refl
+
+pub condition_due : (s : Search) (l : Look) (f : Failure) → IsPlanned s l → IsConditionFailure s.where_text f → IsMakeDue s l f
+condition_due s l f plan (inl memory) = rw memory plan
+condition_due s l f plan (inr (error, is, due)) = rw is (plan, due)
+
+-- ---- the run
+
+pub run_due : (s : Search) (l : Look) (c : Cause) → IsPlanned s l → (form : Form) → Means s.where_text form → IsMakeDue s l (Interrupted c)
+run_due s l cause.Memory plan form means = plan
+run_due s l cause.Output plan form means = (plan, (form, means))
+run_due s l cause.Spawn plan form means = (plan, (form, means))
+run_due s l (cause.Stopped worker) plan form means = (plan, (form, means))
+run_due s l (cause.Unclosed worker) plan form means = (plan, (form, means))
+
+-- the output fails after all was done
+pub output_due : (w : Wish) → IsStatusOf w 0 → IsDueFor w (Interrupted cause.Output)
+output_due (stream seed n) status = refl
+output_due conditions status = refl
+output_due (make s l notices) status = status.accepted (inl refl)
+output_due (make_with_tricks s l notices) status = status.accepted (inl refl)
+output_due draw status = tt
+output_due (count s questions style notices) status = let all = status.accepted (inl refl) in (all.0, all.1.0, all.1.1)
+output_due (pick seed hands l hints) status = (status.accepted (inl refl)).0
+
+-- a refused plan is due for a `make` and for a `pick`
+pub make_plan_due : (s : Search) (l : Look) (f : Failure) → IsPlanDue s l f → IsMakeDue s l f
+make_plan_due s l (CommandLine text) h = h
+make_plan_due s l (Plan error) h = h
+make_plan_due s l (Label name) h = h
+make_plan_due s l (Hand seat) h = h
+make_plan_due s l (Condition error) h = absurd h
+make_plan_due s l (Question name error) h = absurd h
+make_plan_due s l Cells h = absurd h
+make_plan_due s l (Interrupted c) h = absurd h
+make_plan_due s l (Line line) h = absurd h
+make_plan_due s l Input h = absurd h
+make_plan_due s l EndOfInput h = absurd h
+
+-- what is due before the input is read is due with tricks too
+pub tricks_due : (s : Search) (l : Look) (f : Failure) → is_refusal f ≡ true → IsMakeDue s l f → IsTricksDue s l f
+tricks_due s l (CommandLine text) before h = h
+tricks_due s l (Plan error) before h = h
+tricks_due s l (Label name) before h = h
+tricks_due s l (Hand seat) before h = h
+tricks_due s l (Condition error) before h = h
+tricks_due s l (Question name error) before h = h
+tricks_due s l Cells before h = h
+tricks_due s l (Interrupted cause.Memory) before h = h
+tricks_due s l (Interrupted cause.Output) before h = h
+tricks_due s l (Interrupted cause.Spawn) before h = h
+tricks_due s l (Interrupted (cause.Stopped worker)) before h = h
+tricks_due s l (Interrupted (cause.Unclosed worker)) before h = h
+tricks_due s l (Line line) before h = absurd cc
+tricks_due s l Input before h = absurd cc
+tricks_due s l EndOfInput before h = absurd cc
+
+pub pick_plan_due : (s : Search) (l : Look) (f : Failure) → IsPlanDue s l f → IsPickDue s l f
+pick_plan_due s l (CommandLine text) h = h
+pick_plan_due s l (Plan error) h = h
+pick_plan_due s l (Label name) h = h
+pick_plan_due s l (Hand seat) h = h
+pick_plan_due s l (Condition error) h = absurd h
+pick_plan_due s l (Question name error) h = absurd h
+pick_plan_due s l Cells h = absurd h
+pick_plan_due s l (Interrupted c) h = absurd h
+pick_plan_due s l (Line line) h = absurd h
+pick_plan_due s l Input h = absurd h
+pick_plan_due s l EndOfInput h = absurd h
+
+pub count_plan_due : (s : Search) (q : Questions) (f : Failure) → IsPlanDue s numbers_look f → IsCountDue s q f
+count_plan_due s q (CommandLine text) h = h
+count_plan_due s q (Plan error) h = h
+count_plan_due s q (Label name) h = h
+count_plan_due s q (Hand seat) h = h
+count_plan_due s q (Condition error) h = absurd h
+count_plan_due s q (Question name error) h = absurd h
+count_plan_due s q Cells h = absurd h
+count_plan_due s q (Interrupted c) h = absurd h
+count_plan_due s q (Line line) h = absurd h
+count_plan_due s q Input h = absurd h
+count_plan_due s q EndOfInput h = absurd h
+
+-- a condition or a question that is refused is due for a `count`
+count_condition_due : (s : Search) (q : Questions) (f : Failure) → IsPlanned s numbers_look → IsConditionFailure s.where_text f → IsCountDue s q f
+count_condition_due s q f plan (inl memory) = rw memory plan
+count_condition_due s q f plan (inr (error, is, due)) = rw is (plan, due)
+
+questions_due : (s : Search) (q : Questions) (f : Failure) → IsPlanned s numbers_look → HasCondition s → AreRefused q f → IsCountDue s q f
+questions_due s q (CommandLine text) plan condition h = absurd h
+questions_due s q (Plan error) plan condition h = absurd h
+questions_due s q (Label name) plan condition h = absurd h
+questions_due s q (Hand seat) plan condition h = absurd h
+questions_due s q (Condition error) plan condition h = absurd h
+questions_due s q (Question Of error) plan condition h = (plan, condition, h)
+questions_due s q (Question By error) plan condition h = (plan, condition, h)
+questions_due s q Cells plan condition h = (plan, condition, h)
+questions_due s q (Interrupted c) plan condition h = absurd h
+questions_due s q (Line line) plan condition h = absurd h
+questions_due s q Input plan condition h = absurd h
+questions_due s q EndOfInput plan condition h = absurd h
+
+questions_refusal : (q : Questions) (f : Failure) → AreRefused q f → is_refusal f ≡ true
+questions_refusal q (CommandLine text) h = absurd h
+questions_refusal q (Plan error) h = absurd h
+questions_refusal q (Label name) h = absurd h
+questions_refusal q (Hand seat) h = absurd h
+questions_refusal q (Condition error) h = absurd h
+questions_refusal q (Question Of error) h = refl
+questions_refusal q (Question By error) h = refl
+questions_refusal q Cells h = refl
+questions_refusal q (Interrupted c) h = absurd h
+questions_refusal q (Line line) h = absurd h
+questions_refusal q Input h = absurd h
+questions_refusal q EndOfInput h = absurd h
+
+-- a `count` that was interrupted
+pub count_run_due : (s : Search) (q : Questions) (c : Cause) → IsPlanned s numbers_look → HasCondition s → (subject : Subject) → IsAsked q subject → IsCountDue s q (Interrupted c)
+count_run_due s q cause.Memory plan condition subject asked = plan
+count_run_due s q cause.Output plan condition subject asked = (plan, condition, (subject, asked))
+count_run_due s q cause.Spawn plan condition subject asked = (plan, condition, (subject, asked))
+count_run_due s q (cause.Stopped worker) plan condition subject asked = (plan, condition, (subject, asked))
+count_run_due s q (cause.Unclosed worker) plan condition subject asked = (plan, condition, (subject, asked))
+
+-- nothing was done before it
+pub plan_refusal : (s : Search) (l : Look) (f : Failure) → IsPlanDue s l f → is_refusal f ≡ true
+plan_refusal s l (CommandLine text) h = refl
+plan_refusal s l (Plan error) h = refl
+plan_refusal s l (Label name) h = refl
+plan_refusal s l (Hand seat) h = refl
+plan_refusal s l (Condition error) h = refl
+plan_refusal s l (Question name error) h = refl
+plan_refusal s l Cells h = refl
+plan_refusal s l (Interrupted c) h = absurd h
+plan_refusal s l (Line line) h = absurd h
+plan_refusal s l Input h = absurd h
+plan_refusal s l EndOfInput h = absurd h
+
+-- ---- before anything was done
+
+pub make_refused : (s : Search) (l : Look) (notices : Notices) (f : Failure) → (status_of f ≡ 2) × (IsPlanned s l → ⊥) → IsPlanDue s l f → IsRefused (make s l notices) f
+make_refused s l notices f refused due = record {
+  due = make_plan_due s l f due;
+  status = refused_plan (make s l notices) (status_of f) refused.0 refused.1;
+  nothing_done = plan_refusal s l f due;
+}
+
+pub pick_refused : (seed : ℕ) (hands : GivenHands) (l : Look) (hints : When) (f : Failure) → (status_of f ≡ 2) × (IsPlanned (no_search seed hands) l → ⊥) → IsPlanDue (no_search seed hands) l f
+    → IsRefused (pick seed hands l hints) f
+pick_refused seed hands l hints f refused due = record {
+  due = pick_plan_due (no_search seed hands) l f due;
+  status = refused_plan (pick seed hands l hints) (status_of f) refused.0 refused.1;
+  nothing_done = plan_refusal (no_search seed hands) l f due;
+}
+
+pub count_refused : (s : Search) (q : Questions) (style : Style) (notices : Notices) (f : Failure) → (status_of f ≡ 2) × (IsPlanned s numbers_look → ⊥) → IsPlanDue s numbers_look f
+    → IsRefused (count s q style notices) f
+count_refused s q style notices f refused due = record {
+  due = count_plan_due s q f due;
+  status = refused_plan (count s q style notices) (status_of f) refused.0 refused.1;
+  nothing_done = plan_refusal s numbers_look f due;
+}
+
+-- the status of what is refused behind the plan
+refused_later : (w : Wish) (f : Failure) → (status_of f ≡ 5) ⊎ (status_of f ≡ 3) → HasPlan w → (HasMeaning w → status_of f ≡ 5) → IsStatusOf w (status_of f)
+refused_later w f (inl is) plan memory = out_of_memory w (status_of f) is
+refused_later w f (inr is) plan memory =
+    refused_meaning w (status_of f) is plan (λ meaning. let five : status_of f ≡ 5 = memory meaning in omega (arith, is, five))
+
+pub count_condition_refused : (s : Search) (q : Questions) (style : Style) (notices : Notices) (f : Failure) → IsPlanned s numbers_look → (status_of f ≡ 5) ⊎ (status_of f ≡ 3)
+    → ((form : Form) → Means s.where_text form → status_of f ≡ 5) → IsConditionFailure s.where_text f → IsRefused (count s q style notices) f
+count_condition_refused s q style notices f plan status memory due = record {
+  due = count_condition_due s q f plan due;
+  status = refused_later (count s q style notices) f status plan (λ meaning. memory meaning.0.0 meaning.0.1);
+  nothing_done = by_failure due;
+}
+  where
+    by_failure : IsConditionFailure s.where_text f → is_refusal f ≡ true
+    by_failure (inl memory) = rw memory refl
+    by_failure (inr (error, is, due)) = rw is refl
+
+pub questions_refused : (s : Search) (q : Questions) (style : Style) (notices : Notices) (f : Failure) → IsPlanned s numbers_look → (form : Form) → Means s.where_text form
+    → (status_of f ≡ 5) ⊎ (status_of f ≡ 3) → ((subject : Subject) → IsAsked q subject → status_of f ≡ 5) → AreFailure q f → IsRefused (count s q style notices) f
+questions_refused s q style notices f plan form means status memory due = record {
+  due = by_failure due;
+  status = refused_later (count s q style notices) f status plan (λ meaning. memory meaning.1.0 meaning.1.1);
+  nothing_done = refusal due;
+}
+  where
+    by_failure : AreFailure q f → IsCountDue s q f
+    by_failure (inl memory) = rw memory plan
+    by_failure (inr refused) = questions_due s q f plan (form, means) refused
+
+    refusal : AreFailure q f → is_refusal f ≡ true
+    refusal (inl memory) = rw memory refl
+    refusal (inr refused) = questions_refusal q f refused
+
+pub meaning_refused : (s : Search) (l : Look) (notices : Notices) (f : Failure) → IsPlanned s l → (status_of f ≡ 5) ⊎ (status_of f ≡ 3) → ((form : Form) → Means s.where_text form → status_of f ≡ 5)
+    → IsConditionFailure s.where_text f → IsRefused (make s l notices) f
+meaning_refused s l notices f plan status memory due = record {
+  due = condition_due s l f plan due;
+  status = by_status status;
+  nothing_done = by_failure due;
+}
+  where
+    no_meaning : status_of f ≡ 3 → ((form : Form) × Means s.where_text form) → ⊥
+    no_meaning is means = let five : status_of f ≡ 5 = memory means.0 means.1 in omega (arith, is, five)
+
+    by_status : (status_of f ≡ 5) ⊎ (status_of f ≡ 3) → IsStatusOf (make s l notices) (status_of f)
+    by_status (inl is) = out_of_memory (make s l notices) (status_of f) is
+    by_status (inr is) = refused_meaning (make s l notices) (status_of f) is plan (no_meaning is)
+
+    by_failure : IsConditionFailure s.where_text f → is_refusal f ≡ true
+    by_failure (inl memory) = rw memory refl
+    by_failure (inr (error, is, due)) = rw is refl
+
+-- ---- the same with tricks
+
+tricks_status : (s : Search) (l : Look) (notices : Notices) (n : ℕ) → IsStatusOf (make s l notices) n → (n ≡ 7 → ⊥) → IsStatusOf (make_with_tricks s l notices) n
+tricks_status s l notices n h other = record {
+  accepted = h.accepted;
+  unplanned = h.unplanned;
+  meaningless = h.meaningless;
+  threads = h.threads;
+  input = λ e. absurd (other e);
+}
+
+refusal_status : (f : Failure) → is_refusal f ≡ true → status_of f ≡ 7 → ⊥
+refusal_status (CommandLine text) before h = omega (arith, h)
+refusal_status (Plan error) before h = omega (arith, h)
+refusal_status (Label name) before h = omega (arith, h)
+refusal_status (Hand seat) before h = omega (arith, h)
+refusal_status (Condition error) before h = omega (arith, h)
+refusal_status (Question name error) before h = omega (arith, h)
+refusal_status Cells before h = omega (arith, h)
+refusal_status (Interrupted cause.Memory) before h = omega (arith, h)
+refusal_status (Interrupted cause.Output) before h = omega (arith, h)
+refusal_status (Interrupted cause.Spawn) before h = omega (arith, h)
+refusal_status (Interrupted (cause.Stopped worker)) before h = omega (arith, h)
+refusal_status (Interrupted (cause.Unclosed worker)) before h = omega (arith, h)
+refusal_status (Line line) before h = cc
+refusal_status Input before h = cc
+refusal_status EndOfInput before h = cc
+
+-- what refuses a `make` refuses it with tricks
+pub tricks_refused : (s : Search) (l : Look) (notices : Notices) (f : Failure) → IsRefused (make s l notices) f → IsRefused (make_with_tricks s l notices) f
+tricks_refused s l notices f h = record {
+  due = tricks_due s l f h.nothing_done h.due;
+  status = tricks_status s l notices (status_of f) h.status (refusal_status f h.nothing_done);
+  nothing_done = h.nothing_done;
+}

@@ -1,0 +1,4 @@
+pub mod Statuses
+pub mod FirstDue
+pub mod Refusals
+pub mod Asking

@@ -1,0 +1,47 @@
+-- How the refusal of a condition ends the program.
+use Rattle.std.proofs.Common.{◌≡◌, ◌≤◌, ◌⊎◌, ℕ, List, length, Option, Some, refl, ap, sym, subst, inl, inr, option_map, arith}
+use Rattle.std.specs.Borrow.{Bor}
+use Rattle.cond_lang.specs.Form.{Form}
+use Rattle.cond_lang.specs.Text.{SpellsTree}
+use Rattle.conditions.specs.declared.error.CondError.{CondError}
+use Rattle.conditions.specs.declared.error.CondError.TheVariants.{TooLong, Byte, Word, Number, Syntax, Memory}
+use Rattle.jobs.specs.Failures.{failure_of, status_of}
+use Rattle.jobs.specs.Makings.{Means}
+use Rattle.jobs.specs.Statuses.{IsStatusWithInput}
+use Rattle.jobs.specs.declared.failure.Failure.{Failure}
+use Rattle.plans.specs.declared.cause.Cause.TheVariants as cause
+use Rattle.jobs.specs.declared.failure.Failure.TheVariants.{CommandLine, Plan, Label, Hand, Condition, Question, Cells, Interrupted, Line, Input, EndOfInput}
+
+pub refused_status : (e : CondError) → (status_of (failure_of e) ≡ 5) ⊎ (status_of (failure_of e) ≡ 3)
+refused_status TooLong = inr refl
+refused_status (Byte at) = inr refl
+refused_status (Word at) = inr refl
+refused_status (Number at) = inr refl
+refused_status (Syntax at) = inr refl
+refused_status Memory = inl refl
+
+-- a text that means something is refused only where memory ran out
+pub meant_status : (o : Option (Bor (List ℕ))) (text : Bor (List ℕ)) (bytes : List ℕ) (e : CondError) → o ≡ Some text → bytes ≡ text.now
+    → ((t : Form) → length bytes ≤ 1024 → SpellsTree bytes t → e ≡ Memory) → (f : Form) → Means (option_map (λ s. s.now) o) f → status_of (failure_of e) ≡ 5
+meant_status o text bytes e given same memory f means =
+    let here : Means (Some text.now) f = subst (λ (x : Option (Bor (List ℕ))). Means (option_map (λ s. s.now) x) f) given means in
+    let at : Means (Some bytes) f = subst (λ (b : List ℕ). Means (Some b) f) (sym same) here in
+    ap (λ x. status_of (failure_of x)) (memory f at.0 at.1)
+
+-- a failure's status is one of the program's
+pub status_of-status : (f : Failure) → IsStatusWithInput (status_of f)
+status_of-status (CommandLine text) = (1, omega arith, refl)
+status_of-status (Plan error) = (1, omega arith, refl)
+status_of-status (Label label) = (1, omega arith, refl)
+status_of-status (Hand seat) = (1, omega arith, refl)
+status_of-status (Condition error) = (2, omega arith, refl)
+status_of-status (Question name error) = (2, omega arith, refl)
+status_of-status Cells = (2, omega arith, refl)
+status_of-status (Interrupted cause.Output) = (3, omega arith, refl)
+status_of-status (Interrupted cause.Memory) = (4, omega arith, refl)
+status_of-status (Interrupted cause.Spawn) = (5, omega arith, refl)
+status_of-status (Interrupted (cause.Stopped worker)) = (5, omega arith, refl)
+status_of-status (Interrupted (cause.Unclosed worker)) = (5, omega arith, refl)
+status_of-status (Line line) = (6, omega arith, refl)
+status_of-status Input = (6, omega arith, refl)
+status_of-status EndOfInput = (6, omega arith, refl)

@@ -1,0 +1,34 @@
+-- What the questions of a `count` ask, and the table that tells of it.
+use Rattle.std.specs.Prelude.{◌≡◌, ◌≤◌, ◌^◌, ℕ, List, length, map}
+use Rattle.cond_lang.specs.Asking.{SpellsQuestion}
+use Rattle.cond_lang.specs.Form.{Form}
+use Rattle.plans.specs.Plans.{Planned, candidate_of}
+use Rattle.plans.specs.Text.{accepted, end_of}
+use Rattle.request_types.specs.Requests.{Questions, no_question, one_question, two_questions}
+use Rattle.statistics.specs.Counting.{Asked, Subject, by_one, by_two, cells_of, count_text}
+use Rattle.statistics.specs.Counting.{deals_alone, title_of}
+use Rattle.boards.specs.declared.style.Style.{Style}
+
+-- the text asks this question, and is its title if it fits
+pub record IsQuestion (text : List ℕ) (asked : Asked) : Type 0 where
+  pub short : length text ≤ 1024
+  pub spells : SpellsQuestion text asked.question
+  pub title : asked.title ≡ title_of text
+
+-- the texts ask this of the deals
+abbrev pub Asks : Questions → Subject → Type 0
+Asks no_question subject = subject ≡ deals_alone
+Asks (one_question text) subject = (a : Asked) × IsQuestion text a × (subject ≡ by_one a)
+Asks (two_questions rows columns) subject =
+    (a : Asked) × (b : Asked) × IsQuestion rows a × IsQuestion columns b × (subject ≡ by_two a b)
+
+-- and a table of two questions has at most 1,048,576 cells
+pub record IsAsked (questions : Questions) (subject : Subject) : Type 0 where
+  pub asks : Asks questions subject
+  pub small : cells_of subject ≤ 2 ^ 20
+
+-- the table of the accepted deals of a plan, and of how many candidates were tried. Neither the
+-- workers nor the capacity of the lanes are named
+unfoldable pub table_by : Style → Subject → Planned → Form → List ℕ
+table_by style subject plan form =
+    count_text style subject (map (candidate_of plan) (accepted plan form)) (end_of plan form)

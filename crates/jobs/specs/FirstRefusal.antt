@@ -1,0 +1,154 @@
+-- Which failure is told: the first that is due.
+use Rattle.std.specs.Prelude.{◌≡◌, ◌≢◌, ◌≤◌, ◌<◌, ◌^◌, ◌+◌, ◌⊎◌, ℕ, List, [], ◌∷◌, ◌++◌}
+use Rattle.std.specs.Prelude.{Option, Some}
+use Rattle.cond_lang.specs.Asking.{IsDueQuestion}
+use Rattle.cond_lang.specs.Faults.{IsDue}
+use Rattle.cond_lang.specs.Form.{Form}
+use Rattle.conditions.specs.declared.error.CondError.{CondError}
+use Rattle.conditions.specs.declared.error.CondError.TheVariants.{Memory as no_memory}
+use Rattle.plans.specs.declared.cause.Cause.TheVariants.{Memory, Output}
+use Rattle.predeal.specs.PredealtHands.{first_refused}
+use Rattle.plans.specs.declared.plan.PlanError.TheVariants.{Range, Workers, Capacity, Boards}
+use Rattle.plans.specs.declared.plan.PlanError.TheVariants.{FirstBoard}
+use Rattle.jobs.specs.Counting.{Asks, IsAsked, IsQuestion}
+use Rattle.jobs.specs.Makings.{CanDate, CanLabel, HasLabels, HasNumbers}
+use Rattle.request_types.specs.Defaults.{candidates_of, first_board_of}
+use Rattle.jobs.specs.Makings.{IsPlanned, Means}
+use Rattle.request_types.specs.Defaults.{lane_of, workers_in}
+use Rattle.request_types.specs.Requests.{Look, Questions, Search, Wish, conditions, count, draw}
+use Rattle.request_types.specs.Requests.{make, make_with_tricks, no_question, no_search, numbers_look, one_question}
+use Rattle.request_types.specs.Requests.{pick, stream, two_questions}
+use Rattle.jobs.specs.declared.failure.Failure.{Failure}
+use Rattle.jobs.specs.declared.failure.Failure.TheVariants.{Plan, Label, Hand}
+use Rattle.jobs.specs.declared.failure.Failure.TheVariants.{Cells, Condition, Question}
+use Rattle.jobs.specs.declared.failure.Failure.TheVariants.{Interrupted, Line, Input, EndOfInput}
+use Rattle.request_types.specs.declared.names.LabelName.TheVariants.{Event, Site, Date}
+use Rattle.request_types.specs.declared.names.QuestionName.TheVariants.{Of, By}
+use Rattle.statistics.specs.Counting.{Asked, Subject, cells_of}
+
+-- what a plan has to meet, by the refusal that says that it doesn't
+abbrev pub Meets : Search → Look → Failure → Type 0
+Meets s l (Plan Range) = s.first + candidates_of s ≤ 2 ^ 40
+Meets s l (Plan Workers) = (0 < workers_in s.workers) × (workers_in s.workers ≤ 16)
+Meets s l (Plan Capacity) = (0 < lane_of s) × (lane_of s ≤ 4096)
+Meets s l (Plan Boards) = s.boards ≡ Some 0 → ⊥
+Meets s l (Plan FirstBoard) = (0 < first_board_of l) × (first_board_of l ≤ 2 ^ 40)
+Meets s l (Label Event) = CanLabel l.event
+Meets s l (Label Site) = CanLabel l.site
+Meets s l (Label Date) = CanDate l.date
+Meets s l _ = Unit {0}
+
+-- the order of these refusals
+abbrev pub of_numbers : List Failure
+of_numbers =
+    Plan Range ∷ Plan Workers ∷ Plan Capacity ∷ Plan Boards ∷ Plan FirstBoard ∷ []
+
+abbrev pub of_labels : List Failure
+of_labels = Label Event ∷ Label Site ∷ Label Date ∷ []
+
+-- the first of these refusals that is due
+abbrev pub IsFirstOf : List Failure → Search → Look → Failure → Type 0
+IsFirstOf [] s l failure = ⊥
+IsFirstOf (refusal ∷ rest) s l failure =
+    ((failure ≡ refusal) × (Meets s l refusal → ⊥))
+    ⊎ (Meets s l refusal × IsFirstOf rest s l failure)
+
+-- the condition is refused so, and not since memory ran out
+pub record IsConditionDue (given : Option (List ℕ)) (error : CondError) : Type 0 where
+  pub text : List ℕ
+  pub is_given : given ≡ Some text
+  pub due : IsDue text error
+  pub refused : error ≢ no_memory
+
+-- the hand that is refused is the first of them
+abbrev pub IsFirstHand : Search → Failure → Type 0
+IsFirstHand s (Hand seat) = first_refused s.hands ≡ Some seat
+IsFirstHand s _ = ⊥
+
+-- why there is no plan: a refusal of its numbers or its labels, the first; else that of a hand
+abbrev pub IsPlanDue : Search → Look → Failure → Type 0
+IsPlanDue s l (Plan error) = IsFirstOf (of_numbers ++ of_labels) s l (Plan error)
+IsPlanDue s l (Label label) = IsFirstOf (of_numbers ++ of_labels) s l (Label label)
+IsPlanDue s l (Hand seat) = HasNumbers s l × HasLabels l × IsFirstHand s (Hand seat)
+IsPlanDue s l _ = ⊥
+
+-- why a `make` or a `find` fails: it has no plan; else its condition is refused, or memory ran
+-- out; else how its run was interrupted
+abbrev pub IsMakeDue : Search → Look → Failure → Type 0
+IsMakeDue s l (Condition error) = IsPlanned s l × IsConditionDue s.where_text error
+IsMakeDue s l (Interrupted Memory) = IsPlanned s l
+IsMakeDue s l (Interrupted cause) = IsPlanned s l × ((form : Form) × Means s.where_text form)
+IsMakeDue s l failure = IsPlanDue s l failure
+
+-- a question's text is refused so, and not since memory ran out
+pub record IsQuestionDue (text : List ℕ) (error : CondError) : Type 0 where
+  pub due : IsDueQuestion text error
+  pub refused : error ≢ no_memory
+
+-- the text of `of` is refused so; or it is a question, and that of `by` is refused
+abbrev pub IsOfDue : Questions → CondError → Type 0
+IsOfDue no_question error = ⊥
+IsOfDue (one_question text) error = IsQuestionDue text error
+IsOfDue (two_questions rows columns) error = IsQuestionDue rows error
+
+abbrev pub IsByDue : Questions → CondError → Type 0
+IsByDue (two_questions rows columns) error =
+    ((asked : Asked) × IsQuestion rows asked) × IsQuestionDue columns error
+IsByDue questions error = ⊥
+
+-- why questions are refused: the text of one, or else the size of their table
+abbrev pub AreRefused : Questions → Failure → Type 0
+AreRefused questions (Question Of error) = IsOfDue questions error
+AreRefused questions (Question By error) = IsByDue questions error
+AreRefused questions Cells =
+    (subject : Subject) × Asks questions subject × (2 ^ 20 < cells_of subject)
+AreRefused questions failure = ⊥
+
+-- there is a condition
+abbrev pub HasCondition : Search → Type 0
+HasCondition s = (form : Form) × Means s.where_text form
+
+-- why a `count` fails: it has no plan, or its condition is refused, as a `find`; else its questions
+-- are refused, or memory ran out; else how its run was interrupted
+abbrev pub IsCountDue : Search → Questions → Failure → Type 0
+IsCountDue s questions (Question name error) =
+    IsPlanned s numbers_look × HasCondition s × AreRefused questions (Question name error)
+IsCountDue s questions Cells =
+    IsPlanned s numbers_look × HasCondition s × AreRefused questions Cells
+IsCountDue s questions (Interrupted Memory) = IsPlanned s numbers_look
+IsCountDue s questions (Interrupted cause) =
+    IsPlanned s numbers_look × HasCondition s × ((subject : Subject) × IsAsked questions subject)
+IsCountDue s questions failure = IsMakeDue s numbers_look failure
+
+-- why a `pick` fails: it has no plan; else memory ran out, the output, a line of the input, or the
+-- input
+abbrev pub IsPickDue : Search → Look → Failure → Type 0
+IsPickDue s l (Interrupted Memory) = IsPlanned s l
+IsPickDue s l (Interrupted Output) = IsPlanned s l
+IsPickDue s l (Line line) = IsPlanned s l
+IsPickDue s l Input = IsPlanned s l
+IsPickDue s l failure = IsPlanDue s l failure
+
+-- why a `make` with tricks fails: as without; else a line of the input is refused, or the input
+-- failed
+abbrev pub IsTricksDue : Search → Look → Failure → Type 0
+IsTricksDue s l (Line line) = IsPlanned s l × ((form : Form) × Means s.where_text form)
+IsTricksDue s l Input = IsPlanned s l × ((form : Form) × Means s.where_text form)
+IsTricksDue s l failure = IsMakeDue s l failure
+
+-- why no seed is drawn
+abbrev pub IsDrawDue : Failure → Type 0
+IsDrawDue (Interrupted Output) = Unit {0}
+IsDrawDue Input = Unit {0}
+IsDrawDue EndOfInput = Unit {0}
+IsDrawDue _ = ⊥
+
+-- why a wish fails
+abbrev pub IsDueFor : Wish → Failure → Type 0
+IsDueFor (stream seed n) failure = failure ≡ Interrupted Output
+IsDueFor conditions failure = failure ≡ Interrupted Output
+IsDueFor (make s l notices) failure = IsMakeDue s l failure
+IsDueFor (make_with_tricks s l notices) failure = IsTricksDue s l failure
+IsDueFor draw failure = IsDrawDue failure
+IsDueFor (count s questions style notices) failure = IsCountDue s questions failure
+IsDueFor (pick seed hands l hints) failure = IsPickDue (no_search seed hands) l failure

@@ -1,0 +1,70 @@
+-- What has to be accepted of a wish, and what a status says of it.
+use Rattle.std.specs.Prelude.{◌≡◌, ◌⊎◌, ℕ, [], ◌∷◌, Contains}
+use Rattle.cond_lang.specs.Form.{Form}
+use Rattle.jobs.specs.Counting.{IsAsked}
+use Rattle.jobs.specs.Makings.{IsPlanned, Means}
+use Rattle.request_types.specs.Requests.{Wish, conditions, count, draw, make, make_with_tricks}
+use Rattle.request_types.specs.Requests.{no_search, numbers_look, pick, stream}
+use Rattle.statistics.specs.Counting.{Subject}
+
+-- the words of a wish have to be accepted, so far as they are neither a condition nor a question
+abbrev pub HasPlan : Wish → Type 0
+HasPlan (stream seed n) = Unit {0}
+HasPlan conditions = Unit {0}
+HasPlan (make s l notices) = IsPlanned s l
+HasPlan (make_with_tricks s l notices) = IsPlanned s l
+HasPlan draw = Unit {0}
+HasPlan (count s questions style notices) = IsPlanned s numbers_look
+HasPlan (pick seed hands l hints) = IsPlanned (no_search seed hands) l
+
+-- the condition of a wish and its questions have to be accepted
+abbrev pub HasMeaning : Wish → Type 0
+HasMeaning (stream seed n) = Unit {0}
+HasMeaning conditions = Unit {0}
+HasMeaning (make s l notices) = (form : Form) × Means s.where_text form
+HasMeaning (make_with_tricks s l notices) = (form : Form) × Means s.where_text form
+HasMeaning draw = Unit {0}
+HasMeaning (count s questions style notices) =
+    ((form : Form) × Means s.where_text form) × ((subject : Subject) × IsAsked questions subject)
+HasMeaning (pick seed hands l hints) = Unit {0}
+
+-- a wish that is served by threads
+abbrev pub HasRun : Wish → Type 0
+HasRun (stream seed n) = ⊥
+HasRun conditions = ⊥
+HasRun (make s l notices) = Unit {0}
+HasRun (make_with_tricks s l notices) = Unit {0}
+HasRun draw = ⊥
+HasRun (count s questions style notices) = Unit {0}
+HasRun (pick seed hands l hints) = ⊥
+
+-- a wish that reads the input
+abbrev pub HasInput : Wish → Type 0
+HasInput (stream seed n) = ⊥
+HasInput conditions = ⊥
+HasInput (make s l notices) = ⊥
+HasInput (make_with_tricks s l notices) = Unit {0}
+HasInput draw = Unit {0}
+HasInput (count s questions style notices) = ⊥
+HasInput (pick seed hands l hints) = Unit {0}
+
+-- a status of the program, and of that with an input
+abbrev pub IsStatus : ℕ → Type 0
+IsStatus n = Contains (0 ∷ 2 ∷ 3 ∷ 4 ∷ 5 ∷ 6 ∷ []) n
+
+abbrev pub IsStatusWithInput : ℕ → Type 0
+IsStatusWithInput n = Contains (0 ∷ 2 ∷ 3 ∷ 4 ∷ 5 ∷ 6 ∷ 7 ∷ []) n
+
+-- what the program's status says of a wish; that memory ran out, 5, can end each
+pub record IsStatusOf (w : Wish) (status : ℕ) : Type 0 where
+  -- done, or the output, a thread, a worker or the input failed: all of the wish was accepted
+  pub accepted : (status ≡ 0) ⊎ (status ≡ 4) ⊎ (status ≡ 6) ⊎ (status ≡ 7)
+      → HasPlan w × HasMeaning w
+  -- the plan, a label or a hand is refused
+  pub unplanned : status ≡ 2 → HasPlan w → ⊥
+  -- the condition or a question is refused, and the plan is sound
+  pub meaningless : status ≡ 3 → HasPlan w × (HasMeaning w → ⊥)
+  -- only a run over lanes has threads and workers
+  pub threads : status ≡ 6 → HasRun w
+  -- only what reads the input can have a line refused
+  pub input : status ≡ 7 → HasInput w

@@ -1,0 +1,13 @@
+-- Why a condition is not read.
+use Rattle.std.specs.Prelude.{◌≡◌, ◌⊎◌, ℕ, List, Option}
+use Rattle.conditions.specs.declared.error.CondError.{CondError}
+use Rattle.plans.specs.declared.cause.Cause.TheVariants.{Memory}
+use Rattle.jobs.specs.FirstRefusal.{IsConditionDue}
+use Rattle.jobs.specs.declared.failure.Failure.{Failure}
+use Rattle.jobs.specs.declared.failure.Failure.TheVariants.{Condition, Interrupted}
+
+-- memory ran out, or the condition is refused so
+abbrev pub IsConditionFailure : Option (List ℕ) → Failure → Type 0
+IsConditionFailure given failure =
+    (failure ≡ Interrupted Memory)
+    ⊎ ((error : CondError) × (failure ≡ Condition error) × IsConditionDue given error)

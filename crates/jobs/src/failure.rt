@@ -1,0 +1,246 @@
+//! Why a request is not served, or not all of it: the failures with their statuses.
+
+ghost use Rattle.std.specs.Prelude.{◌≡◌, ◌-◌, ◌^◌, ◌<◌, OnOk};
+ghost use Rattle.sinks.specs.Appended.{AppendsAll};
+ghost use Rattle.sinks.specs.Sinks.{CountsFault};
+ghost use Rattle.plans.specs.declared.cause.Cause.TheVariants.{Memory, Output};
+ghost use Rattle.jobs.specs.Failures.{failure_of, question_failure, status_of};
+ghost use Rattle.jobs.specs.Lines.{cause_line, condition_line, fault_text, hand_line};
+ghost use Rattle.jobs.specs.Lines.{input_line, label_line, line_of, plan_line};
+ghost use Rattle.jobs.specs.Lines.{question_line, text_line};
+ghost use Rattle.jobs.specs.declared.failure.Failure.TheVariants.{Interrupted};
+ghost use Rattle.sinks.specs.Messages.{text_of};
+
+use cards::Seat;
+use cond_lang::CondError;
+use picking::{LineFault, RefusedLine};
+use plans::{Cause, PlanError};
+use request_types::{LabelName, QuestionName};
+use sinks::{Message, Sink, SinkFault};
+use std::alloc::AllocError;
+
+/// Why a request is not served, or not all of it.
+#[derive(Debug, Drop)]
+pub enum Failure {
+    /// The words ask for nothing; with the text that says so.
+    CommandLine(String),
+    Plan(PlanError),
+    /// The label can't be written between the quotes of a tag.
+    Label(LabelName),
+    /// The text of this seat's hand is malformed, or has a card of an earlier one.
+    Hand(Seat),
+    /// The condition is refused, and not since memory ran out.
+    Condition(CondError),
+    /// The text of a question is refused, and not since memory ran out.
+    Question(QuestionName, CondError),
+    /// A table of the answers to two questions could have more than 1,048,576 cells.
+    Cells,
+    /// The output failed, memory ran out, a thread wasn't started, or a worker ended too soon.
+    Interrupted(Cause),
+    /// A line of the input is refused.
+    Line(RefusedLine),
+    /// The input couldn't be read.
+    Input,
+    /// The input ended too soon.
+    EndOfInput,
+}
+
+impl From<SinkFault> for Failure {
+    ghost from_gives = { λ _ e. e ≡ Interrupted Output };
+
+    fn from(_fault: SinkFault) -> Failure {
+        Failure::Interrupted(Cause::Output)
+    }
+}
+
+impl From<AllocError> for Failure {
+    ghost from_gives = { λ _ e. e ≡ Interrupted Memory };
+
+    fn from(_error: AllocError) -> Failure {
+        Failure::Interrupted(Cause::Memory)
+    }
+}
+
+impl From<CondError> for Failure {
+    ghost from_gives = { λ error e. e ≡ failure_of error };
+
+    fn from(error: CondError) -> Failure {
+        match error {
+            CondError::Memory => Failure::Interrupted(Cause::Memory),
+            refused => Failure::Condition(refused),
+        }
+    }
+}
+
+/// The line that tells that memory ran out.
+const OUT_OF_MEMORY: &str = "out of memory\n";
+
+fn of_plan(error: PlanError) -> &'static str
+    ensures { result.now ≡ plan_line error }
+{
+    match error {
+        PlanError::Range => "plan refused: range\n",
+        PlanError::Workers => "plan refused: workers\n",
+        PlanError::Capacity => "plan refused: lane capacity\n",
+        PlanError::Boards => "plan refused: boards\n",
+        PlanError::FirstBoard => "plan refused: first board\n",
+    }
+}
+
+fn of_label(label: LabelName) -> &'static str
+    ensures { result.now ≡ label_line label }
+{
+    match label {
+        LabelName::Event => "label refused: event\n",
+        LabelName::Site => "label refused: site\n",
+        LabelName::Date => "label refused: date\n",
+    }
+}
+
+fn of_hand(seat: Seat) -> &'static str
+    ensures { result.now ≡ hand_line seat }
+{
+    match seat {
+        Seat::North => "hand refused: north\n",
+        Seat::East => "hand refused: east\n",
+        Seat::South => "hand refused: south\n",
+        Seat::West => "hand refused: west\n",
+    }
+}
+
+/// The line of a text of the language that is refused: how it begins if the fault has a place, and
+/// what it is if the text is too long.
+fn of_text(at_byte: &'static str, too_long: &'static str, error: CondError) -> Message<'static>
+    ensures { text_of result ≡ text_line at_byte.entry.now too_long.entry.now error }
+{
+    match error {
+        CondError::TooLong => Message::plain(too_long),
+        CondError::Byte { at } => Message::with(at_byte, at as u64, ": unexpected byte\n"),
+        CondError::Word { at } => Message::with(at_byte, at as u64, ": unknown word\n"),
+        CondError::Number { at } => Message::with(at_byte, at as u64, ": number too long\n"),
+        CondError::Syntax { at } => Message::with(at_byte, at as u64, ": syntax\n"),
+        CondError::Memory => Message::plain(OUT_OF_MEMORY),
+    }
+}
+
+fn of_condition(error: CondError) -> Message<'static>
+    ensures { text_of result ≡ condition_line error }
+{
+    of_text(
+        "condition refused at byte ",
+        "condition refused: longer than 1024 bytes\n",
+        error,
+    )
+}
+
+fn of_question(name: QuestionName, error: CondError) -> Message<'static>
+    ensures { text_of result ≡ question_line name error }
+{
+    match name {
+        QuestionName::Of => of_text(
+            "of refused at byte ",
+            "of refused: longer than 1024 bytes\n",
+            error,
+        ),
+        QuestionName::By => of_text(
+            "by refused at byte ",
+            "by refused: longer than 1024 bytes\n",
+            error,
+        ),
+    }
+}
+
+fn of_cause(cause: Cause) -> Message<'static>
+    ensures { text_of result ≡ cause_line cause }
+{
+    const WORKER: &str = "worker ";
+    match cause {
+        Cause::Memory => Message::plain(OUT_OF_MEMORY),
+        Cause::Spawn => Message::plain("thread not started\n"),
+        Cause::Output => Message::plain("output failed\n"),
+        Cause::Stopped { worker } => Message::with(WORKER, u64::from(worker), " stopped\n"),
+        Cause::Unclosed { worker } => Message::with(WORKER, u64::from(worker), " not closed\n"),
+    }
+}
+
+fn of_fault(fault: LineFault) -> &'static str
+    ensures { result.now ≡ fault_text fault }
+{
+    match fault {
+        LineFault::NotANumber => ": not a number\n",
+        LineFault::NotBelow => ": not below 1099511627776\n",
+        LineFault::TooMany => ": too many numbers\n",
+        LineFault::NotTricks => ": not tricks\n",
+        LineFault::Missing => ": missing\n",
+    }
+}
+
+fn of_line(refused: RefusedLine) -> Message<'static>
+    ensures { text_of result ≡ input_line refused }
+{
+    Message::with(
+        "input refused at line ",
+        refused.line,
+        of_fault(refused.fault),
+    )
+}
+
+impl Failure {
+    /// The failure of a question whose text is refused so.
+    pub(crate) fn of_question(name: QuestionName, error: CondError) -> Failure
+        ensures { result ≡ question_failure name error }
+    {
+        match error {
+            CondError::Memory => Failure::Interrupted(Cause::Memory),
+            refused => Failure::Question(name, refused),
+        }
+    }
+
+    /// The exit status.
+    pub fn status(&self) -> u8
+        ensures { result ≡ status_of self.now }
+    {
+        match self {
+            Failure::CommandLine(_) | Failure::Plan(_) | Failure::Label(_) => 2,
+            Failure::Hand(_) => 2,
+            Failure::Condition(_) | Failure::Question(..) | Failure::Cells => 3,
+            Failure::Interrupted(cause) => match cause {
+                Cause::Output => 4,
+                Cause::Memory => 5,
+                Cause::Spawn | Cause::Stopped { .. } | Cause::Unclosed { .. } => 6,
+            },
+            Failure::Line(_) | Failure::Input | Failure::EndOfInput => 7,
+        }
+    }
+
+    fn message(&self) -> Message<'_>
+        ensures { text_of result ≡ line_of self.now }
+    {
+        match self {
+            Failure::CommandLine(text) => Message::plain(text.as_str()),
+            Failure::Plan(error) => Message::plain(of_plan(*error)),
+            Failure::Label(label) => Message::plain(of_label(*label)),
+            Failure::Hand(seat) => Message::plain(of_hand(*seat)),
+            Failure::Condition(error) => of_condition(*error),
+            Failure::Question(name, error) => of_question(*name, *error),
+            Failure::Cells => Message::plain("by refused: more than 1048576 cells\n"),
+            Failure::Interrupted(cause) => of_cause(*cause),
+            Failure::Line(refused) => of_line(*refused),
+            Failure::Input => Message::plain("input failed\n"),
+            Failure::EndOfInput => Message::plain("input failed\n"),
+        }
+    }
+
+    /// Says it to the user: one line, or the text of a refused command line.
+    ///
+    /// # Errors
+    /// `SinkFault` if the sink failed.
+    pub fn say<E: Sink>(&self, err: &mut E) -> Result<(), SinkFault>
+        requires { E.faults err.old < 2 ^ 64 - 1 }
+        ensures text { OnOk result
+            (AppendsAll (E.bytes err.old) (E.bytes err.new) (line_of self.now)) }
+        ensures faults { CountsFault (E.faults err.old) (E.faults err.new) result }
+    {
+        self.message().print(err)
+    }
+}

@@ -1,0 +1,143 @@
+//! Jobs: requests that were accepted, ready to be done.
+
+ghost use Rattle.std.specs.Prelude.{IfErr, IfOk};
+ghost use Rattle.jobs.specs.Jobs.{IsReady, IsReadyRun, IsRefused};
+ghost use Rattle.request_types.specs.Requests.{count, look_of, make, make_with_tricks};
+ghost use Rattle.request_types.specs.Requests.{questions_of, search_of, wish_of};
+ghost use Rattle.request_types.specs.declared.request.Notices.{Notices as ANotices};
+
+use crate::boards_job::BoardsJob;
+use crate::count_job::CountJob;
+use crate::failure::Failure;
+use crate::questions::read_subject;
+use crate::search::{planned, read_condition};
+use boards::Style;
+use notations::{Format, Show};
+use plans::Plan;
+use request_types::{Look, Notices, Questions, Request, Search, StreamRequest};
+use std::alloc::Global;
+
+/// What is ready to be done, and was asked for by a request.
+#[derive(Drop)]
+pub enum Job {
+    Boards(BoardsJob),
+    /// Boards with their tricks, of which the input tells.
+    WithTricks(BoardsJob),
+    Count(CountJob),
+    Pick(PickJob),
+    Conditions,
+    Seed,
+    Stream(StreamRequest),
+}
+
+/// The boards of the candidates whose numbers the input gives.
+#[derive(Clone, Copy)]
+pub struct PickJob {
+    pub plan: Plan,
+    pub format: Format,
+    pub show: Show,
+}
+
+/// Returns the job of a request.
+///
+/// # Errors
+///
+/// The first refusal that is due: of the plan, the labels, the hands, the condition, or the
+/// questions; or `Interrupted` if memory ran out.
+pub fn prepare(alloc: Global, request: &Request<'_>) -> Result<Job, Failure>
+    ensures ready { IfOk result (IsReady (wish_of request.now)) }
+    ensures refused { IfErr result (IsRefused (wish_of request.now)) }
+{
+    match request {
+        Request::Make {
+            search,
+            look,
+            tricks,
+            notices,
+        } => {
+            let job = boards_job(alloc, search, look, notices)?;
+            if *tricks {
+                Ok(Job::WithTricks(job))
+            } else {
+                Ok(Job::Boards(job))
+            }
+        }
+        Request::Find {
+            search,
+            format,
+            notices,
+        } => {
+            let job = boards_job(alloc, search, &Look::plain(*format), notices)?;
+            Ok(Job::Boards(job))
+        }
+        Request::Count {
+            search,
+            questions,
+            style,
+            ..
+        } => count_job(alloc, search, questions, *style),
+        Request::Pick {
+            seed,
+            hands,
+            look,
+            ..
+        } => {
+            let plan = planned(&Search::none(*seed, *hands), look)?;
+            let Look { format, show, .. } = *look;
+            Ok(Job::Pick(PickJob { plan, format, show }))
+        }
+        Request::Conditions => Ok(Job::Conditions),
+        Request::Seed => Ok(Job::Seed),
+        Request::Stream(request) => Ok(Job::Stream(*request)),
+    }
+}
+
+/// Returns the job of a `make` or a `find`.
+fn boards_job(
+    alloc: Global,
+    search: &Search<'_>,
+    look: &Look<'_>,
+    notices: &Notices,
+) -> Result<BoardsJob, Failure>
+    ensures ready { IfOk result
+        (IsReadyRun (search_of search.now) (look_of look.now) notices.now) }
+    ensures refused { IfErr result
+        (IsRefused (make (search_of search.now) (look_of look.now) notices.now)) }
+    ensures refused_with_tricks { IfErr result
+        (IsRefused (make_with_tricks (search_of search.now) (look_of look.now) notices.now)) }
+{
+    let plan = planned(search, look)?;
+    let condition = read_condition(alloc, search)?;
+    Ok(BoardsJob {
+        plan,
+        condition,
+        format: look.format,
+        show: look.show,
+        workers: search.workers,
+        report: notices.report,
+    })
+}
+
+/// Returns the job of a `count`.
+fn count_job(
+    alloc: Global,
+    search: &Search<'_>,
+    questions: &Questions<'_>,
+    style: Style,
+) -> Result<Job, Failure>
+    ensures ready { (notices : ANotices) → IfOk result
+        (IsReady (count (search_of search.now) (questions_of questions.now) style notices)) }
+    ensures refused { (notices : ANotices) → IfErr result
+        (IsRefused (count (search_of search.now) (questions_of questions.now) style notices)) }
+{
+    let plan = planned(search, &Look::plain(Format::Numbers))?;
+    let condition = read_condition(alloc, search)?;
+    let subject = read_subject(alloc, questions)?;
+    Ok(Job::Count(CountJob {
+        plan,
+        condition,
+        workers: search.workers,
+        style,
+        subject,
+    }))
+}

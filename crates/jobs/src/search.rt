@@ -1,0 +1,166 @@
+//! What the texts of a search and a look mean, and the plan of both.
+
+ghost use Rattle.std.specs.Prelude.{◌≡◌, ◌⊎◌, IfErr, IfOk, option_map};
+ghost use Rattle.cond_lang.specs.Form.{Form};
+ghost use Rattle.jobs.specs.Failures.{status_of};
+ghost use Rattle.jobs.specs.Makings.{Means, CanDate, CanLabel, HasLabels, HasHands, HasNumbers};
+ghost use Rattle.jobs.specs.Makings.{IsPlanned, heading_of, plan_of, setting_of};
+ghost use Rattle.predeal.specs.PredealtHands.{fixed_of};
+ghost use Rattle.request_types.specs.Requests.{Search as ASearch, look_of, search_of};
+ghost use Rattle.jobs.specs.internal.Conditions.{IsConditionFailure};
+ghost use Rattle.jobs.specs.FirstRefusal.{IsFirstOf, of_labels, IsFirstHand, IsPlanDue};
+ghost use Rattle.jobs.specs.FirstRefusal.{of_numbers};
+ghost use Rattle.boards.specs.Settings.{by_law};
+ghost use Rattle.cards.specs.Fixed.{none_fixed};
+ghost use Rattle.boards.specs.Headings.{no_heading};
+
+use crate::failure::Failure;
+use boards::{Date, Heading, Label, Setting};
+use cards::Fixed;
+use cond_lang::{Cond, parse};
+use plans::{Plan, PlanError};
+use request_types::{LabelName, Look, Search};
+use std::alloc::Global;
+
+/// Returns what the condition's text means; without a text every deal is accepted.
+pub(crate) fn read_condition(alloc: Global, search: &Search<'_>) -> Result<Cond, Failure>
+    ensures meant { IfOk result (λ c. Means (search_of search.now).where_text c) }
+    ensures refused { IfErr result (λ e. (status_of e ≡ 5) ⊎ (status_of e ≡ 3)) }
+    ensures memory { IfErr result (λ e. (f : Form)
+        → Means (search_of search.now).where_text f → status_of e ≡ 5) }
+    ensures due { IfErr result (IsConditionFailure (search_of search.now).where_text) }
+{
+    let Some(text) = search.where_text else {
+        return Ok(Cond::any(alloc));
+    };
+    Ok(parse(alloc, text.as_bytes())?)
+}
+
+/// Returns the labels. The first one that can't be written is refused.
+fn read_heading(look: &Look<'_>) -> Result<Heading, Failure>
+    ensures made { IfOk result (λ h. h ≡ heading_of (look_of look.now)) }
+    ensures sound { IfOk result (λ _. HasLabels (look_of look.now)) }
+    ensures refused { IfErr result (λ e.
+        (status_of e ≡ 2) × (HasLabels (look_of look.now) → ⊥)) }
+    ensures due { IfErr result (λ e. (s : ASearch)
+        → IsFirstOf of_labels s (look_of look.now) e) }
+{
+    Ok(Heading {
+        event: label_of(look.event, LabelName::Event)?,
+        site: label_of(look.site, LabelName::Site)?,
+        date: date_of(look.date)?,
+    })
+}
+
+/// Returns what the options set in place of Law 2, and whether deals are turned.
+fn read_setting(look: &Look<'_>) -> Setting
+    ensures { result ≡ setting_of (look_of look.now) }
+{
+    Setting {
+        dealer: look.dealer,
+        vulnerable: look.vulnerable,
+        rotate: look.rotate,
+    }
+}
+
+/// Returns the label of a text that was given. It is refused if and only if no label has the text.
+fn label_of(text: Option<&str>, name: LabelName) -> Result<Option<Label>, Failure>
+    ensures made { IfOk result (λ l. l ≡ option_map (λ s. s.now) text.entry) }
+    ensures sound { IfOk result (λ _. CanLabel (option_map (λ s. s.now) text.entry)) }
+    ensures refused { IfErr result (λ e. (e ≡ Failure.Label name)
+        × (CanLabel (option_map (λ s. s.now) text.entry) → ⊥)) }
+{
+    match text {
+        None => Ok(None),
+        Some(text) => match Label::new(text.as_bytes()) {
+            Some(label) => Ok(Some(label)),
+            None => Err(Failure::Label(name)),
+        },
+    }
+}
+
+/// Returns the date of a text that was given. It is refused if and only if it isn't a date.
+fn date_of(text: Option<&str>) -> Result<Option<Date>, Failure>
+    ensures made { IfOk result (λ d. d ≡ option_map (λ s. s.now) text.entry) }
+    ensures sound { IfOk result (λ _. CanDate (option_map (λ s. s.now) text.entry)) }
+    ensures refused { IfErr result (λ e. (e ≡ Failure.Label LabelName.Date)
+        × (CanDate (option_map (λ s. s.now) text.entry) → ⊥)) }
+{
+    match text {
+        None => Ok(None),
+        Some(text) => match Date::new(text.as_bytes()) {
+            Some(date) => Ok(Some(date)),
+            None => Err(Failure::Label(LabelName::Date)),
+        },
+    }
+}
+
+/// Returns the plan with the numbers of the options: the candidates, the workers, the lanes and the
+/// boards.
+#[tactic(auto, using(crate::proofs::FirstDue::numbers))]
+fn numbers_of(search: &Search<'_>, look: &Look<'_>) -> Result<Plan, PlanError>
+    ensures made { IfOk result (λ p.
+        p ≡ record (plan_of (search_of search.now) (look_of look.now)) {
+          heading = no_heading;
+          setting = by_law;
+          fixed = none_fixed;
+        }) }
+    ensures sound { IfOk result (λ _. HasNumbers (search_of search.now) (look_of look.now)) }
+    ensures refused { IfErr result (λ _.
+        HasNumbers (search_of search.now) (look_of look.now) → ⊥) }
+    ensures due { IfErr result (λ e.
+        IsFirstOf of_numbers (search_of search.now) (look_of look.now) (Failure.Plan e)) }
+{
+    // The options have their names up to here. The plan calls the candidates its count, the lane
+    // its capacity and the boards its limit.
+    let plan = Plan::new(
+        search.seed,
+        search.first,
+        search.candidates(),
+        search.workers(),
+        search.lane(),
+    )?;
+    let plan = match search.boards {
+        Some(boards) => plan.limited(boards)?,
+        None => plan,
+    };
+    plan.numbered(look.first_board())
+}
+
+/// Returns the cards that are fixed. The first text that isn't a hand, or has a card of an earlier
+/// one, is refused.
+fn fixed_of(search: &Search<'_>) -> Result<Fixed, Failure>
+    ensures made { IfOk result (λ f. f ≡ fixed_of (search_of search.now).hands) }
+    ensures sound { IfOk result (λ _. HasHands (search_of search.now)) }
+    ensures refused { IfErr result (λ e.
+        (status_of e ≡ 2) × (HasHands (search_of search.now) → ⊥)) }
+    ensures due { IfErr result (IsFirstHand (search_of search.now)) }
+{
+    match search.hands.read() {
+        Ok(fixed) => Ok(fixed),
+        Err(seat) => Err(Failure::Hand(seat)),
+    }
+}
+
+/// Returns the plan of a search and a look, with its labels, its fixed cards and its setting.
+///
+/// # Errors
+///
+/// `Plan` with the first number that is refused; else `Label` with the first label that can't be
+/// written; else `Hand` with the first seat whose text is refused.
+#[tactic(auto, using(crate::proofs::FirstDue::plans))]
+pub fn planned(search: &Search<'_>, look: &Look<'_>) -> Result<Plan, Failure>
+    ensures made { IfOk result (λ p. p ≡ plan_of (search_of search.now) (look_of look.now)) }
+    ensures sound { IfOk result (λ _. IsPlanned (search_of search.now) (look_of look.now)) }
+    ensures refused { IfErr result (λ e.
+        (status_of e ≡ 2) × (IsPlanned (search_of search.now) (look_of look.now) → ⊥)) }
+    ensures due { IfErr result (IsPlanDue (search_of search.now) (look_of look.now)) }
+{
+    let plan = match numbers_of(search, look) {
+        Ok(plan) => plan,
+        Err(error) => return Err(Failure::Plan(error)),
+    };
+    let heading = read_heading(look)?;
+    let fixed = fixed_of(search)?;
+    Ok(plan.headed(heading).set(read_setting(look)).around(fixed))
+}
