@@ -9,7 +9,7 @@ use Rattle.predeal.specs.HandFaults.{IsFaultOf}
 use Rattle.predeal.specs.HandRules.{rule_of}
 use Rattle.predeal.specs.PredealtHands.{before, given_at, is_refused_at}
 use Rattle.predeal.specs.declared.fault.HandFault.{HandFault}
-use Rattle.hints.specs.Excerpt.{shown}
+use Rattle.sinks.specs.Shown.{shown}
 use Rattle.plans.specs.declared.plan.PlanError.{PlanError}
 use Rattle.plans.specs.declared.plan.PlanError.TheVariants as plan
 use Rattle.request_types.specs.Defaults.{candidates_of, first_board_of, lane_of, workers_in}

@@ -10,11 +10,11 @@ ghost use Rattle.request_types.specs.Requests.{look_of, search_of};
 
 use boards::MAX_LABEL_LEN;
 use cards::{MAX_CANDIDATES, MAX_CAPACITY, MAX_WORKERS, Seat};
-use hints::put_shown;
 use itoa::Buffer;
 use jobs::Failure;
 use plans::PlanError;
 use request_types::{LabelName, Look, Search};
+use sinks::put_shown;
 use std::alloc::{AllocError, Global};
 
 /// The longest text that is shown whole, and how much of a longer one is shown.

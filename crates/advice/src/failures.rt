@@ -1,12 +1,10 @@
 //! What helps a person with a failure, below the line that names it.
 
 use crate::advice::advise;
-use cond_lang::CondError;
-use hints::{explain, explain_question};
 use jobs::Failure;
 use picking::LineFault;
 use plans::Cause;
-use request_types::{QuestionName, Request};
+use request_types::Request;
 use std::alloc::Global;
 use std::io;
 
@@ -24,7 +22,7 @@ pub struct Reasons<'a> {
 
 /// Returns what helps with a failure, to be printed below the line that names it; none if nothing
 /// does, or if memory runs out. The words are those of the command line; without a request they
-/// were refused.
+/// were refused. With the text of a condition or a question `hints` helps.
 pub fn help(
     alloc: Global,
     words: &[String],
@@ -37,12 +35,11 @@ pub fn help(
         Failure::Plan(_) | Failure::Label(_) | Failure::Hand(_) => plan_help(
             alloc, request, failure,
         ),
-        Failure::Condition(error) => condition_help(alloc, request, *error),
-        Failure::Question(name, error) => question_help(alloc, request, *name, *error),
         Failure::Cells => String::from_str(alloc, TOO_LARGE).ok(),
         Failure::Interrupted(Cause::Output) => reason_of_output(alloc, reasons),
         Failure::Input => reason_of_input(alloc, reasons),
         Failure::Line(line) => String::from_str(alloc, line_help(line.fault)).ok(),
+        Failure::Condition(_) | Failure::Question(..) => None,
         Failure::Interrupted(_) | Failure::EndOfInput => None,
     }
 }
@@ -51,27 +48,6 @@ pub fn help(
 fn plan_help(alloc: Global, request: Option<&Request<'_>>, failure: &Failure) -> Option<String> {
     let (search, look) = request?.plans()?;
     advise(alloc, &search, &look, failure).unwrap_or(None)
-}
-
-/// What helps with the text of a condition that is refused.
-fn condition_help(
-    alloc: Global,
-    request: Option<&Request<'_>>,
-    error: CondError,
-) -> Option<String> {
-    let (search, _) = request?.plans()?;
-    explain(alloc, search.where_text?.as_bytes(), error).ok()
-}
-
-/// What helps with the text of a question that is refused.
-fn question_help(
-    alloc: Global,
-    request: Option<&Request<'_>>,
-    name: QuestionName,
-    error: CondError,
-) -> Option<String> {
-    let text = request?.question(name)?;
-    explain_question(alloc, text.as_bytes(), error).ok()
 }
 
 /// The system's reason why the output failed.

@@ -1,25 +1,12 @@
-//! What is noted for a person before a job is done: that no deal meets its condition, and that
-//! boards with later numbers are the first deals again.
+//! What is noted for a person before boards with later numbers are written: that they are the
+//! first deals again.
 
-use jobs::Job;
 use request_types::{Request, Search};
 use std::alloc::Global;
 
-/// Returns what there is to note of the job of a request, as a line; none if memory runs out.
-pub fn note(alloc: Global, words: &[String], request: &Request<'_>, job: &Job) -> Option<String> {
-    let condition = match job {
-        Job::Boards(job) | Job::WithTricks(job) => &job.condition,
-        Job::Count(job) => &job.condition,
-        _ => return None,
-    };
-    match hints::note(alloc, condition) {
-        Ok(None) => dealt_again(alloc, words, request),
-        noted => noted.unwrap_or(None),
-    }
-}
-
-/// The note on boards whose numbers go on, but whose deals don't.
-fn dealt_again(alloc: Global, words: &[String], request: &Request<'_>) -> Option<String> {
+/// Returns the note on boards whose numbers go on, but whose deals don't, as a line; none if they
+/// aren't asked for, or if memory runs out.
+pub fn dealt_again(alloc: Global, words: &[String], request: &Request<'_>) -> Option<String> {
     let Request::Make { search, look, .. } = request else {
         return None;
     };

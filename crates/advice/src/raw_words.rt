@@ -1,7 +1,7 @@
 //! Words that were not read: when hints are said of them, and what helps if one isn't UTF-8.
 
-use hints::put_shown;
 use request_types::When;
+use sinks::put_shown;
 use std::alloc::Global;
 
 /// How much is shown of what is before the byte.

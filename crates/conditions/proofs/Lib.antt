@@ -4,8 +4,3 @@ pub mod HandBounds
 pub mod Measured
 pub mod ValueBounds
 pub mod FewRows
-pub mod CardByCard
-pub mod Estimates
-pub mod Shifts
-pub mod Refuting
-pub mod Completed

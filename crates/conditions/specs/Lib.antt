@@ -4,5 +4,4 @@ pub mod Meaning
 pub mod Memory
 pub mod Bounds
 pub mod Questions
-pub mod Completions
 pub mod internal

@@ -1,9 +1,3 @@
 -- What only bodies and lemmas use: no public clause names any of it.
 pub mod FormCode
 pub mod Asked
-pub mod Shares
-pub mod Estimates
-pub mod Gaps
-pub mod Exclusions
-pub mod ScreenCode
-pub mod ScreenTests

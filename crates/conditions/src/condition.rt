@@ -1,6 +1,6 @@
 //! A condition: made of a tree, cloned, and asked whether it holds of a deal.
 
-ghost use Rattle.std.specs.Prelude.{◌≡◌, IfSome};
+ghost use Rattle.std.specs.Prelude.{◌≡◌};
 ghost use Rattle.conditions.specs.declared.tree.Op.TheVariants.{Equal};
 ghost use Rattle.conditions.specs.Form.{form_of, compare, number};
 ghost use Rattle.conditions.specs.Limits.{IsWithinLimits, HasAtMostAtoms, HasNumbersUpTo};
@@ -9,9 +9,8 @@ ghost use Rattle.conditions.specs.Memory.{IsUnlessMemory};
 
 use crate::error::CondError;
 use crate::meaning;
-use crate::screen::Screen;
 use crate::tree::{Op, Tree, Value};
-use cards::{Deal, Fixed};
+use cards::Deal;
 use std::alloc::Global;
 use std::marker::Model;
 
@@ -55,6 +54,11 @@ impl Cond {
         Cond { alloc, tree }
     }
 
+    /// The allocator that the condition was made with.
+    pub fn allocator(&self) -> Global {
+        self.alloc
+    }
+
     /// The condition of the text `0==0`, which holds of every deal.
     pub fn any(alloc: Global) -> Cond
         ensures { result ≡ compare (number 0) Equal (number 0) }
@@ -81,15 +85,6 @@ impl Cond {
             }),
             Err(_) => Err(CondError::Memory),
         }
-    }
-
-    /// The condition's screen, for candidates around these fixed cards. Returns `None` if an
-    /// allocation failed.
-    pub fn screen(&self, fixed: &Fixed) -> Option<Screen>
-        ensures form { IfSome result (λ screen. screen.form ≡ self.now) }
-        ensures fixed { IfSome result (λ screen. screen.fixed ≡ fixed.now) }
-    {
-        Screen::new(self.alloc, self, fixed)
     }
 
     /// Whether the condition is true of the deal.

@@ -1,14 +1,11 @@
 //! What is proved of the definitions alone: each function's contract is a law, and its body does
 //! nothing.
 
-ghost use Rattle.std.specs.Prelude.{◌≡◌, ◌≤◌, ℕ, List, Option, map};
+ghost use Rattle.std.specs.Prelude.{◌≡◌, ◌≤◌, ℕ, List, map};
 ghost use Rattle.cards.specs.declared.seat.Seat.{Seat as ASeat};
-ghost use Rattle.cards.specs.declared.seat.Seat.TheVariants.{West};
 ghost use Rattle.cards.specs.Deals.{IsPartition};
-ghost use Rattle.cards.specs.Fixed.{IsFixed, candidate_around};
-ghost use Rattle.cards.specs.Hands.{hand_of, is_same, is_rearrangement};
+ghost use Rattle.cards.specs.Hands.{is_same, is_rearrangement};
 ghost use Rattle.conditions.specs.Bounds.{greatest_of, least_of};
-ghost use Rattle.conditions.specs.Completions.{IsCompletion};
 ghost use Rattle.conditions.specs.declared.tree.Item.TheVariants.{Length as ALength};
 ghost use Rattle.conditions.specs.declared.tree.Op.TheVariants.{AtMost};
 ghost use Rattle.conditions.specs.Form.{Amount, all_of, compare, within, number};
@@ -49,12 +46,4 @@ pub fn numbers_allow_themselves()
     ensures in_some_order { (numbers lengths : List ℕ)
         → are_allowed_in_some_order (map (λ n. ALength n) numbers) lengths
         ≡ is_rearrangement lengths numbers }
-{}
-
-/// A candidate around fixed cards completes the hand that West has in it.
-pub fn candidates_complete_their_hands()
-    ensures { (fixed : List (Option ASeat)) (seed k : ℕ)
-        → IsFixed fixed
-        → IsCompletion fixed (hand_of (candidate_around fixed seed k) West)
-        (candidate_around fixed seed k) }
 {}

@@ -7,19 +7,12 @@
 mod bounds;
 mod condition;
 mod error;
-mod estimate;
-mod exclusion;
-mod gap;
 pub mod laws;
 mod meaning;
 mod question;
-mod screen;
-mod shares;
-mod stage;
 mod tree;
 
 pub use condition::Cond;
 pub use error::CondError;
 pub use question::Question;
-pub use screen::Screen;
 pub use tree::{Item, Op, Tree, Value};

@@ -6,6 +6,7 @@
 #![tactic(auto)]
 
 mod endings;
+mod help;
 mod notes;
 mod streams;
 mod unread;
@@ -14,9 +15,10 @@ ghost use Rattle.std.specs.Prelude.{◌-◌, ◌^◌, ◌<◌, map, string_bytes
 ghost use Rattle.command_line.specs.Reading.{AreRead};
 
 use crate::endings::{cut_off, for_person, say, say_more};
+use crate::help::help;
 use crate::notes::{put_note, put_notes};
 use crate::streams::{Given, Said, hints_of, is_time, open};
-use advice::{Reasons, help};
+use advice::Reasons;
 use clap::Error;
 use command_line::read_words;
 use deals_cli::{Task, perform, prepare};

@@ -1,10 +1,11 @@
 //! What is noted for a person before a run begins.
 
-use advice::note;
+use advice::dealt_again;
 use clap::Error;
 use deals_cli::Task;
 use requests::{Job, Request};
 use sinks::{Piped, put_all};
+use std::alloc::Global;
 use std::io::IsTerminal;
 
 /// Notes what there is to note of a task.
@@ -17,6 +18,20 @@ pub fn put_notes(
     if let (Ok(request), Task::Do(job)) = (read, task) {
         put_note(rt, note(rt.alloc(), words, request, job));
         put_note(rt, typed(rt, job));
+    }
+}
+
+/// What there is to note of the job of a request: that no deal meets its condition, or that boards
+/// with later numbers are the first deals again. None if memory runs out.
+fn note(alloc: Global, words: &[String], request: &Request<'_>, job: &Job) -> Option<String> {
+    let condition = match job {
+        Job::Boards(job) | Job::WithTricks(job) => &job.condition,
+        Job::Count(job) => &job.condition,
+        _ => return None,
+    };
+    match hints::note(alloc, condition) {
+        Ok(None) => dealt_again(alloc, words, request),
+        noted => noted.unwrap_or(None),
     }
 }
 

@@ -5,12 +5,7 @@ use Rattle.std.specs.Prelude.{List, [], ◌∷◌, ◌++◌, codes, drop, length
 use Rattle.std.specs.Prelude.{slice_index, slice_range, take}
 use Rattle.std.specs.Char.{is_ascii_lowercase, is_ascii_digit}
 use Rattle.cond_lang.specs.Runs.{run}
-
--- ---- bytes on a terminal
-
--- a byte as it is shown: printable ASCII as it is, a tab as a space, any other as a question mark
-abbrev pub shown : ℕ → ℕ
-shown c = if nat_le 32 c && nat_lt c 127 then c else (if c == 9 then 32 else 63)
+use Rattle.sinks.specs.Shown.{shown}
 
 -- ---- which line
 

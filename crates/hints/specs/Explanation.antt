@@ -10,7 +10,8 @@ use Rattle.cond_lang.specs.Faults.{HasFault}
 use Rattle.hints.specs.declared.asked.Asked.{Asked}
 use Rattle.hints.specs.declared.asked.Asked.TheVariants.{Condition, Question}
 use Rattle.hints.specs.Asked.{Begins, CanStand, asked_name}
-use Rattle.hints.specs.Excerpt.{IsExcerpt, shown}
+use Rattle.sinks.specs.Shown.{shown}
+use Rattle.hints.specs.Excerpt.{IsExcerpt}
 use Rattle.hints.specs.Expected.{expected_line}
 
 -- a hint is one line of bytes that are shown

@@ -8,8 +8,9 @@ ghost use Rattle.hints.specs.Excerpt.{count_shown, excerpt, first_shown, shown_l
 ghost use Rattle.hints.specs.Excerpt.{token_len, where_cut, without_return};
 ghost use Rattle.hints.specs.internal.Appends.{Appends};
 
-use crate::shown::{put_repeated, put_shown};
+use crate::repeated::put_repeated;
 use cond_lang::{digit_run_len, letter_run_len};
+use sinks::put_shown;
 use std::alloc::AllocError;
 
 /// The longest line that is shown whole.

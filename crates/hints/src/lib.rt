@@ -9,11 +9,10 @@ mod expected;
 mod kinds;
 mod never;
 mod refusal;
-mod shown;
+mod repeated;
 mod torn;
 mod unmet;
 
 pub use never::is_never;
 pub use refusal::{explain, explain_question};
-pub use shown::put_shown;
 pub use unmet::note;

@@ -11,10 +11,10 @@ use crate::excerpt::put_excerpt;
 use crate::expected::put_expected;
 use crate::kinds::KindSet;
 use crate::never::is_never;
-use crate::shown::put_shown;
 use cond_lang::{Beginning, CondError, parse};
 use hint_rules::{Said, of_piece, of_syntax, suggested};
 use itoa::Buffer;
+use sinks::put_shown;
 use std::alloc::{AllocError, Global};
 
 /// Returns what helps a person with a text that is refused as `error`: the lines that are below

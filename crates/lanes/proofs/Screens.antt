@@ -9,7 +9,7 @@ use Rattle.cards.specs.Fixed.{IsFixed, candidate_around}
 use Rattle.cards.specs.Hands.{hand_of}
 use Rattle.cards.proofs.AroundDeals.{around_is_partition}
 use Rattle.cards.proofs.AroundLaws.{fixed_stay}
-use Rattle.conditions.specs.Completions.{IsCompletion}
+use Rattle.screens.specs.Completions.{IsCompletion}
 
 -- the candidate's deal is one that it can become once West's hand is dealt
 pub completes : (fixed : List (Option Seat)) (seed k : ℕ) (west : List Bool) → IsFixed fixed → west ≡ hand_of (candidate_around fixed seed k) West

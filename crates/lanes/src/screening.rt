@@ -5,14 +5,15 @@ ghost use Rattle.std.specs.Prelude.{◌≡◌, IsTrue, List, Option, false};
 ghost use Rattle.cards.specs.Hands.{hand_of};
 ghost use Rattle.cards.specs.declared.seat.Seat.TheVariants.{South};
 ghost use Rattle.cards.specs.declared.seat.Seat.{Seat as ASeat};
-ghost use Rattle.conditions.specs.Completions.{IsCompletion};
+ghost use Rattle.screens.specs.Completions.{IsCompletion};
 ghost use Rattle.conditions.specs.Form.{Form};
 ghost use Rattle.conditions.specs.Meaning.{holds};
 ghost use Rattle.lanes.specs.internal.Screens.{IsScreenOf};
 
 use crate::profit::Profit;
 use cards::{Fixed, Hand};
-use conditions::{Cond, Screen};
+use conditions::Cond;
+use screens::Screen;
 
 /// The tests of a condition's candidates, each with what it gains. Without memory for them there
 /// are none, and no candidate is given up.
@@ -40,7 +41,7 @@ impl Screening {
     {
         // Its contract says that no seat has more than thirteen fixed cards.
         let _free = fixed.free();
-        let screen = cond.screen(fixed);
+        let screen = Screen::new(cond, fixed);
         let (west, south) = match &screen {
             Some(screen) => (
                 screen.can_exclude_west(),

@@ -5,9 +5,11 @@
 #![tactic(auto)]
 
 mod message;
+mod shown;
 mod sink;
 mod testing;
 
 pub use message::Message;
+pub use shown::put_shown;
 pub use sink::{Piped, Sink, SinkFault, put_all};
 pub use testing::{Fuse, MemSink};

@@ -4,7 +4,7 @@
 
 mod beginnings;
 mod questions;
-mod screens;
+mod excluded;
 mod trees;
 mod truths;
 mod words;

@@ -2,7 +2,8 @@
 //! and the page of the language are asked of the built program: by `tests/rows`.
 
 use cond_lang::{Cond, CondError, LANGUAGE, parse};
-use hints::{explain, explain_question, is_never, note, put_shown};
+use hints::{explain, explain_question, is_never, note};
+use sinks::put_shown;
 use std::alloc::Global;
 use std::test::Fail;
 

@@ -1,0 +1,5 @@
+pub mod CardByCard
+pub mod Estimates
+pub mod Shifts
+pub mod Refuting
+pub mod Completed

@@ -1,0 +1,9 @@
+use Rattle.std.proofs.Common.{◌≡◌, ◌*◌, ◌≤◌, get_or}
+use Rattle.std.specs.List.{sum_by, range_with_len}
+use Rattle.screens.proofs.estimate.total_of.Given as goal
+
+abbrev pub invariant-loop-card : goal.invariant-loop-card
+invariant-loop-card l = record {
+  so_far : l.total ≡ sum_by (λ c. get_or l.weights c 0) (range_with_len 0 l.card);
+  most : l.total ≤ 255 * 1024 * l.card;
+}

@@ -1,0 +1,77 @@
+-- A value card by card: what a card counts in it at each seat, and what the value can be beside.
+use Rattle.std.specs.Prelude.{ℕ, ◌+◌, ◌==◌, ◌&&◌, Bool, cond, min, max, Option, Some, None, option_map, slice_index_or, unwrap_or}
+use Rattle.cards.specs.declared.hand.Measure.{Measure}
+use Rattle.cards.specs.declared.hand.Measure.TheVariants.{Hcp}
+use Rattle.cards.specs.declared.seat.Seat.{Seat}
+use Rattle.cards.specs.declared.seat.Seat.TheVariants.{North, East, South}
+use Rattle.cards.specs.Counts.{has_honour}
+use Rattle.cards.specs.Measures.{weights_of}
+use Rattle.cards.specs.Pack.{is_in_suit, rank_of, seat_number}
+use Rattle.screens.specs.declared.stage.Bound.{Bound}
+use Rattle.screens.specs.declared.stage.Bound.TheVariants.{Least, Greatest}
+use Rattle.screens.specs.declared.stage.Stage.{Stage}
+use Rattle.screens.specs.declared.stage.Stage.TheVariants.{OneHand, TwoHands}
+use Rattle.conditions.specs.Bounds.{least_of}
+use Rattle.conditions.specs.Form.{Amount, cards_held, longest, number, points, second}
+use Rattle.conditions.specs.Form.{shortest, suit_cards_held, suit_length, suit_points, suit_total}
+use Rattle.conditions.specs.Form.{total, sum as plus}
+
+abbrev pub is_at : Seat → Seat → Bool
+is_at seat holder = seat_number holder == seat_number seat
+
+-- what a card counts by a measure, if that counts ranks
+abbrev pub rank_weight : Measure → ℕ → ℕ
+rank_weight m c = unwrap_or (option_map (λ w. slice_index_or w (rank_of c) 0) (weights_of m)) 0
+
+-- what the card counts in the value if the seat `q` has it
+abbrev pub weight_at : Amount → ℕ → Seat → ℕ
+weight_at (plus a b) c q = weight_at a c q + weight_at b c q
+weight_at (number n) c q = 0
+weight_at (points p) c q = cond (is_at p q) (rank_weight Hcp c) 0
+weight_at (suit_points p s) c q = cond (is_in_suit s c && is_at p q) (rank_weight Hcp c) 0
+weight_at (total m p) c q = cond (is_at p q) (rank_weight m c) 0
+weight_at (suit_total m p s) c q = cond (is_in_suit s c && is_at p q) (rank_weight m c) 0
+weight_at (cards_held p h) c q = cond (has_honour h (rank_of c) && is_at p q) 1 0
+weight_at (suit_cards_held p s h) c q =
+    cond (has_honour h (rank_of c) && (is_in_suit s c && is_at p q)) 1 0
+weight_at (suit_length p s) c q = cond (is_in_suit s c && is_at p q) 1 0
+weight_at (longest p) c q = 0
+weight_at (second p) c q = 0
+weight_at (shortest p) c q = 0
+
+-- the greatest of what isn't counted card by card; its least is `least_of`
+abbrev pub greatest_beside : Amount → ℕ
+greatest_beside (plus a b) = greatest_beside a + greatest_beside b
+greatest_beside (number n) = n
+greatest_beside (points p) = 0
+greatest_beside (suit_points p s) = 0
+greatest_beside (total m p) = unwrap_or (option_map (λ w. 0) (weights_of m)) 12
+greatest_beside (suit_total m p s) = unwrap_or (option_map (λ w. 0) (weights_of m)) 3
+greatest_beside (cards_held p h) = 0
+greatest_beside (suit_cards_held p s h) = 0
+greatest_beside (suit_length p s) = 0
+greatest_beside (longest p) = 13
+greatest_beside (second p) = 6
+greatest_beside (shortest p) = 3
+
+abbrev pub beside : Bound → Amount → ℕ
+beside Least a = least_of a
+beside Greatest a = greatest_beside a
+
+-- of two numbers the one that the bound takes
+abbrev pub farther : Bound → ℕ → ℕ → ℕ
+farther Least m n = min m n
+farther Greatest m n = max m n
+
+-- North and East may have a card of no known hand, and South too as long as that hand isn't known
+abbrev pub third_open : Stage → Seat
+third_open OneHand = South
+third_open TwoHands = North
+
+-- the least or the greatest that a card of no known hand counts, if it is fixed at this seat, or at
+-- none
+abbrev pub open_weight : Bound → Stage → Amount → ℕ → Option Seat → ℕ
+open_weight bound stage a c (Some q) = weight_at a c q
+open_weight bound stage a c None =
+    farther bound (farther bound (weight_at a c North) (weight_at a c East))
+    (weight_at a c (third_open stage))
