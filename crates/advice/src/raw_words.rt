@@ -42,7 +42,7 @@ pub fn not_utf8(alloc: Global, word: &[u8], len: usize) -> Option<String> {
     format!(in alloc; "  hint: the text has to be UTF-8, and a byte {place} isn't\n").ok()
 }
 
-/// Where a byte of this line is, behind these bytes.
+/// Where a byte of this line is, after these bytes.
 fn place_of(alloc: Global, line: usize, before: &[u8]) -> Option<String> {
     let mut shown = String::new(alloc);
     put_shown(&mut shown, before).ok()?;

@@ -33,7 +33,7 @@ copy_more bytes text i room done k =
       ]
     ]
 
--- the text, and zeros behind it
+-- the text, and zeros after it
 pub copied_all : (bytes text : List ℕ) (n i : ℕ) → length bytes ≡ n → length text ≤ n → length text ≤ i → ((k : ℕ) → get_or bytes k 0 ≡ get_or (take i text) k 0) → bytes ≡ text ++ replicate (n - length text) 0
 copied_all bytes text n i count fits past done =
     ext_get_or 0 bytes (text ++ replicate (n - length text) 0) (simp (length-append, length-replicate) (omega arith))

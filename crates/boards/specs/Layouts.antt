@@ -9,7 +9,7 @@ pub record Layout : Type 0 where
   -- of these boards, and of how many candidates were tried
   pub footer : List Board → ℕ → List ℕ
 
--- the footer of a notation that has the same one behind all boards
+-- the footer of a notation that has the same one after all boards
 abbrev pub ends_with : List ℕ → List Board → ℕ → List ℕ
 ends_with text boards tried = text
 

@@ -95,7 +95,7 @@ has_unknown name rows =
     || (is_unknown times (codes "progress") rows
     || is_unknown times (codes "hints") rows))))
 
--- the number of 32 bits that a text writes in digits, perhaps behind a +
+-- the number of 32 bits that a text writes in digits, perhaps after a +
 abbrev pub number32 : Text → Option ℕ
 number32 text =
     let ds = without_leading_plus text in

@@ -10,7 +10,7 @@ use Rattle.cond_lang.specs.declared.words.Kind.{Kind}
 use Rattle.cond_lang.specs.declared.words.Kind.TheVariants as kind
 use Rattle.cond_lang.specs.Kinds.{IsListedOnce, all_kinds, place_of}
 
--- what stands at a place still does with more behind it
+-- what stands at a place still does with more after it
 with_more : {X : Type 0} (xs ys : List X) (i : ℕ) (x : X) → slice_get xs i ≡ Some x → slice_get (xs ++ ys) i ≡ Some x
 with_more [] ys i x e = absurd (cc)
 with_more (y ∷ xs) ys zero x e = e

@@ -19,7 +19,7 @@ ReadsEach r E c S R [] [] = Unit {0}
 ReadsEach r E c S R (s ∷ ss) (t ∷ ts) = (r (bind E c s) a_cond S ≡ got t R) × ReadsEach r E c S R ss ts
 ReadsEach r E c S R ss ts = ⊥
 
--- what comes of the trees, behind those before them
+-- what comes of the trees, after those before them
 abbrev pub finished : AQuantifier → Option Form → List Form → List Token → List Token → Outcome Form
 finished k left [] Q R = some_tree left Q
 finished k left (t ∷ ts) Q R = got (fold (joined k) (behind k left t) ts) R

@@ -143,7 +143,7 @@ first_run f c s h known =
     let k = known (take n (c ∷ s)) (drop n (c ∷ s)) r in
     record { p = take n (c ∷ s); rest = drop n (c ∷ s); kind = k.0; split = sym (take-append-drop n (c ∷ s)); some = r.some; is = k.1 }
 
--- a comment's bytes behind its sign
+-- a comment's bytes after its sign
 comment_split : (c : ℕ) (s : List ℕ) → is_in_comment c ≡ true → IsRun is_in_comment (c ∷ take (run is_in_comment s) s) (drop (run is_in_comment s) s)
 comment_split c s h = record { some = omega arith; all = (h, run_all is_in_comment s); ends = run_ends is_in_comment s }
 

@@ -100,7 +100,7 @@ module _ {E F : Bound} (f : SameScope E F) where
 
 -- ---- readers that lead back to a condition
 
--- the same goal, behind any first part of a chain
+-- the same goal, after any first part of a chain
 data LikeGoals : Goal → Goal → Type 0 where
   conds : LikeGoals a_cond a_cond
   boths : LikeGoals a_both a_both

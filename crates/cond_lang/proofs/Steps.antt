@@ -20,7 +20,7 @@ use Rattle.cond_lang.proofs.Terminals.{gets, reads_then, reads_closing, reads_op
 use Rattle.cond_lang.proofs.Shapes.{shape, conds_alike}
 use Rattle.cond_lang.proofs.Quantified.{AreEach, each_spelled, each_reader, reads_each}
 
--- what a goal's tokens mean: behind the first part of a chain, what they make of it
+-- what a goal's tokens mean: after the first part of a chain, what they make of it
 abbrev pub Means : Bound → (g : Goal) → List Token → Of g → Type 0
 Means E a_cond P t = SpellsCond E P t
 Means E a_both P t = SpellsBoth E P t
@@ -67,7 +67,7 @@ joined_pattern E P Q p t (a, b, c, d, e, i) m = rw (m.0, m.1, append-nil P, i, e
 joined_stops : (E : Bound) (P Q : List Token) (p : ASeat × ASuit) (t : Form) → AreSeatAndSuit E P p → (Q ≡ []) × (t ≡ stops p.0 p.1) → SpellsUnit E (Stops ∷ P ++ Q) t
 joined_stops E P Q p t h m = rw (m.0, m.1, h.2) (test (has_stopper tt h.1))
 
--- what a value is compared with: tokens behind those that spell it
+-- what a value is compared with: tokens after those that spell it
 abbrev Relates : Bound → Amount → List Token → Form → Type 0
 Relates E a P t = (L : List Token) → SpellsValue E L a → SpellsUnit E (L ++ P) t
 
@@ -108,7 +108,7 @@ module _ (r : Readers) (k : (E : Bound) (g : Goal) (S : List Token) → Reads (M
 
   -- ---- quantifiers
 
-  -- ( cond ) behind a class that can be bound
+  -- ( cond ) after a class that can be bound
   abbrev Brackets : AQuantifier → AClass → List Token → Form → Type 0
   Brackets j c Q t = can_bind E c ≡ true → SpellsUnit E (Quantifier j ∷ Class c ∷ Q) t
 
@@ -123,7 +123,7 @@ module _ (r : Readers) (k : (E : Bound) (g : Goal) (S : List Token) → Reads (M
       (λ _ S. reads_after (AreEach E j c) (λ t Q u. (Q ≡ Close ∷ []) × (u ≡ t)) (λ Q. Brackets j c (Open ∷ Q)) (each_reader r E j c) closing S (each_reader r E j c S)
       (joined_each j c) (λ t. (Close ∷ [], t, (refl, refl))) (reads_each r (λ E S. k E a_cond S) alike E j c S) (λ t R. reads_closing _ t R (refl, refl)))
 
-  -- class ( cond ) behind a quantifier
+  -- class ( cond ) after a quantifier
   abbrev Quantifies : AQuantifier → List Token → Form → Type 0
   Quantifies j Q t = SpellsUnit E (Quantifier j ∷ Q) t
 

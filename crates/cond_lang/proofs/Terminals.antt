@@ -188,7 +188,7 @@ reads_comma_ranks_close S =
     (λ _. (Ranks some_ranks ∷ Close ∷ [], some_ranks, refl)) (reads_comma S)
     (λ _ R. reads_as (λ P h. P ≡ Ranks h ∷ Close ∷ []) _ ranks_close ranks_close R (ranks_close R) (λ P h e. ap (λ L. Comma ∷ L) e) (λ X. refl) (reads_ranks_close R))
 
--- ranks behind `cards ( seat ,`
+-- ranks after `cards ( seat ,`
 ranks_of_cards : ASeat → Reader Amount
 ranks_of_cards q S = after (ranks_close S) (λ h R. got (cards_held q h) R)
 

@@ -40,7 +40,7 @@ HasAskFault text at = HasSyntaxFaultIn Asks text at
 abbrev pub IsDueQuestion : List ℕ → CondError → Type 0
 IsDueQuestion text e = IsDueIn Asks text e
 
--- behind T the list may end, since T is a question, or some token of the kind goes on to one
+-- after T the list may end, since T is a question, or some token of the kind goes on to one
 abbrev pub CanFollowAsking : List Token → Kind → Type 0
 CanFollowAsking T k = CanFollowIn Asks T k
 

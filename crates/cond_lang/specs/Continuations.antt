@@ -1,4 +1,4 @@
--- What may come behind the tokens that a condition, or what other rules spell, can begin with.
+-- What may come after the tokens that a condition, or what other rules spell, can begin with.
 use Rattle.std.specs.Prelude.{◌≡◌, ◌⊎◌, ◌+◌, ◌<◌, ◌≤◌, ℕ, List, [], ◌∷◌, ◌++◌, length, take}
 use Rattle.cond_lang.specs.declared.words.Kind.{Kind}
 use Rattle.cond_lang.specs.declared.words.Kind.TheVariants as kind

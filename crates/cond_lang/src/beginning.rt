@@ -111,7 +111,7 @@ impl Beginning {
     }
 }
 
-/// The tokens, with one more behind them.
+/// The tokens, with one more after them.
 fn followed_by(alloc: Global, before: &[Placed], token: Token) -> Result<Vec<Placed>, AllocError>
     ensures { IfOk result (λ longer. kinds longer.items ≡ kinds before.now ++ token ∷ []) }
 {

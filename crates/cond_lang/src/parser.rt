@@ -403,7 +403,7 @@ impl<'a> Parser<'a> {
     }
 
     /// The tree of the condition that begins at `start`, with the suit in the place of the class's
-    /// word, behind the tree of the suits before it. A suit that isn't of the class adds nothing.
+    /// word, after the tree of the suits before it. A suit that isn't of the class adds nothing.
     #[cycle(conditions)]
     #[inline(never)]
     fn with_suit(

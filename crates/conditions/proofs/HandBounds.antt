@@ -65,7 +65,7 @@ by_suit (suc (suc (suc (suc k)))) false none =
     omega (arith, no_suit (n == 0), no_suit (n == 1), no_suit (n == 2), no_suit (n == 3))
 
 no_card : (hand : List Bool) (c : ℕ) → length hand ≡ 52 → 4 ≤ c / 13 → holds_card hand c ≡ false
-no_card hand c whole behind = get_or_past hand c false (omega (arith, whole, behind))
+no_card hand c whole after = get_or_past hand c false (omega (arith, whole, after))
 
 same_sum : (f g : ℕ → ℕ) → ((x : ℕ) → f x ≡ g x) → (xs : List ℕ) → sum_by f xs ≡ sum_by g xs
 same_sum f g e [] = refl

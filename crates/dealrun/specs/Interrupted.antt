@@ -88,7 +88,7 @@ pub record StandsCompleteIn (layout : Layout) (closing : List ℕ) (plan : Plann
       (text_of_boards layout (boards_taken plan lanes (taken_in_all lanes)) ++ closing)
   pub boards_are : boards ≡ length (boards_taken plan lanes (taken_in_all lanes))
 
--- the footer behind the boards of what was taken
+-- the footer after the boards of what was taken
 abbrev pub footer_taken : Layout → Planned → List OutView → List ℕ
 footer_taken layout plan lanes =
     layout.footer (boards_taken plan lanes (taken_in_all lanes)) (taken_in_all lanes)

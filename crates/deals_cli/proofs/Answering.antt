@@ -136,9 +136,9 @@ answers_refused words f before old r = record {
 
 -- ---- while it is done
 
-pub answers_job : (words : List Text) (job : Job) (r : Result (Option Report) Failure) (before behind old new : Option (List ℕ)) → IsTaskFor words (Do job)
-    → ((w : Wish) → IsReady w job → Serves w r before behind old new) → Answers words r before behind old new
-answers_job words job (Ok report) before behind old new (w, is, ready) serves =
+pub answers_job : (words : List Text) (job : Job) (r : Result (Option Report) Failure) (before after old new : Option (List ℕ)) → IsTaskFor words (Do job)
+    → ((w : Wish) → IsReady w job → Serves w r before after old new) → Answers words r before after old new
+answers_job words job (Ok report) before after old new (w, is, ready) serves =
     let s = serves w ready in record {
       text = λ v other. (serves v (ready_for v other)).text;
       report = λ v other. (serves v (ready_for v other)).report;
@@ -151,7 +151,7 @@ answers_job words job (Ok report) before behind old new (w, is, ready) serves =
   where
     ready_for : (v : Wish) → asked words ≡ Some v → IsReady v job
     ready_for v other = subst (λ (x : Wish). IsReady x job) (same_wish words w v is other) ready
-answers_job words job (Err f) before behind old new (w, is, ready) serves =
+answers_job words job (Err f) before after old new (w, is, ready) serves =
     let s = serves w ready in record {
       text = λ v other. tt;
       report = λ v other. tt;
@@ -165,8 +165,8 @@ answers_job words job (Err f) before behind old new (w, is, ready) serves =
     ready_for : (v : Wish) → asked words ≡ Some v → IsReady v job
     ready_for v other = subst (λ (x : Wish). IsReady x job) (same_wish words w v is other) ready
 
-pub answers_text : (words : List Text) (before behind old new : Option (List ℕ)) → IsShown words → Answers words (Ok None) before behind old new
-answers_text words before behind old new (none, may) = record {
+pub answers_text : (words : List Text) (before after old new : Option (List ℕ)) → IsShown words → Answers words (Ok None) before after old new
+answers_text words before after old new (none, may) = record {
   text = λ w is. not_none words w is none;
   report = λ w is. not_none words w is none;
   no_report = λ _. refl;
@@ -176,8 +176,8 @@ answers_text words before behind old new (none, may) = record {
   untouched = tt;
 }
 
-pub breaks_text : (words : List Text) (before behind old new : Option (List ℕ)) → IsShown words → Answers words (Err (Interrupted cause.Output)) before behind old new
-breaks_text words before behind old new (none, may) = record {
+pub breaks_text : (words : List Text) (before after old new : Option (List ℕ)) → IsShown words → Answers words (Err (Interrupted cause.Output)) before after old new
+breaks_text words before after old new (none, may) = record {
   text = λ w is. tt;
   report = λ w is. tt;
   no_report = λ _. tt;
@@ -229,18 +229,18 @@ reads_as_asked words (Do job) (w, asks, ready) reads = (w, asks, input_read w jo
 
 -- ---- the flush
 
-pub answers_flushed : (words : List Text) (report : Option Report) (before behind old mid new : Option (List ℕ)) → new ≡ mid → Answers words (Ok report) before behind old mid → Answers words (Ok report) before behind old new
-answers_flushed words report before behind old mid new same a = subst (λ (o : Option (List ℕ)). Answers words (Ok report) before behind old o) (sym same) a
+pub answers_flushed : (words : List Text) (report : Option Report) (before after old mid new : Option (List ℕ)) → new ≡ mid → Answers words (Ok report) before after old mid → Answers words (Ok report) before after old new
+answers_flushed words report before after old mid new same a = subst (λ (o : Option (List ℕ)). Answers words (Ok report) before after old o) (sym same) a
 
-pub flush_fails : (words : List Text) (report : Option Report) (before behind old mid new : Option (List ℕ)) → new ≡ mid → Answers words (Ok report) before behind old mid
-    → Answers words (Err (Interrupted cause.Output)) before behind old new
-flush_fails words report before behind old mid new same a = record {
+pub flush_fails : (words : List Text) (report : Option Report) (before after old mid new : Option (List ℕ)) → new ≡ mid → Answers words (Ok report) before after old mid
+    → Answers words (Err (Interrupted cause.Output)) before after old new
+flush_fails words report before after old mid new same a = record {
   text = λ w is. tt;
   report = λ w is. tt;
   no_report = λ _. tt;
   status = record { wished = wished; unasked = λ none. none_shown words 4 (inr refl) ((a.status.unasked none).shown (inl refl)) };
   due = λ w is. inr (output_due w (a.status.wished w is));
-  stands = λ w is. inr (refl, subst (λ (o : Option (List ℕ)). AppendsFrom w before behind old o) (sym same) (a.text w is));
+  stands = λ w is. inr (refl, subst (λ (o : Option (List ℕ)). AppendsFrom w before after old o) (sym same) (a.text w is));
   untouched = λ bad. absurd cc;
 }
   where

@@ -66,10 +66,10 @@ abbrev pub MayFail : Wish → Failure → Type 0
 MayFail w failure = (failure ≡ Interrupted Memory) ⊎ IsDueFor w failure
 
 -- what a wish leaves that fails so; if it was the flush that failed, all of it
-abbrev pub MayLeave : Wish → Failure → (before behind old new : Option (List ℕ)) → Type 0
-MayLeave w failure before behind old new =
-    LeavesFrom w failure before behind old new
-    ⊎ ((failure ≡ Interrupted Output) × AppendsFrom w before behind old new)
+abbrev pub MayLeave : Wish → Failure → (before after old new : Option (List ℕ)) → Type 0
+MayLeave w failure before after old new =
+    LeavesFrom w failure before after old new
+    ⊎ ((failure ≡ Interrupted Output) × AppendsFrom w before after old new)
 
 -- the task is what the words ask for: a text of clap, or a job
 abbrev pub IsTaskFor : List Text → Task → Type 0
@@ -103,17 +103,17 @@ pub record AreRefused (words : List Text) (failure : Failure) : Type 0 where
   pub status : IsStatusFor words (status_of failure)
   pub due : (w : Wish) → asked words ≡ Some w → MayFail w failure
 
--- what was done for words: `before` and `behind` are what the input had to give before and behind
+-- what was done for words: `before` and `after` are what the input had to give before and after
 -- it, `old` and `new` what the output had taken
 pub record Answers (words : List Text) (r : Result (Option Report) Failure)
-    (before behind old new : Option (List ℕ)) : Type 0 where
-  pub text : (w : Wish) → asked words ≡ Some w → OnOk r (AppendsFrom w before behind old new)
+    (before after old new : Option (List ℕ)) : Type 0 where
+  pub text : (w : Wish) → asked words ≡ Some w → OnOk r (AppendsFrom w before after old new)
   pub report : (w : Wish) → asked words ≡ Some w → IfOk r (ReportsFor w)
   pub no_report : asked words ≡ None → IfOk r (λ report. report ≡ None)
   pub status : IsStatusFor words (status_in r)
   pub due : (w : Wish) → asked words ≡ Some w → IfErr r (MayFail w)
   pub stands : (w : Wish) → asked words ≡ Some w
-      → IfErr r (λ e. MayLeave w e before behind old new)
+      → IfErr r (λ e. MayLeave w e before after old new)
   pub untouched : IfErr r (λ e. is_untouched e ≡ true → new ≡ old)
 
 -- what the error output was given by words that were done: the report that they ask for, if it took
@@ -126,15 +126,15 @@ pub record HasReport (words : List Text) (took_all : Type 0)
   pub quiet : wants_report (asked words) ≡ false → new ≡ old
 
 -- why a wish failed with this status: the failure is due, the output has what it leaves by what the
--- input had to give before and behind it, the input failed if the failure says so, and the error
+-- input had to give before and after it, the input failed if the failure says so, and the error
 -- output, if it took all that it was given, has its line
-pub record TellsWhyFrom (w : Wish) (status : ℕ) (before behind : Option (List ℕ))
+pub record TellsWhyFrom (w : Wish) (status : ℕ) (before after : Option (List ℕ))
     (input_failed : Type 0) (out_old out_new : Option (List ℕ))
     (took_all : Type 0) (err_old err_new : Option (List ℕ)) : Type 0 where
   pub failure : Failure
   pub due : MayFail w failure
   pub status_is : status ≡ status_of failure
-  pub stands : MayLeave w failure before behind out_old out_new
+  pub stands : MayLeave w failure before after out_old out_new
   pub input : failure ≡ Input → input_failed
   pub line : took_all → AppendsAll err_old err_new (line_of failure)
 

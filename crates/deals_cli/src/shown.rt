@@ -33,12 +33,12 @@ fn put_word(out: &mut String, word: &[u8]) -> Result<(), AllocError> {
     out.push_str("..")
 }
 
-/// The parts of a word that clap's texts show: all of it, what is before its `=` and behind
+/// The parts of a word that clap's texts show: all of it, what is before its `=` and after
 /// it, and the last part of a path, which is how the usage names the program.
 fn parts(word: &str) -> [&str; 4] {
-    let (before, behind) = word.split_once('=').unwrap_or(("", ""));
+    let (before, after) = word.split_once('=').unwrap_or(("", ""));
     let (_, last) = word.rsplit_once('/').unwrap_or(("", ""));
-    [word, before, behind, last]
+    [word, before, after, last]
 }
 
 /// Whether the part is here and can't be shown as it is: it is long, or has a line's end, which

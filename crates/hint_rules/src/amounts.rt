@@ -1,4 +1,4 @@
-//! Numbers as a person writes them behind a value: `15`, `15+`, `15-`, `15-17`, `>=15`.
+//! Numbers as a person writes them after a value: `15`, `15+`, `15-`, `15-17`, `>=15`.
 
 use crate::parts::Parts;
 use crate::tables::counted::COUNTED;
@@ -11,7 +11,7 @@ pub(crate) struct Amount<'t> {
     pub low: &'t [u8],
     /// The second number of a range, or none.
     pub high: &'t [u8],
-    /// Where the part behind it is.
+    /// Where the part after it is.
     pub end: usize,
 }
 
@@ -31,10 +31,10 @@ pub(crate) fn amount_at<'t>(parts: &Parts<'t>, i: usize) -> Option<Amount<'t>> {
 
 /// The number with what comes after it: `15+`, `15-`, `15-17`, or it alone.
 fn unsigned_at<'t>(parts: &Parts<'t>, i: usize) -> Option<Amount<'t>> {
-    let (sign, behind) = (parts.at(i.saturating_add(1)), i.saturating_add(2));
-    let high = parts.at(behind);
+    let (sign, after) = (parts.at(i.saturating_add(1)), i.saturating_add(2));
+    let high = parts.at(after);
     if is(sign, "-") && is_number(high) {
-        let found = one(parts, b" in ", i, behind)?;
+        let found = one(parts, b" in ", i, after)?;
         let (low, high) = ordered(found.low, high);
         Some(Amount { low, high, ..found })
     } else if is(sign, "-") {
@@ -46,7 +46,7 @@ fn unsigned_at<'t>(parts: &Parts<'t>, i: usize) -> Option<Amount<'t>> {
     }
 }
 
-/// The comparison with this number, up to the last of its parts, if nothing goes on behind it.
+/// The comparison with this number, up to the last of its parts, if nothing goes on after it.
 fn one<'t>(parts: &Parts<'t>, sign: &'t [u8], i: usize, last: usize) -> Option<Amount<'t>> {
     let (low, end) = (parts.at(i), last.saturating_add(1));
     let is_whole = is_number(low) && !is_one_of(parts.at(end), "+ -");
@@ -71,9 +71,9 @@ pub(crate) fn ordered<'t>(first: &'t [u8], second: &'t [u8]) -> (&'t [u8], &'t [
 /// seat; nothing, if it is said of nothing that a word counts.
 pub(crate) fn counted_at(parts: &Parts, i: usize) -> (&'static str, &'static str) {
     if let Some(amount) = amount_at(parts, i) {
-        for (word, behind, names) in COUNTED {
+        for (word, after, names) in COUNTED {
             if is_one_of(parts.at(amount.end), names) {
-                return (word, behind);
+                return (word, after);
             }
         }
     }

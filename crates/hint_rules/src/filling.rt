@@ -1,11 +1,11 @@
 //! What a hint says, with the parts of the text in it.
 //!
 //! A placeholder in a hint is `%`, a letter and a digit N: `%bN` is the part N before the fault,
-//! and `%nN` the one N behind it, `%n0` the one with it. Of these parts:
+//! and `%nN` the one N after it, `%n0` the one with it. Of these parts:
 //!
 //! | Placeholder | What it means |
 //! |---|---|
-//! | `%uN` | `%nN` if it is a seat behind a bracket, else the part in front of that if it is one, |
+//! | `%uN` | `%nN` if it is a seat after a bracket, else the part in front of that if it is one, |
 //! | | else the last seat before the fault, or `north`: `%u2` fits `word(seat` and `word seat` |
 //! | `%mN` | the part with the fault in small letters |
 //! | `%zN` | the number `%nN` without zeros in front |
@@ -80,11 +80,11 @@ fn filled(alloc: Global, parts: &Parts, hint: &str) -> Said {
 fn put_hint(out: &mut Vec<u8>, parts: &Parts, hint: &str) -> Result<bool, AllocError> {
     for (i, piece) in hint.split('%').enumerate() {
         let text = match piece.as_bytes() {
-            [kind, digit, behind @ ..] if i > 0 => {
+            [kind, digit, after @ ..] if i > 0 => {
                 if !put(out, parts, *kind, usize::from(digit.saturating_sub(b'0')))? {
                     return Ok(false);
                 }
-                behind
+                after
             }
             text => text,
         };
@@ -114,14 +114,14 @@ fn in_place(alloc: Global, parts: &Parts, hint: Vec<u8>) -> Said {
     }
 }
 
-/// The texts, one behind the other, as a hint.
+/// The texts, one after the other, as a hint.
 pub(crate) fn joined(alloc: Global, texts: &[&[u8]]) -> Said {
     let mut out = Vec::new(alloc);
     put_all(&mut out, texts)?;
     Ok(Some(out))
 }
 
-/// Appends the texts, one behind the other.
+/// Appends the texts, one after the other.
 pub(crate) fn put_all(out: &mut Vec<u8>, texts: &[&[u8]]) -> Result<(), AllocError> {
     for text in texts {
         out.extend_from_slice(text)?;
@@ -251,9 +251,9 @@ fn put_behind_seat(out: &mut Vec<u8>, parts: &Parts, word: &[u8]) -> Result<(), 
 
 /// What comes after the word and a seat, where no suit does.
 fn behind_seat(word: &[u8]) -> &'static str {
-    for (asked, behind) in BEHIND_SEATS {
+    for (asked, after) in BEHIND_SEATS {
         if is(word, asked) {
-            return behind;
+            return after;
         }
     }
     ")"

@@ -41,7 +41,7 @@ static EITHER: [Source; 13] = [
     Source::Rules(more_or_less::RULES),
 ];
 
-/// What is asked of a piece behind `EITHER`.
+/// What is asked of a piece after `EITHER`.
 static PIECE: [Source; 14] = [
     Source::Rules(or_more::RULES),
     Source::Rules(limits::RULES),
@@ -59,7 +59,7 @@ static PIECE: [Source; 14] = [
     Source::Rules(rest::RULES),
 ];
 
-/// What is asked of a token behind `EITHER`; before it, the rules for shapes.
+/// What is asked of a token after `EITHER`; before it, the rules for shapes.
 static TOKEN: [Source; 2] = [Source::Rules(calls::RULES), Source::Rules(joins::RULES)];
 
 /// Returns the hint for the piece at the byte `at` of the text, which isn't in the language, if a

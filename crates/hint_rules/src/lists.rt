@@ -1,6 +1,6 @@
 //! Lists of texts that rules name (`rule`), with blanks between them.
 
-/// What may come before and behind a whole test; or nothing.
+/// What may come before and after a whole test; or nothing.
 pub(crate) const STARTS: &str = " ( and or not";
 
 pub(crate) const ENDS: &str = " ) and or";
@@ -28,7 +28,7 @@ static LISTS: [(&str, &str); 21] = [
     // How a person says that a hand has something, and what a person writes between a seat and it.
     ("HOLDS", "has have holds with hat mit"),
     ("HAS", "has have holds with is hat mit"),
-    // What comes behind a number and `or`.
+    // What comes after a number and `or`.
     ("MORE", "more greater higher above up longer better"),
     ("FEWER", "less fewer lower below under shorter"),
     // How a person says that a number counts points.

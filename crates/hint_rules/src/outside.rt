@@ -14,8 +14,8 @@ const THROUGH: &str = "any every";
 /// The longest condition that is told to write.
 const LONGEST: usize = 240;
 
-/// A class outside its brackets: where `any` or `every` stands, the bracket behind it, the one that
-/// closes that, and the part behind the last test that names the class.
+/// A class outside its brackets: where `any` or `every` stands, the bracket after it, the one that
+/// closes that, and the part after the last test that names the class.
 #[derive(Clone, Copy)]
 struct Outside {
     start: usize,
@@ -50,10 +50,10 @@ pub(crate) fn hint(alloc: Global, parts: &Parts) -> Said {
 /// Where the first `any` or `every` of the class stands from the part on.
 fn through_from(parts: &Parts, class: &[u8], from: usize) -> Option<usize> {
     for i in from..parts.count() {
-        let behind = i.saturating_add(1);
+        let after = i.saturating_add(1);
         if is_one_of(parts.at(i), THROUGH)
-            && parts.at(behind) == class
-            && is(parts.at(behind.saturating_add(1)), "(")
+            && parts.at(after) == class
+            && is(parts.at(after.saturating_add(1)), "(")
         {
             return Some(i);
         }
@@ -90,7 +90,7 @@ fn closing(parts: &Parts, open: usize) -> Option<usize> {
     None
 }
 
-/// The part behind the last test that names the class, of those beside each other from a part on.
+/// The part after the last test that names the class, of those beside each other from a part on.
 fn end_of_tests(parts: &Parts, class: &[u8], from: usize) -> usize {
     let mut depth: usize = 0;
     let mut end = from;
@@ -121,14 +121,14 @@ fn moved(alloc: Global, parts: &Parts, found: Outside) -> Result<Option<Vec<u8>>
     if !is_clear(parts, found) {
         return Ok(None);
     }
-    let (first, behind) = match around(parts, found.start) {
+    let (first, after) = match around(parts, found.start) {
         Some((first, last)) => (first, last.saturating_add(1)),
         None => (found.start, found.end),
     };
     let mut out = Vec::new(alloc);
     put(&mut out, parts, first, found.start)?;
     put_inside(&mut out, parts, found)?;
-    put(&mut out, parts, found.end, behind)?;
+    put(&mut out, parts, found.end, after)?;
     let is_told = is_plain(out.as_slice()) && is_accepted(alloc, out.as_slice())?;
     Ok(is_told.then_some(out))
 }
@@ -138,9 +138,9 @@ fn moved(alloc: Global, parts: &Parts, found: Outside) -> Result<Option<Vec<u8>>
 fn is_clear(parts: &Parts, found: Outside) -> bool {
     let join = found.close.saturating_add(1);
     let before = parts.at(found.start.saturating_sub(1));
-    let behind = parts.at(found.end);
+    let after = parts.at(found.end);
     let is_joined = is_one_of(parts.at(join), "and or") && !is(before, "not");
-    let is_between = has_or(parts, join, found.end) && (is(before, "and") || is(behind, "and"));
+    let is_between = has_or(parts, join, found.end) && (is(before, "and") || is(after, "and"));
     is_joined && !is_between
 }
 
@@ -176,13 +176,13 @@ fn around(parts: &Parts, at: usize) -> Option<(usize, usize)> {
 
 /// Appends `any` or `every` with the tests in its brackets.
 fn put_inside(out: &mut Vec<u8>, parts: &Parts, found: Outside) -> Result<(), AllocError> {
-    let (first, behind) = (found.open.saturating_add(1), found.close.saturating_add(1));
-    let is_wrapped = is(parts.at(behind), "and") && has_or(parts, first, found.close);
+    let (first, after) = (found.open.saturating_add(1), found.close.saturating_add(1));
+    let is_wrapped = is(parts.at(after), "and") && has_or(parts, first, found.close);
     let (open, close) = if is_wrapped { ("(", ")") } else { ("", "") };
     let pieces = [
         (found.start, first, open),
         (first, found.close, close),
-        (behind, found.end, ")"),
+        (after, found.end, ")"),
     ];
     for (from, to, sign) in pieces {
         put(out, parts, from, to)?;
@@ -205,7 +205,7 @@ fn put(out: &mut Vec<u8>, parts: &Parts, from: usize, to: usize) -> Result<(), A
     )
 }
 
-/// Whether a blank belongs behind the text.
+/// Whether a blank belongs after the text.
 fn is_apart(text: &[u8]) -> bool {
     !text.is_empty() && !text.ends_with(b"(")
 }

@@ -31,7 +31,7 @@ struct Part<'t> {
 /// A text's parts, and which of them is at fault.
 pub(crate) struct Parts<'t> {
     text: &'t [u8],
-    /// The parts, behind an empty one: so nothing is at 0, and nothing behind the last.
+    /// The parts, after an empty one: so nothing is at 0, and nothing after the last.
     parts: Vec<Part<'t>>,
     /// Where the part with the fault is, or the end.
     pub fault: usize,
@@ -186,7 +186,7 @@ impl<'t> Parts<'t> {
         }
     }
 
-    /// Whether the part comes right after the one before it, and apart from the one behind it.
+    /// Whether the part comes right after the one before it, and apart from the one after it.
     pub(crate) fn is_suffix(&self, i: usize) -> bool {
         let (from, to) = self.range(i);
         from == self.range(i.saturating_sub(1)).1 && to != self.range(i.saturating_add(1)).0

@@ -2,7 +2,7 @@
 //!
 //! A table is a text with a rule in each line, its pattern and its hint (`filling`) with `=>`
 //! between them. A pattern is words with blanks between them: what holds at the fault, the parts
-//! before it, `^`, the part with the fault and those behind it. `Seat , ^ suits|majors )` fits
+//! before it, `^`, the part with the fault and those after it. `Seat , ^ suits|majors )` fits
 //! `len(north,majors)` at `majors`. These are the words, for texts T with `|` between them:
 //!
 //! | Word | What it wants |
@@ -18,14 +18,14 @@
 //! | `Number`, `Digits:N` | a number, or one of N digits |
 //! | `Zeros` | a number of more than four digits whose first ones are zeros |
 //! | `Length` | a number, or `x` |
-//! | `Above`, `Follows` | a number above that of two parts before, or the one behind it |
+//! | `Above`, `Follows` | a number above that of two parts before, or the one after it |
 //! | `Relation`, `Seat`, `Suit`, `Word` | what they say |
 //! | `Ranks` | ranks, whether or not one occurs twice |
 //! | `Capital` | a word that has letters that aren't small |
 //! | `CapitalWord`, `CapitalRanks` | one that is known, or ranks, once they are |
 //! | `Measure`, `NoValue` | a word that counts something; neither that nor a number |
 //! | `Value`, `Call` | the last part of a value, or the bracket that ends one |
-//! | `Bracketed`, `Chained` | the last part of a value behind a bracket, or behind a comparison |
+//! | `Bracketed`, `Chained` | the last part of a value after a bracket, or after a comparison |
 //! | `Suffix:S` | the sign S right after a part and apart from the next |
 //! | `Amount`, `Counted` | an amount, as `15-17`, or one with a word that says of what |
 //!
@@ -268,7 +268,7 @@ pub(crate) fn without_zeros(mut digits: &[u8]) -> &[u8] {
     digits
 }
 
-/// Whether the second is the number behind the first.
+/// Whether the second is the number after the first.
 fn is_next(first: &[u8], second: &[u8]) -> bool {
     is_number(second) && number(first).saturating_add(1) == number(second)
 }

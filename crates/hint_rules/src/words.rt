@@ -42,7 +42,7 @@ pub(crate) fn is_measure(part: &[u8]) -> bool {
     )
 }
 
-/// Whether the part is a word behind which a seat is in brackets.
+/// Whether the part is a word after which a seat is in brackets.
 pub(crate) fn is_call(part: &[u8]) -> bool {
     is_measure(part) || is_one_of(part, "balanced shape pattern stops")
 }

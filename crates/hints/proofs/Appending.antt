@@ -11,8 +11,8 @@ pub no_end_between : (text : List ℕ) (start place end : ℕ)
     → ((k : ℕ) → start ≤ k → k < place → slice_index text k ≢ 10)
     → ((k : ℕ) → place ≤ k → k < end → slice_index text k ≢ 10)
     → (k : ℕ) → start ≤ k → k < end → slice_index text k ≢ 10
-no_end_between text start place end before behind k from to is =
-    grind (arith, before k from, behind k)
+no_end_between text start place end before after k from to is =
+    grind (arith, before k from, after k)
 
 -- an excerpt, what is said of what could stand there, and a hint
 pub shows : {T E : Type 0} (r : Result T E) (Expects : List ℕ → Type 0) (text : List ℕ) (at : ℕ) (old mid told new e : List ℕ)

@@ -17,7 +17,7 @@ abbrev pub Begins : Asked → List ℕ → List Token → Type 0
 Begins Condition text T = IsBeginning text T
 Begins Question text T = IsAskBeginning text T
 
--- behind the list some token of the kind may come
+-- after the list some token of the kind may come
 abbrev pub CanStand : Asked → List Token → Kind → Type 0
 CanStand Condition T k = CanFollow T k
 CanStand Question T k = CanFollowAsking T k

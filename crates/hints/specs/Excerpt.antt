@@ -13,19 +13,19 @@ use Rattle.sinks.specs.Shown.{shown}
 abbrev pub ends_line : ℕ → Bool
 ends_line c = c == 10 || c == 13
 
--- the first n bytes are the text without the ends of lines behind it
+-- the first n bytes are the text without the ends of lines after it
 pub record IsWithoutEnds (text : List ℕ) (n : ℕ) : Type 0 where
   pub within : n ≤ length text
   pub ends : (k : ℕ) → n ≤ k → k < length text → ends_line (slice_index text k) ≡ true
   pub some : 0 < n → ends_line (slice_index text (n - 1)) ≡ false
 
--- where the first caret is: at the fault, or behind the last byte of the last line
+-- where the first caret is: at the fault, or after the last byte of the last line
 abbrev pub IsPlace : List ℕ → ℕ → ℕ → Type 0
 IsPlace text at place =
     ((at < length text) × (place ≡ at)) ⊎ ((length text ≤ at) × IsWithoutEnds text place)
 
 -- the line of the text that has the place: from `start` up to `end` there is no line feed, and one
--- is before it and behind it, unless the text begins or ends there
+-- is before it and after it, unless the text begins or ends there
 pub record IsLineAt (text : List ℕ) (place start end : ℕ) : Type 0 where
   pub from : start ≤ place
   pub to : place ≤ end
@@ -46,7 +46,7 @@ abbrev pub begins_with_equals : List ℕ → Bool
 begins_with_equals [] = false
 begins_with_equals (c ∷ s) = c == 61
 
--- `=`, `!`, `<` or `>`: with an equals sign behind it, one comparison of two bytes
+-- `=`, `!`, `<` or `>`: with an equals sign after it, one comparison of two bytes
 abbrev pub begins_comparison : ℕ → Bool
 begins_comparison c = c == 61 || (c == 33 || (c == 60 || c == 62))
 

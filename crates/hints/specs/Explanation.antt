@@ -22,7 +22,7 @@ hint_line bytes = codes "  hint: " ++ map shown bytes ++ codes "\n"
 abbrev pub MayHint : List ℕ → Type 0
 MayHint written = (written ≡ []) ⊎ ((bytes : List ℕ) × (written ≡ hint_line bytes))
 
--- the line of all kinds that may come behind the longest beginning of the text, and no other
+-- the line of all kinds that may come after the longest beginning of the text, and no other
 pub record TellsAll (asked : Asked) (text written : List ℕ) : Type 0 where
   pub beginning : List Token
   pub begins : Begins asked text beginning

@@ -26,7 +26,7 @@ impl Asked {
         }
     }
 
-    /// Whether some token of the kind may come behind the beginning. The only error is `Memory`.
+    /// Whether some token of the kind may come after the beginning. The only error is `Memory`.
     pub(crate) fn allows(self, beginning: &Beginning, kind: Kind) -> Result<bool, CondError>
         ensures allowed { IfOk result (λ b. IsTrue b ↔ CanStand self beginning.now kind) }
         ensures memory { IfErr result (λ e. e ≡ Memory) }

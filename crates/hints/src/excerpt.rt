@@ -22,7 +22,7 @@ const PART: usize = 68;
 const BEFORE: usize = 34;
 
 /// Appends the line of the text that has the byte at `at`, or the last one, and carets below the
-/// token there, or one behind its end.
+/// token there, or one after its end.
 pub(crate) fn put_excerpt(out: &mut String, text: &[u8], at: usize) -> Result<(), AllocError>
     ensures { OnOk result (Appends (IsExcerpt text.now at)
         (string_bytes out.old) (string_bytes out.new)) }
@@ -46,7 +46,7 @@ fn place_of(text: &[u8], at: usize) -> usize
     }
 }
 
-/// The length of the text without the ends of lines behind it.
+/// The length of the text without the ends of lines after it.
 fn len_without_ends(text: &[u8]) -> usize
     ensures { IsWithoutEnds text.now result }
 {

@@ -18,7 +18,7 @@ pub(crate) struct KindSet {
 }
 
 impl KindSet {
-    /// The kinds that may come behind the beginning of what is asked for. The only error is
+    /// The kinds that may come after the beginning of what is asked for. The only error is
     /// `Memory`.
     pub(crate) fn of(asked: Asked, beginning: &Beginning) -> Result<KindSet, CondError>
         ensures allowed { IfOk result (λ set. (kind : AKind)

@@ -296,7 +296,7 @@ count_refused s q style notices f refused due = record {
   nothing_done = plan_refusal s numbers_look f due;
 }
 
--- the status of what is refused behind the plan
+-- the status of what is refused after the plan
 refused_later : (w : Wish) (f : Failure) → (status_of f ≡ 5) ⊎ (status_of f ≡ 3) → HasPlan w → (HasMeaning w → status_of f ≡ 5) → IsStatusOf w (status_of f)
 refused_later w f (inl is) plan memory = out_of_memory w (status_of f) is
 refused_later w f (inr is) plan memory =

@@ -12,7 +12,7 @@ use Rattle.lanes.proofs.Prefixes.{proper_with}
 pub length_part : (s e : ℕ) (xs : List SlotView) → e ≤ length xs → length (drop s (take e xs)) ≡ e - s
 length_part s e xs le = length-drop s (take e xs) ∙ ap (λ n. n - s) (length-take-le e xs le)
 
--- the first verdict of a part, and those behind it
+-- the first verdict of a part, and those after it
 pub part_from : (s e : ℕ) (xs : List SlotView) (v w : SlotView) → s < e → e ≤ length xs → v ≡ get_or xs s w
     → drop s (take e xs) ≡ v ∷ drop (s + 1) (take e xs)
 part_from s e xs v w lt le is =

@@ -11,8 +11,8 @@ or_nothing tricks = unwrap_or tricks nothing_known
 
 -- a text between two others, or nothing at all where there is none
 abbrev pub if_given : List ℕ → List ℕ → List ℕ → List ℕ
-if_given before [] behind = []
-if_given before (x ∷ text) behind = before ++ (x ∷ text) ++ behind
+if_given before [] after = []
+if_given before (x ∷ text) after = before ++ (x ∷ text) ++ after
 
 -- a score and its contract, if there is one
 abbrev pub scored : List ℕ → List ℕ → List ℕ

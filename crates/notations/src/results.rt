@@ -10,27 +10,27 @@ use cards::Seat;
 use tricks::Tricks;
 
 /// Appends the value between two texts, or nothing at all if it is empty.
-pub(crate) fn put_given(text: &mut TextBuffer, before: &[u8], value: &[u8], behind: &[u8])
-    requires { length text.old + length before.now + length value.now + length behind.now
+pub(crate) fn put_given(text: &mut TextBuffer, before: &[u8], value: &[u8], after: &[u8])
+    requires { length text.old + length before.now + length value.now + length after.now
         ≤ CAPACITY }
-    ensures text { text.new ≡ text.old ++ if_given before.now value.now behind.now }
+    ensures text { text.new ≡ text.old ++ if_given before.now value.now after.now }
     ensures most { length text.new
-        ≤ length text.old + length before.now + length value.now + length behind.now }
+        ≤ length text.old + length before.now + length value.now + length after.now }
 {
     if value.is_empty() {
         return;
     }
     text.put(before);
     text.put(value);
-    text.put(behind);
+    text.put(after);
 }
 
 /// Appends par between two texts, or nothing at all if it isn't known.
-pub(crate) fn put_par(text: &mut TextBuffer, before: &[u8], tricks: &Tricks, behind: &[u8])
-    requires { length text.old + length before.now + length behind.now + 32 ≤ CAPACITY }
-    ensures text { text.new ≡ text.old ++ if_given before.now (par_text tricks.now) behind.now }
+pub(crate) fn put_par(text: &mut TextBuffer, before: &[u8], tricks: &Tricks, after: &[u8])
+    requires { length text.old + length before.now + length after.now + 32 ≤ CAPACITY }
+    ensures text { text.new ≡ text.old ++ if_given before.now (par_text tricks.now) after.now }
     ensures most { length text.new
-        ≤ length text.old + length before.now + length behind.now + 32 }
+        ≤ length text.old + length before.now + length after.now + 32 }
 {
     let score = tricks.score();
     if score.is_empty() {
@@ -39,7 +39,7 @@ pub(crate) fn put_par(text: &mut TextBuffer, before: &[u8], tricks: &Tricks, beh
     text.put(before);
     text.put(score);
     put_given(text, b" ", tricks.contract(), b"");
-    text.put(behind);
+    text.put(after);
 }
 
 /// The five digits of the declarer, among the twenty of a board: in notrump, spades, hearts,

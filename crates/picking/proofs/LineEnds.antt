@@ -71,7 +71,7 @@ line_alone xs h =
     ∙ ap (λ l. without_empty_end (l ∷ later_lines xs)) (alone xs h)
     ∙ ap (λ ls. without_empty_end (xs ∷ ls)) (none_later xs h)
 
--- a line goes on behind bytes without LF, but for a CR at their end
+-- a line goes on after bytes without LF, but for a CR at their end
 goes_on : (xs more : List ℕ) → has_lf xs ≡ false → length xs ≤ length (first_line (with_lf (xs ++ more))) + 1
 goes_on [] more h = omega arith
 goes_on (x ∷ []) more h = omega arith

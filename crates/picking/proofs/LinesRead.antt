@@ -200,46 +200,46 @@ pub goes_at : (most : ℕ) (kept kept_more : List ℕ) (table table_more : List 
 goes_at most kept kept_more table table_more text true e takes = takes
 goes_at most kept kept_more table table_more text false e takes = absurd cc
 
-pub from_enough : (most : ℕ) (kept : List ℕ) (table : List TricksView) (before behind : Option (List ℕ)) → length table ≡ most → ReadFrom most kept table before behind → ReadsTricks most table Enough before behind
-from_enough most kept table before behind full p = record {
+pub from_enough : (most : ℕ) (kept : List ℕ) (table : List TricksView) (before after : Option (List ℕ)) → length table ≡ most → ReadFrom most kept table before after → ReadsTricks most table Enough before after
+from_enough most kept table before after full p = record {
   given = p.given;
   consumed = p.consumed;
   all = λ bad. absurd cc;
   tells = enough_read most p.given kept table full p.read;
 }
 
-pub from_refused : (most : ℕ) (kept kept_more : List ℕ) (table table_more : List TricksView) (piece : List ℕ) (before behind further : Option (List ℕ)) → Consumes behind further piece
-    → TakesLines most kept kept_more table table_more piece false → ReadFrom most kept table before behind → ReadsTricks most table_more Refused before further
-from_refused most kept kept_more table table_more piece before behind further more takes p = record {
+pub from_refused : (most : ℕ) (kept kept_more : List ℕ) (table table_more : List TricksView) (piece : List ℕ) (before after further : Option (List ℕ)) → Consumes after further piece
+    → TakesLines most kept kept_more table table_more piece false → ReadFrom most kept table before after → ReadsTricks most table_more Refused before further
+from_refused most kept kept_more table table_more piece before after further more takes p = record {
   given = p.given ++ piece;
-  consumed = Consumes-trans before behind further p.given piece p.consumed more;
+  consumed = Consumes-trans before after further p.given piece p.consumed more;
   all = λ bad. absurd cc;
   tells = ap (λ l. text_tells most (p.given ++ l)) (sym (append-nil piece)) ∙ takes p.given [] p.read;
 }
 
-pub from_taken : (most : ℕ) (kept kept_more : List ℕ) (table table_more : List TricksView) (piece : List ℕ) (before behind further : Option (List ℕ)) → Consumes behind further piece
-    → TakesLines most kept kept_more table table_more piece true → ReadFrom most kept table before behind → ReadFrom most kept_more table_more before further
-from_taken most kept kept_more table table_more piece before behind further more takes p = record {
+pub from_taken : (most : ℕ) (kept kept_more : List ℕ) (table table_more : List TricksView) (piece : List ℕ) (before after further : Option (List ℕ)) → Consumes after further piece
+    → TakesLines most kept kept_more table table_more piece true → ReadFrom most kept table before after → ReadFrom most kept_more table_more before further
+from_taken most kept kept_more table table_more piece before after further more takes p = record {
   given = p.given ++ piece;
-  consumed = Consumes-trans before behind further p.given piece p.consumed more;
+  consumed = Consumes-trans before after further p.given piece p.consumed more;
   read = takes p.given p.read;
 }
 
 -- the input ended, and the last line was read
-pub from_end : {R E : Type 0} (items : R → List TricksView) (end : R → LinesEnd) (most : ℕ) (kept : List ℕ) (table : List TricksView) (count : ℕ) (piece : List ℕ) (before behind further : Option (List ℕ)) (r : Result R E) → count ≡ 0
-    → Consumes behind further (take count piece) → IsAtEnd further
+pub from_end : {R E : Type 0} (items : R → List TricksView) (end : R → LinesEnd) (most : ℕ) (kept : List ℕ) (table : List TricksView) (count : ℕ) (piece : List ℕ) (before after further : Option (List ℕ)) (r : Result R E) → count ≡ 0
+    → Consumes after further (take count piece) → IsAtEnd further
     → IfOk r (λ r. (given : List ℕ) → HasRead most given kept table → Tells most given (items r) (end r))
-    → ReadFrom most kept table before behind → IfOk r (λ r. ReadsTricks most (items r) (end r) before further)
-from_end items end most kept table count piece before behind further (Err e) none more at_end tells p = tt
-from_end items end most kept table count piece before behind further (Ok r) none more at_end tells p = record {
+    → ReadFrom most kept table before after → IfOk r (λ r. ReadsTricks most (items r) (end r) before further)
+from_end items end most kept table count piece before after further (Err e) none more at_end tells p = tt
+from_end items end most kept table count piece before after further (Ok r) none more at_end tells p = record {
   given = p.given;
   consumed = consumed;
   all = λ missing. at_end;
   tells = tells p.given p.read;
 }
   where
-    nothing : Consumes behind further []
+    nothing : Consumes after further []
     nothing = rw none at more
 
     consumed : Consumes before further p.given
-    consumed = rw append-nil at (Consumes-trans before behind further p.given [] p.consumed nothing)
+    consumed = rw append-nil at (Consumes-trans before after further p.given [] p.consumed nothing)

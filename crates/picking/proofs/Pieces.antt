@@ -34,31 +34,31 @@ broken_at layout now_layout has plan s fault before piece whole base now new sam
 pub from_nothing : (layout : Layout) (has : List Board → Type 0) (plan : Planned) (s : ScannerView) (input base now : Option (List ℕ)) → PickedSoFar layout has plan s [] base now → PickedFrom layout has plan s input input base now
 from_nothing layout has plan s input base now p = record { given = []; consumed = Consumes-nil input; so_far = p }
 
-pub from_more : (layout now_layout : Layout) (has has_more : List Board → Type 0) (plan : Planned) (s t : ScannerView) (piece : List ℕ) (before behind further base now new : Option (List ℕ)) → now_layout ≡ layout → Consumes behind further piece
+pub from_more : (layout now_layout : Layout) (has has_more : List Board → Type 0) (plan : Planned) (s t : ScannerView) (piece : List ℕ) (before after further base now new : Option (List ℕ)) → now_layout ≡ layout → Consumes after further piece
     → ((given : List ℕ) (base : Option (List ℕ)) → PickedSoFar now_layout has plan s given base now → PickedSoFar now_layout has_more plan t (given ++ piece) base new)
-    → PickedFrom layout has plan s before behind base now → PickedFrom layout has_more plan t before further base new
-from_more layout now_layout has has_more plan s t piece before behind further base now new same more picks p = record {
+    → PickedFrom layout has plan s before after base now → PickedFrom layout has_more plan t before further base new
+from_more layout now_layout has has_more plan s t piece before after further base now new same more picks p = record {
   given = p.given ++ piece;
-  consumed = Consumes-trans before behind further p.given piece p.consumed more;
+  consumed = Consumes-trans before after further p.given piece p.consumed more;
   so_far = subst (λ l. PickedSoFar l has_more plan t (p.given ++ piece) base new) same
       (picks p.given base (subst (λ l. PickedSoFar l has plan s p.given base now) (sym same) p.so_far));
 }
 
-pub from_broken : (layout now_layout : Layout) (has : List Board → Type 0) (plan : Planned) (s : ScannerView) (fault : PickFault) (piece : List ℕ) (before behind further base now new : Option (List ℕ)) → now_layout ≡ layout → Consumes behind further piece
+pub from_broken : (layout now_layout : Layout) (has : List Board → Type 0) (plan : Planned) (s : ScannerView) (fault : PickFault) (piece : List ℕ) (before after further base now new : Option (List ℕ)) → now_layout ≡ layout → Consumes after further piece
     → ((given rest : List ℕ) (base : Option (List ℕ)) → PickedSoFar now_layout has plan s given base now → PicksOf now_layout plan (given ++ (piece ++ rest)) (Err fault) base new)
-    → PickedFrom layout has plan s before behind base now → Picks layout plan (Err fault) before further base new
-from_broken layout now_layout has plan s fault piece before behind further base now new same more breaks p = record {
+    → PickedFrom layout has plan s before after base now → Picks layout plan (Err fault) before further base new
+from_broken layout now_layout has plan s fault piece before after further base now new same more breaks p = record {
   given = p.given ++ piece;
-  consumed = Consumes-trans before behind further p.given piece p.consumed more;
+  consumed = Consumes-trans before after further p.given piece p.consumed more;
   all = tt;
   written = broken_at layout now_layout has plan s fault p.given (piece ++ []) (p.given ++ piece) base now new same (ap (λ l. p.given ++ l) (append-nil piece)) (breaks p.given [] base) p.so_far;
 }
 
-pub from_failed : (layout : Layout) (has : List Board → Type 0) (plan : Planned) (s : ScannerView) (before behind further base now : Option (List ℕ)) → Keeps behind further → PickedFrom layout has plan s before behind base now
+pub from_failed : (layout : Layout) (has : List Board → Type 0) (plan : Planned) (s : ScannerView) (before after further base now : Option (List ℕ)) → Keeps after further → PickedFrom layout has plan s before after base now
     → Picks layout plan (Err Input) before further base now
-from_failed layout has plan s before behind further base now kept p = record {
+from_failed layout has plan s before after further base now kept p = record {
   given = p.given;
-  consumed = Consumes-kept before behind further p.given p.consumed kept;
+  consumed = Consumes-kept before after further p.given p.consumed kept;
   all = tt;
   written = input_failed layout has plan s p.given base now p.so_far;
 }
@@ -67,22 +67,22 @@ if_ok : {P : Type 0} (r : Result ℕ PickFault) → P → OnOk r P
 if_ok (Ok n) p = p
 if_ok (Err e) p = tt
 
-pub from_end : (layout now_layout : Layout) (has : List Board → Type 0) (plan : Planned) (s : ScannerView) (r : Result ℕ PickFault) (count : ℕ) (piece : List ℕ) (before behind further base now new : Option (List ℕ)) → now_layout ≡ layout
-    → count ≡ 0 → Consumes behind further (take count piece) → IsAtEnd further
+pub from_end : (layout now_layout : Layout) (has : List Board → Type 0) (plan : Planned) (s : ScannerView) (r : Result ℕ PickFault) (count : ℕ) (piece : List ℕ) (before after further base now new : Option (List ℕ)) → now_layout ≡ layout
+    → count ≡ 0 → Consumes after further (take count piece) → IsAtEnd further
     → ((given : List ℕ) (base : Option (List ℕ)) → PickedSoFar now_layout has plan s given base now → PicksOf now_layout plan given r base new)
-    → PickedFrom layout has plan s before behind base now → Picks layout plan r before further base new
-from_end layout now_layout has plan s r count piece before behind further base now new same none more at_end picks p = record {
+    → PickedFrom layout has plan s before after base now → Picks layout plan r before further base new
+from_end layout now_layout has plan s r count piece before after further base now new same none more at_end picks p = record {
   given = p.given;
   consumed = consumed;
   all = if_ok r at_end;
   written = subst (λ l. PicksOf l plan p.given r base new) same (picks p.given base (subst (λ l. PickedSoFar l has plan s p.given base now) (sym same) p.so_far));
 }
   where
-    nothing : Consumes behind further []
+    nothing : Consumes after further []
     nothing = rw none at more
 
     consumed : Consumes before further p.given
-    consumed = rw append-nil at (Consumes-trans before behind further p.given [] p.consumed nothing)
+    consumed = rw append-nil at (Consumes-trans before after further p.given [] p.consumed nothing)
 
 pub from_header : (layout now_layout : Layout) (plan : Planned) (input base new : Option (List ℕ)) → now_layout ≡ layout → AppendsPart base new now_layout.header → Picks layout plan (Err Output) input input base new
 from_header layout now_layout plan input base new same part = record {

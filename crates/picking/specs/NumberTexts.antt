@@ -19,7 +19,7 @@ abbrev pub with_lf : List ℕ → List ℕ
 with_lf [] = []
 with_lf (b ∷ bs) = if b == 13 && starts_with_lf bs then with_lf bs else b ∷ with_lf bs
 
--- what is before the first LF, and the lines behind it: a last one may be without LF
+-- what is before the first LF, and the lines after it: a last one may be without LF
 abbrev pub first_line : List ℕ → List ℕ
 first_line [] = []
 first_line (b ∷ bs) = if b == 10 then [] else b ∷ first_line bs
@@ -95,7 +95,7 @@ refused_after lines fault = record {
 abbrev pub with_number : ℕ → Said → Said
 with_number n later = record { numbers = n ∷ later.numbers; refused = later.refused }
 
--- a line that says this, after this many lines with this many numbers; and what the lines behind it
+-- a line that says this, after this many lines with this many numbers; and what the lines after it
 -- say, by how many numbers come before those
 abbrev pub with_line : ℕ → ℕ → Result (Option ℕ) LineFault → (ℕ → Said) → Said
 with_line lines count (Err fault) later = refused_after lines fault

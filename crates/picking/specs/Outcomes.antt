@@ -33,10 +33,10 @@ PicksOf layout plan given (Err Output) old new =
 -- `given` is what the input gave, to its end at Ok: where it tells its bytes, these are the first
 -- of them
 pub record Picks (layout : Layout) (plan : Planned) (result : Result ℕ PickFault)
-    (before behind old new : Option (List ℕ)) : Type 0 where
+    (before after old new : Option (List ℕ)) : Type 0 where
   pub given : List ℕ
-  pub consumed : Consumes before behind given
-  pub all : OnOk result (IsAtEnd behind)
+  pub consumed : Consumes before after given
+  pub all : OnOk result (IsAtEnd after)
   pub written : PicksOf layout plan given result old new
 
 -- how often the output failed

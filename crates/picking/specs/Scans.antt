@@ -18,7 +18,7 @@ pub record LineView : Type 0 where
   pub value : ℕ
   pub digits : ℕ
 
--- what a line says that goes on with these bytes, after digits and behind a number
+-- what a line says that goes on with these bytes, after digits and after a number
 abbrev pub digits_and : ℕ → ℕ → List ℕ → Result (Option ℕ) LineFault
 digits_and value count ds =
     if not (are_digits ds) || nat_lt 13 (count + length ds) then Err NotANumber

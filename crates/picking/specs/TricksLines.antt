@@ -53,10 +53,10 @@ Tells most given table Missing = text_tells most given ≡ record { table = tabl
 -- `given` is what the input gave: where it tells its bytes, these are the first of them. It may
 -- have given more than the lines that were read
 pub record ReadsTricks (most : ℕ) (table : List TricksView) (end : LinesEnd)
-    (before behind : Option (List ℕ)) : Type 0 where
+    (before after : Option (List ℕ)) : Type 0 where
   pub given : List ℕ
-  pub consumed : Consumes before behind given
-  pub all : end ≡ Missing → IsAtEnd behind
+  pub consumed : Consumes before after given
+  pub all : end ≡ Missing → IsAtEnd after
   pub tells : Tells most given table end
 
 -- the input failed once if that is why no more was read, and else not

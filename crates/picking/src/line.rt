@@ -20,9 +20,9 @@ const END_OF_NUMBERS: u64 = 1 << 40;
 pub enum Part {
     /// Nothing but spaces and tabs.
     Blank,
-    /// Digits behind them.
+    /// Digits after them.
     Digits,
-    /// Spaces and tabs behind those.
+    /// Spaces and tabs after those.
     Over,
 }
 
@@ -60,7 +60,7 @@ impl Line {
         }
     }
 
-    /// Takes a digit behind others, if there may be one more.
+    /// Takes a digit after others, if there may be one more.
     fn take_digit(&mut self, digit: u8) -> bool
         requires { digit < 10 }
         ensures taken { result ≡ nat_lt self.old.digits 13 }

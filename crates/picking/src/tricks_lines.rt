@@ -160,7 +160,7 @@ impl LinesReader {
     }
 }
 
-/// Reads lines that tell of boards' tricks, `most` of them at most. What the input gives behind
+/// Reads lines that tell of boards' tricks, `most` of them at most. What the input gives after
 /// them is not judged.
 ///
 /// A line ends with LF or CR LF; the end of the last may be missing. The input is read by pieces,

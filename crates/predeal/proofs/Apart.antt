@@ -31,10 +31,10 @@ are_hands hands h = λ seat text e. (hand_given (before seat hands) (given_at ha
 -- ---- the first that is refused
 
 found_at : {X : Type 0} (p : X → Bool) (y x : X) (rest : Option X) (b : Bool) → p y ≡ b → (rest ≡ Some x → p x ≡ true) → (if b then Some y else rest) ≡ Some x → p x ≡ true
-found_at p y x rest true h behind e =
+found_at p y x rest true h after e =
     let same : y ≡ x = cc in
     rw (← same) h
-found_at p y x rest false h behind e = behind e
+found_at p y x rest false h after e = after e
 
 found : {X : Type 0} (p : X → Bool) (xs : List X) (x : X) → find p xs ≡ Some x → p x ≡ true
 found p [] x e = absurd cc

@@ -44,12 +44,12 @@ wrote s l notices job table report old new ready h = record {
   boards_are = (rw ready.plan_is at h.boards_are) ∙ ap length (accepted_told (plan_of s l) job.condition (length table));
 }
 
-module _ (s : Search) (l : Look) (form : Form) (table : List TricksView) (before behind old new : Option (List ℕ)) where
+module _ (s : Search) (l : Look) (form : Form) (table : List TricksView) (before after old new : Option (List ℕ)) where
   n : ℕ
   n = length table
 
-  all_written : (end : LinesEnd) (report : Report) → ReadsTricks (most_lines (plan_of s l)) table end before behind → (end ≡ Failed → ⊥) → Wrote s l form table report old new → report.boards ≤ length table
-      → WritesTold s l form before behind old new × Counts l.format (plan_of s l) form report
+  all_written : (end : LinesEnd) (report : Report) → ReadsTricks (most_lines (plan_of s l)) table end before after → (end ≡ Failed → ⊥) → Wrote s l form table report old new → report.boards ≤ length table
+      → WritesTold s l form before after old new × Counts l.format (plan_of s l) form report
   all_written end report read whole h few =
       let each : length (accepted (plan_of s l) form) ≤ length table = few_told (accepted (plan_of s l) form) (length table) (let is = h.boards_are in omega arith) in
       let same : take (length table + 1) (accepted (plan_of s l) form) ≡ accepted (plan_of s l) form = take_all (length table + 1) (accepted (plan_of s l) form) (omega arith) in (
@@ -69,8 +69,8 @@ module _ (s : Search) (l : Look) (form : Form) (table : List TricksView) (before
         },
       )
 
-  line_missing : (end : LinesEnd) (report : Report) → ReadsTricks (most_lines (plan_of s l)) table end before behind → (end ≡ Failed → ⊥) → Wrote s l form table report old new → length table < report.boards
-      → StopsAtLine s l form (record { line = length table + 1; fault = line_fault end }) before behind old new
+  line_missing : (end : LinesEnd) (report : Report) → ReadsTricks (most_lines (plan_of s l)) table end before after → (end ≡ Failed → ⊥) → Wrote s l form table report old new → length table < report.boards
+      → StopsAtLine s l form (record { line = length table + 1; fault = line_fault end }) before after old new
   line_missing end report read whole h many =
       let more : length table < length (accepted (plan_of s l) form) = many_told (accepted (plan_of s l) form) (length table) (let is = h.boards_are in omega arith) in record {
         table = table;
@@ -89,27 +89,27 @@ module _ (s : Search) (l : Look) (form : Form) (table : List TricksView) (before
       by_count true e = rw e (h.text ∙ ap (append_known old) (text_all (layout_told s l table) (plan_of s l) form (length table) (leb-true (length (accepted (plan_of s l) form)) (length table) e)))
       by_count false e = rw e (h.text ∙ ap (append_known old) (text_cut l.format l.show (plan_of s l) form table (leb-false (length (accepted (plan_of s l) form)) (length table) e)))
 
-  input_failed : (report : Report) → ReadsTricks (most_lines (plan_of s l)) table Failed before behind → Wrote s l form table report old new → FailsTold s l form before behind old new
+  input_failed : (report : Report) → ReadsTricks (most_lines (plan_of s l)) table Failed before after → Wrote s l form table report old new → FailsTold s l form before after old new
   input_failed report read h = record { table = table; read = read; stands = inl (text_is report h) }
 
-  input_and_run : (cause : Cause) → ReadsTricks (most_lines (plan_of s l)) table Failed before behind → InterruptsTold s l form table cause old new → FailsTold s l form before behind old new
+  input_and_run : (cause : Cause) → ReadsTricks (most_lines (plan_of s l)) table Failed before after → InterruptsTold s l form table cause old new → FailsTold s l form before after old new
   input_and_run cause read h = record { table = table; read = read; stands = inr (cause, h) }
 
-  by_boards : (end : LinesEnd) (report : Report) → ReadsTricks (most_lines (plan_of s l)) table end before behind → (end ≡ Failed → ⊥) → Wrote s l form table report old new → (b : Bool) → nat_lt (length table) report.boards ≡ b
-      → EndsTricks s l form (if nat_lt (length table) report.boards then Err (Line (record { line = length table + 1; fault = line_fault end })) else Ok report) before behind old new
+  by_boards : (end : LinesEnd) (report : Report) → ReadsTricks (most_lines (plan_of s l)) table end before after → (end ≡ Failed → ⊥) → Wrote s l form table report old new → (b : Bool) → nat_lt (length table) report.boards ≡ b
+      → EndsTricks s l form (if nat_lt (length table) report.boards then Err (Line (record { line = length table + 1; fault = line_fault end })) else Ok report) before after old new
   by_boards end report read whole h true e = rw e (line_missing end report read whole h (ltb-true (length table) report.boards e))
   by_boards end report read whole h false e = rw e (all_written end report read whole h (ltb-false (length table) report.boards e))
 
-  pub run_ended : (end : LinesEnd) (report : Report) → ReadsTricks (most_lines (plan_of s l)) table end before behind → Wrote s l form table report old new → EndsTricks s l form (told_of (Ok report) end (length table)) before behind old new
+  pub run_ended : (end : LinesEnd) (report : Report) → ReadsTricks (most_lines (plan_of s l)) table end before after → Wrote s l form table report old new → EndsTricks s l form (told_of (Ok report) end (length table)) before after old new
   run_ended Failed report read h = input_failed report read h
   run_ended Enough report read h = by_boards Enough report read (λ bad. cc) h (nat_lt (length table) report.boards) refl
   run_ended Refused report read h = by_boards Refused report read (λ bad. cc) h (nat_lt (length table) report.boards) refl
   run_ended Missing report read h = by_boards Missing report read (λ bad. cc) h (nat_lt (length table) report.boards) refl
 
-  broken : (end : LinesEnd) (cause : Cause) → ReadsTricks (most_lines (plan_of s l)) table end before behind → InterruptsTold s l form table cause old new → BreaksTold s l form cause before behind old new
+  broken : (end : LinesEnd) (cause : Cause) → ReadsTricks (most_lines (plan_of s l)) table end before after → InterruptsTold s l form table cause old new → BreaksTold s l form cause before after old new
   broken end cause read h = record { table = table; end = end; read = read; run = h }
 
-  pub run_broken : (end : LinesEnd) (cause : Cause) → ReadsTricks (most_lines (plan_of s l)) table end before behind → InterruptsTold s l form table cause old new → EndsTricks s l form (told_of (Err cause) end (length table)) before behind old new
+  pub run_broken : (end : LinesEnd) (cause : Cause) → ReadsTricks (most_lines (plan_of s l)) table end before after → InterruptsTold s l form table cause old new → EndsTricks s l form (told_of (Err cause) end (length table)) before after old new
   run_broken end Output read h = inl (broken end Output read h, λ bad. absurd cc)
   run_broken Failed Memory read h = input_and_run Memory read h
   run_broken Failed Spawn read h = input_and_run Spawn read h
@@ -128,33 +128,33 @@ module _ (s : Search) (l : Look) (form : Form) (table : List TricksView) (before
   run_broken Refused (Unclosed w) read h = inl (broken Refused (Unclosed w) read h, λ bad. absurd cc)
   run_broken Missing (Unclosed w) read h = inl (broken Missing (Unclosed w) read h, λ bad. absurd cc)
 
-pub told_ends : (s : Search) (l : Look) (notices : Notices) (job : BoardsJob) (table : List TricksView) (end : LinesEnd) (ended : Result Report Cause) (before behind old new : Option (List ℕ)) → IsReadyRun s l notices job
-    → ReadsTricks (most_lines job.plan) table end before behind → EndsTold job table ended old new → EndsTricks s l job.condition (told_of ended end (length table)) before behind old new
-told_ends s l notices job table end (Ok report) before behind old new ready read ends =
-    run_ended s l job.condition table before behind old new end report (rw ready.plan_is at read) (wrote s l notices job table report old new ready ends)
-told_ends s l notices job table end (Err cause) before behind old new ready read ends =
+pub told_ends : (s : Search) (l : Look) (notices : Notices) (job : BoardsJob) (table : List TricksView) (end : LinesEnd) (ended : Result Report Cause) (before after old new : Option (List ℕ)) → IsReadyRun s l notices job
+    → ReadsTricks (most_lines job.plan) table end before after → EndsTold job table ended old new → EndsTricks s l job.condition (told_of ended end (length table)) before after old new
+told_ends s l notices job table end (Ok report) before after old new ready read ends =
+    run_ended s l job.condition table before after old new end report (rw ready.plan_is at read) (wrote s l notices job table report old new ready ends)
+told_ends s l notices job table end (Err cause) before after old new ready read ends =
     let run = rw (ready.plan_is, ready.format_is, ready.show_is, ready.workers_are) at ends in
-    run_broken s l job.condition table before behind old new end cause (rw ready.plan_is at read) (record { workers = run.0; are_workers = run.1; run = run.2 })
+    run_broken s l job.condition table before after old new end cause (rw ready.plan_is at read) (record { workers = run.0; are_workers = run.1; run = run.2 })
 
 -- what stands before a fault of the input couldn't be passed on
-pub flush_ends : (s : Search) (l : Look) (form : Form) (r : Result Report Failure) (before behind old new : Option (List ℕ)) → status_in r ≡ 7 → EndsTricks s l form r before behind old new
-    → EndsTricks s l form (Err (Interrupted Output)) before behind old new
-flush_ends s l form (Ok report) before behind old new e h = absurd (omega arith)
-flush_ends s l form (Err (Line line)) before behind old new e h = inr (refl, inl (line, h))
-flush_ends s l form (Err Input) before behind old new e h = inr (refl, inr h)
-flush_ends s l form (Err EndOfInput) before behind old new e h = absurd h
-flush_ends s l form (Err (CommandLine text)) before behind old new e h = absurd h
-flush_ends s l form (Err (Plan error)) before behind old new e h = absurd h
-flush_ends s l form (Err (Label name)) before behind old new e h = absurd h
-flush_ends s l form (Err (Hand seat)) before behind old new e h = absurd h
-flush_ends s l form (Err (Condition error)) before behind old new e h = absurd h
-flush_ends s l form (Err (Question name error)) before behind old new e h = absurd h
-flush_ends s l form (Err Cells) before behind old new e h = absurd h
-flush_ends s l form (Err (Interrupted Memory)) before behind old new e h = absurd (omega arith)
-flush_ends s l form (Err (Interrupted Output)) before behind old new e h = h
-flush_ends s l form (Err (Interrupted Spawn)) before behind old new e h = absurd (omega arith)
-flush_ends s l form (Err (Interrupted (Stopped w))) before behind old new e h = absurd (omega arith)
-flush_ends s l form (Err (Interrupted (Unclosed w))) before behind old new e h = absurd (omega arith)
+pub flush_ends : (s : Search) (l : Look) (form : Form) (r : Result Report Failure) (before after old new : Option (List ℕ)) → status_in r ≡ 7 → EndsTricks s l form r before after old new
+    → EndsTricks s l form (Err (Interrupted Output)) before after old new
+flush_ends s l form (Ok report) before after old new e h = absurd (omega arith)
+flush_ends s l form (Err (Line line)) before after old new e h = inr (refl, inl (line, h))
+flush_ends s l form (Err Input) before after old new e h = inr (refl, inr h)
+flush_ends s l form (Err EndOfInput) before after old new e h = absurd h
+flush_ends s l form (Err (CommandLine text)) before after old new e h = absurd h
+flush_ends s l form (Err (Plan error)) before after old new e h = absurd h
+flush_ends s l form (Err (Label name)) before after old new e h = absurd h
+flush_ends s l form (Err (Hand seat)) before after old new e h = absurd h
+flush_ends s l form (Err (Condition error)) before after old new e h = absurd h
+flush_ends s l form (Err (Question name error)) before after old new e h = absurd h
+flush_ends s l form (Err Cells) before after old new e h = absurd h
+flush_ends s l form (Err (Interrupted Memory)) before after old new e h = absurd (omega arith)
+flush_ends s l form (Err (Interrupted Output)) before after old new e h = h
+flush_ends s l form (Err (Interrupted Spawn)) before after old new e h = absurd (omega arith)
+flush_ends s l form (Err (Interrupted (Stopped w))) before after old new e h = absurd (omega arith)
+flush_ends s l form (Err (Interrupted (Unclosed w))) before after old new e h = absurd (omega arith)
 
 -- ---- faults
 
@@ -272,14 +272,14 @@ no_fault (Interrupted (Unclosed w)) e = refl
 
 -- ---- of a job
 
-pub ready_ends : (job : BoardsJob) (table : List TricksView) (end : LinesEnd) (ended : Result Report Cause) (n : ℕ) (before behind old new : Option (List ℕ)) → n ≡ length table
-    → ReadsTricks (most_lines job.plan) table end before behind → EndsTold job table ended old new → EndsReady job (told_of ended end n) before behind old new
-ready_ends job table end ended n before behind old new count read ends = record {
+pub ready_ends : (job : BoardsJob) (table : List TricksView) (end : LinesEnd) (ended : Result Report Cause) (n : ℕ) (before after old new : Option (List ℕ)) → n ≡ length table
+    → ReadsTricks (most_lines job.plan) table end before after → EndsTold job table ended old new → EndsReady job (told_of ended end n) before after old new
+ready_ends job table end ended n before after old new count read ends = record {
   ends = λ s l notices ready.
-      subst (λ (k : ℕ). EndsTricks s l job.condition (told_of ended end k) before behind old new) (sym count) (told_ends s l notices job table end ended before behind old new ready read ends);
+      subst (λ (k : ℕ). EndsTricks s l job.condition (told_of ended end k) before after old new) (sym count) (told_ends s l notices job table end ended before after old new ready read ends);
 }
 
-pub ready_flush : (job : BoardsJob) (f : Failure) (before behind old new : Option (List ℕ)) → status_of f ≡ 7 → EndsReady job (Err f) before behind old new → EndsReady job (Err (Interrupted Output)) before behind old new
-ready_flush job f before behind old new e h = record {
-  ends = λ s l notices ready. flush_ends s l job.condition (Err f) before behind old new e (h.ends s l notices ready);
+pub ready_flush : (job : BoardsJob) (f : Failure) (before after old new : Option (List ℕ)) → status_of f ≡ 7 → EndsReady job (Err f) before after old new → EndsReady job (Err (Interrupted Output)) before after old new
+ready_flush job f before after old new e h = record {
+  ends = λ s l notices ready. flush_ends s l job.condition (Err f) before after old new e (h.ends s l notices ready);
 }

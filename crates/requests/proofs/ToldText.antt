@@ -98,7 +98,7 @@ text_all layout plan form n few =
 no_line : (first number : ℕ) (table : List TricksView) → first + length table ≤ number → line_for first table number ≡ None
 no_line first number table beyond = rw (le-ltb number first (omega arith)) (slice_get_past table (number - first) (omega arith))
 
--- of a board beyond the table nothing is written, and behind it no footer
+-- of a board beyond the table nothing is written, and after it no footer
 board_beyond : (format : Format) (show : Show) (heading : HeadingView) (first : ℕ) (table : List TricksView) (board : Board) → first + length table ≤ board.number
     → (layout_with format show heading first table).board board ≡ []
 board_beyond format show heading first table board beyond = ap (λ (t : Option TricksView). board_with format show heading t board) (no_line first board.number table beyond)

@@ -46,56 +46,56 @@ pub record InterruptsCount (s : Search) (questions : Questions) (style : Style) 
       (record (plan_of s numbers_look) { workers = workers }) form cause old new
 
 -- picking ended with this fault
-abbrev pub EndsPick : Search → Look → PickFault → (before behind old new : Option (List ℕ)) → Type 0
-EndsPick s l fault before behind old new =
-    Picks (layout_in s l) (plan_of s l) (Err fault) before behind old new
+abbrev pub EndsPick : Search → Look → PickFault → (before after old new : Option (List ℕ)) → Type 0
+EndsPick s l fault before after old new =
+    Picks (layout_in s l) (plan_of s l) (Err fault) before after old new
 
 -- a `make` with tricks was ended by this fault of its input
-abbrev pub EndsTold : Search → Look → PickFault → (before behind old new : Option (List ℕ)) → Type 0
-EndsTold s l (picks.Refused line) before behind old new =
-    (form : Form) × Means s.where_text form × StopsAtLine s l form line before behind old new
-EndsTold s l picks.Input before behind old new =
-    (form : Form) × Means s.where_text form × FailsTold s l form before behind old new
-EndsTold s l picks.Output before behind old new = ⊥
+abbrev pub EndsTold : Search → Look → PickFault → (before after old new : Option (List ℕ)) → Type 0
+EndsTold s l (picks.Refused line) before after old new =
+    (form : Form) × Means s.where_text form × StopsAtLine s l form line before after old new
+EndsTold s l picks.Input before after old new =
+    (form : Form) × Means s.where_text form × FailsTold s l form before after old new
+EndsTold s l picks.Output before after old new = ⊥
 
 -- a wish was broken off for this cause: of a text that needs no run a proper prefix is written. The
 -- output of a `pick` or of a `make` with tricks may also fail where it passes on what is before
 -- a fault of its input
-abbrev pub BreaksOff : Wish → Cause → (before behind old new : Option (List ℕ)) → Type 0
-BreaksOff (stream seed n) cause before behind old new = AppendsPart old new (lines seed n)
-BreaksOff conditions cause before behind old new = AppendsPart old new language_page
-BreaksOff (make s l notices) cause before behind old new = InterruptsMake s l cause old new
-BreaksOff (make_with_tricks s l notices) cause before behind old new =
-    ((form : Form) × Means s.where_text form × BreaksTold s l form cause before behind old new)
-    ⊎ ((fault : PickFault) × EndsTold s l fault before behind old new)
-BreaksOff draw cause before behind old new =
+abbrev pub BreaksOff : Wish → Cause → (before after old new : Option (List ℕ)) → Type 0
+BreaksOff (stream seed n) cause before after old new = AppendsPart old new (lines seed n)
+BreaksOff conditions cause before after old new = AppendsPart old new language_page
+BreaksOff (make s l notices) cause before after old new = InterruptsMake s l cause old new
+BreaksOff (make_with_tricks s l notices) cause before after old new =
+    ((form : Form) × Means s.where_text form × BreaksTold s l form cause before after old new)
+    ⊎ ((fault : PickFault) × EndsTold s l fault before after old new)
+BreaksOff draw cause before after old new =
     (new ≡ old)
-    ⊎ ((bytes : List ℕ) × IsDrawn bytes before behind × AppendsPart old new (seed_text bytes))
-BreaksOff (count s questions style notices) cause before behind old new =
+    ⊎ ((bytes : List ℕ) × IsDrawn bytes before after × AppendsPart old new (seed_text bytes))
+BreaksOff (count s questions style notices) cause before after old new =
     InterruptsCount s questions style cause old new
-BreaksOff (pick seed hands l hints) cause before behind old new =
-    (fault : PickFault) × EndsPick (no_search seed hands) l fault before behind old new
+BreaksOff (pick seed hands l hints) cause before after old new =
+    (fault : PickFault) × EndsPick (no_search seed hands) l fault before after old new
 
 -- a wish was ended by this fault of its input; of a `draw` nothing is written then
-abbrev pub EndsFor : Wish → PickFault → (before behind old new : Option (List ℕ)) → Type 0
-EndsFor (pick seed hands l hints) fault before behind old new =
-    EndsPick (no_search seed hands) l fault before behind old new
-EndsFor (make_with_tricks s l notices) fault before behind old new =
-    EndsTold s l fault before behind old new
-EndsFor draw picks.Input before behind old new = new ≡ old
-EndsFor w fault before behind old new = ⊥
+abbrev pub EndsFor : Wish → PickFault → (before after old new : Option (List ℕ)) → Type 0
+EndsFor (pick seed hands l hints) fault before after old new =
+    EndsPick (no_search seed hands) l fault before after old new
+EndsFor (make_with_tricks s l notices) fault before after old new =
+    EndsTold s l fault before after old new
+EndsFor draw picks.Input before after old new = new ≡ old
+EndsFor w fault before after old new = ⊥
 
--- what a wish leaves that fails so: nothing, unless it was broken off. `before` and `behind` are
--- what the input had to give before and behind it; it has ended too soon for a seed if it had fewer
+-- what a wish leaves that fails so: nothing, unless it was broken off. `before` and `after` are
+-- what the input had to give before and after it; it has ended too soon for a seed if it had fewer
 -- than four bytes
-abbrev pub LeavesFrom : Wish → Failure → (before behind old new : Option (List ℕ)) → Type 0
-LeavesFrom w (Interrupted Memory) before behind old new = new ≡ old
-LeavesFrom w (Interrupted cause) before behind old new = BreaksOff w cause before behind old new
-LeavesFrom w (Line line) before behind old new =
-    EndsFor w (picks.Refused line) before behind old new
-LeavesFrom w Input before behind old new = EndsFor w picks.Input before behind old new
-LeavesFrom w EndOfInput before behind old new = (new ≡ old) × EndsBefore 4 before behind
-LeavesFrom w failure before behind old new = new ≡ old
+abbrev pub LeavesFrom : Wish → Failure → (before after old new : Option (List ℕ)) → Type 0
+LeavesFrom w (Interrupted Memory) before after old new = new ≡ old
+LeavesFrom w (Interrupted cause) before after old new = BreaksOff w cause before after old new
+LeavesFrom w (Line line) before after old new =
+    EndsFor w (picks.Refused line) before after old new
+LeavesFrom w Input before after old new = EndsFor w picks.Input before after old new
+LeavesFrom w EndOfInput before after old new = (new ≡ old) × EndsBefore 4 before after
+LeavesFrom w failure before after old new = new ≡ old
 
 -- the same without an input
 abbrev pub Leaves : Wish → Failure → (old new : Option (List ℕ)) → Type 0

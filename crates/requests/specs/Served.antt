@@ -10,12 +10,12 @@ use Rattle.requests.specs.Reported.{ReportsFor}
 use Rattle.requests.specs.Wishes.{AppendsFrom}
 use Rattle.requests.specs.declared.report.Report.{Report}
 
--- a wish was done, or failed: `before` and `behind` are what the input had to give before and
--- behind it, `old` and `new` what the output had taken
+-- a wish was done, or failed: `before` and `after` are what the input had to give before and
+-- after it, `old` and `new` what the output had taken
 pub record Serves (w : Wish) (r : Result (Option Report) Failure)
-    (before behind old new : Option (List ℕ)) : Type 0 where
+    (before after old new : Option (List ℕ)) : Type 0 where
   -- all that is asked for was written, on Ok, and its report made, if one was asked for
-  pub text : OnOk r (AppendsFrom w before behind old new)
+  pub text : OnOk r (AppendsFrom w before after old new)
   pub report : IfOk r (ReportsFor w)
   -- the status says what of it was accepted, and what refused
   pub status : IsStatusOf w (status_in r)
@@ -23,6 +23,6 @@ pub record Serves (w : Wish) (r : Result (Option Report) Failure)
   pub untouched : IfErr r (λ e. is_untouched e ≡ true → new ≡ old)
   -- what a failure leaves: of a text without a run a proper prefix, of a run what it took, of a
   -- `pick` and of boards with tricks those up to the fault
-  pub stands : IfErr r (λ e. LeavesFrom w e before behind old new)
+  pub stands : IfErr r (λ e. LeavesFrom w e before after old new)
   -- the failure that is told is the first that is due
   pub due : IfErr r (IsDueFor w)

@@ -23,34 +23,34 @@ abbrev pub language_page : List ℕ
 language_page = flat_map (λ part. part.now) LANGUAGE
 
 -- these are the next four bytes of the input
-pub record IsDrawn (bytes : List ℕ) (before behind : Option (List ℕ)) : Type 0 where
+pub record IsDrawn (bytes : List ℕ) (before after : Option (List ℕ)) : Type 0 where
   pub four : length bytes ≡ 4
-  pub consumed : Consumes before behind bytes
+  pub consumed : Consumes before after bytes
 
 -- the number that they are, the lowest first, and LF
 abbrev pub seed_text : List ℕ → List ℕ
 seed_text bytes = decimal (from_le_bytes w32 bytes) ++ (10 ∷ [])
 
--- what a wish asks for was appended; `before` and `behind` are what the input had to give before
--- and behind it
-abbrev pub AppendsFrom : Wish → (before behind old new : Option (List ℕ)) → Type 0
-AppendsFrom (stream seed n) before behind old new = AppendsAll old new (lines seed n)
-AppendsFrom conditions before behind old new = AppendsAll old new language_page
-AppendsFrom (make s l notices) before behind old new =
+-- what a wish asks for was appended; `before` and `after` are what the input had to give before
+-- and after it
+abbrev pub AppendsFrom : Wish → (before after old new : Option (List ℕ)) → Type 0
+AppendsFrom (stream seed n) before after old new = AppendsAll old new (lines seed n)
+AppendsFrom conditions before after old new = AppendsAll old new language_page
+AppendsFrom (make s l notices) before after old new =
     (form : Form) × Means s.where_text form
     × AppendsAll old new (text_showing l.format l.show (plan_of s l) form)
-AppendsFrom (make_with_tricks s l notices) before behind old new =
-    (form : Form) × Means s.where_text form × WritesTold s l form before behind old new
-AppendsFrom draw before behind old new =
-    (bytes : List ℕ) × IsDrawn bytes before behind × AppendsAll old new (seed_text bytes)
-AppendsFrom (count s questions style notices) before behind old new =
+AppendsFrom (make_with_tricks s l notices) before after old new =
+    (form : Form) × Means s.where_text form × WritesTold s l form before after old new
+AppendsFrom draw before after old new =
+    (bytes : List ℕ) × IsDrawn bytes before after × AppendsAll old new (seed_text bytes)
+AppendsFrom (count s questions style notices) before after old new =
     (form : Form) × Means s.where_text form
     × ((subject : Subject) × IsAsked questions subject
     × AppendsAll old new (table_by style subject (plan_of s numbers_look) form))
-AppendsFrom (pick seed hands l hints) before behind old new =
+AppendsFrom (pick seed hands l hints) before after old new =
     (boards : ℕ)
     × Picks (layout_in (no_search seed hands) l) (plan_of (no_search seed hands) l) (Ok boards)
-    before behind old new
+    before after old new
 
 -- the same without an input
 abbrev pub Appends : Wish → (old new : Option (List ℕ)) → Type 0

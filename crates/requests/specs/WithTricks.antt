@@ -37,10 +37,10 @@ text_told layout plan form lines =
 
 -- each board has a line, and all was written
 pub record WritesTold (s : Search) (l : Look) (form : Form)
-    (before behind old new : Option (List ℕ)) : Type 0 where
+    (before after old new : Option (List ℕ)) : Type 0 where
   pub table : List TricksView
   pub end : LinesEnd
-  pub read : ReadsTricks (most_lines (plan_of s l)) table end before behind
+  pub read : ReadsTricks (most_lines (plan_of s l)) table end before after
   pub whole : end ≡ Failed → ⊥
   pub each : length (accepted (plan_of s l) form) ≤ length table
   pub text : AppendsAll old new (text_in (layout_told s l table) (plan_of s l) form)
@@ -54,10 +54,10 @@ line_fault Failed = fault.Missing
 
 -- there is a board more than lines: those that have one were written
 pub record StopsAtLine (s : Search) (l : Look) (form : Form) (line : RefusedLine)
-    (before behind old new : Option (List ℕ)) : Type 0 where
+    (before after old new : Option (List ℕ)) : Type 0 where
   pub table : List TricksView
   pub end : LinesEnd
-  pub read : ReadsTricks (most_lines (plan_of s l)) table end before behind
+  pub read : ReadsTricks (most_lines (plan_of s l)) table end before after
   pub whole : end ≡ Failed → ⊥
   pub line_is : line ≡ record { line = length table + 1; fault = line_fault end }
   pub more : length table < length (accepted (plan_of s l) form)
@@ -80,18 +80,18 @@ pub record InterruptsTold (s : Search) (l : Look) (form : Form) (table : List Tr
 
 -- the input failed: the boards whose lines were read before were written, unless their run was
 -- interrupted too
-pub record FailsTold (s : Search) (l : Look) (form : Form) (before behind old new : Option (List ℕ))
+pub record FailsTold (s : Search) (l : Look) (form : Form) (before after old new : Option (List ℕ))
     : Type 0 where
   pub table : List TricksView
-  pub read : ReadsTricks (most_lines (plan_of s l)) table Failed before behind
+  pub read : ReadsTricks (most_lines (plan_of s l)) table Failed before after
   pub stands : AppendsAll old new
       (text_told (layout_told s l table) (plan_of s l) form (length table))
       ⊎ ((cause : Cause) × InterruptsTold s l form table cause old new)
 
 -- the lines were read, and the run was interrupted
 pub record BreaksTold (s : Search) (l : Look) (form : Form) (cause : Cause)
-    (before behind old new : Option (List ℕ)) : Type 0 where
+    (before after old new : Option (List ℕ)) : Type 0 where
   pub table : List TricksView
   pub end : LinesEnd
-  pub read : ReadsTricks (most_lines (plan_of s l)) table end before behind
+  pub read : ReadsTricks (most_lines (plan_of s l)) table end before after
   pub run : InterruptsTold s l form table cause old new

@@ -131,10 +131,10 @@ fn put_language<O: Sink>(out: &mut O) -> Result<(), SinkFault>
     ensures bytes { AppendsOrBreaksOff (O.bytes out.old) (O.bytes out.new) result language_page }
     ensures faults { CountsFault (O.faults out.old) (O.faults out.new) result }
 {
-    let [before, measures, behind] = LANGUAGE;
+    let [before, measures, after] = LANGUAGE;
     put_all(out, before.as_bytes())?;
     put_all(out, measures.as_bytes())?;
-    put_all(out, behind.as_bytes())
+    put_all(out, after.as_bytes())
 }
 
 /// Does the job, and returns its report if one is asked for. It may wait for its workers, and for

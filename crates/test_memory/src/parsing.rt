@@ -1,4 +1,4 @@
-//! Conditions: a refused growth is `Memory`, and leaves nothing behind.
+//! Conditions: a refused growth is `Memory`, and leaves nothing after.
 
 use crate::support::{equals, holds};
 use cards::{Deal, Places};

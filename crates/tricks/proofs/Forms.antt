@@ -16,16 +16,16 @@ no_par a b p (c ∷ (d ∷ more)) h = refl
 pub no_contract : (a b p c : List ℕ) → is_contract c ≡ false → None ≡ told_by (a ∷ b ∷ p ∷ c ∷ [])
 no_contract a b p c h = rw (and_right (are_with_par a b p) (is_contract c) h) refl
 
--- nothing stands behind a contract
+-- nothing stands after a contract
 too_many : (a b p c : List ℕ) (more : List (List ℕ)) → 0 < length more → None ≡ told_by (a ∷ b ∷ p ∷ c ∷ more)
 too_many a b p c [] h = absurd (omega arith)
 too_many a b p c (d ∷ more) h = refl
 
-pub five_words : (a b p c : List ℕ) (behind : Option (Bor (List ℕ))) → is_some behind ≡ true → None ≡ told_by (a ∷ b ∷ p ∷ c ∷ words_behind (option_map (λ s. s.now) behind))
+pub five_words : (a b p c : List ℕ) (after : Option (Bor (List ℕ))) → is_some after ≡ true → None ≡ told_by (a ∷ b ∷ p ∷ c ∷ words_behind (option_map (λ s. s.now) after))
 five_words a b p c None h = absurd cc
 five_words a b p c (Some s) h =
     let some = length-slice_split (λ b. b == 32) s.now in too_many a b p c (words_of s.now) (omega (arith, some))
 
-pub four_words : (behind : Option (Bor (List ℕ))) → is_some behind ≡ false → words_behind (option_map (λ s. s.now) behind) ≡ []
+pub four_words : (after : Option (Bor (List ℕ))) → is_some after ≡ false → words_behind (option_map (λ s. s.now) after) ≡ []
 four_words None h = refl
 four_words (Some s) h = absurd cc

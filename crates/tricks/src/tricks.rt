@@ -42,23 +42,23 @@ impl Tricks {
     pub fn read(line: &[u8]) -> Option<Tricks>
         ensures { result ≡ told line.now }
     {
-        let (tricks, behind) = split_word(line);
-        let Some(behind) = behind else {
+        let (tricks, after) = split_word(line);
+        let Some(after) = after else {
             return Tricks::alone(tricks);
         };
-        let (side, behind) = split_word(behind);
-        let Some(behind) = behind else {
+        let (side, after) = split_word(after);
+        let Some(after) = after else {
             return None;
         };
-        let (points, behind) = split_word(behind);
+        let (points, after) = split_word(after);
         if !are_with_par(tricks, side, points) {
             return None;
         }
-        let Some(behind) = behind else {
+        let Some(after) = after else {
             return Some(Tricks::with_par(tricks, side, points, &[]));
         };
-        let (contract, behind) = split_word(behind);
-        if behind.is_some() {
+        let (contract, after) = split_word(after);
+        if after.is_some() {
             return None;
         }
         if !is_contract(contract) {

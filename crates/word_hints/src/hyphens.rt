@@ -20,7 +20,7 @@ fn hint_of(alloc: Global, word: &str) -> Option<String> {
     joined(alloc, &["write hyphens, and not a dash: ", hyphens, name])
 }
 
-/// What helps with a name behind one hyphen.
+/// What helps with a name after one hyphen.
 fn of_hyphen(alloc: Global, name: &str) -> Option<String> {
     if name.starts_with('-') {
         return None;

@@ -56,7 +56,7 @@ fn hint_for(alloc: Global, words: &[String], refused: Refused<'_>) -> Option<Str
     }
 }
 
-/// The texts, one behind the other.
+/// The texts, one after the other.
 fn joined(alloc: Global, texts: &[&str]) -> Option<String> {
     let mut out = String::new(alloc);
     for text in texts {
@@ -66,8 +66,8 @@ fn joined(alloc: Global, texts: &[&str]) -> Option<String> {
 }
 
 /// What to write: an option with its value, between these texts.
-fn valued(alloc: Global, before: &str, option: &str, value: &str, behind: &str) -> Option<String> {
-    joined(alloc, &[before, option, " ", value, behind])
+fn valued(alloc: Global, before: &str, option: &str, value: &str, after: &str) -> Option<String> {
+    joined(alloc, &[before, option, " ", value, after])
 }
 
 /// The text, if there is one.
@@ -93,7 +93,7 @@ fn of_argument(alloc: Global, words: &[String], command: &str, word: &str) -> Op
     joined(alloc, &[instead::of_word(word)])
 }
 
-/// Whether the word is behind the flag `--tricks`, as if that took a file.
+/// Whether the word is after the flag `--tricks`, as if that took a file.
 fn is_behind_tricks(words: &[String], word: &str) -> bool {
     let mut follows = false;
     for given in words {

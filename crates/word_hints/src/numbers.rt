@@ -62,7 +62,7 @@ fn whole(alloc: Global, option: &str) -> Option<String> {
     valued(alloc, before, option, sample, draw)
 }
 
-/// What is behind the sign of a number, which is taken for an option with that.
+/// What is after the sign of a number, which is taken for an option with that.
 pub(crate) fn behind_sign(word: &str) -> Option<&str> {
     let number = word.strip_prefix('-')?;
     matches!(number.as_bytes(), [b'0'..=b'9', ..]).then_some(number)
@@ -70,12 +70,12 @@ pub(crate) fn behind_sign(word: &str) -> Option<&str> {
 
 /// What helps with a number that is too large.
 fn too_large(alloc: Global, option: &str, most: u64) -> Option<String> {
-    let (what, behind) = if option == "--seed" {
+    let (what, after) = if option == "--seed" {
         ("a seed", "; a smaller one is as good")
     } else {
         (option, "")
     };
-    format!(in alloc; "{what} is at most {most}{behind}").ok()
+    format!(in alloc; "{what} is at most {most}{after}").ok()
 }
 
 /// The digits of the word.
@@ -115,7 +115,7 @@ fn number_of(word: &str, digits: &str) -> Option<u64> {
     times(whole, 1)
 }
 
-/// The number with so many zeros behind it.
+/// The number with so many zeros after it.
 fn times_power(number: &str, power: &str) -> Option<u64> {
     times(number, 10u64.checked_pow(power.parse().ok()?)?)
 }

@@ -29,8 +29,8 @@ pub(crate) struct Refused<'a> {
     pub(crate) option: &'a str,
 }
 
-/// How clap's text begins, what is behind the word that it names there, and what is refused. Where
-/// an option is shown behind that, it is as in `--seed <S>'`.
+/// How clap's text begins, what is after the word that it names there, and what is refused. Where
+/// an option is shown after that, it is as in `--seed <S>'`.
 static FORMS: [(&str, &str, What); 8] = [
     ("unexpected argument '", "' found", What::Argument),
     ("unrecognized subcommand '", "'\n", What::Command),
@@ -57,7 +57,7 @@ pub(crate) fn read(refusal: &str) -> Option<Refused<'_>> {
     None
 }
 
-/// What is behind the beginning, if the text has it. A missing command is said later in a text.
+/// What is after the beginning, if the text has it. A missing command is said later in a text.
 fn rest_of<'a>(text: &'a str, beginning: &str, what: What) -> Option<&'a str> {
     if what == What::NoCommand {
         return text.contains(beginning).then_some("");
@@ -65,7 +65,7 @@ fn rest_of<'a>(text: &'a str, beginning: &str, what: What) -> Option<&'a str> {
     text.strip_prefix(beginning)
 }
 
-/// What is refused, with the word up to its end, and the option behind that.
+/// What is refused, with the word up to its end, and the option after that.
 fn naming<'a>(what: What, rest: &'a str, end: &str) -> Option<Refused<'a>> {
     let (word, shown) = rest.split_once(end)?;
     let (option, _) = shown.split_once(['\'', ' ']).unwrap_or((shown, ""));

@@ -175,7 +175,7 @@ seat_and_items S =
     after (open_seat S) (λ q S. after (comma S) (λ _ S.
     after (items S) (λ n S. closing (q, n) S)))
 
--- what is to be read: a rule of the grammar, or the rest of a chain behind its first part
+-- what is to be read: a rule of the grammar, or the rest of a chain after its first part
 pub data Goal : Type 0 where
   a_cond : Goal
   a_both : Goal
@@ -223,7 +223,7 @@ test_by r E (Pattern ∷ S) = after (seat_and_items S) (λ p R. got (patterned p
 test_by r E (Stops ∷ S) = after (seat_and_suit E S) (λ p R. got (stops p.0 p.1) R)
 test_by r E S = comparing_by r E S
 
--- a tree behind those of the suits before it
+-- a tree after those of the suits before it
 abbrev pub behind : AQuantifier → Option Form → Form → Form
 behind k None b = b
 behind k (Some a) b = joined k a b

@@ -1,4 +1,4 @@
-//! What is in the brackets behind a word: seat, suit, ranks.
+//! What is in the brackets after a word: seat, suit, ranks.
 
 pub(crate) const RULES: &str = "
     Can:Open Cannot:Not ^ Seat => write \"%b1(%n0%e1\"

@@ -1,4 +1,4 @@
-//! `15+`, `15-`, one number behind `in`, `not in`, and a difference.
+//! `15+`, `15-`, one number after `in`, `not in`, and a difference.
 
 pub(crate) const RULES: &str = "
     in|==|>=|> Number + ^ NoValue => for %b2 or more write: %v4>=%b2

@@ -27,7 +27,7 @@ pub record HasRead (most : ℕ) (given kept : List ℕ) (table : List TricksView
       ≡ after_table table (lines_tell (most - length table) [])
   pub few : length table ≤ most
 
--- further bytes were taken; or the line within them isn't one of tricks, whatever comes behind
+-- further bytes were taken; or the line within them isn't one of tricks, whatever comes after
 abbrev pub TakesLines : ℕ → (kept kept_more : List ℕ) → (table table_more : List TricksView)
     → List ℕ → Bool → Type 0
 TakesLines most kept kept_more table table_more text true =
@@ -39,7 +39,7 @@ TakesLines most kept kept_more table table_more text false =
 
 -- the input gave some bytes, of which so much was read
 pub record ReadFrom (most : ℕ) (kept : List ℕ) (table : List TricksView)
-    (before behind : Option (List ℕ)) : Type 0 where
+    (before after : Option (List ℕ)) : Type 0 where
   pub given : List ℕ
-  pub consumed : Consumes before behind given
+  pub consumed : Consumes before after given
   pub read : HasRead most given kept table

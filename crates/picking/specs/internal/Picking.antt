@@ -31,9 +31,9 @@ pub record PickedAll (layout : Layout) (has_printed : List Board → Type 0) (pl
 
 -- the input gave some bytes, and the boards of their numbers were written
 pub record PickedFrom (layout : Layout) (has_printed : List Board → Type 0) (plan : Planned)
-    (s : ScannerView) (before behind base now : Option (List ℕ)) : Type 0 where
+    (s : ScannerView) (before after base now : Option (List ℕ)) : Type 0 where
   pub given : List ℕ
-  pub consumed : Consumes before behind given
+  pub consumed : Consumes before after given
   pub so_far : PickedSoFar layout has_printed plan s given base now
 
 -- further bytes were taken, and the boards of the lines that they end written
@@ -43,7 +43,7 @@ TakesMore layout has has_more plan s t text old new =
     (given : List ℕ) (base : Option (List ℕ)) → PickedSoFar layout has plan s given base old
     → PickedSoFar layout has_more plan t (given ++ text) base new
 
--- a fault within further bytes ended it, whatever comes behind them
+-- a fault within further bytes ended it, whatever comes after them
 abbrev pub EndsWithin : Layout → (List Board → Type 0) → Planned → ScannerView → List ℕ → PickFault
     → (old new : Option (List ℕ)) → Type 0
 EndsWithin layout has plan s text fault old new =

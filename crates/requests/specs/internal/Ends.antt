@@ -113,52 +113,52 @@ FaultsOfRun (Err cause) old new = FaultsAfter cause old new
 -- picking wrote all boards, or ended with a fault. The output may also fail where what is
 -- before a fault of the input is passed on
 abbrev pub EndsPicking : {T : Type 0} → PickJob → Result T Failure
-    → (before behind old new : Option (List ℕ)) → Type 0
-EndsPicking job (Ok value) before behind old new =
+    → (before after old new : Option (List ℕ)) → Type 0
+EndsPicking job (Ok value) before after old new =
     (boards : ℕ)
     × Picks (layout_showing job.format job.show job.plan.heading) job.plan (Ok boards)
-    before behind old new
-EndsPicking job (Err (Interrupted Memory)) before behind old new =
-    (behind ≡ before) × (new ≡ old)
-EndsPicking job (Err (Interrupted Output)) before behind old new =
+    before after old new
+EndsPicking job (Err (Interrupted Memory)) before after old new =
+    (after ≡ before) × (new ≡ old)
+EndsPicking job (Err (Interrupted Output)) before after old new =
     (fault : PickFault)
     × Picks (layout_showing job.format job.show job.plan.heading) job.plan (Err fault)
-    before behind old new
-EndsPicking job (Err (Line line)) before behind old new =
+    before after old new
+EndsPicking job (Err (Line line)) before after old new =
     Picks (layout_showing job.format job.show job.plan.heading) job.plan (Err (picks.Refused line))
-    before behind old new
-EndsPicking job (Err Input) before behind old new =
+    before after old new
+EndsPicking job (Err Input) before after old new =
     Picks (layout_showing job.format job.show job.plan.heading) job.plan (Err picks.Input)
-    before behind old new
-EndsPicking job (Err failure) before behind old new = ⊥
+    before after old new
+EndsPicking job (Err failure) before after old new = ⊥
 
 -- a run over boards with tricks ended after its lines were read, for a wish of this search and look
 abbrev pub EndsTricks : Search → Look → Form → Result Report Failure
-    → (before behind old new : Option (List ℕ)) → Type 0
-EndsTricks s l form (Ok report) before behind old new =
-    WritesTold s l form before behind old new × Counts l.format (plan_of s l) form report
-EndsTricks s l form (Err (Interrupted Memory)) before behind old new = new ≡ old
-EndsTricks s l form (Err (Interrupted cause)) before behind old new =
-    (BreaksTold s l form cause before behind old new × (cause ≡ Spawn → new ≡ old))
+    → (before after old new : Option (List ℕ)) → Type 0
+EndsTricks s l form (Ok report) before after old new =
+    WritesTold s l form before after old new × Counts l.format (plan_of s l) form report
+EndsTricks s l form (Err (Interrupted Memory)) before after old new = new ≡ old
+EndsTricks s l form (Err (Interrupted cause)) before after old new =
+    (BreaksTold s l form cause before after old new × (cause ≡ Spawn → new ≡ old))
     ⊎ ((cause ≡ Output)
-    × (((line : RefusedLine) × StopsAtLine s l form line before behind old new)
-    ⊎ FailsTold s l form before behind old new))
-EndsTricks s l form (Err (Line line)) before behind old new =
-    StopsAtLine s l form line before behind old new
-EndsTricks s l form (Err Input) before behind old new = FailsTold s l form before behind old new
-EndsTricks s l form (Err failure) before behind old new = ⊥
+    × (((line : RefusedLine) × StopsAtLine s l form line before after old new)
+    ⊎ FailsTold s l form before after old new))
+EndsTricks s l form (Err (Line line)) before after old new =
+    StopsAtLine s l form line before after old new
+EndsTricks s l form (Err Input) before after old new = FailsTold s l form before after old new
+EndsTricks s l form (Err failure) before after old new = ⊥
 
 -- a seed was drawn, or the input was at fault, or the output failed
 abbrev pub EndsDraw : {T : Type 0} → Result T Failure
-    → (before behind old new : Option (List ℕ)) → Type 0
-EndsDraw (Ok value) before behind old new =
-    (bytes : List ℕ) × IsDrawn bytes before behind × AppendsAll old new (seed_text bytes)
-EndsDraw (Err (Interrupted Output)) before behind old new =
+    → (before after old new : Option (List ℕ)) → Type 0
+EndsDraw (Ok value) before after old new =
+    (bytes : List ℕ) × IsDrawn bytes before after × AppendsAll old new (seed_text bytes)
+EndsDraw (Err (Interrupted Output)) before after old new =
     (new ≡ old)
-    ⊎ ((bytes : List ℕ) × IsDrawn bytes before behind × AppendsPart old new (seed_text bytes))
-EndsDraw (Err Input) before behind old new = new ≡ old
-EndsDraw (Err EndOfInput) before behind old new = (new ≡ old) × EndsBefore 4 before behind
-EndsDraw (Err failure) before behind old new = ⊥
+    ⊎ ((bytes : List ℕ) × IsDrawn bytes before after × AppendsPart old new (seed_text bytes))
+EndsDraw (Err Input) before after old new = new ≡ old
+EndsDraw (Err EndOfInput) before after old new = (new ≡ old) × EndsBefore 4 before after
+EndsDraw (Err failure) before after old new = ⊥
 
 -- a failure of the input is told before any other but the output's
 abbrev pub unless_failed : LinesEnd → Result Report Failure → Result Report Failure
@@ -183,6 +183,6 @@ told_of (Ok report) end lines = unless_failed end
 
 -- a run over boards with tricks ended so, whatever the wish that the job is ready for
 pub record EndsReady (job : BoardsJob) (r : Result Report Failure)
-    (before behind old new : Option (List ℕ)) : Type 0 where
+    (before after old new : Option (List ℕ)) : Type 0 where
   pub ends : (s : Search) (l : Look) (notices : Notices) → IsReadyRun s l notices job
-      → EndsTricks s l job.condition r before behind old new
+      → EndsTricks s l job.condition r before after old new

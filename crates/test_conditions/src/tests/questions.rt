@@ -45,7 +45,7 @@ fn what_asks_nothing(rt: HostRuntime) {
     }
 }
 
-/// Texts, and what may come in a question behind the tokens that one begins with.
+/// Texts, and what may come in a question after the tokens that one begins with.
 const EXPECTED: [(&str, &[Kind]); 6] = [
     (
         "hcp(north) hcp(south)",

@@ -19,11 +19,11 @@ returns-in_err-count-clause-picked g c =
     let has = g.N.Notation.has_printed c.loop-turn.notation in
     let scanner = c.loop-turn.picker.scanner in
     let before = g.I.Source.rest c.args.input.now in
-    let behind = g.I.Source.rest c.loop-turn.input in
+    let after = g.I.Source.rest c.loop-turn.input in
     let base = g.S.Sink.bytes c.args.sink.now in
-    let picked = subst (PickedFrom layout has c.args.plan.now scanner before behind base) (sym c.watch.ensures.bytes) c.loop-turn.invariant.picked in
+    let picked = subst (PickedFrom layout has c.args.plan.now scanner before after base) (sym c.watch.ensures.bytes) c.loop-turn.invariant.picked in
     let p = err_from_is_err_and c.from_residual.result c.from_residual.ensures.1 in
-    rw (p.1, p.2) (from_failed layout has c.args.plan.now scanner before behind (g.I.Source.rest c.read.new.self) base (g.S.Sink.bytes c.watch.new.self) c.in_err-count.ensures.kept picked)
+    rw (p.1, p.2) (from_failed layout has c.args.plan.now scanner before after (g.I.Source.rest c.read.new.self) base (g.S.Sink.bytes c.watch.new.self) c.in_err-count.ensures.kept picked)
 
 pub loop-turn-init : goal.loop-turn-init
 loop-turn-init g c =
