@@ -15,10 +15,35 @@ use std::alloc::{AllocError, Global};
 /// A hint's bytes, if there is one.
 pub type Said = Result<Option<Vec<u8>>, AllocError>;
 
-/// What may have a hint: the rules of a table, or code.
+/// What may have a hint: a table, or code.
 #[derive(Clone, Copy)]
 enum Source {
-    Rules(&'static str),
+    Calls,
+    Classes,
+    Compared,
+    Honours,
+    Instead,
+    Joins,
+    Letters,
+    Limits,
+    Lists,
+    MoreOrLess,
+    Names,
+    Nouns,
+    OrMore,
+    Phrases,
+    Plain,
+    Ranges,
+    Ranks,
+    Rest,
+    Scripts,
+    Several,
+    Short,
+    Sides,
+    Signs,
+    Suits,
+    Texts,
+    Whole,
     Outside,
     Bounds,
     Likeness,
@@ -26,41 +51,41 @@ enum Source {
 
 /// What is asked of a piece that isn't in the language, and of a token that isn't allowed there.
 static EITHER: [Source; 13] = [
-    Source::Rules(texts::RULES),
-    Source::Rules(whole::RULES),
-    Source::Rules(plain::RULES),
-    Source::Rules(sides::RULES),
+    Source::Texts,
+    Source::Whole,
+    Source::Plain,
+    Source::Sides,
     Source::Outside,
-    Source::Rules(phrases::RULES),
-    Source::Rules(suits::RULES),
-    Source::Rules(classes::RULES),
+    Source::Phrases,
+    Source::Suits,
+    Source::Classes,
     Source::Bounds,
-    Source::Rules(several::RULES),
-    Source::Rules(lists::RULES),
-    Source::Rules(ranges::RULES),
-    Source::Rules(more_or_less::RULES),
+    Source::Several,
+    Source::Lists,
+    Source::Ranges,
+    Source::MoreOrLess,
 ];
 
 /// What is asked of a piece after `EITHER`.
 static PIECE: [Source; 14] = [
-    Source::Rules(or_more::RULES),
-    Source::Rules(limits::RULES),
-    Source::Rules(compared::RULES),
-    Source::Rules(letters::RULES),
-    Source::Rules(nouns::RULES),
-    Source::Rules(scripts::RULES),
-    Source::Rules(short::RULES),
-    Source::Rules(instead::RULES),
-    Source::Rules(honours::RULES),
-    Source::Rules(ranks::RULES),
-    Source::Rules(names::RULES),
+    Source::OrMore,
+    Source::Limits,
+    Source::Compared,
+    Source::Letters,
+    Source::Nouns,
+    Source::Scripts,
+    Source::Short,
+    Source::Instead,
+    Source::Honours,
+    Source::Ranks,
+    Source::Names,
     Source::Likeness,
-    Source::Rules(signs::RULES),
-    Source::Rules(rest::RULES),
+    Source::Signs,
+    Source::Rest,
 ];
 
 /// What is asked of a token after `EITHER`; before it, the rules for shapes.
-static TOKEN: [Source; 2] = [Source::Rules(calls::RULES), Source::Rules(joins::RULES)];
+static TOKEN: [Source; 2] = [Source::Calls, Source::Joins];
 
 /// Returns the hint for the piece at the byte `at` of the text, which isn't in the language, if a
 /// rule has one.
@@ -114,9 +139,42 @@ fn first_of(alloc: Global, parts: &Parts, sources: &[Source]) -> Said {
 
 fn hint_of(alloc: Global, parts: &Parts, source: Source) -> Said {
     match source {
-        Source::Rules(rules) => first_in(alloc, parts, rules),
         Source::Outside => outside::hint(alloc, parts),
         Source::Bounds => bounds::hint(alloc, parts),
         Source::Likeness => likeness::hint(alloc, parts),
+        _ => first_in(alloc, parts, rules_of(source)),
+    }
+}
+
+/// The rules of a table.
+fn rules_of(source: Source) -> &'static str {
+    match source {
+        Source::Calls => calls::RULES,
+        Source::Classes => classes::RULES,
+        Source::Compared => compared::RULES,
+        Source::Honours => honours::RULES,
+        Source::Instead => instead::RULES,
+        Source::Joins => joins::RULES,
+        Source::Letters => letters::RULES,
+        Source::Limits => limits::RULES,
+        Source::Lists => lists::RULES,
+        Source::MoreOrLess => more_or_less::RULES,
+        Source::Names => names::RULES,
+        Source::Nouns => nouns::RULES,
+        Source::OrMore => or_more::RULES,
+        Source::Phrases => phrases::RULES,
+        Source::Plain => plain::RULES,
+        Source::Ranges => ranges::RULES,
+        Source::Ranks => ranks::RULES,
+        Source::Rest => rest::RULES,
+        Source::Scripts => scripts::RULES,
+        Source::Several => several::RULES,
+        Source::Short => short::RULES,
+        Source::Sides => sides::RULES,
+        Source::Signs => signs::RULES,
+        Source::Suits => suits::RULES,
+        Source::Texts => texts::RULES,
+        Source::Whole => whole::RULES,
+        Source::Outside | Source::Bounds | Source::Likeness => "",
     }
 }

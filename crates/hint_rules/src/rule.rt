@@ -230,22 +230,40 @@ fn is_met(parts: &Parts, i: usize, want: Want, texts: &str) -> bool {
     }
 }
 
-/// Whether what is wanted is so at the part, by the parts beside it or its letters.
+/// Whether what is wanted is so at the part, by its letters or the parts before it.
 fn is_met_beside(parts: &Parts, i: usize, want: Want, texts: &str) -> bool {
     let part = parts.at(i);
-    let word = parts.word.as_slice();
     match want {
         Want::Above => is_number(part) && number(parts.at(i.saturating_sub(2))) < number(part),
         Want::Zeros => is_number(part) && without_zeros(part).len() <= 4,
         Want::Follows => is_next(parts.at(i.saturating_sub(2)), part),
-        Want::Capital => is_word(part) && part != word,
-        Want::CapitalWord => part != word && token_of(word).is_some(),
-        Want::CapitalRanks => is_word(part) && part != word && are_ranks(word),
+        Want::Suffix => is(part, texts) && parts.is_suffix(i),
+        Want::Capital | Want::CapitalWord | Want::CapitalRanks => {
+            is_capital(part, parts.word.as_slice(), want)
+        }
+        _ => is_met_by_value(parts, i, want),
+    }
+}
+
+/// Whether the part has letters that aren't small, and is what is wanted once they are.
+fn is_capital(part: &[u8], word: &[u8], want: Want) -> bool {
+    if part == word {
+        return false;
+    }
+    match want {
+        Want::CapitalWord => token_of(word).is_some(),
+        Want::CapitalRanks => is_word(part) && are_ranks(word),
+        _ => is_word(part),
+    }
+}
+
+/// Whether what is wanted of a value or an amount is so at the part.
+fn is_met_by_value(parts: &Parts, i: usize, want: Want) -> bool {
+    match want {
         Want::Value => parts.value(i).is_some(),
-        Want::Call => is(part, ")") && parts.value(i).is_some(),
+        Want::Call => is(parts.at(i), ")") && parts.value(i).is_some(),
         Want::Bracketed => is(before_value(parts, i), "(") && parts.value(i).is_some(),
         Want::Chained => is_relation(before_value(parts, i)),
-        Want::Suffix => is(part, texts) && parts.is_suffix(i),
         Want::Amount => amount_at(parts, i).is_some(),
         Want::Counted => counted_at(parts, i).0 != "",
         _ => false,

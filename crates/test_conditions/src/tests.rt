@@ -3,8 +3,8 @@
 //! tests/second.
 
 mod beginnings;
-mod questions;
 mod excluded;
+mod questions;
 mod trees;
 mod truths;
 mod words;

@@ -125,7 +125,7 @@ fn times(number: &str, factor: u64) -> Option<u64> {
     number.parse::<u64>().ok()?.checked_mul(factor)
 }
 
-/// Whether the word has these digits alone, parted in threes as in `1,000,000`.
+/// Whether the word has these digits alone, separated in threes as in `1,000,000`.
 fn is_grouped(word: &str, digits: &str) -> bool {
     let mut len: usize = 0;
     for (i, group) in word.split([',', '.', '_', '\'', ' ']).enumerate() {
