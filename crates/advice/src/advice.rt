@@ -1,7 +1,7 @@
 //! What helps a person with a plan, a label or a hand that is refused: the option, what it was
 //! given, and what it takes.
 
-ghost use Rattle.std.specs.Prelude.{◌≡◌, ◌++◌, [], map, option_map, string_bytes, unwrap_or};
+ghost use Rattle.std.specs.Prelude.{◌≡◌, ◌++◌, [], option_map, string_bytes, unwrap_or};
 ghost use Rattle.std.specs.Prelude.{IfOk, OnOk};
 ghost use Rattle.advice.specs.Advice.{IsAdviceOn, IsAdviceOnHand, candidates_advice, given_text};
 ghost use Rattle.advice.specs.Advice.{label_advice, plan_advice, range_line, seat_option};

@@ -2,8 +2,7 @@
 
 use crate::advice::advise;
 use jobs::Failure;
-use picking::LineFault;
-use plans::Cause;
+use plans::{Cause, LineFault};
 use request_types::Request;
 use std::alloc::Global;
 use std::io;

@@ -4,4 +4,6 @@ pub mod Labels
 pub mod Headings
 pub mod Layouts
 pub mod Letters
+pub mod Formats
+pub mod Show
 pub mod internal

@@ -2,20 +2,25 @@
 //!
 //! A run decides what a board is: its number, its deal, and its dealer and vulnerability, by Law 2
 //! or by a `Setting`; a `Heading` has the labels of all of them. A `Notation` writes boards and
-//! knows nothing of runs. To write one, notations share a `TextBuffer` and the `SuitLetters`.
+//! knows nothing of runs. To write one, notations share a `TextBuffer` and the `SuitLetters`. A
+//! `Format` names one, and a `Show` says which hands of a board it writes.
 #![tactic(auto)]
 
 mod board;
 mod buffer;
+mod format;
 mod heading;
 pub mod laws;
 mod notation;
 mod setting;
+mod show;
 mod style;
 
 pub use board::Board;
 pub use buffer::{CAPACITY, SuitLetters, TextBuffer};
+pub use format::{FORMAT_WORDS, FORMATS, Format};
 pub use heading::{Date, Heading, Label, MAX_LABEL_LEN};
 pub use notation::Notation;
 pub use setting::{Setting, Vul, dealer, vulnerable};
+pub use show::{SHOW_WORDS, SHOWS, Show};
 pub use style::{STYLE_WORDS, STYLES, Style};

@@ -18,12 +18,12 @@ use Rattle.predeal.specs.PredealtHands.{GivenHands}
 use Rattle.request_types.specs.Requests.{Look, Questions, Search, Wish, conditions, count, draw}
 use Rattle.request_types.specs.Requests.{look_as, make, make_with_tricks, no_question, one_question, pick, stream, two_questions}
 use Rattle.request_types.specs.declared.request.Notices.{Notices}
-use Rattle.notations.specs.Formats.{formats}
-use Rattle.notations.specs.declared.printer.Format.{Format}
-use Rattle.notations.specs.declared.printer.Format.TheVariants.{Pbn}
-use Rattle.notations.specs.declared.show.Show.{Show}
-use Rattle.notations.specs.declared.show.Show.TheVariants.{All, Dealer}
-use Rattle.notations.specs.declared.show.Show.TheVariants as shown
+use Rattle.boards.specs.Formats.{formats}
+use Rattle.boards.specs.declared.format.Format.{Format}
+use Rattle.boards.specs.declared.format.Format.TheVariants.{Pbn}
+use Rattle.boards.specs.declared.show.Show.{Show}
+use Rattle.boards.specs.declared.show.Show.TheVariants.{All, Dealer}
+use Rattle.boards.specs.declared.show.Show.TheVariants as shown
 use Rattle.request_types.specs.declared.workers.Workers.{Workers}
 use Rattle.request_types.specs.declared.workers.Workers.TheVariants.{Number}
 use Rattle.request_types.specs.declared.workers.Workers.TheVariants as workers

@@ -5,8 +5,8 @@ use Rattle.clap.specs.declared.builder.action.ArgAction.TheVariants.{Help, SetTr
 use Rattle.clap.specs.Simple.{on_top}
 use Rattle.clap.specs.declared.builder.value_parser.ValueParser.{ValueParser}
 use Rattle.clap.specs.declared.builder.value_parser.ValueParser.TheVariants as parsed
-use Rattle.notations.specs.declared.printer.Format.{Format}
-use Rattle.notations.specs.declared.printer.Format.TheVariants.{Numbers}
+use Rattle.boards.specs.declared.format.Format.{Format}
+use Rattle.boards.specs.declared.format.Format.TheVariants.{Numbers}
 
 -- an option `--id VALUE`
 abbrev pub option_rule : Text → ValueParser → Rule

@@ -11,10 +11,9 @@ ghost use Rattle.command_line.specs.CommandLine.{is_unknown, meant_by};
 ghost use Rattle.command_line.specs.internal.Choices.{table_of};
 
 use crate::words::text_in;
-use boards::{STYLE_WORDS, STYLES, Style, Vul};
+use boards::{FORMAT_WORDS, FORMATS, Format, STYLE_WORDS, STYLES, Show, Style, Vul};
 use cards::Seat;
 use clap::ArgMatches;
-use notations::{FORMAT_WORDS, FORMATS, Format, Show};
 use request_types::When;
 
 /// The words that say when something is shown.

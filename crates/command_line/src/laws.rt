@@ -13,8 +13,8 @@ ghost use Rattle.request_types.specs.Requests.{conditions, count, draw, make, ma
 ghost use Rattle.request_types.specs.Requests.{numbers_look, pick};
 ghost use Rattle.request_types.specs.Requests.{plain_look, plain_notices, plain_search, stream};
 ghost use Rattle.request_types.specs.Requests.{two_questions};
-ghost use Rattle.notations.specs.declared.printer.Format.TheVariants.{Hands};
-ghost use Rattle.notations.specs.declared.show.Show.TheVariants.{Dealer};
+ghost use Rattle.boards.specs.declared.format.Format.TheVariants.{Hands};
+ghost use Rattle.boards.specs.declared.show.Show.TheVariants.{Dealer};
 ghost use Rattle.request_types.specs.declared.workers.Workers.TheVariants as workers;
 ghost use Rattle.request_types.specs.declared.when.When.TheVariants.{Always, Auto, Never};
 ghost use Rattle.boards.specs.declared.style.Style.TheVariants.{Csv};

@@ -10,9 +10,9 @@ ghost use Rattle.command_line.specs.internal.Rows.{app_for, rule_for, taking, to
 use self::Takes::{Count, Help, Nothing, Text, U32, U64};
 use crate::helps::{about_of, examples_of, help_of};
 use crate::texts::{ABOUT, PROGRAM_EXAMPLES};
+use boards::Format;
 use clap::builder::ValueParser;
 use clap::{Arg, ArgAction, Command, value_parser};
-use notations::Format;
 use std::alloc::{AllocError, Global};
 
 /// The most values that `stream` prints: the same as the most candidates of a seed.

@@ -23,8 +23,8 @@ use crate::choices::{
 use crate::options::{FINDERS, command};
 use crate::refusals::{NO_END, NO_QUESTION, invalid_number, invalid_value, missing_option};
 use crate::workers::{bad_workers_in, workers_in};
+use boards::Show;
 use clap::{ArgMatches, Error};
-use notations::Show;
 use predeal::PredealtHands;
 use request_types::{
     Format, Look, Notices, Questions, Request, Search, StreamRequest, Style, When,

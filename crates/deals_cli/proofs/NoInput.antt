@@ -4,7 +4,7 @@ use Rattle.std.proofs.lemmas.List.{append-nil}
 use Rattle.clap.specs.Walk.{Text}
 use Rattle.plans.specs.declared.cause.Cause.TheVariants as cause
 use Rattle.picking.specs.NumberTexts.{said}
-use Rattle.picking.specs.declared.refusal.RefusedLine.{RefusedLine}
+use Rattle.plans.specs.declared.refusal.RefusedLine.{RefusedLine}
 use Rattle.picking.specs.declared.fault.PickFault.TheVariants.{Refused}
 use Rattle.jobs.specs.Failures.{status_of}
 use Rattle.requests.specs.Interruptions.{EndsFor}

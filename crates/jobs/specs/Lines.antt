@@ -6,9 +6,9 @@ use Rattle.conditions.specs.declared.error.CondError.{CondError}
 use Rattle.conditions.specs.declared.error.CondError.TheVariants as cond
 use Rattle.plans.specs.declared.cause.Cause.{Cause}
 use Rattle.plans.specs.declared.cause.Cause.TheVariants as cause
-use Rattle.picking.specs.declared.refusal.LineFault.{LineFault}
-use Rattle.picking.specs.declared.refusal.LineFault.TheVariants as fault
-use Rattle.picking.specs.declared.refusal.RefusedLine.{RefusedLine}
+use Rattle.plans.specs.declared.refusal.LineFault.{LineFault}
+use Rattle.plans.specs.declared.refusal.LineFault.TheVariants as fault
+use Rattle.plans.specs.declared.refusal.RefusedLine.{RefusedLine}
 use Rattle.plans.specs.declared.plan.PlanError.{PlanError}
 use Rattle.plans.specs.declared.plan.PlanError.TheVariants as plan
 use Rattle.jobs.specs.declared.failure.Failure.{Failure}

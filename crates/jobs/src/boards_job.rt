@@ -3,8 +3,8 @@
 ghost use Rattle.std.specs.Prelude.{◌≡◌};
 ghost use Rattle.request_types.specs.Defaults.{workers_in};
 
+use boards::{Format, Show};
 use cond_lang::Cond;
-use notations::{Format, Show};
 use plans::Plan;
 use request_types::Workers;
 

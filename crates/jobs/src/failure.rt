@@ -13,8 +13,7 @@ ghost use Rattle.sinks.specs.Messages.{text_of};
 
 use cards::Seat;
 use cond_lang::CondError;
-use picking::{LineFault, RefusedLine};
-use plans::{Cause, PlanError};
+use plans::{Cause, LineFault, PlanError, RefusedLine};
 use request_types::{LabelName, QuestionName};
 use sinks::{Message, Sink, SinkFault};
 use std::alloc::AllocError;

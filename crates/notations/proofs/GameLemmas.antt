@@ -3,9 +3,9 @@ use Rattle.std.proofs.Common.{◌≡◌, ◌++◌, ap, codes}
 use Rattle.std.proofs.lemmas.List.{append-nil}
 use Rattle.boards.specs.declared.board.Board.{Board}
 use Rattle.pbn_text.specs.Games.{HeadingView, board_text, deal_text, game_text, heading_text, tag}
-use Rattle.notations.specs.declared.show.Show.TheVariants.{All}
+use Rattle.boards.specs.declared.show.Show.TheVariants.{All}
 use Rattle.notations.specs.Games.{game_in, table_text}
-use Rattle.notations.specs.declared.show.Show.{Show}
+use Rattle.boards.specs.declared.show.Show.{Show}
 use Rattle.tricks.specs.Lines.{TricksView, nothing_known}
 
 pub plain_game : (heading : HeadingView) (board : Board)

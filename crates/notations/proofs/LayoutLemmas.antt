@@ -3,10 +3,10 @@ use Rattle.std.proofs.Common.{◌≡◌, refl, sym}
 use Rattle.boards.specs.declared.board.Board.{Board}
 use Rattle.boards.specs.Headings.{HeadingView}
 use Rattle.boards.specs.Layouts.{EndsAlike, ends_with}
-use Rattle.notations.specs.declared.printer.Format.{Format}
-use Rattle.notations.specs.declared.printer.Format.TheVariants.{Pbn, Hands, Lin, Html, Sheet, Json, Numbers}
-use Rattle.notations.specs.declared.show.Show.{Show}
-use Rattle.notations.specs.declared.show.Show.TheVariants.{All, Dealer, North, East, South, West, NorthSouth, EastWest}
+use Rattle.boards.specs.declared.format.Format.{Format}
+use Rattle.boards.specs.declared.format.Format.TheVariants.{Pbn, Hands, Lin, Html, Sheet, Json, Numbers}
+use Rattle.boards.specs.declared.show.Show.{Show}
+use Rattle.boards.specs.declared.show.Show.TheVariants.{All, Dealer, North, East, South, West, NorthSouth, EastWest}
 use Rattle.notations.specs.Formats.{board_text, footer_of, header_of, layout_showing}
 use Rattle.notations.proofs.GameLemmas.{plain_game}
 use Rattle.tricks.specs.Lines.{nothing_known}

@@ -1,14 +1,14 @@
 -- What each format makes of boards.
-use Rattle.std.specs.Prelude.{◌≡◌, ℕ, ◌+◌, ◌-◌, min, nat_lt, Bool, true, false, List, [], ◌∷◌, Option}
-use Rattle.std.specs.Prelude.{None, Some, codes, length, if◌then◌else◌, slice_get, ⊤, refl}
+use Rattle.std.specs.Prelude.{◌≡◌, ℕ, ◌+◌, ◌-◌, min, nat_lt, List, [], Option, None, Some}
+use Rattle.std.specs.Prelude.{length, if◌then◌else◌, slice_get, ⊤, refl}
 use Rattle.boards.specs.declared.board.Board.{Board}
 use Rattle.boards.specs.Layouts.{EndsAlike, Layout, ends_with}
 use Rattle.pbn_text.specs.Games.{HeadingView, header, pbn}
-use Rattle.notations.specs.declared.printer.Format.{Format}
-use Rattle.notations.specs.declared.printer.Format.TheVariants.{Pbn, Hands, Lin, Html, Sheet, Json}
-use Rattle.notations.specs.declared.printer.Format.TheVariants.{Numbers}
-use Rattle.notations.specs.declared.show.Show.{Show}
-use Rattle.notations.specs.declared.show.Show.TheVariants.{All}
+use Rattle.boards.specs.declared.format.Format.{Format}
+use Rattle.boards.specs.declared.format.Format.TheVariants.{Pbn, Hands, Lin, Html, Sheet, Json}
+use Rattle.boards.specs.declared.format.Format.TheVariants.{Numbers}
+use Rattle.boards.specs.declared.show.Show.{Show}
+use Rattle.boards.specs.declared.show.Show.TheVariants.{All}
 use Rattle.notations.specs.Games.{game_in}
 use Rattle.notations.specs.Json.{json_line}
 use Rattle.notations.specs.Lin.{lin_line}
@@ -19,12 +19,6 @@ use Rattle.notations.specs.SheetStyle.{sheet_style}
 use Rattle.notations.specs.Sheets.{section_text}
 use Rattle.notations.specs.Style.{style, style_with_tricks}
 use Rattle.tricks.specs.Lines.{TricksView, nothing_known}
-
--- the formats that are asked for by a name
-abbrev pub formats : List (List ℕ × Format)
-formats =
-    (codes "pbn", Pbn) ∷ (codes "hands", Hands) ∷ (codes "lin", Lin) ∷ (codes "html", Html)
-    ∷ (codes "sheet", Sheet) ∷ (codes "json", Json) ∷ []
 
 -- ---- the parts of a text
 
@@ -106,11 +100,6 @@ ends_alike Html heading boards m n = refl
 ends_alike Sheet heading boards m n = refl
 ends_alike Json heading boards m n = refl
 ends_alike Numbers heading boards m n = refl
-
--- the boards of all but one have numbers of their own
-abbrev pub numbers_boards : Format → Bool
-numbers_boards Numbers = false
-numbers_boards _ = true
 
 -- ---- a printer
 

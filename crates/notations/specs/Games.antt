@@ -5,10 +5,10 @@ use Rattle.cards.specs.declared.seat.Seat.{Seat}
 use Rattle.cards.specs.declared.seat.Seat.TheVariants.{North, East, South, West}
 use Rattle.boards.specs.declared.board.Board.{Board}
 use Rattle.pbn_text.specs.Games.{HeadingView, board_text, dealer_text, heading_text, tag}
-use Rattle.notations.specs.declared.show.Show.{Show}
+use Rattle.boards.specs.declared.show.Show.{Show}
 use Rattle.notations.specs.Columns.{two_columns}
 use Rattle.notations.specs.Dotted.{deal_value}
-use Rattle.notations.specs.Show.{hand_in}
+use Rattle.boards.specs.Show.{hand_in}
 use Rattle.notations.specs.Tricks.{five_of, if_given, number_of}
 use Rattle.tricks.specs.Lines.{TricksView}
 

@@ -2,10 +2,10 @@
 use Rattle.std.specs.Prelude.{ℕ, List, ◌++◌, codes, decimal}
 use Rattle.boards.specs.declared.board.Board.{Board}
 use Rattle.pbn_text.specs.Games.{dealer_text}
-use Rattle.notations.specs.declared.show.Show.{Show}
+use Rattle.boards.specs.declared.show.Show.{Show}
 use Rattle.notations.specs.Dotted.{deal_value}
 use Rattle.notations.specs.Names.{vulnerable_name}
-use Rattle.notations.specs.Show.{hand_in}
+use Rattle.boards.specs.Show.{hand_in}
 use Rattle.notations.specs.Tricks.{if_given, par_text}
 use Rattle.tricks.specs.Lines.{TricksView}
 

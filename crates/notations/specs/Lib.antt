@@ -1,5 +1,4 @@
 pub mod Names
-pub mod Show
 pub mod Tricks
 pub mod Dotted
 pub mod Games

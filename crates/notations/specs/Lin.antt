@@ -7,8 +7,8 @@ use Rattle.boards.specs.declared.board.Board.{Board}
 use Rattle.boards.specs.declared.setting.Vul.{Vul}
 use Rattle.boards.specs.declared.setting.Vul.TheVariants.{Neither, NorthSouth, EastWest, Both}
 use Rattle.boards.specs.Letters.{suit_letters}
-use Rattle.notations.specs.declared.show.Show.{Show}
-use Rattle.notations.specs.Show.{hand_in}
+use Rattle.boards.specs.declared.show.Show.{Show}
+use Rattle.boards.specs.Show.{hand_in}
 
 -- the seats are numbered clockwise from South, 1 to 4
 abbrev pub dealer_digit : Seat → List ℕ

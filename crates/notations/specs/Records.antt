@@ -9,10 +9,10 @@ use Rattle.boards.specs.declared.board.Board.{Board}
 use Rattle.boards.specs.Letters.{or_dash, suit_letters}
 use Rattle.pbn_text.specs.Games.{HeadingView}
 use Rattle.std.specs.List.{flat_map}
-use Rattle.notations.specs.declared.show.Show.{Show}
+use Rattle.boards.specs.declared.show.Show.{Show}
 use Rattle.notations.specs.Columns.{beside, line, spaces, two_columns}
 use Rattle.notations.specs.Names.{seat_name, vulnerable_name}
-use Rattle.notations.specs.Show.{hand_in}
+use Rattle.boards.specs.Show.{hand_in}
 use Rattle.notations.specs.Tricks.{five_of, if_given, number_of, par_text}
 use Rattle.pbn_text.specs.Games.{dealer_text}
 use Rattle.tricks.specs.Lines.{TricksView}

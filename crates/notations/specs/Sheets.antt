@@ -6,10 +6,10 @@ use Rattle.cards.specs.declared.seat.Seat.TheVariants.{North, East, South, West}
 use Rattle.cards.specs.Hands.{points_of}
 use Rattle.boards.specs.declared.board.Board.{Board}
 use Rattle.boards.specs.declared.setting.Vul.{Vul}
-use Rattle.notations.specs.declared.show.Show.{Show}
+use Rattle.boards.specs.declared.show.Show.{Show}
 use Rattle.notations.specs.Names.{seat_name, vulnerable_name}
 use Rattle.notations.specs.Pages.{facts_text, suits_text, tricks_text}
-use Rattle.notations.specs.Show.{hand_in}
+use Rattle.boards.specs.Show.{hand_in}
 use Rattle.tricks.specs.Lines.{TricksView}
 
 -- the board's number

@@ -3,11 +3,10 @@
 ghost use Rattle.std.specs.Prelude.{◌≡◌, ◌≤◌, ◌+◌, ◌++◌, length};
 ghost use Rattle.boards.specs.declared.buffer.TheConstants.{CAPACITY};
 ghost use Rattle.notations.specs.Dotted.{deal_value, dotted, hand_value};
-ghost use Rattle.notations.specs.Show.{hand_in};
+ghost use Rattle.boards.specs.Show.{hand_in};
 ghost use Rattle.pbn_text.specs.Games.{dealer_text, hand_text};
 
-use crate::show::Show;
-use boards::{Board, SuitLetters, TextBuffer};
+use boards::{Board, Show, SuitLetters, TextBuffer};
 use cards::{Hand, Seat, Suit};
 
 /// Appends the deal as PBN has it: North's hand, East's, South's and West's.

@@ -15,7 +15,7 @@ ghost use Rattle.notations.specs.Names.{seat_name, vulnerable_name};
 ghost use Rattle.notations.specs.Records.{north_lines, number_line, one_count, record_text};
 ghost use Rattle.notations.specs.Records.{side_line, side_lines, south_lines, suit_line};
 ghost use Rattle.notations.specs.Records.{two_counts};
-ghost use Rattle.notations.specs.Show.{hand_in};
+ghost use Rattle.boards.specs.Show.{hand_in};
 ghost use Rattle.notations.specs.Tricks.{or_nothing};
 ghost use Rattle.notations.specs.internal.Parts.{rest_of_line, shown_suit};
 
@@ -25,8 +25,7 @@ mod table;
 
 use crate::hands::parts::{put_gap, put_one_count, put_suit, put_two_counts};
 use crate::hands::table::put_tricks;
-use crate::show::Show;
-use boards::{Board, SuitLetters, TextBuffer, Vul};
+use boards::{Board, Show, SuitLetters, TextBuffer, Vul};
 use cards::{Hand, Seat, Suit};
 pub(crate) use header::put_header;
 use tricks::Tricks;

@@ -11,8 +11,7 @@ ghost use Rattle.notations.specs.Tricks.{or_nothing};
 use crate::dotted::{put_deal, seat_letter};
 use crate::names::vulnerable_name;
 use crate::results::{put_given, put_par};
-use crate::show::Show;
-use boards::{Board, SuitLetters, TextBuffer};
+use boards::{Board, Show, SuitLetters, TextBuffer};
 use tricks::Tricks;
 
 /// Writes the board's line into the empty buffer.

@@ -6,9 +6,9 @@ ghost use Rattle.boards.specs.Headings.{HeadingView};
 ghost use Rattle.boards.specs.Layouts.{EndsAlike};
 ghost use Rattle.notations.specs.Formats.{layout_showing};
 ghost use Rattle.notations.specs.Games.{game_in};
-ghost use Rattle.notations.specs.declared.printer.Format.{Format as AFormat};
-ghost use Rattle.notations.specs.declared.show.Show.{Show as AShow};
-ghost use Rattle.notations.specs.declared.show.Show.TheVariants.{All};
+ghost use Rattle.boards.specs.declared.format.Format.{Format as AFormat};
+ghost use Rattle.boards.specs.declared.show.Show.{Show as AShow};
+ghost use Rattle.boards.specs.declared.show.Show.TheVariants.{All};
 ghost use Rattle.pbn_text.specs.Games.{game_text};
 ghost use Rattle.tricks.specs.Lines.{nothing_known};
 

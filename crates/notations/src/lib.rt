@@ -20,8 +20,8 @@ mod pen;
 mod printer;
 mod results;
 mod sheet;
-mod show;
+mod shown;
 mod table;
 
-pub use printer::{AnyPrinter, FORMAT_WORDS, FORMATS, Format};
-pub use show::{SHOW_WORDS, SHOWS, Show};
+pub use boards::{FORMAT_WORDS, FORMATS, Format, SHOW_WORDS, SHOWS, Show};
+pub use printer::AnyPrinter;

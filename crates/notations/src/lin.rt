@@ -6,10 +6,9 @@ ghost use Rattle.std.specs.Prelude.{◌≡◌, ◌≤◌, ◌+◌, ◌++◌, [],
 ghost use Rattle.boards.specs.declared.buffer.TheConstants.{CAPACITY};
 ghost use Rattle.notations.specs.Lin.{deal_text, dealer_digit, hand_text, lin_line};
 ghost use Rattle.notations.specs.Lin.{shown_text, vulnerable_letter};
-ghost use Rattle.notations.specs.Show.{hand_in};
+ghost use Rattle.boards.specs.Show.{hand_in};
 
-use crate::show::Show;
-use boards::{Board, SuitLetters, TextBuffer, Vul};
+use boards::{Board, Show, SuitLetters, TextBuffer, Vul};
 use cards::{Hand, Seat, Suit};
 
 /// Writes the board's line into the empty buffer.

@@ -9,7 +9,7 @@ ghost use Rattle.std.specs.Option.{option_copied};
 ghost use Rattle.boards.specs.declared.buffer.TheConstants.{CAPACITY};
 ghost use Rattle.notations.specs.Pages.{board_text, facts_text, hand_text, hands_text};
 ghost use Rattle.notations.specs.Pages.{number_text, seat_text};
-ghost use Rattle.notations.specs.Show.{hand_in};
+ghost use Rattle.boards.specs.Show.{hand_in};
 ghost use Rattle.notations.specs.Tricks.{or_nothing};
 
 mod header;
@@ -18,8 +18,7 @@ mod style;
 mod table;
 
 use crate::names::{seat_name, vulnerable_name};
-use crate::show::Show;
-use boards::{Board, SuitLetters, TextBuffer, Vul};
+use boards::{Board, Show, SuitLetters, TextBuffer, Vul};
 use cards::{Hand, Seat};
 pub(crate) use header::{Look, put_header};
 pub(crate) use parts::put_suits;

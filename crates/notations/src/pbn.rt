@@ -12,8 +12,7 @@ ghost use Rattle.pbn_text.specs.Games.{board_text, heading_text, label, tag};
 use crate::dotted::{put_deal, seat_letter};
 use crate::names::vulnerable_name;
 use crate::results::{five_of, put_given, put_two_columns};
-use crate::show::Show;
-use boards::{Board, Date, Heading, Label, SuitLetters, TextBuffer};
+use boards::{Board, Date, Heading, Label, Show, SuitLetters, TextBuffer};
 use cards::Seat;
 use tricks::Tricks;
 

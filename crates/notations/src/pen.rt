@@ -6,10 +6,8 @@ ghost use Rattle.notations.specs.Formats.{board_text, footer_of};
 ghost use Rattle.notations.specs.Tricks.{or_nothing};
 ghost use Rattle.notations.specs.internal.Pens.{IsPlain, IsUnder, Writes, format_of, text_of};
 
-use crate::printer::Format;
-use crate::show::Show;
 use crate::{hands, json, lin, numbers, page, pbn, sheet};
-use boards::{Board, Heading, SuitLetters, TextBuffer};
+use boards::{Board, Format, Heading, Show, SuitLetters, TextBuffer};
 use pbn_text::Printer;
 use std::alloc::{AllocError, Global};
 use tricks::Tricks;

@@ -1,67 +1,22 @@
-//! The formats that boards are written in, and the printer of any of them.
+//! The printer of any format that boards are written in.
 
 ghost use Rattle.std.specs.Prelude.{◌≡◌, [], IfOk, None, Some};
 ghost use Rattle.notations.specs.Formats.{HasPrinted, header_of, header_with_tricks, layout_in};
-ghost use Rattle.notations.specs.Formats.{layout_of, layout_showing, layout_with, numbers_boards};
+ghost use Rattle.notations.specs.Formats.{layout_of, layout_showing, layout_with};
 ghost use Rattle.notations.specs.internal.Pens.{footer_after, format_of};
-ghost use Rattle.notations.specs.declared.show.Show.TheVariants.{All};
+ghost use Rattle.boards.specs.declared.show.Show.TheVariants.{All};
 
 use crate::page::Look;
 use crate::pen::Pen;
-use crate::show::Show;
+use crate::shown::{beside, is_all};
 use crate::table::Table;
 use crate::{hands, page};
-use boards::{Board, Heading, Notation, TextBuffer};
+use boards::{Board, Format, Heading, Notation, Show, TextBuffer};
 use pbn_text::HEADER;
 use sinks::{Sink, SinkFault, put_all};
 use std::alloc::{AllocError, Global};
 use std::marker::Model;
 use tricks::Tricks;
-
-/// A notation, as it is asked for by its name.
-#[derive(Clone, Copy, PartialEq, Eq, Debug)]
-pub enum Format {
-    /// Portable Bridge Notation.
-    Pbn,
-    /// Hand records for print.
-    Hands,
-    /// The notation of Bridge Base Online.
-    Lin,
-    /// One page of HTML, to look at and to print.
-    Html,
-    /// One page of HTML, eighteen boards on a sheet of paper.
-    Sheet,
-    /// Lines of JSON, for programs.
-    Json,
-    /// The numbers of the candidates, which is what `find` prints.
-    Numbers,
-}
-
-/// The formats that boards are asked for in, each with its name.
-pub const FORMATS: &[(&str, Format)] = &[
-    ("pbn", Format::Pbn),
-    ("hands", Format::Hands),
-    ("lin", Format::Lin),
-    ("html", Format::Html),
-    ("sheet", Format::Sheet),
-    ("json", Format::Json),
-];
-
-/// Their names, as help lists them.
-pub const FORMAT_WORDS: &str = "pbn, hands, lin, html, sheet, json";
-
-impl Format {
-    /// Whether the boards have numbers of their own.
-    pub fn numbers_boards(self) -> bool
-        ensures { result ≡ numbers_boards self }
-    {
-        match self {
-            Format::Pbn | Format::Hands | Format::Lin => true,
-            Format::Html | Format::Sheet | Format::Json => true,
-            Format::Numbers => false,
-        }
-    }
-}
 
 /// Prints boards in a format, with the hands that are shown, and under a heading, one at a time,
 /// and with tricks if it has them. Contracts see these, and the text that was printed last.
@@ -150,7 +105,7 @@ impl AnyPrinter {
         ensures text { IfOk result (λ p. p.text ≡ []) }
         ensures printed { IfOk result (λ p. ⟦<AnyPrinter as Notation>⟧.has_printed p []) }
     {
-        let pen = Pen::new(alloc, format, show.is_all(), heading)?;
+        let pen = Pen::new(alloc, format, is_all(show), heading)?;
         let mut header = TextBuffer::new();
         put_header(&mut header, format, heading);
         Ok(AnyPrinter {
@@ -226,7 +181,7 @@ impl Notation for AnyPrinter {
         let Some(tricks) = table.line(board.number) else {
             return;
         };
-        let beside = self.show.beside(tricks);
+        let beside = beside(self.show, tricks);
         self.pen
             .put(&mut self.text, &self.heading, self.show, beside, board);
     }

@@ -6,15 +6,14 @@ ghost use Rattle.std.specs.Option.{option_copied};
 ghost use Rattle.boards.specs.declared.buffer.TheConstants.{CAPACITY};
 ghost use Rattle.notations.specs.Sheets.{all_points, hand_text, hands_text, middle_text, number_text};
 ghost use Rattle.notations.specs.Sheets.{points_text, section_text};
-ghost use Rattle.notations.specs.Show.{hand_in};
+ghost use Rattle.boards.specs.Show.{hand_in};
 ghost use Rattle.notations.specs.Tricks.{or_nothing};
 
 mod style;
 
 use crate::names::{seat_name, vulnerable_name};
 use crate::page::{put_facts, put_suits, put_tricks};
-use crate::show::Show;
-use boards::{Board, SuitLetters, TextBuffer};
+use boards::{Board, Show, SuitLetters, TextBuffer};
 use cards::{Hand, Seat};
 pub(crate) use style::put_sheet_style;
 use tricks::Tricks;

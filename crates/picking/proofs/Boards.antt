@@ -7,7 +7,7 @@ use Rattle.plans.specs.Text.{board_of, boards_of, text_of}
 use Rattle.plans.proofs.BoardLists.{boards_of-more, boards_of-none, text_of-append, text_of-more, text_of-none}
 use Rattle.picking.specs.NumberTexts.{Said, said}
 use Rattle.picking.specs.Scans.{HasScanned, ScannerView, after, said_from}
-use Rattle.picking.specs.declared.refusal.RefusedLine.{RefusedLine}
+use Rattle.plans.specs.declared.refusal.RefusedLine.{RefusedLine}
 use Rattle.picking.specs.Outcomes.{PicksOf}
 use Rattle.picking.specs.Picked.{footer_of, picked_text}
 use Rattle.picking.specs.internal.Picking.{PickedAll, PickedSoFar}

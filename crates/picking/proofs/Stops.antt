@@ -6,8 +6,8 @@ use Rattle.picking.specs.Scans.{HasScanned, ScannerView, after, digits_and, goes
 use Rattle.picking.specs.internal.Lines.{start_of_line}
 use Rattle.picking.specs.declared.line.Part.{Part}
 use Rattle.picking.specs.declared.line.Part.TheVariants.{Blank, Digits, Over}
-use Rattle.picking.specs.declared.refusal.LineFault.TheVariants.{NotANumber}
-use Rattle.picking.specs.declared.refusal.RefusedLine.{RefusedLine}
+use Rattle.plans.specs.declared.refusal.LineFault.TheVariants.{NotANumber}
+use Rattle.plans.specs.declared.refusal.RefusedLine.{RefusedLine}
 use Rattle.picking.proofs.Scanned.{scanned_line}
 
 -- a CR within a line is refused

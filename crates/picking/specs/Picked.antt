@@ -3,7 +3,7 @@ use Rattle.std.specs.Prelude.{ℕ, List, [], ◌++◌, length, Option, None, Som
 use Rattle.boards.specs.Layouts.{Layout}
 use Rattle.plans.specs.Text.{boards_of, text_of}
 use Rattle.picking.specs.NumberTexts.{Said}
-use Rattle.picking.specs.declared.refusal.RefusedLine.{RefusedLine}
+use Rattle.plans.specs.declared.refusal.RefusedLine.{RefusedLine}
 use Rattle.plans.specs.Plans.{Planned}
 
 -- the footer, of as many candidates as there are numbers; there is none where a line is refused

@@ -9,8 +9,8 @@ use Rattle.picking.specs.NumberTexts.{lines_say, number_in, said, with_lf, with_
 use Rattle.picking.specs.NumberTexts.{without_last_blanks}
 use Rattle.picking.specs.declared.line.Part.{Part}
 use Rattle.picking.specs.declared.line.Part.TheVariants.{Blank, Digits, Over}
-use Rattle.picking.specs.declared.refusal.LineFault.{LineFault}
-use Rattle.picking.specs.declared.refusal.LineFault.TheVariants.{NotANumber}
+use Rattle.plans.specs.declared.refusal.LineFault.{LineFault}
+use Rattle.plans.specs.declared.refusal.LineFault.TheVariants.{NotANumber}
 
 -- how far a line was read: this many digits, and the number that they write
 pub record LineView : Type 0 where

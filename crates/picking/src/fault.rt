@@ -3,8 +3,8 @@
 ghost use Rattle.std.specs.Prelude.{◌≡◌};
 ghost use Rattle.picking.specs.declared.fault.PickFault.TheVariants.{Input};
 
-use crate::refusal::RefusedLine;
 use crate::source::SourceFault;
+use plans::RefusedLine;
 
 /// Why picking ended before the end of the input, or of what it says.
 #[derive(Clone, Copy, Debug, PartialEq, Eq)]

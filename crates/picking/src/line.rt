@@ -4,9 +4,9 @@ ghost use Rattle.std.specs.Prelude.{◌≡◌, ◌+◌, ◌*◌, ◌<◌, ℕ, L
 ghost use Rattle.picking.specs.declared.line.Part.TheVariants.{Digits};
 ghost use Rattle.picking.specs.Scans.{line_from};
 ghost use Rattle.picking.specs.internal.Lines.{start_of_line};
-ghost use Rattle.picking.specs.declared.refusal.LineFault.TheVariants.{NotANumber};
+ghost use Rattle.plans.specs.declared.refusal.LineFault.TheVariants.{NotANumber};
 
-use crate::refusal::LineFault;
+use plans::LineFault;
 use std::marker::Model;
 
 /// The most digits that a number has.

@@ -7,7 +7,7 @@ ghost use Rattle.picking.specs.Scans.{HasScanned, after, line_from, list_of, sai
 ghost use Rattle.picking.specs.internal.Lines.{start_of_line};
 
 use crate::line::Line;
-use crate::refusal::{LineFault, RefusedLine};
+use plans::{LineFault, RefusedLine};
 use std::marker::Model;
 
 /// The most numbers that are read.

@@ -9,8 +9,10 @@ mod cause;
 mod next_board;
 mod plan;
 mod reference;
+mod refusal;
 
 pub use cause::Cause;
 pub use next_board::{is_full, put_board};
 pub use plan::{Plan, PlanError};
 pub use reference::{PlainFault, run_plain_in};
+pub use refusal::{LineFault, RefusedLine};

@@ -4,10 +4,10 @@ use Rattle.std.specs.Prelude.{if◌then◌else◌}
 use Rattle.boards.specs.declared.setting.Vul.{Vul}
 use Rattle.cards.specs.declared.seat.Seat.{Seat}
 use Rattle.predeal.specs.PredealtHands.{GivenHands, given_by, none_given}
-use Rattle.notations.specs.declared.printer.Format.{Format}
-use Rattle.notations.specs.declared.printer.Format.TheVariants.{Numbers, Pbn}
-use Rattle.notations.specs.declared.show.Show.{Show}
-use Rattle.notations.specs.declared.show.Show.TheVariants.{All}
+use Rattle.boards.specs.declared.format.Format.{Format}
+use Rattle.boards.specs.declared.format.Format.TheVariants.{Numbers, Pbn}
+use Rattle.boards.specs.declared.show.Show.{Show}
+use Rattle.boards.specs.declared.show.Show.TheVariants.{All}
 use Rattle.request_types.specs.declared.look.Look as given
 use Rattle.request_types.specs.declared.request.Notices.{Notices}
 use Rattle.request_types.specs.declared.request.Request.{Request}

@@ -14,10 +14,9 @@ mod search;
 mod when;
 mod workers;
 
-pub use boards::Style;
+pub use boards::{Format, Show, Style};
 pub use look::Look;
 pub use names::{LabelName, QuestionName};
-pub use notations::{Format, Show};
 pub use questions::Questions;
 pub use request::{Notices, Request, StreamRequest};
 pub use search::Search;

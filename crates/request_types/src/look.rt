@@ -4,9 +4,8 @@ ghost use Rattle.std.specs.Prelude.{◌≡◌};
 ghost use Rattle.request_types.specs.Defaults.{first_board_of};
 ghost use Rattle.request_types.specs.Requests.{look_as, look_of};
 
-use boards::Vul;
+use boards::{Format, Show, Vul};
 use cards::Seat;
-use notations::{Format, Show};
 
 /// How boards are numbered, dealt, labelled and written. What an option was not given has its
 /// default.

@@ -7,8 +7,7 @@ use crate::names::QuestionName;
 use crate::questions::Questions;
 use crate::search::Search;
 use crate::when::When;
-use boards::Style;
-use notations::Format;
+use boards::{Format, Style};
 use predeal::PredealtHands;
 
 /// What a person is told while a run lasts and when it has ended. Nothing else depends on it.

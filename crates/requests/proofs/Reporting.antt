@@ -8,7 +8,7 @@ use Rattle.requests.specs.Reported.{Counts, Reports, ReportsFor, wants_report}
 use Rattle.requests.specs.Reports.{next_line, report_line, report_of}
 use Rattle.request_types.specs.Requests.{Look, Search, Wish, conditions, count, draw, make, make_with_tricks, pick, stream}
 use Rattle.request_types.specs.declared.request.Notices.{Notices}
-use Rattle.notations.specs.declared.printer.Format.{Format}
+use Rattle.boards.specs.declared.format.Format.{Format}
 use Rattle.requests.specs.declared.report.Report.{Report}
 
 same_text : (format : Format) (plan : Planned) (form : Form) (r : Report) → Counts format plan form r

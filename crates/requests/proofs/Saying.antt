@@ -6,8 +6,8 @@ use Rattle.sinks.specs.Appended.{append_known, AppendsAll, AppendsPart}
 use Rattle.sinks.specs.Sinks.{AppendsOrBreaksOff}
 use Rattle.sinks.proofs.SinkLemmas.{append_known-append, append_known-nil, whole_then_part}
 use Rattle.requests.specs.Reports.{candidates_text, goes_on_at, goes_on_from, next_line, shortfall}
-use Rattle.notations.specs.Formats.{numbers_boards}
-use Rattle.notations.specs.declared.printer.Format.{Format}
+use Rattle.boards.specs.Formats.{numbers_boards}
+use Rattle.boards.specs.declared.format.Format.{Format}
 use Rattle.plans.specs.Plans.{Planned}
 
 -- a part, and what comes after it

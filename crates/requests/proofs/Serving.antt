@@ -21,7 +21,7 @@ use Rattle.requests.specs.declared.report.Report.{Report}
 use Rattle.request_types.specs.declared.request.StreamRequest.{StreamRequest}
 use Rattle.requests.specs.internal.Ends.{EndsBoards, EndsCount, EndsDraw, EndsPicking, EndsReady}
 use Rattle.requests.specs.WithTricks.{BreaksTold, FailsTold, StopsAtLine}
-use Rattle.picking.specs.declared.refusal.RefusedLine.{RefusedLine}
+use Rattle.plans.specs.declared.refusal.RefusedLine.{RefusedLine}
 use Rattle.picking.specs.declared.fault.PickFault.{PickFault}
 use Rattle.picking.specs.declared.fault.PickFault.TheVariants.{Refused, Input as PickInput}
 use Rattle.jobs.proofs.FirstDue.{count_run_due, run_due}

@@ -15,8 +15,8 @@ use Rattle.notations.specs.Formats.{board_with, layout_with, line_for}
 use Rattle.std.proofs.lemmas.Bool.{le-ltb, lt-ltb}
 use Rattle.std.proofs.lemmas.Option.{slice_get_past}
 use Rattle.boards.specs.Headings.{HeadingView}
-use Rattle.notations.specs.declared.printer.Format.{Format}
-use Rattle.notations.specs.declared.show.Show.{Show}
+use Rattle.boards.specs.declared.format.Format.{Format}
+use Rattle.boards.specs.declared.show.Show.{Show}
 use Rattle.plans.specs.Plans.{Planned, candidate_of}
 use Rattle.plans.specs.Text.{accepted, accepted_among, board_of, boards_of, end_of, limited, text_in, text_of}
 use Rattle.plans.proofs.Accepting.{end_here}

@@ -4,8 +4,8 @@ use Rattle.boards.specs.Layouts.{Layout}
 use Rattle.cond_lang.specs.Form.{Form}
 use Rattle.plans.specs.Text.{text_in}
 use Rattle.notations.specs.Formats.{layout_of, layout_showing}
-use Rattle.notations.specs.declared.show.Show.{Show}
-use Rattle.notations.specs.declared.printer.Format.{Format}
+use Rattle.boards.specs.declared.show.Show.{Show}
+use Rattle.boards.specs.declared.format.Format.{Format}
 use Rattle.plans.specs.Plans.{Planned}
 use Rattle.jobs.specs.Makings.{plan_of}
 use Rattle.request_types.specs.Requests.{Look, Search}

@@ -6,7 +6,7 @@ use Rattle.plans.specs.Plans.{Planned}
 use Rattle.jobs.specs.Makings.{Means, plan_of}
 use Rattle.requests.specs.Reports.{report_of}
 use Rattle.sinks.specs.Appended.{AppendsAll}
-use Rattle.notations.specs.declared.printer.Format.{Format}
+use Rattle.boards.specs.declared.format.Format.{Format}
 use Rattle.request_types.specs.Requests.{Look, Search, Wish, conditions, count, draw, make}
 use Rattle.request_types.specs.Requests.{make_with_tricks, pick, stream}
 use Rattle.request_types.specs.declared.request.Notices.{Notices}

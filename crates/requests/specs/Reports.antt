@@ -4,8 +4,8 @@ use Rattle.std.specs.Prelude.{codes, decimal, length, nat_lt, if◌then◌else�
 use Rattle.cond_lang.specs.Form.{Form}
 use Rattle.plans.specs.Text.{accepted, end_of}
 use Rattle.plans.specs.Plans.{Planned}
-use Rattle.notations.specs.Formats.{numbers_boards}
-use Rattle.notations.specs.declared.printer.Format.{Format}
+use Rattle.boards.specs.Formats.{numbers_boards}
+use Rattle.boards.specs.declared.format.Format.{Format}
 
 -- 1 board, 2 boards
 abbrev pub boards_text : ℕ → List ℕ

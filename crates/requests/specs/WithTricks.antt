@@ -7,9 +7,9 @@ use Rattle.cond_lang.specs.Form.{Form}
 use Rattle.plans.specs.declared.cause.Cause.{Cause}
 use Rattle.notations.specs.Formats.{layout_with}
 use Rattle.picking.specs.TricksLines.{ReadsTricks}
-use Rattle.picking.specs.declared.refusal.LineFault.{LineFault}
-use Rattle.picking.specs.declared.refusal.LineFault.TheVariants as fault
-use Rattle.picking.specs.declared.refusal.RefusedLine.{RefusedLine}
+use Rattle.plans.specs.declared.refusal.LineFault.{LineFault}
+use Rattle.plans.specs.declared.refusal.LineFault.TheVariants as fault
+use Rattle.plans.specs.declared.refusal.RefusedLine.{RefusedLine}
 use Rattle.picking.specs.declared.tricks_lines.LinesEnd.{LinesEnd}
 use Rattle.picking.specs.declared.tricks_lines.LinesEnd.TheVariants.{Enough, Failed, Missing, Refused}
 use Rattle.plans.specs.Plans.{Planned}

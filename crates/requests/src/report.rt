@@ -1,13 +1,13 @@
 //! The report of a run that wrote all that its plan asks for.
 
-ghost use Rattle.std.specs.Prelude.{◌≡◌, ◌-◌, ◌+◌, ◌^◌, ◌<◌, ◌≤◌, ◌++◌, OnOk, Option};
+ghost use Rattle.std.specs.Prelude.{◌-◌, ◌+◌, ◌^◌, ◌<◌, ◌≤◌, ◌++◌, OnOk, Option};
 ghost use Rattle.sinks.specs.Appended.{AppendsAll};
 ghost use Rattle.sinks.specs.Sinks.{CountsFault};
 ghost use Rattle.requests.specs.Reports.{boards_text, candidates_text, goes_on_at, goes_on_from};
 ghost use Rattle.requests.specs.Reports.{next_line, report_line, shortfall};
 
+use boards::Format;
 use cards::MAX_CANDIDATES;
-use notations::Format;
 use plans::Plan;
 use sinks::{Message, Sink, SinkFault, put_all};
 

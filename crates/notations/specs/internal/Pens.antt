@@ -4,11 +4,11 @@ use Prim.{⊥}
 use Rattle.boards.specs.Headings.{HeadingView}
 use Rattle.notations.specs.declared.pen.Pen.{Pen}
 use Rattle.notations.specs.declared.pen.Pen.TheVariants as pen
-use Rattle.notations.specs.declared.printer.Format.{Format}
-use Rattle.notations.specs.declared.printer.Format.TheVariants.{Pbn, Hands, Lin, Html, Sheet, Json}
-use Rattle.notations.specs.declared.printer.Format.TheVariants.{Numbers}
-use Rattle.notations.specs.declared.show.Show.{Show}
-use Rattle.notations.specs.declared.show.Show.TheVariants.{All}
+use Rattle.boards.specs.declared.format.Format.{Format}
+use Rattle.boards.specs.declared.format.Format.TheVariants.{Pbn, Hands, Lin, Html, Sheet, Json}
+use Rattle.boards.specs.declared.format.Format.TheVariants.{Numbers}
+use Rattle.boards.specs.declared.show.Show.{Show}
+use Rattle.boards.specs.declared.show.Show.TheVariants.{All}
 use Rattle.notations.specs.Formats.{TableView, footer_of}
 use Rattle.tricks.specs.Lines.{TricksView, nothing_known}
 

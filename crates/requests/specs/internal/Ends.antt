@@ -11,7 +11,7 @@ use Rattle.plans.specs.Text.{accepted, end_of, text_in}
 use Rattle.jobs.specs.Makings.{AreWorkers, plan_of}
 use Rattle.request_types.specs.Requests.{Look, Search}
 use Rattle.cond_lang.specs.Form.{Form}
-use Rattle.picking.specs.declared.refusal.RefusedLine.{RefusedLine}
+use Rattle.plans.specs.declared.refusal.RefusedLine.{RefusedLine}
 use Rattle.requests.specs.Wishes.{IsDrawn, seed_text}
 use Rattle.requests.specs.WithTricks.{BreaksTold, FailsTold, StopsAtLine, WritesTold, line_fault}
 use Rattle.requests.specs.WithTricks.{plan_told}

@@ -2,7 +2,7 @@ use Rattle.std.proofs.Common.{◌≡◌, ℕ, List, ◌++◌, ◌∙◌, codes, 
 use Rattle.std.proofs.lemmas.List.{append_assoc}
 use Rattle.notations.specs.Names.{vulnerable_name}
 use Rattle.notations.specs.Sheets.{all_points, middle_text}
-use Rattle.notations.specs.Show.{hand_in}
+use Rattle.boards.specs.Show.{hand_in}
 use Rattle.notations.proofs.sheet.put_middle.Goals as goal
 
 grouped : (old start name between points close : List ℕ)

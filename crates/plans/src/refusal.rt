@@ -1,4 +1,4 @@
-//! Lines that are refused.
+//! Lines of the input that are refused: candidates' numbers, and tricks.
 
 /// What is wrong with a line.
 #[derive(Clone, Copy, Debug, PartialEq, Eq)]

@@ -6,8 +6,8 @@ use Rattle.cards.specs.declared.seat.Seat.TheVariants.{North, East, South, West}
 use Rattle.cards.specs.Hands.{hand_of}
 use Rattle.cards.specs.Pack.{seat_number}
 use Rattle.boards.specs.declared.board.Board.{Board}
-use Rattle.notations.specs.declared.show.Show.{Show}
-use Rattle.notations.specs.declared.show.Show.TheVariants as show
+use Rattle.boards.specs.declared.show.Show.{Show}
+use Rattle.boards.specs.declared.show.Show.TheVariants as show
 
 -- the words that ask for hands
 abbrev pub show_words : List (List ℕ × Show)

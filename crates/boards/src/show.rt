@@ -1,15 +1,10 @@
 //! Which hands of a board are written: all, the dealer's, one, or a side's.
 
-ghost use Rattle.std.specs.Prelude.{◌≡◌, true};
-ghost use Rattle.std.specs.Option.{option_copied};
-ghost use Rattle.notations.specs.Formats.{beside_hands};
-ghost use Rattle.notations.specs.Show.{hand_in, is_same, shows};
-ghost use Rattle.notations.specs.Tricks.{or_nothing};
-ghost use Rattle.notations.specs.declared.show.Show.TheVariants.{All};
+ghost use Rattle.std.specs.Prelude.{◌≡◌};
+ghost use Rattle.boards.specs.Show.{hand_in, is_same, shows};
 
-use boards::Board;
+use crate::board::Board;
 use cards::{Hand, Seat};
-use tricks::Tricks;
 
 /// The hands that are written of a board, as they are asked for by a word.
 #[derive(Clone, Copy, PartialEq, Eq, Debug)]
@@ -41,23 +36,6 @@ pub const SHOWS: &[(&str, Show)] = &[
 pub const SHOW_WORDS: &str = "all, dealer, north, east, south, west, ns, ew";
 
 impl Show {
-    /// Whether all hands are written.
-    pub(crate) fn is_all(self) -> bool
-        ensures { result ≡ true → self ≡ All }
-    {
-        matches!(self, Show::All)
-    }
-
-    /// What is written of the tricks beside these hands: nothing, unless they are all.
-    pub(crate) fn beside(self, tricks: &Tricks) -> Option<&Tricks>
-        ensures { or_nothing (option_copied result) ≡ beside_hands self tricks.now }
-    {
-        match self {
-            Show::All => Some(tricks),
-            _ => None,
-        }
-    }
-
     /// Whether the hand in the seat is written.
     fn shows(self, board: &Board, seat: Seat) -> bool
         ensures { result ≡ shows self board.now seat }
@@ -74,8 +52,8 @@ impl Show {
         }
     }
 
-    /// The hand in the seat, or `None` if it isn't written.
-    pub(crate) fn hand(self, board: &Board, seat: Seat) -> Option<Hand>
+    /// Returns the hand in the seat, or `None` if it isn't written.
+    pub fn hand(self, board: &Board, seat: Seat) -> Option<Hand>
         ensures { result ≡ hand_in self board.now seat }
     {
         if self.shows(board, seat) {

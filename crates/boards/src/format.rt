@@ -1,0 +1,49 @@
+//! The formats that boards are written in.
+
+ghost use Rattle.std.specs.Prelude.{◌≡◌};
+ghost use Rattle.boards.specs.Formats.{numbers_boards};
+
+/// A notation, as it is asked for by its name.
+#[derive(Clone, Copy, PartialEq, Eq, Debug)]
+pub enum Format {
+    /// Portable Bridge Notation.
+    Pbn,
+    /// Hand records for print.
+    Hands,
+    /// The notation of Bridge Base Online.
+    Lin,
+    /// One page of HTML, to look at and to print.
+    Html,
+    /// One page of HTML, eighteen boards on a sheet of paper.
+    Sheet,
+    /// Lines of JSON, for programs.
+    Json,
+    /// The numbers of the candidates, which is what `find` prints.
+    Numbers,
+}
+
+/// The formats that boards are asked for in, each with its name.
+pub const FORMATS: &[(&str, Format)] = &[
+    ("pbn", Format::Pbn),
+    ("hands", Format::Hands),
+    ("lin", Format::Lin),
+    ("html", Format::Html),
+    ("sheet", Format::Sheet),
+    ("json", Format::Json),
+];
+
+/// Their names, as help lists them.
+pub const FORMAT_WORDS: &str = "pbn, hands, lin, html, sheet, json";
+
+impl Format {
+    /// Whether the boards have numbers of their own.
+    pub fn numbers_boards(self) -> bool
+        ensures { result ≡ numbers_boards self }
+    {
+        match self {
+            Format::Pbn | Format::Hands | Format::Lin => true,
+            Format::Html | Format::Sheet | Format::Json => true,
+            Format::Numbers => false,
+        }
+    }
+}
