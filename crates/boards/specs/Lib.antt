@@ -6,4 +6,5 @@ pub mod Layouts
 pub mod Letters
 pub mod Formats
 pub mod Show
+pub mod TricksLines
 pub mod internal

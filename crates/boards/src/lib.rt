@@ -3,7 +3,8 @@
 //! A run decides what a board is: its number, its deal, and its dealer and vulnerability, by Law 2
 //! or by a `Setting`; a `Heading` has the labels of all of them. A `Notation` writes boards and
 //! knows nothing of runs. To write one, notations share a `TextBuffer` and the `SuitLetters`. A
-//! `Format` names one, and a `Show` says which hands of a board it writes.
+//! `Format` names one, a `Show` says which hands of a board it writes, and `Tricks` are what may be
+//! known of a board.
 #![tactic(auto)]
 
 mod board;
@@ -15,6 +16,7 @@ mod notation;
 mod setting;
 mod show;
 mod style;
+mod tricks;
 
 pub use board::Board;
 pub use buffer::{CAPACITY, SuitLetters, TextBuffer};
@@ -24,3 +26,4 @@ pub use notation::Notation;
 pub use setting::{Setting, Vul, dealer, vulnerable};
 pub use show::{SHOW_WORDS, SHOWS, Show};
 pub use style::{STYLE_WORDS, STYLES, Style};
+pub use tricks::Tricks;

@@ -6,7 +6,7 @@ use Rattle.pbn_text.specs.Games.{HeadingView, board_text, deal_text, game_text, 
 use Rattle.boards.specs.declared.show.Show.TheVariants.{All}
 use Rattle.notations.specs.Games.{game_in, table_text}
 use Rattle.boards.specs.declared.show.Show.{Show}
-use Rattle.tricks.specs.Lines.{TricksView, nothing_known}
+use Rattle.boards.specs.TricksLines.{TricksView, nothing_known}
 
 pub plain_game : (heading : HeadingView) (board : Board)
     → game_in heading All nothing_known board ≡ game_text heading board

@@ -9,7 +9,7 @@ use Rattle.boards.specs.declared.show.Show.{Show}
 use Rattle.boards.specs.declared.show.Show.TheVariants.{All, Dealer, North, East, South, West, NorthSouth, EastWest}
 use Rattle.notations.specs.Formats.{board_text, footer_of, header_of, layout_showing}
 use Rattle.notations.proofs.GameLemmas.{plain_game}
-use Rattle.tricks.specs.Lines.{nothing_known}
+use Rattle.boards.specs.TricksLines.{nothing_known}
 
 pub showing_header : (format : Format) (show : Show) (heading : HeadingView)
     → (layout_showing format show heading).header ≡ header_of format heading

@@ -18,7 +18,7 @@ use Rattle.notations.specs.Records as records
 use Rattle.notations.specs.SheetStyle.{sheet_style}
 use Rattle.notations.specs.Sheets.{section_text}
 use Rattle.notations.specs.Style.{style, style_with_tricks}
-use Rattle.tricks.specs.Lines.{TricksView, nothing_known}
+use Rattle.boards.specs.TricksLines.{TricksView, nothing_known}
 
 -- ---- the parts of a text
 

@@ -10,7 +10,7 @@ use Rattle.notations.specs.Columns.{two_columns}
 use Rattle.notations.specs.Dotted.{deal_value}
 use Rattle.boards.specs.Show.{hand_in}
 use Rattle.notations.specs.Tricks.{five_of, if_given, number_of}
-use Rattle.tricks.specs.Lines.{TricksView}
+use Rattle.boards.specs.TricksLines.{TricksView}
 
 -- the line [NAME "VALUE"], if there is a value
 abbrev pub tag_if_given : List ℕ → List ℕ → List ℕ

@@ -7,7 +7,7 @@ use Rattle.notations.specs.Dotted.{deal_value}
 use Rattle.notations.specs.Names.{vulnerable_name}
 use Rattle.boards.specs.Show.{hand_in}
 use Rattle.notations.specs.Tricks.{if_given, par_text}
-use Rattle.tricks.specs.Lines.{TricksView}
+use Rattle.boards.specs.TricksLines.{TricksView}
 
 -- the members of tricks and par, where they are known
 abbrev pub tricks_members : TricksView → List ℕ

@@ -16,7 +16,7 @@ use Rattle.boards.specs.declared.show.Show.{Show}
 use Rattle.notations.specs.Names.{seat_name, vulnerable_name}
 use Rattle.boards.specs.Show.{hand_in}
 use Rattle.notations.specs.Tricks.{five_of, if_given, number_of, par_text}
-use Rattle.tricks.specs.Lines.{TricksView}
+use Rattle.boards.specs.TricksLines.{TricksView}
 
 -- ---- the title
 

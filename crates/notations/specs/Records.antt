@@ -15,7 +15,7 @@ use Rattle.notations.specs.Names.{seat_name, vulnerable_name}
 use Rattle.boards.specs.Show.{hand_in}
 use Rattle.notations.specs.Tricks.{five_of, if_given, number_of, par_text}
 use Rattle.pbn_text.specs.Games.{dealer_text}
-use Rattle.tricks.specs.Lines.{TricksView}
+use Rattle.boards.specs.TricksLines.{TricksView}
 
 -- the sign of a suit, ♠, ♥, ♦ or ♣, which is a character of three bytes, and a space
 abbrev pub sign_and_space : Suit → List ℕ

@@ -10,7 +10,7 @@ use Rattle.boards.specs.declared.show.Show.{Show}
 use Rattle.notations.specs.Names.{seat_name, vulnerable_name}
 use Rattle.notations.specs.Pages.{facts_text, suits_text, tricks_text}
 use Rattle.boards.specs.Show.{hand_in}
-use Rattle.tricks.specs.Lines.{TricksView}
+use Rattle.boards.specs.TricksLines.{TricksView}
 
 -- the board's number
 unfoldable pub number_text : ℕ → List ℕ

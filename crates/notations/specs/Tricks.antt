@@ -3,7 +3,7 @@ use Rattle.std.specs.Prelude.{ℕ, ◌-◌, nat_le, List, [], ◌∷◌, ◌++�
 use Rattle.std.specs.Prelude.{if◌then◌else◌, unwrap_or}
 use Rattle.cards.specs.declared.seat.Seat.{Seat}
 use Rattle.cards.specs.declared.seat.Seat.TheVariants.{North, East, South, West}
-use Rattle.tricks.specs.Lines.{TricksView, nothing_known}
+use Rattle.boards.specs.TricksLines.{TricksView, nothing_known}
 
 -- what is written where tricks may be given
 abbrev pub or_nothing : Option TricksView → TricksView

@@ -25,10 +25,9 @@ mod table;
 
 use crate::hands::parts::{put_gap, put_one_count, put_suit, put_two_counts};
 use crate::hands::table::put_tricks;
-use boards::{Board, Show, SuitLetters, TextBuffer, Vul};
+use boards::{Board, Show, SuitLetters, TextBuffer, Tricks, Vul};
 use cards::{Hand, Seat, Suit};
 pub(crate) use header::put_header;
-use tricks::Tricks;
 
 /// Writes the board's twelve lines, those of its tricks and the empty one into the empty buffer.
 #[tactic(auto, unfolding(crate::specs::Records::record_text))]

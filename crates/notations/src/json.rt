@@ -11,8 +11,7 @@ ghost use Rattle.notations.specs.Tricks.{or_nothing};
 use crate::dotted::{put_deal, seat_letter};
 use crate::names::vulnerable_name;
 use crate::results::{put_given, put_par};
-use boards::{Board, Show, SuitLetters, TextBuffer};
-use tricks::Tricks;
+use boards::{Board, Show, SuitLetters, TextBuffer, Tricks};
 
 /// Writes the board's line into the empty buffer.
 #[tactic(auto, unfolding(crate::specs::Json::json_line))]

@@ -10,7 +10,7 @@ ghost use Rattle.boards.specs.declared.format.Format.{Format as AFormat};
 ghost use Rattle.boards.specs.declared.show.Show.{Show as AShow};
 ghost use Rattle.boards.specs.declared.show.Show.TheVariants.{All};
 ghost use Rattle.pbn_text.specs.Games.{game_text};
-ghost use Rattle.tricks.specs.Lines.{nothing_known};
+ghost use Rattle.boards.specs.TricksLines.{nothing_known};
 
 /// A game with all hands and without tricks is that of `pbn_text`.
 #[tactic(auto, using(crate::proofs::GameLemmas::plain_game))]

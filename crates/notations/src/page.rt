@@ -18,7 +18,7 @@ mod style;
 mod table;
 
 use crate::names::{seat_name, vulnerable_name};
-use boards::{Board, Show, SuitLetters, TextBuffer, Vul};
+use boards::{Board, Show, SuitLetters, TextBuffer, Tricks, Vul};
 use cards::{Hand, Seat};
 pub(crate) use header::{Look, put_header};
 pub(crate) use parts::put_suits;
@@ -26,7 +26,6 @@ pub(crate) use style::{
     number_style, page_style, put_title_style, sign_style, table_style, vulnerable_style,
 };
 pub(crate) use table::put_tricks;
-use tricks::Tricks;
 
 /// What closes the page.
 pub(crate) const FOOTER: &[u8] = b"</main>\n</body>\n</html>\n";

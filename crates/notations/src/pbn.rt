@@ -12,9 +12,8 @@ ghost use Rattle.pbn_text.specs.Games.{board_text, heading_text, label, tag};
 use crate::dotted::{put_deal, seat_letter};
 use crate::names::vulnerable_name;
 use crate::results::{five_of, put_given, put_two_columns};
-use boards::{Board, Date, Heading, Label, Show, SuitLetters, TextBuffer};
+use boards::{Board, Date, Heading, Label, Show, SuitLetters, TextBuffer, Tricks};
 use cards::Seat;
-use tricks::Tricks;
 
 /// Writes the board's game into the empty buffer.
 #[tactic(auto, unfolding(crate::specs::Games::game_in))]

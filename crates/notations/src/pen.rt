@@ -7,10 +7,9 @@ ghost use Rattle.notations.specs.Tricks.{or_nothing};
 ghost use Rattle.notations.specs.internal.Pens.{IsPlain, IsUnder, Writes, format_of, text_of};
 
 use crate::{hands, json, lin, numbers, page, pbn, sheet};
-use boards::{Board, Format, Heading, Show, SuitLetters, TextBuffer};
+use boards::{Board, Format, Heading, Show, SuitLetters, TextBuffer, Tricks};
 use pbn_text::Printer;
 use std::alloc::{AllocError, Global};
-use tricks::Tricks;
 
 /// What a board is written with: the letters of suits, unless the format has none. A printer of
 /// games has a text of its own, which keeps the lines that the games share; it writes all hands and

@@ -11,12 +11,11 @@ use crate::pen::Pen;
 use crate::shown::{beside, is_all};
 use crate::table::Table;
 use crate::{hands, page};
-use boards::{Board, Format, Heading, Notation, Show, TextBuffer};
+use boards::{Board, Format, Heading, Notation, Show, TextBuffer, Tricks};
 use pbn_text::HEADER;
 use sinks::{Sink, SinkFault, put_all};
 use std::alloc::{AllocError, Global};
 use std::marker::Model;
-use tricks::Tricks;
 
 /// Prints boards in a format, with the hands that are shown, and under a heading, one at a time,
 /// and with tricks if it has them. Contracts see these, and the text that was printed last.

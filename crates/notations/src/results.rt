@@ -5,9 +5,8 @@ ghost use Rattle.boards.specs.declared.buffer.TheConstants.{CAPACITY};
 ghost use Rattle.notations.specs.Columns.{two_columns};
 ghost use Rattle.notations.specs.Tricks.{five_of, if_given, number_of, par_text};
 
-use boards::TextBuffer;
+use boards::{TextBuffer, Tricks};
 use cards::Seat;
-use tricks::Tricks;
 
 /// Appends the value between two texts, or nothing at all if it is empty.
 pub(crate) fn put_given(text: &mut TextBuffer, before: &[u8], value: &[u8], after: &[u8])

@@ -13,10 +13,9 @@ mod style;
 
 use crate::names::{seat_name, vulnerable_name};
 use crate::page::{put_facts, put_suits, put_tricks};
-use boards::{Board, Show, SuitLetters, TextBuffer};
+use boards::{Board, Show, SuitLetters, TextBuffer, Tricks};
 use cards::{Hand, Seat};
 pub(crate) use style::put_sheet_style;
-use tricks::Tricks;
 
 /// Writes the board's section into the empty buffer.
 #[tactic(auto, unfolding(crate::specs::Sheets::section_text))]

@@ -6,8 +6,7 @@ ghost use Rattle.boards.specs.declared.show.Show.TheVariants.{All};
 ghost use Rattle.notations.specs.Formats.{beside_hands};
 ghost use Rattle.notations.specs.Tricks.{or_nothing};
 
-use boards::Show;
-use tricks::Tricks;
+use boards::{Show, Tricks};
 
 /// Whether all hands are written.
 pub(crate) fn is_all(show: Show) -> bool

@@ -4,8 +4,8 @@ ghost use Rattle.std.specs.Prelude.{◌≡◌, ◌+◌, length, min, nat_lt};
 ghost use Rattle.std.specs.Option.{option_copied};
 ghost use Rattle.notations.specs.Formats.{line_for};
 
+use boards::Tricks;
 use std::marker::Model;
-use tricks::Tricks;
 
 /// What is known of the tricks of boards that follow one another: that of the first, whose number
 /// this is, and so on.

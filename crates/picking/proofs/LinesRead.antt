@@ -12,8 +12,8 @@ use Rattle.std.proofs.KnownBytes.{Consumes-trans}
 use Rattle.std.specs.Io.KnownBytes.{Consumes, IsAtEnd}
 use Rattle.picking.proofs.LineEnds.{line_alone, line_ends, long_line}
 use Rattle.picking.proofs.Scanned.{ended-lf, ended-other, has_lf-other}
-use Rattle.tricks.specs.Lines.{TricksView, told}
-use Rattle.tricks.proofs.Short.{told_short}
+use Rattle.boards.specs.TricksLines.{TricksView, told}
+use Rattle.boards.proofs.TricksShort.{told_short}
 
 -- ---- lines
 

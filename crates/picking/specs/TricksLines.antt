@@ -5,7 +5,7 @@ use Rattle.std.specs.Io.KnownBytes.{Consumes, IsAtEnd}
 use Rattle.picking.specs.NumberTexts.{ended, lines_of}
 use Rattle.picking.specs.declared.tricks_lines.LinesEnd.{LinesEnd}
 use Rattle.picking.specs.declared.tricks_lines.LinesEnd.TheVariants.{Enough, Failed, Missing, Refused}
-use Rattle.tricks.specs.Lines.{TricksView, told}
+use Rattle.boards.specs.TricksLines.{TricksView, told}
 
 -- the lines of a text, each up to LF or CR LF: an empty one at its end is none
 abbrev pub unless_empty : List ℕ → List (List ℕ)

@@ -7,8 +7,8 @@ ghost use Rattle.picking.specs.internal.LinesRead.{HasRead, TakesLines, without_
 
 use crate::source::{MOST_BYTES, Source};
 use arrayvec::ArrayVec;
+use boards::Tricks;
 use std::alloc::{AllocError, Global};
-use tricks::Tricks;
 
 /// How many bytes are read at once.
 const PIECE: usize = 8192;

@@ -24,7 +24,7 @@ use Rattle.requests.specs.internal.Ends.{EndsReady, EndsTold, EndsTricks, Faults
 use Rattle.requests.proofs.ToldText.{accepted_told, end_told, few_told, many_told, text_all, text_cut}
 use Rattle.sinks.specs.Appended.{AppendsAll, append_known}
 use Rattle.std.proofs.lemmas.List.{take_all}
-use Rattle.tricks.specs.Lines.{TricksView}
+use Rattle.boards.specs.TricksLines.{TricksView}
 
 -- what a run wrote, for a wish of this search and look
 pub record Wrote (s : Search) (l : Look) (form : Form) (table : List TricksView) (report : Report) (old new : Option (List ℕ)) : Type 0 where

@@ -22,7 +22,7 @@ use Rattle.plans.specs.Text.{accepted, accepted_among, board_of, boards_of, end_
 use Rattle.plans.proofs.Accepting.{end_here}
 use Rattle.plans.proofs.BoardLists.{accepted_among-parts, length-boards_of, text_of-more}
 use Rattle.requests.specs.WithTricks.{plan_told}
-use Rattle.tricks.specs.Lines.{TricksView}
+use Rattle.boards.specs.TricksLines.{TricksView}
 
 take_min : (i j : ℕ) (xs : List ℕ) → take (min i j) xs ≡ take i (take j xs)
 take_min zero j xs = let e : min 0 j ≡ 0 = omega arith in rw e refl

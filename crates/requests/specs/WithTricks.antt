@@ -18,7 +18,7 @@ use Rattle.jobs.specs.Makings.{AreWorkers, plan_of}
 use Rattle.request_types.specs.Requests.{Look, Search}
 use Rattle.requests.specs.Runs.{InterruptsRun}
 use Rattle.sinks.specs.Appended.{AppendsAll}
-use Rattle.tricks.specs.Lines.{TricksView}
+use Rattle.boards.specs.TricksLines.{TricksView}
 
 -- how many lines are read at most: as many as there can be boards, and fewer than 2^32 - 1
 abbrev pub most_lines : Planned → ℕ

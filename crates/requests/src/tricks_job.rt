@@ -10,6 +10,7 @@ ghost use Rattle.requests.specs.internal.Ends.{told_of};
 use crate::report::Report;
 use crate::workers::worked;
 use crate::written::write_plan;
+use boards::Tricks;
 use jobs::{BoardsJob, Failure};
 use notations::AnyPrinter;
 use picking::{LineFault, LinesEnd, RefusedLine, Source, TricksRead, read_tricks};
@@ -18,7 +19,6 @@ use sinks::Sink;
 use std::alloc::Global;
 use std::sync::Wait;
 use std::thread::Threads;
-use tricks::Tricks;
 
 /// The most lines that are read: the number of one more fits 32 bits.
 const MOST_LINES: u64 = (u32::MAX - 1) as u64;

@@ -1,8 +1,8 @@
 //! Lines of tricks, and what they tell.
 
 use crate::support::same;
+use boards::Tricks;
 use picking::{LinesEnd, NoBytes, Reader, read_four, read_tricks};
-use tricks::Tricks;
 
 const DIGITS: &[u8] = b"97b8997b892624426244";
 

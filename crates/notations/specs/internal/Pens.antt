@@ -10,7 +10,7 @@ use Rattle.boards.specs.declared.format.Format.TheVariants.{Numbers}
 use Rattle.boards.specs.declared.show.Show.{Show}
 use Rattle.boards.specs.declared.show.Show.TheVariants.{All}
 use Rattle.notations.specs.Formats.{TableView, footer_of}
-use Rattle.tricks.specs.Lines.{TricksView, nothing_known}
+use Rattle.boards.specs.TricksLines.{TricksView, nothing_known}
 
 abbrev pub format_of : Pen → Format
 format_of (pen.Games printer) = Pbn

@@ -9,9 +9,8 @@ ghost use Rattle.notations.specs.Tricks.{or_nothing};
 
 use crate::dotted::seat_letter;
 use crate::results::{five_of, put_par, put_two_columns};
-use boards::TextBuffer;
+use boards::{TextBuffer, Tricks};
 use cards::Seat;
-use tricks::Tricks;
 
 /// Appends what is known of the tricks.
 #[tactic(auto, unfolding(crate::specs::Records::table_lines))]

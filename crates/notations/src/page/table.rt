@@ -10,9 +10,8 @@ ghost use Rattle.notations.specs.Tricks.{or_nothing};
 
 use crate::dotted::seat_letter;
 use crate::results::{five_of, number_of, put_par};
-use boards::TextBuffer;
+use boards::{TextBuffer, Tricks};
 use cards::Seat;
-use tricks::Tricks;
 
 /// Appends what is known of the tricks.
 #[tactic(auto, unfolding(crate::specs::Pages::table_text))]

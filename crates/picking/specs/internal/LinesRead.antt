@@ -5,7 +5,7 @@ use Rattle.std.specs.Io.KnownBytes.{Consumes}
 use Rattle.picking.specs.NumberTexts.{ended, has_lf}
 use Rattle.picking.specs.TricksLines.{TableTold, lines_tell, text_lines, text_tells}
 use Rattle.picking.specs.declared.tricks_lines.LinesEnd.TheVariants.{Refused}
-use Rattle.tricks.specs.Lines.{TricksView}
+use Rattle.boards.specs.TricksLines.{TricksView}
 
 -- the line without a CR at its end
 abbrev pub without_cr : List ℕ → List ℕ

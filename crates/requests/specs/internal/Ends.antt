@@ -18,7 +18,7 @@ use Rattle.requests.specs.WithTricks.{plan_told}
 use Rattle.picking.specs.declared.tricks_lines.LinesEnd.{LinesEnd}
 use Rattle.picking.specs.declared.tricks_lines.LinesEnd.TheVariants.{Enough, Failed, Missing, Refused}
 use Rattle.request_types.specs.declared.workers.Workers.{Workers}
-use Rattle.tricks.specs.Lines.{TricksView}
+use Rattle.boards.specs.TricksLines.{TricksView}
 use Rattle.picking.specs.FourBytes.{EndsBefore}
 use Rattle.picking.specs.Outcomes.{Picks}
 use Rattle.picking.specs.declared.fault.PickFault.{PickFault}

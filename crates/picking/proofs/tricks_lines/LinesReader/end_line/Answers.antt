@@ -1,5 +1,5 @@
 use Rattle.std.proofs.Common.{◌≡◌, ◌<◌, ◌∙◌, None, Some, length, sym, arith}
-use Rattle.tricks.specs.Lines.{told}
+use Rattle.boards.specs.TricksLines.{told}
 use Rattle.picking.specs.internal.LinesRead.{without_cr}
 use Rattle.picking.proofs.LinesRead.{line_read, line_refused}
 use Rattle.picking.proofs.tricks_lines.LinesReader.end_line.Goals as goal

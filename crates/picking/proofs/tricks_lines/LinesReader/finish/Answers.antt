@@ -1,5 +1,5 @@
 use Rattle.std.proofs.Common.{◌≡◌, ◌<◌, ◌+◌, ◌∙◌, [], None, Some, length, sym, arith, rules}
-use Rattle.tricks.specs.Lines.{told}
+use Rattle.boards.specs.TricksLines.{told}
 use Rattle.picking.proofs.LinesRead.{ends_enough, ends_missing, ends_refused, ends_short}
 use Rattle.picking.proofs.tricks_lines.LinesReader.finish.Goals as goal
 

@@ -1,11 +1,11 @@
-//! The words of a line.
+//! The words of a line of tricks.
 
 ghost use Rattle.std.specs.Prelude.{◌≡◌, ◌∷◌, ◌==◌, option_map, position};
 ghost use Rattle.std.specs.Char.{is_ascii_digit};
 ghost use Rattle.std.specs.List.{list_all};
-ghost use Rattle.tricks.specs.Lines.{are_points, are_tricks, are_with_par, is_contract, is_contract_byte};
-ghost use Rattle.tricks.specs.Lines.{is_side, is_tricks, words_of};
-ghost use Rattle.tricks.specs.internal.Words.{words_behind};
+ghost use Rattle.boards.specs.TricksLines.{are_points, are_tricks, are_with_par, is_contract, is_contract_byte};
+ghost use Rattle.boards.specs.TricksLines.{is_side, is_tricks, words_of};
+ghost use Rattle.boards.specs.internal.TricksWords.{words_behind};
 
 /// How many declarers in how many denominations.
 const DIGITS: usize = 20;

@@ -1,11 +1,19 @@
-//! The tricks and par of a board.
+//! What is known of a board's tricks: how many each declarer makes in each denomination, and par.
+//! It is read from a line of text.
+//!
+//! A line is 20 digits, `0` to `d` for 0 to 13, the tricks of declarer North, South, East and West,
+//! each in notrump, spades, hearts, diamonds and clubs. If par is known, a space, `NS` or `EW`, a
+//! space and the score for that side follow, 1 to 4 digits; and perhaps a space and a contract, 1
+//! to 24 letters, digits and signs of `+-*=,/`. `-` alone says that nothing is known.
 
 ghost use Rattle.std.specs.Prelude.{◌≡◌, ◌≤◌, ◌++◌, ◌∷◌, [], length, map, true};
 ghost use Rattle.std.specs.Char.{to_ascii_lowercase};
-ghost use Rattle.tricks.specs.Lines.{IsTold, are_tricks, are_with_par};
-ghost use Rattle.tricks.specs.Lines.{known, nothing_known, told, told_by};
+ghost use Rattle.boards.specs.TricksLines.{IsTold, are_tricks, are_with_par};
+ghost use Rattle.boards.specs.TricksLines.{known, nothing_known, told, told_by};
 
-use crate::words::{are_tricks, are_with_par, is_contract, split_word};
+mod words;
+
+use self::words::{are_tricks, are_with_par, is_contract, split_word};
 use arrayvec::ArrayVec;
 use std::marker::Model;
 
@@ -19,7 +27,7 @@ pub struct Tricks {
 }
 
 impl Model for Tricks {
-    ghost use Rattle.tricks.specs.Lines.{IsTold, TricksView};
+    ghost use Rattle.boards.specs.TricksLines.{IsTold, TricksView};
 
     ghost Value = { TricksView };
 

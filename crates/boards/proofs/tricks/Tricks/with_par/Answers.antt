@@ -1,8 +1,8 @@
 use Rattle.std.proofs.Common.{◌&&◌}
 use Rattle.std.proofs.lemmas.Bool.{and_parts}
-use Rattle.tricks.specs.Lines.{are_points, are_tricks, is_side}
-use Rattle.tricks.proofs.Told.{par_told, points_length, side_length}
-use Rattle.tricks.proofs.tricks.Tricks.with_par.Goals as goal
+use Rattle.boards.specs.TricksLines.{are_points, are_tricks, is_side}
+use Rattle.boards.proofs.TricksTold.{par_told, points_length, side_length}
+use Rattle.boards.proofs.tricks.Tricks.with_par.Goals as goal
 
 pub invariant_of-result : goal.invariant_of-result
 invariant_of-result c =

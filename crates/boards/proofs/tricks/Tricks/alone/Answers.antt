@@ -1,7 +1,7 @@
 use Rattle.std.proofs.Common.{◌≡◌, true, rules}
-use Rattle.tricks.specs.Lines.{are_tricks}
-use Rattle.tricks.proofs.Told.{alone_told}
-use Rattle.tricks.proofs.tricks.Tricks.alone.Goals as goal
+use Rattle.boards.specs.TricksLines.{are_tricks}
+use Rattle.boards.proofs.TricksTold.{alone_told}
+use Rattle.boards.proofs.tricks.Tricks.alone.Goals as goal
 
 pub invariant_of-result-2 : goal.invariant_of-result-2
 invariant_of-result-2 c =

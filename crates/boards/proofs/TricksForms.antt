@@ -4,8 +4,8 @@ use Rattle.std.specs.Borrow.{Bor}
 use Rattle.std.specs.Option.{is_some}
 use Rattle.std.proofs.lemmas.Bool.{and_right}
 use Rattle.std.proofs.lemmas.List.Splits.{length-slice_split}
-use Rattle.tricks.specs.Lines.{are_with_par, is_contract, told_by, words_of}
-use Rattle.tricks.specs.internal.Words.{words_behind}
+use Rattle.boards.specs.TricksLines.{are_with_par, is_contract, told_by, words_of}
+use Rattle.boards.specs.internal.TricksWords.{words_behind}
 
 -- without tricks, a side and a score there is no par
 pub no_par : (a b p : List ℕ) (more : List (List ℕ)) → are_with_par a b p ≡ false → None ≡ told_by (a ∷ b ∷ p ∷ more)

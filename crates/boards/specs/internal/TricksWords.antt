@@ -1,6 +1,6 @@
 -- The words after a space.
 use Rattle.std.specs.Prelude.{ℕ, List, [], Option, None, Some}
-use Rattle.tricks.specs.Lines.{words_of}
+use Rattle.boards.specs.TricksLines.{words_of}
 
 -- the words of what comes after a word, if a space does
 abbrev pub words_behind : Option (List ℕ) → List (List ℕ)

@@ -1,8 +1,8 @@
 use Rattle.std.proofs.Common.{◌≡◌, ◌∙◌, false, true, sym, ap, Some, refl, rules}
 use Rattle.std.specs.Option.{is_some}
-use Rattle.tricks.specs.Lines.{told}
-use Rattle.tricks.proofs.Forms.{five_words, four_words, no_contract, no_par}
-use Rattle.tricks.proofs.tricks.Tricks.read.Goals as goal
+use Rattle.boards.specs.TricksLines.{told}
+use Rattle.boards.proofs.TricksForms.{five_words, four_words, no_contract, no_par}
+use Rattle.boards.proofs.tricks.Tricks.read.Goals as goal
 
 pub returns-in_default : goal.returns-in_default
 unfolding told

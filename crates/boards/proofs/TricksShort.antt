@@ -6,8 +6,8 @@ use Rattle.std.proofs.lemmas.Bool.{and_parts}
 use Rattle.std.proofs.lemmas.Grind.{common_steps}
 use Rattle.std.proofs.lemmas.List.Splits.{join_with_byte-slice_split}
 use Rattle.std.proofs.lemmas.Slice.Eq.{bytes_eq-Decides}
-use Rattle.tricks.specs.Lines.{TricksView, are_points, are_tricks, are_with_par, is_contract, is_contract_byte, is_side, is_tricks, told, told_by, words_of}
-use Rattle.tricks.proofs.Told.{points_length, side_length}
+use Rattle.boards.specs.TricksLines.{TricksView, are_points, are_tricks, are_with_par, is_contract, is_contract_byte, is_side, is_tricks, told, told_by, words_of}
+use Rattle.boards.proofs.TricksTold.{points_length, side_length}
 
 abbrev joined : List (List ℕ) → List ℕ
 joined ws = join_with_byte 32 ws

@@ -9,7 +9,7 @@ use Rattle.std.specs.Char.{is_ascii_digit, to_ascii_lowercase}
 use Rattle.std.specs.List.{list_all}
 use Rattle.std.specs.Int.{is_in_range}
 use Rattle.std.proofs.lemmas.Grind.{common_steps}
-use Rattle.tricks.specs.Lines.{IsSmallDigit, IsTold, are_points, are_tricks, are_with_par, is_side, is_tricks, known}
+use Rattle.boards.specs.TricksLines.{IsSmallDigit, IsTold, are_points, are_tricks, are_with_par, is_side, is_tricks, known}
 
 pub small_digit : (b : ℕ) → is_tricks b ≡ true → IsSmallDigit (to_ascii_lowercase b)
 small_digit b h = grind (arith, common_steps)

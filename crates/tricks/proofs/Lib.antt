@@ -1,4 +1,0 @@
-pub mod FirstWord
-pub mod Told
-pub mod Forms
-pub mod Short
