@@ -5,10 +5,10 @@ use Rattle.std.specs.Prelude.{map, nat_le, nat_lt, take, if◌then◌else◌}
 use Rattle.std.specs.Prelude.{Option, None, Some, false, unwrap_or}
 use Rattle.cards.specs.declared.seat.Seat.{Seat}
 use Rattle.cards.specs.declared.seat.Seat.TheVariants as seat
-use Rattle.predeal.specs.HandFaults.{IsFaultOf}
-use Rattle.predeal.specs.HandRules.{rule_of}
-use Rattle.predeal.specs.PredealtHands.{before, given_at, is_refused_at}
-use Rattle.predeal.specs.declared.fault.HandFault.{HandFault}
+use Rattle.request_types.specs.HandFaults.{IsFaultOf}
+use Rattle.request_types.specs.HandRules.{rule_of}
+use Rattle.request_types.specs.PredealtHands.{before, given_at, is_refused_at}
+use Rattle.request_types.specs.declared.hand_fault.HandFault.{HandFault}
 use Rattle.sinks.specs.Shown.{shown}
 use Rattle.plans.specs.declared.plan.PlanError.{PlanError}
 use Rattle.plans.specs.declared.plan.PlanError.TheVariants as plan

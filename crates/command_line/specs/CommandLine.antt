@@ -14,7 +14,7 @@ use Rattle.boards.specs.declared.setting.Vul.{Vul}
 use Rattle.boards.specs.declared.setting.Vul.TheVariants.{Neither, NorthSouth, EastWest, Both}
 use Rattle.cards.specs.declared.seat.Seat.{Seat}
 use Rattle.cards.specs.declared.seat.Seat.TheVariants.{North, East, South, West}
-use Rattle.predeal.specs.PredealtHands.{GivenHands}
+use Rattle.request_types.specs.PredealtHands.{GivenHands}
 use Rattle.request_types.specs.Requests.{Look, Questions, Search, Wish, conditions, count, draw}
 use Rattle.request_types.specs.Requests.{look_as, make, make_with_tricks, no_question, one_question, pick, stream, two_questions}
 use Rattle.request_types.specs.declared.request.Notices.{Notices}

@@ -8,7 +8,7 @@ ghost use Rattle.clap.specs.declared.error.kind.ErrorKind.TheVariants.{MissingRe
 ghost use Rattle.clap.specs.declared.error.kind.ErrorKind.TheVariants.{UnknownArgument};
 ghost use Rattle.clap.specs.declared.error.kind.ErrorKind.TheVariants.{ValueValidation};
 ghost use Rattle.command_line.specs.CommandLine.{asked, kinds_for};
-ghost use Rattle.predeal.specs.PredealtHands.{none_given};
+ghost use Rattle.request_types.specs.PredealtHands.{none_given};
 ghost use Rattle.request_types.specs.Requests.{conditions, count, draw, make, make_with_tricks};
 ghost use Rattle.request_types.specs.Requests.{numbers_look, pick};
 ghost use Rattle.request_types.specs.Requests.{plain_look, plain_notices, plain_search, stream};

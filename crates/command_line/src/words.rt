@@ -14,7 +14,7 @@ ghost use Rattle.command_line.specs.Reading.{AreRead};
 ghost use Rattle.command_line.specs.internal.Asking.{Chosen, HasValues};
 ghost use Rattle.command_line.specs.internal.Readings.{MayGive32, MayGive64, SearchValues};
 ghost use Rattle.command_line.specs.internal.Readings.{StreamValues};
-ghost use Rattle.predeal.specs.PredealtHands.{given_by};
+ghost use Rattle.request_types.specs.PredealtHands.{given_by};
 ghost use Rattle.request_types.specs.Requests.{look_of, questions_of, search_of, wish_of};
 
 use crate::choices::{
@@ -25,9 +25,8 @@ use crate::refusals::{NO_END, NO_QUESTION, invalid_number, invalid_value, missin
 use crate::workers::{bad_workers_in, workers_in};
 use boards::Show;
 use clap::{ArgMatches, Error};
-use predeal::PredealtHands;
 use request_types::{
-    Format, Look, Notices, Questions, Request, Search, StreamRequest, Style, When,
+    Format, Look, Notices, PredealtHands, Questions, Request, Search, StreamRequest, Style, When,
 };
 use std::alloc::{AllocError, Global};
 

@@ -7,7 +7,7 @@ use Rattle.lanes.specs.declared.verdict.Verdict.{Verdict}
 use Rattle.lanes.specs.Views.{OutView}
 use Rattle.lanes.specs.Prefixes.{IsPrefix}
 use Rattle.plans.specs.Plans.{Planned}
-use Rattle.dealrun.specs.MergedVerdicts.{verdicts_for}
+use Rattle.lanes.specs.Jobs.{verdicts_for}
 use Rattle.dealrun.specs.Headline.{contents_of}
 use Rattle.dealrun.specs.Interrupted.{InterruptedIn, StandsCompleteIn}
 use Rattle.plans.specs.declared.cause.Cause.{Cause}

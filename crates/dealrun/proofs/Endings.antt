@@ -26,7 +26,8 @@ use Rattle.lanes.proofs.VerdictLists.{length-verdicts, verdicts-are}
 use Rattle.plans.specs.Plans.{Planned, candidate_of}
 use Rattle.sinks.specs.Appended.{append_known, AppendsAll, AppendsPart}
 use Rattle.plans.specs.Text.{accepted_among, accepted, boards_of, text_of, text_of_boards, end_of}
-use Rattle.dealrun.specs.MergedVerdicts.{verdicts_for, at_turn, in_turn, boards_in, boards_taken, taken_in_all}
+use Rattle.dealrun.specs.MergedVerdicts.{at_turn, in_turn, boards_in, boards_taken, taken_in_all}
+use Rattle.lanes.specs.Jobs.{verdicts_for}
 use Rattle.plans.specs.declared.cause.Cause.TheVariants.{Output}
 use Rattle.dealrun.specs.internal.Joins.{AllParts, ByNumber}
 use Rattle.dealrun.specs.internal.Ends.{Closes}

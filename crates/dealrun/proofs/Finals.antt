@@ -12,7 +12,8 @@ use Rattle.lanes.specs.Views.{OutView}
 use Rattle.lanes.specs.Prefixes.{IsPrefix, IsProperPrefix}
 use Rattle.plans.specs.Plans.{Planned}
 use Rattle.sinks.specs.Appended.{append_known}
-use Rattle.dealrun.specs.MergedVerdicts.{boards_after, verdicts_for, taken_in_all}
+use Rattle.dealrun.specs.MergedVerdicts.{boards_after, taken_in_all}
+use Rattle.lanes.specs.Jobs.{verdicts_for}
 use Rattle.dealrun.specs.internal.Joins.{ByNumber, Owes, JoinedAs, Below, WholeIfSettled, IsSettled, BeginningAt, UnsettledAt, AllWhole}
 use Rattle.dealrun.specs.internal.Writing.{board_count, printed, TakenInTurn, StaysShort, WriterSoFar, WriterBrokeOff}
 use Rattle.dealrun.specs.Headline.{contents_of}

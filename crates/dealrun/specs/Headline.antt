@@ -13,7 +13,7 @@ use Rattle.lanes.specs.Prefixes.{IsPrefix}
 use Rattle.plans.specs.Plans.{Planned, candidate_of}
 use Rattle.plans.specs.Text.{accepted, end_of, text_in}
 use Rattle.sinks.specs.Appended.{AppendsAll}
-use Rattle.dealrun.specs.MergedVerdicts.{verdicts_for}
+use Rattle.lanes.specs.Jobs.{verdicts_for}
 
 -- one item for each worker of the plan, by its number
 abbrev pub for_each_worker : {A : Type 0} → Planned → (ℕ → A) → List A

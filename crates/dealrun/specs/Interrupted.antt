@@ -18,7 +18,8 @@ use Rattle.plans.specs.Text.{accepted_among, accepted, boards_of, end_of}
 use Rattle.plans.specs.Text.{text_of_boards, text_of, text_in}
 use Rattle.dealrun.specs.Headline.{AllSettled, EachLane, TakesWhatIsOwed, contents_of}
 use Rattle.dealrun.specs.Headline.{for_each_worker}
-use Rattle.dealrun.specs.MergedVerdicts.{verdicts_for, taken_in_all, boards_taken}
+use Rattle.dealrun.specs.MergedVerdicts.{taken_in_all, boards_taken}
+use Rattle.lanes.specs.Jobs.{verdicts_for}
 
 -- the lanes, with m verdicts taken in all
 pub record AreLanesConsistent (plan : Planned) (form : Form) (lanes : List OutView) : Type 0 where

@@ -3,16 +3,10 @@ use Rattle.std.specs.Prelude.{ℕ, ◌%◌, ◌/◌, List, [], length, map, filt
 use Rattle.std.specs.Prelude.{slice_index_or}
 use Rattle.std.specs.List.{range_with_len, filter_map, slice_get, enumerate_from}
 use Rattle.boards.specs.declared.board.Board.{Board}
-use Rattle.conditions.specs.Form.{Form}
 use Rattle.lanes.specs.declared.verdict.Verdict.{Verdict}
-use Rattle.lanes.specs.Verdicts.{verdicts}
 use Rattle.lanes.specs.Views.{OutView}
-use Rattle.plans.specs.Plans.{Planned, candidate_of}
+use Rattle.plans.specs.Plans.{Planned}
 use Rattle.plans.specs.Text.{board_of}
-
--- all verdicts of worker w
-abbrev pub verdicts_for : Planned → Form → ℕ → List Verdict
-verdicts_for plan form w = verdicts (candidate_of plan) plan.first plan.count form plan.workers w
 
 -- the i-th verdict in turn: item i / W of list i % W
 abbrev pub at_turn : ℕ → List (List Verdict) → ℕ → Option Verdict

@@ -10,7 +10,7 @@ ghost use Rattle.conditions.specs.Form.{Form};
 ghost use Rattle.lanes.specs.Verdicts.{verdicts};
 ghost use Rattle.plans.specs.Plans.{Planned, candidate_of};
 ghost use Rattle.plans.specs.Text.{accepted, board_of, end_of, needed_by, text_in};
-ghost use Rattle.dealrun.specs.MergedVerdicts.{verdicts_for};
+ghost use Rattle.lanes.specs.Jobs.{verdicts_for};
 ghost use Rattle.dealrun.specs.Pbn.{text};
 ghost use Rattle.pbn_text.specs.Games.{pbn};
 ghost use Rattle.dealrun.specs.Plain.{IsPlain, plain_accepted, plain_text};

@@ -3,14 +3,11 @@
 ghost use Rattle.std.specs.Prelude.{◌≡◌, ◌+◌, ◌<◌, ◌≤◌, ℕ, [], All, IfOk, IfSome, map, take};
 ghost use Rattle.std.specs.Prelude.{vec_len, vec_capacity, false, true};
 ghost use Rattle.std.specs.List.{range_with_len};
-ghost use Rattle.lanes.specs.Jobs.{verdicts_around};
+ghost use Rattle.lanes.specs.Jobs.{verdicts_around, verdicts_for};
 ghost use Rattle.lanes.specs.Work.{Ends};
-ghost use Rattle.dealrun.specs.MergedVerdicts.{verdicts_for};
 
 use conditions::Cond;
-use lanes::{
-    Gate, Job, JobAround, LaneIn, LaneOut, Pace, Share, WorkEnd, lane_in_blocks, work_around,
-};
+use lanes::{Gate, JobAround, LaneIn, LaneOut, Pace, WorkEnd, lane_in_blocks, work_around};
 use plans::Plan;
 use std::alloc::{AllocError, Global};
 use std::snapshot::Snapshot;
@@ -60,24 +57,6 @@ fn pace_of<R: Threads>(rt: &R, plan: &Plan) -> Pace {
     Pace::of(plan.workers(), cores)
 }
 
-/// The job of one worker. `Err` only if an allocation failed.
-fn job_of(plan: &Plan, cond: &Cond, worker: u32) -> Result<JobAround, AllocError>
-    requires { worker < plan.now.workers }
-    ensures { IfOk result (λ job. verdicts_around job ≡ verdicts_for plan.now cond.now worker) }
-{
-    let Ok(cond) = cond.try_clone() else {
-        return Err(AllocError);
-    };
-    let share = Share {
-        first: plan.first(),
-        count: plan.count(),
-        workers: plan.workers(),
-        worker,
-    };
-    let seed = plan.seed();
-    Ok(Job { seed, share, cond }.around(*plan.fixed()))
-}
-
 /// What a worker has of it. `Err` only if it can't be cloned.
 fn share<G: Drop>(shared: &Shared<G>) -> Result<Shared<G>, AllocError> {
     Ok(Shared {
@@ -103,7 +82,7 @@ fn assign<R: Clone, G: Drop>(
     ensures ring { IfOk result (λ r. r.0.lane.ring ≡ r.1.ring) }
     ensures taker { IfOk result (λ r. (r.1.taken ≡ []) × (r.1.settled ≡ false)) }
 {
-    let job = job_of(plan, cond, worker)?;
+    let job = JobAround::of(plan, cond, worker)?;
     let Ok((lane, taker)) = lane_in_blocks(alloc, plan.capacity(), pace) else {
         return Err(AllocError);
     };

@@ -3,7 +3,7 @@
 ghost use Rattle.std.specs.Prelude.{◌-◌, ◌<◌, ◌^◌};
 
 use crate::streams::Said;
-use requests::{Failure, Report};
+use deals_cli::{Failure, Report};
 use sinks::{Sink, put_all};
 use std::io;
 use std::io::{ErrorKind, IsTerminal};

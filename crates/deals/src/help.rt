@@ -1,8 +1,8 @@
 //! What helps a person with a failure, below the line that names it.
 
 use advice::Reasons;
+use deals_cli::{Failure, Request};
 use hints::{explain, explain_question};
-use requests::{Failure, Request};
 use std::alloc::Global;
 
 /// What helps with a failure; none if nothing does, or if memory runs out. Without a request the

@@ -17,17 +17,18 @@ ghost use Rattle.command_line.specs.Reading.{AreRead};
 use crate::endings::{cut_off, for_person, say, say_more};
 use crate::help::help;
 use crate::notes::{put_note, put_notes};
-use crate::streams::{Given, Said, hints_of, is_time, open};
+use crate::streams::{Given, Output, Said, hints_of, is_time, open};
 use advice::Reasons;
 use clap::Error;
 use command_line::read_words;
-use deals_cli::{Task, perform, prepare};
+use deals_cli::{Failure, Report, Request, Task, perform, prepare};
 use picking::Reader;
-use requests::{Failure, Report, Request};
 use sinks::{Piped, Sink, put_all};
 use std::cell::Cell;
 use std::io::ErrorKind;
 use std::process::ExitCode;
+use std::sync::Wait;
+use std::thread::Threads;
 use std::{env, io};
 
 /// The words that the program was called with.
@@ -81,6 +82,40 @@ fn tell(
     status
 }
 
+/// Does what the words ask for, and says how it ended. Returns the status. `threads` is the handle
+/// of `main`, where alone it starts threads.
+fn answer<R: Threads + Wait + Clone + Send + 'static>(
+    threads: &R,
+    rt: &HostRuntime,
+    words: &[String],
+    read: &Result<Request<'_>, Error>,
+    out: &mut Output,
+    err: &mut Said,
+) -> u8
+    requires read { AreRead (map string_bytes words.now) read.now }
+    requires out { ⟦<Output as Sink>⟧.faults out.old < 2 ^ 64 - 1 }
+    requires err { ⟦<Said as Sink>⟧.faults err.old < 2 ^ 64 - 1 }
+{
+    let hints = is_time(rt, hints_of(words, read));
+    let reason = Cell::new(None);
+    let mut input = Reader::new(Given::new(rt, read, &reason));
+    let ended = match noted(rt, words, read, hints) {
+        Ok(task) => perform(threads, rt.alloc(), task, &mut input, out),
+        Err(failure) => Err(failure),
+    };
+    if !hints {
+        return say(&ended, err);
+    }
+    if let Some(status) = cut_off(rt, &ended, out.reason()) {
+        return status;
+    }
+    let reasons = Reasons {
+        output: out.reason(),
+        input: reason.get(),
+    };
+    tell(rt, words, read, ended, reasons, err)
+}
+
 fn main(rt: HostRuntime) -> ExitCode {
     let words = match words_of(&rt) {
         Ok(words) => words,
@@ -88,26 +123,10 @@ fn main(rt: HostRuntime) -> ExitCode {
     };
     let words = words.as_slice();
     let read = read_words(rt.alloc(), words);
-    let (mut out, mut err) = match open(&rt, &read) {
-        Ok(streams) => streams,
-        Err(error) => return not_begun(&rt, &error),
-    };
-    let hints = is_time(&rt, hints_of(words, &read));
-    let reason = Cell::new(None);
-    let mut input = Reader::new(Given::new(&rt, &read, &reason));
-    let ended = match noted(&rt, words, &read, hints) {
-        Ok(task) => perform(&rt, rt.alloc(), task, &mut input, &mut out),
-        Err(failure) => Err(failure),
-    };
-    if !hints {
-        return ExitCode::from(say(&ended, &mut err));
+    match open(&rt, &read) {
+        Ok((mut out, mut err)) => {
+            ExitCode::from(answer(&rt, &rt, words, &read, &mut out, &mut err))
+        }
+        Err(error) => not_begun(&rt, &error),
     }
-    if let Some(status) = cut_off(&rt, &ended, out.reason()) {
-        return ExitCode::from(status);
-    }
-    let reasons = Reasons {
-        output: out.reason(),
-        input: reason.get(),
-    };
-    ExitCode::from(tell(&rt, words, &read, ended, reasons, &mut err))
 }

@@ -2,8 +2,7 @@
 
 use advice::dealt_again;
 use clap::Error;
-use deals_cli::Task;
-use requests::{Job, Request};
+use deals_cli::{Job, Request, Task};
 use sinks::{Piped, put_all};
 use std::alloc::Global;
 use std::io::IsTerminal;

@@ -5,7 +5,7 @@ ghost use Rattle.std.specs.Prelude.{◌≡◌, IfOk};
 use advice::hints_among;
 use clap::Error;
 use console::{Counts, Drawn, GATHERED_MILLIS, OverLine, Prompt, Style, millis};
-use requests::{Request, When};
+use deals_cli::{Request, When};
 use sinks::{Piped, Sink};
 use std::cell::Cell;
 use std::fs::File;

@@ -10,17 +10,17 @@ use Rattle.clap.specs.declared.error.kind.ErrorKind.TheVariants.{OutOfMemory}
 use Rattle.plans.specs.declared.cause.Cause.TheVariants as cause
 use Rattle.jobs.specs.Failures.{is_refusal, status_of}
 use Rattle.jobs.specs.FirstRefusal.{IsDueFor}
-use Rattle.requests.specs.Interruptions.{LeavesFrom}
+use Rattle.deals_cli.specs.Interruptions.{LeavesFrom}
 use Rattle.jobs.specs.Jobs.{IsReady, IsRefused, ReadsInput}
-use Rattle.requests.specs.Served.{Serves}
+use Rattle.deals_cli.specs.Served.{Serves}
 use Rattle.request_types.specs.Requests.{Wish, conditions, count, draw, make, make_with_tricks, pick, stream}
 use Rattle.jobs.specs.Statuses.{HasInput, IsStatusOf}
-use Rattle.requests.specs.Wishes.{AppendsFrom}
+use Rattle.deals_cli.specs.Wishes.{AppendsFrom}
 use Rattle.jobs.specs.declared.failure.Failure.{Failure}
 use Rattle.jobs.specs.declared.failure.Failure.TheVariants.{CommandLine, Plan, Label, Hand, Condition, Question, Cells, Interrupted, Line, Input, EndOfInput}
 use Rattle.jobs.specs.declared.job.Job.{Job}
 use Rattle.jobs.specs.declared.job.Job.TheVariants.{Boards, Conditions, Count, Pick, Seed, Stream, WithTricks}
-use Rattle.requests.specs.declared.report.Report.{Report}
+use Rattle.deals_cli.specs.declared.report.Report.{Report}
 use Rattle.jobs.proofs.FirstDue.{output_due}
 use Rattle.jobs.proofs.Statuses.{no_memory, served}
 use Rattle.command_line.specs.CommandLine.{asked, kinds_for}

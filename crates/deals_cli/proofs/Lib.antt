@@ -1,3 +1,11 @@
+pub mod Saying
+pub mod Serving
+pub mod Reports
+pub mod Counted
+pub mod OtherWorkers
+pub mod ToldText
+pub mod Telling
+pub mod Finding
 pub mod Statuses
 pub mod Answering
 pub mod Reporting

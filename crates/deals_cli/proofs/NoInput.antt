@@ -7,7 +7,7 @@ use Rattle.picking.specs.NumberTexts.{said}
 use Rattle.plans.specs.declared.refusal.RefusedLine.{RefusedLine}
 use Rattle.picking.specs.declared.fault.PickFault.TheVariants.{Refused}
 use Rattle.jobs.specs.Failures.{status_of}
-use Rattle.requests.specs.Interruptions.{EndsFor}
+use Rattle.deals_cli.specs.Interruptions.{EndsFor}
 use Rattle.request_types.specs.Requests.{Wish, conditions, count, draw, make, make_with_tricks, pick, stream}
 use Rattle.jobs.specs.declared.failure.Failure.{Failure}
 use Rattle.jobs.specs.declared.failure.Failure.TheVariants.{CommandLine, Plan, Label, Hand, Condition, Question, Cells, Interrupted, Line, Input, EndOfInput}

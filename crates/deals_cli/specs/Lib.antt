@@ -1,8 +1,15 @@
 pub use Rattle.request_types.specs.Requests
 pub use Rattle.jobs.specs.Makings
-pub use Rattle.requests.specs.Wishes
 pub use Rattle.command_line.specs.Commands
 pub use Rattle.command_line.specs.CommandLine
 pub use Rattle.command_line.specs.Reading
+pub mod Served
+pub mod Formats
+pub mod Wishes
+pub mod Runs
+pub mod WithTricks
+pub mod Interruptions
+pub mod Reports
+pub mod Reported
 pub mod Program
 pub mod internal

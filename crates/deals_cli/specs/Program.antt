@@ -10,13 +10,13 @@ use Rattle.plans.specs.declared.cause.Cause.TheVariants.{Memory, Output}
 use Rattle.sinks.specs.Appended.{AppendsAll}
 use Rattle.jobs.specs.Failures.{is_refusal, is_untouched, status_in, status_of}
 use Rattle.jobs.specs.FirstRefusal.{IsDueFor}
-use Rattle.requests.specs.Interruptions.{LeavesFrom}
+use Rattle.deals_cli.specs.Interruptions.{LeavesFrom}
 use Rattle.jobs.specs.Lines.{line_of}
-use Rattle.requests.specs.Reported.{Reports, ReportsFor, wants_report}
+use Rattle.deals_cli.specs.Reported.{Reports, ReportsFor, wants_report}
 use Rattle.jobs.specs.Jobs.{IsReady, ReadsInput}
 use Rattle.request_types.specs.Requests.{Look, Search, Wish, draw, make, make_with_tricks}
 use Rattle.jobs.specs.Statuses.{HasInput}
-use Rattle.requests.specs.declared.report.Report.{Report}
+use Rattle.deals_cli.specs.declared.report.Report.{Report}
 use Rattle.request_types.specs.declared.request.Notices.{Notices}
 use Rattle.jobs.specs.declared.failure.Failure.{Failure}
 use Rattle.jobs.specs.declared.failure.Failure.TheVariants.{Interrupted, Input}
@@ -26,7 +26,7 @@ use Rattle.deals_cli.specs.declared.task.Task.TheVariants.{Show, Do}
 pub use Rattle.jobs.specs.Makings.{CanDate, CanLabel, HasLabels, HasNumbers, IsPlanned}
 pub use Rattle.jobs.specs.Makings.{Means, plan_of}
 pub use Rattle.jobs.specs.Statuses.{HasInput, HasMeaning, HasPlan, HasRun}
-pub use Rattle.requests.specs.Wishes.{Appends, AppendsFrom}
+pub use Rattle.deals_cli.specs.Wishes.{Appends, AppendsFrom}
 pub use Rattle.jobs.specs.Statuses.{IsStatus, IsStatusOf, IsStatusWithInput}
 
 -- clap shows its help and its version; any other kind is a mistake in the words

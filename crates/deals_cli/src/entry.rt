@@ -8,12 +8,13 @@ ghost use Rattle.deals_cli.specs.Program.{TellsWhy, TellsWhyFrom, WantsBytes, Wa
 ghost use Rattle.jobs.specs.Failures.{CountsInput, faults_in, status_in};
 ghost use Rattle.request_types.specs.Requests.{Wish};
 ghost use Rattle.jobs.specs.Statuses.{IsStatus, IsStatusWithInput};
-ghost use Rattle.requests.specs.Wishes.{Appends, AppendsFrom};
+ghost use Rattle.deals_cli.specs.Wishes.{Appends, AppendsFrom};
 
+use crate::report::Report;
 use crate::task::{perform, prepare};
 use command_line::read_words;
+use jobs::Failure;
 use picking::{NoBytes, Source};
-use requests::{Failure, Report};
 use sinks::Sink;
 use std::alloc::Global;
 use std::sync::Wait;

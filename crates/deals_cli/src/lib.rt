@@ -1,11 +1,29 @@
 //! The program: `task.rt` makes a task of what words ask for and does it, and `entry.rt` has
 //! `program`, which reads words and does it all.
+//!
+//! Words ask for a `Request` (`request_types`), and a `Job` is what it means (`jobs`). `serve` does
+//! the job.
 #![tactic(auto)]
 
 mod entry;
+pub mod laws;
+mod report;
+mod seed_job;
+mod service;
 mod shown;
 mod task;
+mod tricks_job;
+mod workers;
+mod written;
 
-pub use command_line::{laws, read_words};
+pub use command_line::{laws as examples, read_words};
 pub use entry::{program, program_with_input};
+pub use jobs::{BoardsJob, CountJob, Failure, Job, PickJob, planned};
+pub use report::Report;
+pub use request_types::{
+    Format, LabelName, Look, Notices, QuestionName, Questions, Request, Search, Show,
+    StreamRequest, Style, When, Workers,
+};
+pub use service::serve;
 pub use task::{Task, perform, prepare};
+pub use workers::workers_for;

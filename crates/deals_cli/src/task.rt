@@ -10,12 +10,15 @@ ghost use Rattle.deals_cli.specs.Program.{ReadsTask, is_shown};
 ghost use Rattle.deals_cli.specs.internal.Kinds.{RefusesError};
 ghost use Rattle.jobs.specs.Failures.{CountsInput, faults_in, status_in, status_of};
 
+use crate::report::Report;
+use crate::service::serve;
 use crate::shown::shown_text;
 use clap::Error;
 use clap::error::ErrorKind;
 use dealrun::Cause;
+use jobs::{Failure, Job};
 use picking::Source;
-use requests::{Failure, Job, Report, Request, serve};
+use request_types::Request;
 use sinks::{Sink, put_all};
 use std::alloc::Global;
 use std::sync::Wait;
@@ -62,7 +65,7 @@ pub fn prepare(
     ensures refused { IfErr result (AreRefused (map string_bytes words.now)) }
 {
     match read {
-        Ok(request) => match requests::prepare(alloc, request) {
+        Ok(request) => match jobs::prepare(alloc, request) {
             Ok(job) => Ok(Task::Do(job)),
             Err(failure) => Err(failure),
         },
@@ -106,7 +109,7 @@ fn write<R: Threads + Wait + Clone + Send + 'static, I: Source, O: Sink>(
 ///
 /// # Errors
 ///
-/// Those of `requests::serve`, and `Interrupted` by the output if it can't be flushed.
+/// Those of `serve`, and `Interrupted` by the output if it can't be flushed.
 pub fn perform<R: Threads + Wait + Clone + Send + 'static, I: Source, O: Sink>(
     rt: &R,
     alloc: Global,

@@ -21,7 +21,7 @@ use Rattle.jobs.specs.Statuses.{HasMeaning, HasPlan, IsStatusOf}
 use Rattle.jobs.proofs.Statuses.{no_memory as out_of_memory, refused_meaning, refused_plan}
 use Rattle.request_types.specs.declared.request.Notices.{Notices}
 use Rattle.request_types.specs.declared.when.When.{When}
-use Rattle.predeal.specs.PredealtHands.{GivenHands}
+use Rattle.request_types.specs.PredealtHands.{GivenHands}
 use Rattle.jobs.specs.declared.failure.Failure.{Failure}
 use Rattle.jobs.specs.declared.failure.Failure.TheVariants.{CommandLine, Plan, Label, Hand, Condition, Question, Cells, Interrupted, Line, Input, EndOfInput}
 use Rattle.request_types.specs.declared.names.LabelName.TheVariants.{Event, Site, Date}

@@ -7,7 +7,7 @@ use Rattle.cond_lang.specs.Form.{Form}
 use Rattle.conditions.specs.declared.error.CondError.{CondError}
 use Rattle.conditions.specs.declared.error.CondError.TheVariants.{Memory as no_memory}
 use Rattle.plans.specs.declared.cause.Cause.TheVariants.{Memory, Output}
-use Rattle.predeal.specs.PredealtHands.{first_refused}
+use Rattle.request_types.specs.PredealtHands.{first_refused}
 use Rattle.plans.specs.declared.plan.PlanError.TheVariants.{Range, Workers, Capacity, Boards}
 use Rattle.plans.specs.declared.plan.PlanError.TheVariants.{FirstBoard}
 use Rattle.jobs.specs.Counting.{Asks, IsAsked, IsQuestion}

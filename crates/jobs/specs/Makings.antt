@@ -6,7 +6,7 @@ use Rattle.boards.specs.declared.setting.Setting.{Setting}
 use Rattle.cond_lang.specs.Form.{Form, compare, number}
 use Rattle.cond_lang.specs.Text.{SpellsTree}
 use Rattle.conditions.specs.declared.tree.Op.TheVariants.{Equal}
-use Rattle.predeal.specs.PredealtHands.{first_refused, fixed_of}
+use Rattle.request_types.specs.PredealtHands.{first_refused, fixed_of}
 use Rattle.boards.specs.Labels.{IsDate, IsLabel}
 use Rattle.plans.specs.Plans.{Planned}
 use Rattle.request_types.specs.Defaults.{candidates_of, first_board_of, lane_of, workers_in}

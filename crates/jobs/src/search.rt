@@ -5,7 +5,7 @@ ghost use Rattle.cond_lang.specs.Form.{Form};
 ghost use Rattle.jobs.specs.Failures.{status_of};
 ghost use Rattle.jobs.specs.Makings.{Means, CanDate, CanLabel, HasLabels, HasHands, HasNumbers};
 ghost use Rattle.jobs.specs.Makings.{IsPlanned, heading_of, plan_of, setting_of};
-ghost use Rattle.predeal.specs.PredealtHands.{fixed_of};
+ghost use Rattle.request_types.specs.PredealtHands.{fixed_of};
 ghost use Rattle.request_types.specs.Requests.{Search as ASearch, look_of, search_of};
 ghost use Rattle.jobs.specs.internal.Conditions.{IsConditionFailure};
 ghost use Rattle.jobs.specs.FirstRefusal.{IsFirstOf, of_labels, IsFirstHand, IsPlanDue};

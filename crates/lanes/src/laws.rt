@@ -1,10 +1,12 @@
 //! Laws of the core, over its definition alone.
 
-ghost use Rattle.std.specs.Prelude.{◌≡◌, ◌+◌, ◌*◌, ◌/◌, ◌%◌, ◌<◌, ◌≤◌, ◌⊎◌, ℕ, List, ◌∷◌, map, true, false};
+ghost use Rattle.std.specs.Prelude.{◌≡◌, ◌+◌, ◌*◌, ◌/◌, ◌%◌, ◌<◌, ◌≤◌, ◌⊎◌, ℕ, List, ◌∷◌, map};
+ghost use Rattle.std.specs.Prelude.{true, false};
 ghost use Rattle.std.specs.List.{range_with_len};
 ghost use Rattle.lanes.specs.declared.model.event.Event.{Event};
 ghost use Rattle.lanes.specs.declared.model.event.Event.TheVariants.{Send, Take, Close};
-ghost use Rattle.lanes.specs.Machine.{Machine, new_machine, after, is_allowed, does_change, changes_in};
+ghost use Rattle.lanes.specs.Machine.{Machine, new_machine, after, is_allowed, does_change};
+ghost use Rattle.lanes.specs.Machine.{changes_in};
 ghost use Rattle.lanes.specs.Machine.{sent_of, taken_of};
 ghost use Rattle.lanes.specs.Sound.{IsSound};
 ghost use Rattle.lanes.specs.Runs.{after_all, item_of, items_sent, items_taken};

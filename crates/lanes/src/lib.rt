@@ -3,6 +3,7 @@
 #![tactic(auto)]
 
 mod ends;
+mod job;
 pub mod laws;
 mod model;
 mod profit;
@@ -15,8 +16,9 @@ mod worker;
 
 pub use cards::{MAX_CAPACITY, MAX_WORKERS};
 pub use ends::{Closed, LaneError, LaneIn, LaneOut, lane, lane_in_blocks};
+pub use job::{Job, JobAround};
 pub use model::{Core, Event};
-pub use share::{Job, JobAround, Share};
+pub use share::Share;
 pub use turns::Turns;
 pub use verdict::{Slot, Verdict};
 pub use wait::Pace;

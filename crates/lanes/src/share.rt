@@ -3,8 +3,7 @@
 ghost use Rattle.std.specs.Prelude.{◌≡◌, ◌+◌, ◌*◌, ◌<◌, ◌≤◌, ◌^◌, ◌↔◌, IsSome, IfSome};
 ghost use Rattle.lanes.specs.Verdicts.{turns};
 
-use cards::{Fixed, MAX_CANDIDATES, MAX_WORKERS};
-use conditions::Cond;
+use cards::{MAX_CANDIDATES, MAX_WORKERS};
 
 /// Of the `count` candidates from `first` on, every `workers`-th one, from the one numbered `first
 /// + worker`.
@@ -60,53 +59,5 @@ impl Share {
         ensures { result ≡ self.now.first + self.now.worker + i * self.now.workers }
     {
         self.first + u64::from(self.worker) + i * u64::from(self.workers)
-    }
-}
-
-/// What a worker is to do: judge its share of the seed's candidates by the condition.
-#[derive(Drop)]
-pub struct Job {
-    pub seed: u32,
-    pub share: Share,
-    pub cond: Cond,
-}
-
-/// A job whose candidates are dealt around fixed cards.
-pub struct JobAround {
-    pub seed: u32,
-    pub share: Share,
-    pub cond: Cond,
-    pub fixed: Fixed,
-}
-
-// By hand, so that to drop one is a call (docs/DECISIONS.md).
-impl Drop for JobAround {
-    fn drop(self) {
-        let JobAround {
-            seed: _,
-            share: _,
-            cond: _,
-            fixed: _,
-        } = self;
-    }
-}
-
-impl Job {
-    /// The job with its candidates dealt around these cards.
-    pub fn around(self, fixed: Fixed) -> JobAround
-        ensures { result ≡ record {
-          seed = self.seed;
-          share = self.share;
-          cond = self.cond;
-          fixed = fixed;
-        } }
-    {
-        let Job { seed, share, cond } = self;
-        JobAround {
-            seed,
-            share,
-            cond,
-            fixed,
-        }
     }
 }

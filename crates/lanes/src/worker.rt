@@ -15,8 +15,8 @@ ghost use Rattle.lanes.specs.declared.verdict.Verdict.{Verdict as AVerdict};
 ghost use Rattle.lanes.specs.internal.Screens.{DealsNext, IsScreenOf};
 
 use crate::ends::{Closed, LaneIn};
+use crate::job::{Job, JobAround};
 use crate::screening::Screening;
-use crate::share::{Job, JobAround};
 use crate::verdict::{MAX_BLOCK, Slot, Verdict};
 use crate::wait::{Raised, raise};
 use cards::{Candidates, Deal, Fixed, Packed};

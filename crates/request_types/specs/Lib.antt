@@ -1,2 +1,5 @@
+pub mod PredealtHands
+pub mod HandFaults
+pub mod HandRules
 pub mod Requests
 pub mod Defaults

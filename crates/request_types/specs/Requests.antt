@@ -3,7 +3,7 @@ use Rattle.std.specs.Prelude.{ℕ, Bool, List, Option, None, Some, false, option
 use Rattle.std.specs.Prelude.{if◌then◌else◌}
 use Rattle.boards.specs.declared.setting.Vul.{Vul}
 use Rattle.cards.specs.declared.seat.Seat.{Seat}
-use Rattle.predeal.specs.PredealtHands.{GivenHands, given_by, none_given}
+use Rattle.request_types.specs.PredealtHands.{GivenHands, given_by, none_given}
 use Rattle.boards.specs.declared.format.Format.{Format}
 use Rattle.boards.specs.declared.format.Format.TheVariants.{Numbers, Pbn}
 use Rattle.boards.specs.declared.show.Show.{Show}

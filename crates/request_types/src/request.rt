@@ -2,13 +2,13 @@
 
 ghost use Rattle.std.specs.Prelude.{◌≤◌, ◌^◌};
 
+use crate::hands::PredealtHands;
 use crate::look::Look;
 use crate::names::QuestionName;
 use crate::questions::Questions;
 use crate::search::Search;
 use crate::when::When;
 use boards::{Format, Style};
-use predeal::PredealtHands;
 
 /// What a person is told while a run lasts and when it has ended. Nothing else depends on it.
 #[derive(Clone, Copy, Debug)]

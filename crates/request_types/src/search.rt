@@ -1,13 +1,13 @@
 //! Which candidates are tried and accepted.
 
 ghost use Rattle.std.specs.Prelude.{◌≡◌};
-ghost use Rattle.predeal.specs.PredealtHands.{given_by};
+ghost use Rattle.request_types.specs.PredealtHands.{given_by};
 ghost use Rattle.request_types.specs.Defaults.{candidates_of, lane_of, workers_in};
 ghost use Rattle.request_types.specs.Requests.{no_search, search_of};
 
+use crate::hands::PredealtHands;
 use crate::workers::Workers;
 use cards::MAX_CANDIDATES;
-use predeal::PredealtHands;
 
 /// Which candidates of a seed are tried, and which of them are accepted. What an option was not
 /// given has its default.

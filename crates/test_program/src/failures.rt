@@ -2,8 +2,8 @@
 
 use crate::support::same;
 use dealrun::{Cause, MemSink};
+use deals_cli::Failure;
 use picking::{LineFault, RefusedLine};
-use requests::Failure;
 
 /// A refused line of the input is named, with what is wrong with it.
 fn of_line(fault: LineFault) -> Failure {

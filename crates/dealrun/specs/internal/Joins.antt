@@ -10,7 +10,7 @@ use Rattle.lanes.specs.declared.worker.WorkEnd.TheVariants.{Done, Stopped, Unclo
 use Rattle.lanes.specs.Prefixes.{IsPrefix, IsProperPrefix}
 use Rattle.conditions.specs.Form.{Form}
 use Rattle.plans.specs.Plans.{Planned}
-use Rattle.dealrun.specs.MergedVerdicts.{verdicts_for}
+use Rattle.lanes.specs.Jobs.{verdicts_for}
 use Rattle.dealrun.specs.Headline.{contents_of}
 
 -- the lane of a worker that owed the verdicts `all`, before and after the worker was joined

@@ -1,6 +1,7 @@
 //! The core of a run: which events are allowed in which state of the lanes, and what they change.
 
-ghost use Rattle.std.specs.Prelude.{◌≡◌, ◌+◌, ◌<◌, ◌≤◌, ◌^◌, ◌⊎◌, ◌↔◌, ℕ, true, false, IsSome, IfSome};
+ghost use Rattle.std.specs.Prelude.{◌≡◌, ◌+◌, ◌<◌, ◌≤◌, ◌^◌, ◌⊎◌, ◌↔◌, ℕ, true, false, IsSome};
+ghost use Rattle.std.specs.Prelude.{IfSome};
 ghost use Rattle.lanes.specs.declared.model.event.Event.TheVariants.{Send, Take, Close, Stop};
 
 use crate::model::event::Event;
@@ -36,7 +37,8 @@ impl Model for Core {
 
 impl Core {
     ghost use Rattle.lanes.specs.Machine.{new_machine, sent_of, taken_of, is_closed, share_of};
-    ghost use Rattle.lanes.specs.Machine.{is_allowed, after, changes_made, next_lane as lane_in_turn};
+    ghost use Rattle.lanes.specs.Machine.{is_allowed, after, changes_made};
+    ghost use Rattle.lanes.specs.Machine.{next_lane as lane_in_turn};
     ghost use Rattle.lanes.specs.Runs.{IsSameRun};
     ghost use Rattle.lanes.specs.Sound.{IsSound};
 

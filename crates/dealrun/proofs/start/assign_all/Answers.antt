@@ -1,6 +1,6 @@
 use Rattle.std.proofs.Common.{arith, ◌≡◌, [], ◌∙◌, sym, refl, ap, ◌+◌, false}
 use Rattle.std.proofs.lemmas.List.FromFn.{map-range_with_len_more}
-use Rattle.dealrun.specs.MergedVerdicts.{verdicts_for}
+use Rattle.lanes.specs.Jobs.{verdicts_for}
 use Rattle.dealrun.proofs.Maps.{map_snoc, all_snoc}
 use Rattle.dealrun.proofs.start.assign_all.Goals as goal
 

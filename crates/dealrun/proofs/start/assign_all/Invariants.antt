@@ -1,7 +1,6 @@
 use Rattle.std.proofs.Common.{◌≡◌, [], All, map, vec_len, false}
 use Rattle.std.specs.List.{range_with_len}
-use Rattle.lanes.specs.Jobs.{verdicts_around}
-use Rattle.dealrun.specs.MergedVerdicts.{verdicts_for}
+use Rattle.lanes.specs.Jobs.{verdicts_around, verdicts_for}
 use Rattle.dealrun.proofs.start.assign_all.Given as goal
 
 abbrev pub invariant-loop-worker : goal.invariant-loop-worker

@@ -1,9 +1,9 @@
 use Rattle.std.proofs.Common.{◌∙◌, refl, sym, subst, map, string_bytes}
-use Rattle.requests.specs.Reported.{ReportsFor}
+use Rattle.deals_cli.specs.Reported.{ReportsFor}
 use Rattle.jobs.specs.Statuses.{IsStatusWithInput}
 use Rattle.jobs.proofs.Refusals.{status_of-status}
 use Rattle.request_types.specs.Requests.{make}
-use Rattle.requests.proofs.Reporting.{none_made, said, some_made}
+use Rattle.deals_cli.proofs.Reports.{none_made, said, some_made}
 use Rattle.command_line.specs.CommandLine.{asked}
 use Rattle.deals_cli.proofs.Reporting.{heard}
 use Rattle.deals_cli.proofs.entry.program_with_input.Goals as goal

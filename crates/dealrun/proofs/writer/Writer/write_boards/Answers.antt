@@ -3,7 +3,7 @@ use Rattle.std.proofs.lemmas.Bool.{iff_false}
 use Rattle.std.proofs.lemmas.Result.{MatchResult-from_err}
 use Rattle.std.proofs.Math.Seq.{map-set_same}
 use Rattle.lanes.specs.Slots.{verdict_in}
-use Rattle.dealrun.specs.MergedVerdicts.{verdicts_for}
+use Rattle.lanes.specs.Jobs.{verdicts_for}
 use Rattle.dealrun.specs.internal.Joins.{AllWhole}
 use Rattle.dealrun.proofs.Advance.{broken_to, on_to, with_notation}
 use Rattle.dealrun.proofs.Finals.{goes_on_still}

@@ -3,7 +3,8 @@ use Rattle.std.proofs.lemmas.Result.{MatchResult-from_err, MatchResult-weaker}
 use Rattle.sinks.specs.Appended.{append_known, AppendsPart}
 use Rattle.cards.specs.Fixed.{IsFixed}
 use Rattle.lanes.specs.Prefixes.{IsPrefix}
-use Rattle.dealrun.specs.MergedVerdicts.{boards_taken, verdicts_for}
+use Rattle.dealrun.specs.MergedVerdicts.{boards_taken}
+use Rattle.lanes.specs.Jobs.{verdicts_for}
 use Rattle.dealrun.specs.internal.Writing.{WriterBrokeOff, WriterSoFar}
 use Rattle.dealrun.proofs.Endings.{closed, footer_broken}
 use Rattle.dealrun.proofs.Finals.{stands_broken}

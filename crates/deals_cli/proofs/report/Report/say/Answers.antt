@@ -1,0 +1,12 @@
+use Rattle.std.proofs.Common.{◌++◌, refl}
+use Rattle.deals_cli.specs.Reports.{next_line, report_line}
+use Rattle.deals_cli.proofs.Saying.{last_part}
+use Rattle.deals_cli.proofs.report.Report.say.Goals as goal
+
+pub returns-clause-text : goal.returns-clause-text
+returns-clause-text g c =
+    let s = c.args.self.now in
+    let line = report_line s.plan s.candidates s.boards in
+    let next = next_line s.format s.plan s.candidates s.boards in
+    last_part c.say_next.result (g.E.Sink.bytes c.args.err.now) (g.E.Sink.bytes c.say_counts.new.err) (g.E.Sink.bytes c.say_next.new.err) line next (line ++ next) refl
+    c.in_ok-say_counts.ensures.text c.say_next.ensures.text

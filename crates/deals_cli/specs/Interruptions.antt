@@ -1,0 +1,102 @@
+-- What is on the output of a wish that wasn't done to its end.
+use Rattle.std.specs.Prelude.{◌≡◌, ◌⊎◌, ℕ, List, [], Err, Option, Some}
+use Rattle.cond_lang.specs.Form.{Form}
+use Rattle.plans.specs.declared.cause.Cause.{Cause}
+use Rattle.plans.specs.declared.cause.Cause.TheVariants.{Memory}
+use Rattle.picking.specs.FourBytes.{EndsBefore}
+use Rattle.picking.specs.Outcomes.{Picks}
+use Rattle.picking.specs.declared.fault.PickFault.{PickFault}
+use Rattle.picking.specs.declared.fault.PickFault.TheVariants as picks
+use Rattle.sinks.specs.Appended.{AppendsPart}
+use Rattle.dealrun.specs.Values.{lines}
+use Rattle.jobs.specs.Counting.{IsAsked}
+use Rattle.deals_cli.specs.Formats.{layout_in}
+use Rattle.jobs.specs.Makings.{AreWorkers, Means, plan_of}
+use Rattle.request_types.specs.Requests.{Look, Questions, Search, Wish, conditions, count, draw, make}
+use Rattle.request_types.specs.Requests.{make_with_tricks, no_search, numbers_look, pick, stream}
+pub use Rattle.deals_cli.specs.Runs.{InterruptsRun}
+use Rattle.deals_cli.specs.WithTricks.{BreaksTold, FailsTold, StopsAtLine}
+use Rattle.deals_cli.specs.Wishes.{IsDrawn, language_page, seed_text}
+use Rattle.jobs.specs.declared.failure.Failure.{Failure}
+use Rattle.jobs.specs.declared.failure.Failure.TheVariants.{EndOfInput, Interrupted, Line, Input}
+use Rattle.statistics.specs.Counting.{Subject, counting}
+use Rattle.boards.specs.declared.style.Style.{Style}
+
+-- the run of a `make` or a `find` was interrupted
+pub record InterruptsMake (s : Search) (l : Look) (cause : Cause) (old new : Option (List ℕ))
+    : Type 0 where
+  pub form : Form
+  pub means : Means s.where_text form
+  pub workers : ℕ
+  pub are_workers : AreWorkers s.workers workers
+  pub run : InterruptsRun (layout_in s l) (record (plan_of s l) { workers = workers }) form cause
+      old new
+
+-- the run of a `count` was interrupted: no board is written, and the table as far as it was
+-- written
+pub record InterruptsCount (s : Search) (questions : Questions) (style : Style) (cause : Cause)
+    (old new : Option (List ℕ)) : Type 0 where
+  pub form : Form
+  pub means : Means s.where_text form
+  pub subject : Subject
+  pub asked : IsAsked questions subject
+  pub workers : ℕ
+  pub are_workers : AreWorkers s.workers workers
+  pub run : InterruptsRun (counting style subject)
+      (record (plan_of s numbers_look) { workers = workers }) form cause old new
+
+-- picking ended with this fault
+abbrev pub EndsPick : Search → Look → PickFault → (before after old new : Option (List ℕ)) → Type 0
+EndsPick s l fault before after old new =
+    Picks (layout_in s l) (plan_of s l) (Err fault) before after old new
+
+-- a `make` with tricks was ended by this fault of its input
+abbrev pub EndsTold : Search → Look → PickFault → (before after old new : Option (List ℕ)) → Type 0
+EndsTold s l (picks.Refused line) before after old new =
+    (form : Form) × Means s.where_text form × StopsAtLine s l form line before after old new
+EndsTold s l picks.Input before after old new =
+    (form : Form) × Means s.where_text form × FailsTold s l form before after old new
+EndsTold s l picks.Output before after old new = ⊥
+
+-- a wish was broken off for this cause: of a text that needs no run a proper prefix is written. The
+-- output of a `pick` or of a `make` with tricks may also fail where it passes on what is before
+-- a fault of its input
+abbrev pub BreaksOff : Wish → Cause → (before after old new : Option (List ℕ)) → Type 0
+BreaksOff (stream seed n) cause before after old new = AppendsPart old new (lines seed n)
+BreaksOff conditions cause before after old new = AppendsPart old new language_page
+BreaksOff (make s l notices) cause before after old new = InterruptsMake s l cause old new
+BreaksOff (make_with_tricks s l notices) cause before after old new =
+    ((form : Form) × Means s.where_text form × BreaksTold s l form cause before after old new)
+    ⊎ ((fault : PickFault) × EndsTold s l fault before after old new)
+BreaksOff draw cause before after old new =
+    (new ≡ old)
+    ⊎ ((bytes : List ℕ) × IsDrawn bytes before after × AppendsPart old new (seed_text bytes))
+BreaksOff (count s questions style notices) cause before after old new =
+    InterruptsCount s questions style cause old new
+BreaksOff (pick seed hands l hints) cause before after old new =
+    (fault : PickFault) × EndsPick (no_search seed hands) l fault before after old new
+
+-- a wish was ended by this fault of its input; of a `draw` nothing is written then
+abbrev pub EndsFor : Wish → PickFault → (before after old new : Option (List ℕ)) → Type 0
+EndsFor (pick seed hands l hints) fault before after old new =
+    EndsPick (no_search seed hands) l fault before after old new
+EndsFor (make_with_tricks s l notices) fault before after old new =
+    EndsTold s l fault before after old new
+EndsFor draw picks.Input before after old new = new ≡ old
+EndsFor w fault before after old new = ⊥
+
+-- what a wish leaves that fails so: nothing, unless it was broken off. `before` and `after` are
+-- what the input had to give before and after it; it has ended too soon for a seed if it had fewer
+-- than four bytes
+abbrev pub LeavesFrom : Wish → Failure → (before after old new : Option (List ℕ)) → Type 0
+LeavesFrom w (Interrupted Memory) before after old new = new ≡ old
+LeavesFrom w (Interrupted cause) before after old new = BreaksOff w cause before after old new
+LeavesFrom w (Line line) before after old new =
+    EndsFor w (picks.Refused line) before after old new
+LeavesFrom w Input before after old new = EndsFor w picks.Input before after old new
+LeavesFrom w EndOfInput before after old new = (new ≡ old) × EndsBefore 4 before after
+LeavesFrom w failure before after old new = new ≡ old
+
+-- the same without an input
+abbrev pub Leaves : Wish → Failure → (old new : Option (List ℕ)) → Type 0
+Leaves w failure old new = LeavesFrom w failure (Some []) (Some []) old new

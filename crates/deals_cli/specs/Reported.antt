@@ -1,0 +1,49 @@
+-- What a wish that was done reports.
+use Rattle.std.specs.Prelude.{◌≡◌, ℕ, Bool, List, length, Option, None, Some, true, false}
+use Rattle.cond_lang.specs.Form.{Form}
+use Rattle.plans.specs.Text.{accepted, end_of}
+use Rattle.plans.specs.Plans.{Planned}
+use Rattle.jobs.specs.Makings.{Means, plan_of}
+use Rattle.deals_cli.specs.Reports.{report_of}
+use Rattle.sinks.specs.Appended.{AppendsAll}
+use Rattle.boards.specs.declared.format.Format.{Format}
+use Rattle.request_types.specs.Requests.{Look, Search, Wish, conditions, count, draw, make}
+use Rattle.request_types.specs.Requests.{make_with_tricks, pick, stream}
+use Rattle.request_types.specs.declared.request.Notices.{Notices}
+use Rattle.deals_cli.specs.declared.report.Report.{Report}
+
+-- the counts of a plan's run under a condition: the candidates are those up to the one whose board
+-- met the limit, or all; the boards are those of the accepted ones
+pub record Counts (format : Format) (plan : Planned) (form : Form) (report : Report)
+    : Type 0 where
+  pub format_is : report.format ≡ format
+  pub plan_is : report.plan ≡ plan
+  pub candidates_are : report.candidates ≡ end_of plan form
+  pub boards_are : report.boards ≡ length (accepted plan form)
+
+-- a run is reported if that is asked for
+abbrev pub ReportsOf : Search → Look → Notices → Option Report → Type 0
+ReportsOf s l notices None = notices.report ≡ false
+ReportsOf s l notices (Some report) =
+    (notices.report ≡ true)
+    × ((form : Form) × Means s.where_text form × Counts l.format (plan_of s l) form report)
+
+abbrev pub ReportsFor : Wish → Option Report → Type 0
+ReportsFor (stream seed n) report = report ≡ None
+ReportsFor conditions report = report ≡ None
+ReportsFor (make s l notices) report = ReportsOf s l notices report
+ReportsFor (make_with_tricks s l notices) report = ReportsOf s l notices report
+ReportsFor draw report = report ≡ None
+ReportsFor (count s questions style notices) report = report ≡ None
+ReportsFor (pick seed hands l hints) report = report ≡ None
+
+abbrev pub wants_report : Option Wish → Bool
+wants_report (Some (make s l notices)) = notices.report
+wants_report (Some (make_with_tricks s l notices)) = notices.report
+wants_report _ = false
+
+-- the report of a run was appended
+abbrev pub Reports : Search → Look → Option (List ℕ) → Option (List ℕ) → Type 0
+Reports s l old new =
+    (form : Form) × Means s.where_text form
+    × AppendsAll old new (report_of l.format (plan_of s l) form)

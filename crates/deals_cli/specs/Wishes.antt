@@ -1,0 +1,57 @@
+-- What a wish asks for.
+use Rattle.std.specs.Prelude.{◌≡◌, ℕ, List, [], ◌∷◌, ◌++◌, Ok, Option, Some}
+use Rattle.std.specs.Prelude.{decimal, length}
+use Rattle.std.specs.Int.{from_le_bytes}
+use Rattle.std.specs.Int.{w32}
+use Rattle.std.specs.Io.KnownBytes.{Consumes}
+use Rattle.std.specs.List.{flat_map}
+use Rattle.cond_lang.specs.Form.{Form}
+use Rattle.cond_lang.specs.declared.language.TheConstants.{LANGUAGE}
+use Rattle.picking.specs.Outcomes.{Picks}
+use Rattle.sinks.specs.Appended.{AppendsAll}
+use Rattle.dealrun.specs.Values.{lines}
+use Rattle.jobs.specs.Counting.{IsAsked, table_by}
+use Rattle.deals_cli.specs.Formats.{layout_in, text_showing}
+use Rattle.jobs.specs.Makings.{IsPlanned, Means, plan_of}
+use Rattle.request_types.specs.Requests.{Wish, conditions, count, draw, make, make_with_tricks}
+use Rattle.request_types.specs.Requests.{no_search, numbers_look, pick, stream}
+use Rattle.deals_cli.specs.WithTricks.{WritesTold}
+use Rattle.statistics.specs.Counting.{Subject}
+
+-- the page of the language, of its parts
+abbrev pub language_page : List ℕ
+language_page = flat_map (λ part. part.now) LANGUAGE
+
+-- these are the next four bytes of the input
+pub record IsDrawn (bytes : List ℕ) (before after : Option (List ℕ)) : Type 0 where
+  pub four : length bytes ≡ 4
+  pub consumed : Consumes before after bytes
+
+-- the number that they are, the lowest first, and LF
+abbrev pub seed_text : List ℕ → List ℕ
+seed_text bytes = decimal (from_le_bytes w32 bytes) ++ (10 ∷ [])
+
+-- what a wish asks for was appended; `before` and `after` are what the input had to give before
+-- and after it
+abbrev pub AppendsFrom : Wish → (before after old new : Option (List ℕ)) → Type 0
+AppendsFrom (stream seed n) before after old new = AppendsAll old new (lines seed n)
+AppendsFrom conditions before after old new = AppendsAll old new language_page
+AppendsFrom (make s l notices) before after old new =
+    (form : Form) × Means s.where_text form
+    × AppendsAll old new (text_showing l.format l.show (plan_of s l) form)
+AppendsFrom (make_with_tricks s l notices) before after old new =
+    (form : Form) × Means s.where_text form × WritesTold s l form before after old new
+AppendsFrom draw before after old new =
+    (bytes : List ℕ) × IsDrawn bytes before after × AppendsAll old new (seed_text bytes)
+AppendsFrom (count s questions style notices) before after old new =
+    (form : Form) × Means s.where_text form
+    × ((subject : Subject) × IsAsked questions subject
+    × AppendsAll old new (table_by style subject (plan_of s numbers_look) form))
+AppendsFrom (pick seed hands l hints) before after old new =
+    (boards : ℕ)
+    × Picks (layout_in (no_search seed hands) l) (plan_of (no_search seed hands) l) (Ok boards)
+    before after old new
+
+-- the same without an input
+abbrev pub Appends : Wish → (old new : Option (List ℕ)) → Type 0
+Appends w old new = AppendsFrom w (Some []) (Some []) old new

@@ -1,0 +1,188 @@
+-- How the parts of a job end.
+use Rattle.std.specs.Prelude.{◌≡◌, ◌⊎◌, ◌+◌, ◌≤◌, nat_lt, if◌then◌else◌, ℕ, length, List, Option, Result, Ok, Err}
+use Rattle.dealrun.specs.Headline.{WritesTextIn}
+use Rattle.dealrun.specs.Interrupted.{FaultsAfter}
+use Rattle.plans.specs.declared.cause.Cause.{Cause}
+use Rattle.plans.specs.declared.cause.Cause.TheVariants.{Memory, Output, Spawn, Stopped, Unclosed}
+use Rattle.boards.specs.Layouts.{Layout}
+use Rattle.notations.specs.Formats.{layout_showing, layout_with}
+use Rattle.plans.specs.Plans.{Planned}
+use Rattle.plans.specs.Text.{accepted, end_of, text_in}
+use Rattle.jobs.specs.Makings.{AreWorkers, plan_of}
+use Rattle.request_types.specs.Requests.{Look, Search}
+use Rattle.cond_lang.specs.Form.{Form}
+use Rattle.plans.specs.declared.refusal.RefusedLine.{RefusedLine}
+use Rattle.deals_cli.specs.Wishes.{IsDrawn, seed_text}
+use Rattle.deals_cli.specs.WithTricks.{BreaksTold, FailsTold, StopsAtLine, WritesTold, line_fault}
+use Rattle.deals_cli.specs.WithTricks.{plan_told}
+use Rattle.picking.specs.declared.tricks_lines.LinesEnd.{LinesEnd}
+use Rattle.picking.specs.declared.tricks_lines.LinesEnd.TheVariants.{Enough, Failed, Missing, Refused}
+use Rattle.request_types.specs.declared.workers.Workers.{Workers}
+use Rattle.boards.specs.TricksLines.{TricksView}
+use Rattle.picking.specs.FourBytes.{EndsBefore}
+use Rattle.picking.specs.Outcomes.{Picks}
+use Rattle.picking.specs.declared.fault.PickFault.{PickFault}
+use Rattle.picking.specs.declared.fault.PickFault.TheVariants as picks
+use Rattle.jobs.specs.Counting.{table_by}
+use Rattle.deals_cli.specs.Formats.{text_showing}
+use Rattle.jobs.specs.Jobs.{IsReadyRun}
+use Rattle.deals_cli.specs.Runs.{InterruptsRun}
+use Rattle.request_types.specs.declared.request.Notices.{Notices}
+use Rattle.deals_cli.specs.Reported.{Counts}
+use Rattle.jobs.specs.declared.failure.Failure.{Failure}
+use Rattle.jobs.specs.declared.failure.Failure.TheVariants.{EndOfInput, Input, Interrupted, Line}
+use Rattle.jobs.specs.declared.boards_job.BoardsJob.{BoardsJob}
+use Rattle.jobs.specs.declared.count_job.CountJob.{CountJob}
+use Rattle.jobs.specs.declared.job.PickJob.{PickJob}
+use Rattle.deals_cli.specs.declared.report.Report.{Report}
+use Rattle.deals_cli.specs.declared.written.Written.{Written}
+use Rattle.sinks.specs.Appended.{AppendsAll, AppendsPart}
+use Rattle.statistics.specs.Counting.{counting}
+use Rattle.statistics.specs.Subjects.{subject_of}
+
+-- a run of the plan over some of the workers that are asked for was interrupted
+abbrev pub InterruptsWorked : Layout → Planned → Workers → Form → Cause
+    → (old new : Option (List ℕ)) → Type 0
+InterruptsWorked layout plan asked form cause old new =
+    (workers : ℕ) × AreWorkers asked workers
+    × InterruptsRun layout (record plan { workers = workers }) form cause old new
+
+-- a run wrote the plan's text, and was counted
+pub record Wrote (layout : Layout) (plan : Planned) (form : Form) (written : Written)
+    (old new : Option (List ℕ)) : Type 0 where
+  pub text : WritesTextIn layout plan form written.boards old new
+  pub candidates_are : written.candidates ≡ end_of plan form
+  pub few : (written.boards ≤ written.candidates) × (written.candidates ≤ plan.count)
+
+abbrev pub EndsWritten : Layout → Planned → Form → Result Written Cause
+    → (old new : Option (List ℕ)) → Type 0
+EndsWritten layout plan form (Ok written) old new = Wrote layout plan form written old new
+EndsWritten layout plan form (Err cause) old new = InterruptsRun layout plan form cause old new
+
+-- a run wrote its text and was counted, or was interrupted
+abbrev pub EndsBoards : BoardsJob → Result Report Cause → (old new : Option (List ℕ)) → Type 0
+EndsBoards job (Ok report) old new =
+    AppendsAll old new (text_showing job.format job.show job.plan job.condition)
+    × Counts job.format job.plan job.condition report
+EndsBoards job (Err cause) old new =
+    InterruptsWorked (layout_showing job.format job.show job.plan.heading) job.plan job.workers
+    job.condition cause old new
+
+-- the plan with this many workers as are asked for
+abbrev pub IsWorked : Planned → Workers → Planned → Type 0
+IsWorked plan asked worked =
+    (workers : ℕ) × AreWorkers asked workers × (worked ≡ record plan { workers = workers })
+
+-- a run over boards with tricks wrote the text of its plan and was counted, or was interrupted
+abbrev pub layout_by : BoardsJob → List TricksView → Layout
+layout_by job table =
+    layout_with job.format job.show job.plan.heading job.plan.first_board table
+
+pub record WroteTold (job : BoardsJob) (table : List TricksView) (report : Report)
+    (old new : Option (List ℕ)) : Type 0 where
+  pub text : AppendsAll old new
+      (text_in (layout_by job table) (plan_told job.plan (length table)) job.condition)
+  pub format_is : report.format ≡ job.format
+  pub plan_is : report.plan ≡ job.plan
+  pub candidates_are : report.candidates
+      ≡ end_of (plan_told job.plan (length table)) job.condition
+  pub boards_are : report.boards
+      ≡ length (accepted (plan_told job.plan (length table)) job.condition)
+
+abbrev pub EndsTold : BoardsJob → List TricksView → Result Report Cause
+    → (old new : Option (List ℕ)) → Type 0
+EndsTold job table (Ok report) old new = WroteTold job table report old new
+EndsTold job table (Err cause) old new =
+    InterruptsWorked (layout_by job table) (plan_told job.plan (length table)) job.workers
+    job.condition cause old new
+
+-- a run wrote its table, or was interrupted
+abbrev pub EndsCount : {T : Type 0} → CountJob → Result T Cause
+    → (old new : Option (List ℕ)) → Type 0
+EndsCount job (Ok value) old new =
+    AppendsAll old new (table_by job.style (subject_of job.subject) job.plan job.condition)
+EndsCount job (Err cause) old new =
+    InterruptsWorked (counting job.style (subject_of job.subject)) job.plan job.workers
+    job.condition cause old new
+
+-- the output failed once if the cause is that, and else not
+abbrev pub FaultsOfRun : {T : Type 0} → Result T Cause → ℕ → ℕ → Type 0
+FaultsOfRun (Ok value) old new = new ≡ old
+FaultsOfRun (Err cause) old new = FaultsAfter cause old new
+
+-- picking wrote all boards, or ended with a fault. The output may also fail where what is
+-- before a fault of the input is passed on
+abbrev pub EndsPicking : {T : Type 0} → PickJob → Result T Failure
+    → (before after old new : Option (List ℕ)) → Type 0
+EndsPicking job (Ok value) before after old new =
+    (boards : ℕ)
+    × Picks (layout_showing job.format job.show job.plan.heading) job.plan (Ok boards)
+    before after old new
+EndsPicking job (Err (Interrupted Memory)) before after old new =
+    (after ≡ before) × (new ≡ old)
+EndsPicking job (Err (Interrupted Output)) before after old new =
+    (fault : PickFault)
+    × Picks (layout_showing job.format job.show job.plan.heading) job.plan (Err fault)
+    before after old new
+EndsPicking job (Err (Line line)) before after old new =
+    Picks (layout_showing job.format job.show job.plan.heading) job.plan (Err (picks.Refused line))
+    before after old new
+EndsPicking job (Err Input) before after old new =
+    Picks (layout_showing job.format job.show job.plan.heading) job.plan (Err picks.Input)
+    before after old new
+EndsPicking job (Err failure) before after old new = ⊥
+
+-- a run over boards with tricks ended after its lines were read, for a wish of this search and look
+abbrev pub EndsTricks : Search → Look → Form → Result Report Failure
+    → (before after old new : Option (List ℕ)) → Type 0
+EndsTricks s l form (Ok report) before after old new =
+    WritesTold s l form before after old new × Counts l.format (plan_of s l) form report
+EndsTricks s l form (Err (Interrupted Memory)) before after old new = new ≡ old
+EndsTricks s l form (Err (Interrupted cause)) before after old new =
+    (BreaksTold s l form cause before after old new × (cause ≡ Spawn → new ≡ old))
+    ⊎ ((cause ≡ Output)
+    × (((line : RefusedLine) × StopsAtLine s l form line before after old new)
+    ⊎ FailsTold s l form before after old new))
+EndsTricks s l form (Err (Line line)) before after old new =
+    StopsAtLine s l form line before after old new
+EndsTricks s l form (Err Input) before after old new = FailsTold s l form before after old new
+EndsTricks s l form (Err failure) before after old new = ⊥
+
+-- a seed was drawn, or the input was at fault, or the output failed
+abbrev pub EndsDraw : {T : Type 0} → Result T Failure
+    → (before after old new : Option (List ℕ)) → Type 0
+EndsDraw (Ok value) before after old new =
+    (bytes : List ℕ) × IsDrawn bytes before after × AppendsAll old new (seed_text bytes)
+EndsDraw (Err (Interrupted Output)) before after old new =
+    (new ≡ old)
+    ⊎ ((bytes : List ℕ) × IsDrawn bytes before after × AppendsPart old new (seed_text bytes))
+EndsDraw (Err Input) before after old new = new ≡ old
+EndsDraw (Err EndOfInput) before after old new = (new ≡ old) × EndsBefore 4 before after
+EndsDraw (Err failure) before after old new = ⊥
+
+-- a failure of the input is told before any other but the output's
+abbrev pub unless_failed : LinesEnd → Result Report Failure → Result Report Failure
+unless_failed Failed told = Err Input
+unless_failed Enough told = told
+unless_failed Refused told = told
+unless_failed Missing told = told
+
+abbrev pub by_cause : Cause → LinesEnd → Result Report Failure
+by_cause Output end = Err (Interrupted Output)
+by_cause Memory end = unless_failed end (Err (Interrupted Memory))
+by_cause Spawn end = unless_failed end (Err (Interrupted Spawn))
+by_cause (Stopped worker) end = unless_failed end (Err (Interrupted (Stopped worker)))
+by_cause (Unclosed worker) end = unless_failed end (Err (Interrupted (Unclosed worker)))
+
+-- how a run over boards with tricks is told, by why no more lines were read
+abbrev pub told_of : Result Report Cause → LinesEnd → ℕ → Result Report Failure
+told_of (Err cause) end lines = by_cause cause end
+told_of (Ok report) end lines = unless_failed end
+    (if nat_lt lines report.boards
+    then Err (Line (record { line = lines + 1; fault = line_fault end })) else Ok report)
+
+-- a run over boards with tricks ended so, whatever the wish that the job is ready for
+pub record EndsReady (job : BoardsJob) (r : Result Report Failure)
+    (before after old new : Option (List ℕ)) : Type 0 where
+  pub ends : (s : Search) (l : Look) (notices : Notices) → IsReadyRun s l notices job
+      → EndsTricks s l job.condition r before after old new

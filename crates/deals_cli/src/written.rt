@@ -1,0 +1,48 @@
+//! A job's run: in any notation, with a gate that is open.
+
+ghost use Rattle.std.specs.Prelude.{◌≡◌, ◌-◌, ◌^◌, ◌<◌, []};
+ghost use Rattle.deals_cli.specs.internal.Ends.{EndsWritten, FaultsOfRun};
+
+use boards::Notation;
+use cond_lang::Cond;
+use dealrun::run_and_count;
+use lanes::OpenGate;
+use plans::{Cause, Plan};
+use sinks::Sink;
+use std::alloc::Global;
+use std::sync::{Arc, Wait};
+use std::thread::Threads;
+
+/// How many candidates a run needed, and how many boards it wrote.
+#[derive(Clone, Copy, Drop)]
+pub(crate) struct Written {
+    pub(crate) candidates: u64,
+    pub(crate) boards: u64,
+}
+
+/// Writes the boards of the plan's accepted candidates, and counts both.
+pub(crate) fn write_plan<R: Threads + Wait + Clone + Send + 'static, N: Notation, O: Sink>(
+    rt: &R,
+    alloc: Global,
+    plan: &Plan,
+    condition: Cond,
+    notation: &mut N,
+    out: &mut O,
+) -> Result<Written, Cause>
+    requires printed { N.has_printed notation.old [] }
+    requires faults { O.faults out.old < 2 ^ 64 - 1 }
+    ensures ends { EndsWritten (N.layout notation.old) plan.now condition result
+        (O.bytes out.old) (O.bytes out.new) }
+    ensures faults { FaultsOfRun result (O.faults out.old) (O.faults out.new) }
+{
+    let Ok(gate) = Arc::new(alloc, OpenGate) else {
+        return Err(Cause::Memory);
+    };
+    match run_and_count(rt, alloc, plan, condition, notation, out, gate) {
+        Ok(counted) => Ok(Written {
+            candidates: counted.candidates,
+            boards: counted.report.boards,
+        }),
+        Err(fault) => Err(fault.cause),
+    }
+}

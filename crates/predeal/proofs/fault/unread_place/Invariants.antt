@@ -1,6 +1,0 @@
-use Rattle.std.proofs.Common.{◌≡◌, ℕ, ◌<◌, get_or, true}
-use Rattle.predeal.specs.PredealtHands.{is_hand_byte}
-use Rattle.predeal.proofs.fault.unread_place.Given as goal
-
-abbrev pub invariant-loop-place : goal.invariant-loop-place
-invariant-loop-place l = (k : ℕ) → k < l.place → is_hand_byte (get_or l.text k 0) ≡ true

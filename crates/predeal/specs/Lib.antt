@@ -1,3 +1,0 @@
-pub mod PredealtHands
-pub mod HandFaults
-pub mod HandRules

@@ -1,9 +1,0 @@
-pub mod Served
-pub mod Formats
-pub mod Wishes
-pub mod Runs
-pub mod WithTricks
-pub mod Interruptions
-pub mod Reports
-pub mod Reported
-pub mod internal
