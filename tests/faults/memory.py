@@ -1,6 +1,6 @@
 """Refuses the calls of the libraries their memory, one allocation at a time.
 
-The tests of crates/test_memory accept either outcome and check what stands after it. Here they are proved and
+The tests in crates/test_runs/src/memory accept either outcome and check what stands after it. Here they are proved and
 built, if `rt ci` hasn't built them since the last change, and each is run with its N-th allocation failing, alone and
 with all that follow, N from 1 until nothing is refused.
 """
@@ -11,8 +11,8 @@ import subprocess
 
 import harness
 
-CRATE = harness.TOP / "crates" / "test_memory"
-TESTS = CRATE / "out" / "test_memory_tests"
+CRATE = harness.TOP / "crates" / "test_runs"
+TESTS = CRATE / "out" / "test_runs_tests"
 FAULTS = [harness.Fault("alloc", "once"), harness.Fault("alloc", "from")]
 
 
@@ -48,11 +48,11 @@ def refuse_all(test, fault, shim):
 
 
 def tests():
-    """The names of the tests, which are built before if need be."""
+    """The names of these tests, which are built before if need be."""
     if not is_built():
         subprocess.run(["rt", "test"], cwd=CRATE, check=True, stdout=subprocess.DEVNULL)
     listed = subprocess.run([TESTS, "--list"], check=True, capture_output=True, text=True).stdout
-    return [line.removesuffix(": test") for line in listed.splitlines() if line.endswith(": test")]
+    return [line.removesuffix(": test") for line in listed.splitlines() if line.startswith("memory::")]
 
 
 def libraries():

@@ -14,21 +14,6 @@ fn words_of(alloc: Global, seed: &str, count: &str) -> Result<Vec<String>, Alloc
     Ok(words)
 }
 
-#[test]
-fn prints_the_values_of_a_seed(rt: HostRuntime) {
-    let words = words_of(rt.alloc(), "0", "3").expect(&rt, "memory");
-    let mut out = MemSink::new(rt.alloc());
-    let mut err = MemSink::new(rt.alloc());
-    same(
-        &rt,
-        program(&rt, rt.alloc(), words.as_slice(), &mut out, &mut err),
-        0,
-    );
-    let values = b"366850414\n1610402240\n206956554\n";
-    same(&rt, out.bytes(), values.as_slice());
-    assert!(rt; err.bytes().is_empty());
-}
-
 /// The error output fails at its first write.
 #[test]
 fn ignores_a_standard_error_that_fails(rt: HostRuntime) {

@@ -1,22 +1,7 @@
-//! Sinks that fail, and the values of a seed in a sink. `tests/rows` asks the built program for
-//! more values.
+//! Sinks that take a byte a time, or fail.
 
 use crate::support::same;
-use dealrun::{Fuse, MemSink, put_all, stream};
-
-#[test]
-fn writes_the_values_into_memory(rt: HostRuntime) {
-    for (seed, count, want) in [
-        (0, 0, ""),
-        (0, 3, "366850414\n1610402240\n206956554\n"),
-        (1, 1, "89400484\n"),
-        (4294967295, 1, "644300343\n"),
-    ] {
-        let mut sink = MemSink::new(rt.alloc());
-        assert!(rt; stream(seed, count, &mut sink).is_ok());
-        same(&rt, sink.bytes(), want.as_bytes());
-    }
-}
+use dealrun::{Fuse, MemSink, put_all};
 
 #[test]
 fn writes_three_times_into_a_sink_of_one_byte(rt: HostRuntime) {

@@ -1,7 +1,8 @@
 //! Runs over lanes that end well: the same bytes as the plain run, whatever the workers and the
 //! capacity.
 
-use crate::support::{ended, plan_of, run_all, run_all_plainly, run_plainly, same};
+use crate::running::{ended, plan_of, run_all, run_all_plainly, run_plainly};
+use crate::support::same;
 use cond_lang::{Cond, parse};
 use dealrun::{Fuse, MemSink, Plan, run};
 use lanes::OpenGate;

@@ -1,7 +1,8 @@
 //! Runs over lanes that are interrupted: failing sinks and stopping gates.
 
 use crate::gates::StopsAt;
-use crate::support::{ended, plan_of, run_all, run_all_plainly, same};
+use crate::running::{ended, plan_of, run_all, run_all_plainly};
+use crate::support::same;
 use dealrun::{Cause, Fuse, MemSink, Plan};
 use lanes::{Core, Event, LaneOut, OpenGate};
 use std::alloc::Global;

@@ -1,4 +1,4 @@
-//! What the tests share.
+//! Runs of plans with every deal a board, over lanes and plainly.
 
 ghost use Rattle.std.specs.Prelude.{◌-◌, ◌^◌, ◌<◌};
 
@@ -6,15 +6,9 @@ use cond_lang::Cond;
 use dealrun::{Cause, Fuse, MemSink, PlainFault, Plan, Report, RunFault, Sink, run, run_plain};
 use lanes::Gate;
 use std::alloc::Global;
-use std::fmt::Debug;
 use std::process::Abort;
 use std::sync::{Arc, Wait};
 use std::thread::Threads;
-
-/// The two values are equal. This is proved once, `assert_eq!` at each of its places.
-pub fn same<T: Copy + PartialEq + Debug>(rt: &impl Abort, found: T, wanted: T) {
-    assert_eq!(rt; found, wanted);
-}
 
 /// The plan of the first candidates of seed 0, this many, over this many workers.
 pub fn plan_of(rt: &impl Abort, count: u64, workers: u32) -> Plan {

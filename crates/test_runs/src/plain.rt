@@ -1,6 +1,7 @@
 //! The plain run and plans.
 
-use crate::support::{plan_of, run_all_plainly, run_plainly, same};
+use crate::running::{plan_of, run_all_plainly, run_plainly};
+use crate::support::same;
 use cond_lang::Cond;
 use dealrun::{Fuse, MemSink, PlainFault, Plan, PlanError};
 use std::alloc::Global;

@@ -1,7 +1,8 @@
 //! Threads at work at the same time: two workers, and a worker beside the writer.
 
 use crate::gates::{CountsCalls, TwoWay, WaitsForBytes, Watcher};
-use crate::support::{ended, plan_of, same};
+use crate::running::{ended, plan_of};
+use crate::support::same;
 use dealrun::{MemSink, Piped, Plan};
 use std::alloc::Global;
 use std::process::Abort;

@@ -1,12 +1,11 @@
 //! The plain form of Portable Bridge Notation: games written by hand. `tests/rows` asks the
 //! built program for the same games, and for labels.
 
-use crate::support::same;
+use crate::support::{deal_of, same};
 use boards::{Board, Notation, Vul};
-use cards::testing::{IN_ORDER, WORKED, deal};
-use cards::{Deal, Seat};
+use cards::Seat;
+use cards::testing::{IN_ORDER, WORKED};
 use pbn_text::{HEADER, Heading, Reference, deal_text, game};
-use std::process::Abort;
 
 /// A board, the hands of its deal, and its game.
 const GAMES: [(u64, &[u8], &[u8]); 3] = [
@@ -26,11 +25,6 @@ const SECOND: &[u8] = b"[Board \"2\"]\n[Dealer \"E\"]\n[Vulnerable \"NS\"]\n\
 /// The pack in order as board 0, with another dealer and vulnerability than Law 2's.
 const BY_HAND: &[u8] = b"[Board \"0\"]\n[Dealer \"W\"]\n[Vulnerable \"All\"]\n\
     [Deal \"N:AKQJT98765432... .AKQJT98765432.. ..AKQJT98765432. ...AKQJT98765432\"]\n\n";
-
-/// The deal of these hands.
-fn deal_of(rt: &impl Abort, hands: &[u8]) -> Deal {
-    deal(hands).expect(rt, "thirteen cards each")
-}
 
 #[test]
 fn games_of_two_deals(rt: HostRuntime) {
