@@ -19,7 +19,6 @@ mod packed;
 mod places;
 mod seat;
 mod suit;
-pub mod testing;
 mod weights;
 
 pub use by_number::DealsByNumber;

@@ -3,8 +3,7 @@
 ghost use Rattle.std.specs.Prelude.{◌≡◌, []};
 
 use crate::support::{equals, holds};
-use cards::testing::fixed_in;
-use cards::{Candidates, Fixed};
+use cards::{Candidates, Fixed, Seat};
 use cond_lang::{Cond, parse};
 use lanes::{JobAround, LaneIn, LaneOut, OpenGate, Share, WorkEnd, lane, work_around};
 use std::alloc::Global;
@@ -18,18 +17,33 @@ const SEED: u32 = 7;
 
 const COUNT: u64 = 2500;
 
-/// Conditions, and what is fixed. Tests of hands give up most candidates of some of them, and a few
-/// or none of others.
-const JOBS: [(&str, &[u8]); 8] = [
-    ("hcp(north)+hcp(south)>=33", b""),
-    ("hcp(north)+hcp(south)>=26", b""),
-    ("hcp(north)>=22", b""),
-    ("hcp(north)+hcp(east)>=30", b"AKQ32.K..A"),
-    ("len(west,spades)>=8", b"... ... ... .AKQ.."),
-    ("hcp(north) in 15-17 and balanced(north)", b""),
-    ("hcp(west)<=37", b""),
-    ("1==0", b""),
+/// Conditions, the cards that are fixed, and at which seat. Tests of hands give up most candidates
+/// of some of them, and a few or none of others.
+const JOBS: [(&str, &[usize], Seat); 8] = [
+    ("hcp(north)+hcp(south)>=33", &[], Seat::North),
+    ("hcp(north)+hcp(south)>=26", &[], Seat::North),
+    ("hcp(north)>=22", &[], Seat::North),
+    // AKQ32.K..A
+    (
+        "hcp(north)+hcp(east)>=30",
+        &[0, 1, 2, 11, 12, 14, 39],
+        Seat::North,
+    ),
+    // .AKQ..
+    ("len(west,spades)>=8", &[13, 14, 15], Seat::West),
+    ("hcp(north) in 15-17 and balanced(north)", &[], Seat::North),
+    ("hcp(west)<=37", &[], Seat::North),
+    ("1==0", &[], Seat::North),
 ];
+
+/// These cards at the seat.
+fn fixed_at(cards: &[usize], seat: Seat) -> Result<Fixed, &'static str> {
+    let mut seats = [None; 52];
+    for card in cards {
+        *seats.get_mut(*card).ok_or("a card")? = Some(seat);
+    }
+    Fixed::new(seats).ok_or("too many")
+}
 
 /// The work on every second one of the candidates, from the second on.
 fn job(cond: Cond, fixed: Fixed) -> Result<JobAround, Fail> {
@@ -65,9 +79,9 @@ fn are_verdicts(rt: &impl Abort, taker: &mut LaneOut, cond: &Cond, fixed: &Fixed
 
 #[test]
 fn rejected_candidates(rt: HostRuntime) -> Result<(), Fail> {
-    for (text, hands) in JOBS.iter() {
+    for (text, cards, seat) in JOBS.iter() {
         let cond = parse(rt.alloc(), text.as_bytes())?;
-        let fixed = Fixed::new(fixed_in(hands)).ok_or("too many")?;
+        let fixed = fixed_at(cards, *seat)?;
         let (sender, mut taker) = lane(rt.alloc(), 4096)?;
         let end = works(&rt, rt.alloc(), job(cond.try_clone()?, fixed)?, sender)?;
         holds(&rt, "done", matches!(&end, WorkEnd::Done(_)));

@@ -1,7 +1,7 @@
 //! Deals around fixed cards, with outside values, and against a plain program.
 
 use crate::support::{deal_of, same};
-use cards::testing::fixed_in;
+use crate::written::fixed_in;
 use cards::{Candidates, Card, Deal, Fixed, MAX_CANDIDATES, Packed, Places, Seat};
 use lcg48::Lcg48;
 use std::process::Abort;

@@ -1,7 +1,7 @@
 //! Cards, places and deals, and the shuffle against a plain program.
 
 use crate::support::{deal_of, same};
-use cards::testing::{IN_ORDER, WORKED, seats_of};
+use crate::written::{IN_ORDER, WORKED, seats_of};
 use cards::{Candidates, Card, Deal, MAX_CANDIDATES, Measure, Packed, Places, Seat, Suit, laws};
 use lcg48::{Lcg48, Steps, Stride};
 use std::process::Abort;

@@ -1,7 +1,7 @@
 //! What hands are counted to have.
 
 use crate::support::{deal_of, same};
-use cards::testing::{IN_ORDER, WORKED};
+use crate::written::{IN_ORDER, WORKED};
 use cards::{Hand, Honours, Measure, Seat, Suit};
 use std::process::Abort;
 

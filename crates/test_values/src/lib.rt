@@ -22,3 +22,5 @@ mod numbers;
 mod portable;
 #[cfg(test)]
 mod support;
+#[cfg(test)]
+mod written;

@@ -2,9 +2,9 @@
 //! built program for the same games, and for labels.
 
 use crate::support::{deal_of, same};
+use crate::written::{IN_ORDER, WORKED};
 use boards::{Board, Notation, Vul};
 use cards::Seat;
-use cards::testing::{IN_ORDER, WORKED};
 use pbn_text::{HEADER, Heading, Reference, deal_text, game};
 
 /// A board, the hands of its deal, and its game.

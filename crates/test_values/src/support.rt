@@ -1,12 +1,13 @@
 //! What the tests share.
 
-use cards::{Deal, testing};
+use crate::written::deal;
+use cards::Deal;
 use std::fmt::Debug;
 use std::process::Abort;
 
 /// The deal of these hands.
 pub fn deal_of(rt: &impl Abort, hands: &[u8]) -> Deal {
-    testing::deal(hands).expect(rt, "thirteen cards each")
+    deal(hands).expect(rt, "thirteen cards each")
 }
 
 /// The two values are equal. Tests of many values call this for each.

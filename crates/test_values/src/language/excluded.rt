@@ -1,7 +1,7 @@
 //! Screens: which hands they exclude. That they exclude too little no clause says.
 
 use super::*;
-use cards::testing::fixed_in;
+use crate::written::fixed_in;
 use cards::{Candidates, Fixed, Hand, Seat, Suit};
 use screens::Screen;
 

@@ -1,7 +1,7 @@
 //! What a condition says of a deal, and why a text isn't a condition.
 
 use super::*;
-use cards::testing::{IN_ORDER, WORKED, deal};
+use crate::written::{IN_ORDER, WORKED, deal};
 
 /// Texts, and whether they are true of the pack in order, or of the worked deal.
 const TRUTHS: [(&str, &[u8], bool); 6] = [

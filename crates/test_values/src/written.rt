@@ -1,10 +1,9 @@
-//! Deals for tests, as they are written: four hands from North on, separated by spaces, and in each
-//! the spades, hearts, diamonds and clubs, separated by dots. Nothing but tests calls this;
-//! printers' tests write the hands again.
+//! Deals as they are written: four hands from North on, separated by spaces, and in each the spades,
+//! hearts, diamonds and clubs, separated by dots.
 
 ghost use Rattle.std.specs.Prelude.{◌≤◌};
 
-use crate::{Deal, Seat};
+use cards::{Deal, Seat};
 
 /// The pack in order: North has the spades, East the hearts, South the diamonds, West the clubs.
 pub const IN_ORDER: &[u8] = b"AKQJT98765432... .AKQJT98765432.. ..AKQJT98765432. ...AKQJT98765432";
@@ -22,13 +21,7 @@ pub fn deal(hands: &[u8]) -> Result<Deal, &'static str> {
 
 /// Returns the seats of the cards by their numbers. A card that isn't written is North's.
 pub fn seats_of(hands: &[u8]) -> [Seat; 52] {
-    let mut seats = [Seat::North; 52];
-    for (seat, written) in seats.iter_mut().zip(fixed_in(hands)) {
-        if let Some(written) = written {
-            *seat = written;
-        }
-    }
-    seats
+    fixed_in(hands).map(|seat| seat.unwrap_or(Seat::North))
 }
 
 /// Returns the seats of the cards that are written, by their numbers.
