@@ -189,24 +189,21 @@ fn own_sections(name: &str) -> &'static [Section] {
 
 /// What the entry of this name says.
 fn entry_in(entries: &'static str, name: &str) -> Option<&'static str> {
-    for entry in entries.split("\n\n") {
-        if let Some((of, text)) = entry.split_once(": ")
-            && of == name
-        {
-            return Some(text);
-        }
-    }
-    None
+    entries.split("\n\n").find_map(|entry| text_of(entry, name))
+}
+
+/// What the entry says, if it has this name.
+fn text_of(entry: &'static str, name: &str) -> Option<&'static str> {
+    let (of, text) = entry.split_once(": ")?;
+    (of == name).then_some(text)
 }
 
 /// What these sections say of an option.
 fn help_in(sections: &'static [Section], id: &str) -> Option<Help> {
-    for (heading, entries) in sections {
-        if let Some(text) = entry_in(entries, id) {
-            return Some((heading, text));
-        }
-    }
-    None
+    let (heading, entries) = sections
+        .iter()
+        .find(|section| entry_in(section.1, id).is_some())?;
+    Some((heading, entry_in(entries, id)?))
 }
 
 /// What help says of a subcommand.
