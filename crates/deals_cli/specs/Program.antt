@@ -1,4 +1,4 @@
--- How the program ends for words that ask for nothing, for others `Wishes` of `requests` says it;
+-- How the program ends for words that ask for nothing, for others `Wishes` says it;
 -- and what it says and leaves of a failure.
 use Rattle.std.specs.Prelude.{◌≡◌, ◌⊎◌, ℕ, Bool, true, false, List, [], Option, None, Some}
 use Rattle.std.specs.Prelude.{Result, IfErr, IfOk, OnOk}

@@ -2,7 +2,7 @@
 //!
 //! A `Request` is what the words ask for (`request_types`). `prepare` makes a `Job` of it, or
 //! refuses it. How the words of a command line become a request isn't known here, and neither is
-//! how a job is done (`requests`).
+//! how a job is done (`deals_cli`).
 #![tactic(auto)]
 
 mod boards_job;
