@@ -4,6 +4,6 @@
 //! succeeds; `tests/faults/run libraries` has each allocation of each test fail in turn.
 
 mod parsing;
+mod pieces;
 mod rings;
 mod runs;
-mod sinks;
