@@ -1,5 +1,5 @@
-//! Deals as they are written: four hands from North on, separated by spaces, and in each the spades,
-//! hearts, diamonds and clubs, separated by dots.
+//! Deals as they are written: four hands from North on, separated by spaces, and in each the
+//! spades, hearts, diamonds and clubs, separated by dots.
 
 ghost use Rattle.std.specs.Prelude.{◌≤◌};
 
