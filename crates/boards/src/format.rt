@@ -4,7 +4,7 @@ ghost use Rattle.std.specs.Prelude.{◌≡◌};
 ghost use Rattle.boards.specs.Formats.{numbers_boards};
 
 /// A notation, as it is asked for by its name.
-#[derive(Clone, Copy, PartialEq, Eq, Debug)]
+#[derive(Clone, Copy)]
 pub enum Format {
     /// Portable Bridge Notation.
     Pbn,

@@ -12,7 +12,7 @@ pub const MAX_LABEL_LEN: usize = 100;
 /// The text of an event or a site, which contracts see as its bytes.
 ///
 /// It has at most 100 printable characters of ASCII, without `"` and `\`. It may be empty.
-#[derive(Clone, Copy, PartialEq, Eq, Debug)]
+#[derive(Clone, Copy)]
 pub struct Label {
     bytes: [u8; MAX_LABEL_LEN],
     len: usize,
@@ -72,7 +72,7 @@ fn is_label_byte(byte: u8) -> bool
 }
 
 /// A date as `YYYY.MM.DD`, which contracts see as its ten bytes. No calendar is consulted.
-#[derive(Clone, Copy, PartialEq, Eq, Debug)]
+#[derive(Clone, Copy)]
 pub struct Date {
     bytes: [u8; 10],
 }
@@ -132,7 +132,7 @@ fn fits_date(i: usize, byte: u8) -> bool
 }
 
 /// The labels of a game. A label that isn't given has no line.
-#[derive(Clone, Copy, PartialEq, Eq, Debug)]
+#[derive(Clone, Copy)]
 pub struct Heading {
     pub event: Option<Label>,
     pub site: Option<Label>,

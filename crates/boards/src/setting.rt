@@ -9,7 +9,7 @@ use crate::Board;
 use cards::{Deal, Seat};
 
 /// The sides that are vulnerable.
-#[derive(Clone, Copy, PartialEq, Eq, Debug)]
+#[derive(Clone, Copy)]
 pub enum Vul {
     Neither,
     NorthSouth,
@@ -45,7 +45,7 @@ pub fn vulnerable(board: u64) -> Vul
 
 /// The dealer and the vulnerability of every board, where they are given, and else Law 2's; and
 /// whether each deal is turned so that the hand which a condition calls north is the dealer's.
-#[derive(Clone, Copy, Debug)]
+#[derive(Clone, Copy)]
 pub struct Setting {
     pub dealer: Option<Seat>,
     pub vulnerable: Option<Vul>,

@@ -7,7 +7,7 @@ use crate::board::Board;
 use cards::{Hand, Seat};
 
 /// The hands that are written of a board, as they are asked for by a word.
-#[derive(Clone, Copy, PartialEq, Eq, Debug)]
+#[derive(Clone, Copy)]
 pub enum Show {
     All,
     /// The hand of the board's dealer.

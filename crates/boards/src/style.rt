@@ -1,7 +1,7 @@
 //! How a table is written.
 
 /// How a table is written.
-#[derive(Clone, Copy, PartialEq, Eq, Debug)]
+#[derive(Clone, Copy)]
 pub enum Style {
     /// Columns for people, with bars.
     Table,

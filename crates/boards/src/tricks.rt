@@ -19,7 +19,7 @@ use std::marker::Model;
 
 /// What is known of a board: the tricks of each declarer in each denomination, par for one side,
 /// and a contract that scores it. It takes 64 bytes.
-#[derive(Drop, Debug)]
+#[derive(Drop)]
 pub struct Tricks {
     digits: ArrayVec<u8, 20>,
     score: ArrayVec<u8, 7>,

@@ -9,7 +9,7 @@ use std::marker::Model;
 ///
 /// Suits are spades 0, hearts 1, diamonds 2, clubs 3; ranks are ace 0, king 1, queen 2, jack 3,
 /// ten 4, down to two 12.
-#[derive(Clone, Copy, PartialEq, Eq, Debug)]
+#[derive(Clone, Copy)]
 pub struct Card {
     number: u8,
 }

@@ -8,7 +8,7 @@ use std::marker::Model;
 
 /// Cards that are fixed at seats before the deal, which contracts see as a list of 52: the seat of
 /// each fixed card by its number, and `None` for each free one. No seat has more than thirteen.
-#[derive(Clone, Copy, Debug)]
+#[derive(Clone, Copy)]
 pub struct Fixed {
     seats: [Option<Seat>; 52],
 }

@@ -262,7 +262,7 @@ fn is_balanced_in_order(lengths: &[u8; 4]) -> bool
 }
 
 /// A way to count a hand.
-#[derive(Clone, Copy, PartialEq, Eq, Debug)]
+#[derive(Clone, Copy)]
 pub enum Measure {
     /// High card points: ace 4, king 3, queen 2, jack 1.
     Hcp,

@@ -1,7 +1,7 @@
 //! The five honours of a suit, and sets of them.
 
 /// Some of the five honours.
-#[derive(Clone, Copy, PartialEq, Eq, Debug)]
+#[derive(Clone, Copy)]
 pub struct Honours {
     /// Whether the ace is among them.
     pub ace: bool,

@@ -13,7 +13,7 @@ use std::marker::Model;
 ///
 /// It keeps the four bits of the weights as four masks, so that a hand is weighed by counting its
 /// cards under each of them.
-#[derive(Debug, Drop)]
+#[derive(Drop)]
 pub struct CardWeights {
     ones: u64,
     twos: u64,

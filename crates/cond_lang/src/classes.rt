@@ -8,7 +8,7 @@ ghost use Rattle.cond_lang.specs.internal.Reading.{can_quantify};
 use cards::Suit;
 
 /// Whether a condition is asked of some suit of a class, or of each.
-#[derive(Clone, Copy, PartialEq, Eq, Debug)]
+#[derive(Clone, Copy)]
 pub enum Quantifier {
     /// It holds with some suit of the class.
     Any,
@@ -17,7 +17,7 @@ pub enum Quantifier {
 }
 
 /// A class of suits.
-#[derive(Clone, Copy, PartialEq, Eq, Debug)]
+#[derive(Clone, Copy)]
 pub enum Class {
     /// All four suits.
     Suit,

@@ -69,7 +69,7 @@ pub(crate) const MEASURE_LINES: &str =
 
 /// What may come at a place of a condition: a kind of token, or the end. Each word of its own, the
 /// six comparisons, the four seats, the four suits, all ranks and all numbers are one kind each.
-#[derive(Clone, Copy, PartialEq, Eq)]
+#[derive(Clone, Copy)]
 pub enum Kind {
     Not,
     Open,

@@ -18,7 +18,6 @@ use std::marker::Model;
 ///
 /// Each of its values adds up at most 1,024 numbers, points and lengths, so that a sum is a `u32`,
 /// and each of its numbers is at most 9,999.
-#[derive(Debug)]
 pub struct Cond {
     alloc: Global,
     tree: Tree,

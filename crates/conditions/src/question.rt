@@ -15,12 +15,11 @@ use std::marker::Model;
 /// if it doesn't, of a value the number that it is.
 ///
 /// Contracts see it as the condition's form or the value's.
-#[derive(Debug)]
 pub struct Question {
     asked: Asked,
 }
 
-#[derive(Debug, Drop)]
+#[derive(Drop)]
 enum Asked {
     Condition(Cond),
     Value(Value),

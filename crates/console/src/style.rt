@@ -1,7 +1,7 @@
 //! How counts are shown.
 
 /// How a run's counts are shown while it lasts.
-#[derive(Clone, Copy, Debug, PartialEq, Eq)]
+#[derive(Clone, Copy)]
 pub enum Style {
     /// Not at all.
     Never,

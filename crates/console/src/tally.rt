@@ -3,7 +3,7 @@
 use std::alloc::{AllocError, Global};
 
 /// How far a run has come.
-#[derive(Clone, Copy, Debug)]
+#[derive(Clone, Copy)]
 pub struct Tally {
     /// How many candidates were taken.
     pub candidates: u64,

@@ -12,7 +12,7 @@ use plans::Plan;
 use sinks::{Message, Sink, SinkFault, put_all};
 
 /// How many boards a run wrote, and from how many candidates.
-#[derive(Clone, Copy, Debug)]
+#[derive(Clone, Copy)]
 pub struct Report {
     pub plan: Plan,
     pub format: Format,

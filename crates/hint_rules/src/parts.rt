@@ -7,7 +7,7 @@ use crate::words::{is, is_in_value, is_number, is_one_of, is_seat};
 use std::alloc::{AllocError, Global};
 
 /// What a byte belongs to.
-#[derive(Clone, Copy, PartialEq, Eq)]
+#[derive(Clone, Copy)]
 enum Class {
     Blank,
     Comment,

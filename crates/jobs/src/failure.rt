@@ -19,7 +19,7 @@ use sinks::{Message, Sink, SinkFault};
 use std::alloc::AllocError;
 
 /// Why a request is not served, or not all of it.
-#[derive(Debug, Drop)]
+#[derive(Drop)]
 pub enum Failure {
     /// The words ask for nothing; with the text that says so.
     CommandLine(String),

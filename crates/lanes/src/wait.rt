@@ -42,7 +42,7 @@ const PATIENCE: usize = 64;
 const PARTS_OF_A_LANE: usize = 2;
 
 /// How an end of a lane waits for the other one.
-#[derive(Clone, Copy, Debug, Drop)]
+#[derive(Clone, Copy, Drop)]
 pub enum Pace {
     /// It spins for a while before it lets other threads run: the other end has a core of its own.
     Spins,
@@ -65,7 +65,7 @@ impl Pace {
 }
 
 /// That the stop flag is up: `raise` alone makes it, so whoever has it comes after the raising.
-#[derive(Clone, Copy, Debug)]
+#[derive(Clone, Copy)]
 pub(crate) struct Raised(());
 
 /// Raises the stop flag, which ends waiting on both sides.

@@ -40,7 +40,7 @@ pub trait Gate {
 }
 
 /// A gate that lets every candidate pass.
-#[derive(Clone, Copy, Debug)]
+#[derive(Clone, Copy)]
 pub struct OpenGate;
 
 impl Gate for OpenGate {

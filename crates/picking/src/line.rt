@@ -16,7 +16,7 @@ const MOST_DIGITS: u8 = 13;
 const END_OF_NUMBERS: u64 = 1 << 40;
 
 /// What a line has had so far.
-#[derive(Clone, Copy, Debug, PartialEq, Eq)]
+#[derive(Clone, Copy)]
 pub enum Part {
     /// Nothing but spaces and tabs.
     Blank,
@@ -27,7 +27,7 @@ pub enum Part {
 }
 
 /// A line that is read byte by byte: the number that its digits write, and how many those are.
-#[derive(Drop, Debug)]
+#[derive(Drop)]
 pub struct Line {
     part: Part,
     value: u64,

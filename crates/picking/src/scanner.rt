@@ -15,7 +15,7 @@ const MOST_NUMBERS: u64 = 1 << 40;
 
 /// Reads a text of numbers byte by byte: it keeps what the line has had so far, and how many lines
 /// and numbers there were.
-#[derive(Drop, Debug)]
+#[derive(Drop)]
 pub struct Scanner {
     line: Line,
     after_cr: bool,

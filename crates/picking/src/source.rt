@@ -46,7 +46,7 @@ pub trait Source {
 }
 
 /// The source without any bytes, which never fails.
-#[derive(Debug, Drop, Clone, Copy)]
+#[derive(Drop, Clone, Copy)]
 pub struct NoBytes;
 
 impl Source for NoBytes {

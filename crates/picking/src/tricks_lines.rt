@@ -20,7 +20,7 @@ const MOST_READS: u64 = MOST_BYTES + 1;
 const LONGEST: usize = 64;
 
 /// Why no more lines were read.
-#[derive(Clone, Copy, Debug, PartialEq, Eq)]
+#[derive(Clone, Copy)]
 pub enum LinesEnd {
     /// There are as many as were asked for.
     Enough,

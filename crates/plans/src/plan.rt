@@ -31,7 +31,7 @@ pub enum PlanError {
 /// at most `capacity` verdicts ahead of the writer; the accepted ones are boards from `first_board`
 /// on, under a heading, `limit` of them at most. Its setting says who deals them, which sides are
 /// vulnerable, and whether deals are turned. Cards may be fixed at seats before the deals.
-#[derive(Clone, Copy, Debug)]
+#[derive(Clone, Copy)]
 pub struct Plan {
     seed: u32,
     first: u64,

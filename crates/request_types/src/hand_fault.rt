@@ -12,7 +12,7 @@ use crate::hand::{has_card, has_room, has_three_dots, is_hand_byte, is_rank_lett
 use cards::{Card, Seat};
 
 /// What is wrong with the text of a hand.
-#[derive(Clone, Copy, PartialEq, Eq, Debug)]
+#[derive(Clone, Copy)]
 pub enum HandFault {
     /// It has the letter of a rank in lower case: `a` for `A`.
     LowerCase,

@@ -10,7 +10,7 @@ use crate::hand::{has_card, is_hand};
 use cards::{Fixed, Seat};
 
 /// Predealt hands as texts, by seat.
-#[derive(Clone, Copy, Debug)]
+#[derive(Clone, Copy)]
 pub struct PredealtHands<'a> {
     pub north: Option<&'a str>,
     pub east: Option<&'a str>,

@@ -9,7 +9,7 @@ use cards::Seat;
 
 /// How boards are numbered, dealt, labelled and written. What an option was not given has its
 /// default.
-#[derive(Clone, Copy, Debug)]
+#[derive(Clone, Copy)]
 pub struct Look<'a> {
     /// The notation that the boards are written in.
     pub format: Format,

@@ -1,7 +1,7 @@
 //! What options are called in refusals.
 
 /// A label of the games.
-#[derive(Clone, Copy, Debug, PartialEq, Eq)]
+#[derive(Clone, Copy)]
 pub enum LabelName {
     Event,
     Site,
@@ -9,7 +9,7 @@ pub enum LabelName {
 }
 
 /// A question of a `count`, by the option that has its text.
-#[derive(Clone, Copy, Debug, PartialEq, Eq)]
+#[derive(Clone, Copy)]
 pub enum QuestionName {
     Of,
     By,

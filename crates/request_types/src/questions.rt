@@ -3,7 +3,7 @@
 use crate::names::QuestionName;
 
 /// The texts of the questions that are asked of the accepted deals.
-#[derive(Clone, Copy, Debug)]
+#[derive(Clone, Copy)]
 pub enum Questions<'a> {
     /// Only how many deals there are.
     None,

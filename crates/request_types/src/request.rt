@@ -11,7 +11,7 @@ use crate::when::When;
 use boards::{Format, Style};
 
 /// What a person is told while a run lasts and when it has ended. Nothing else depends on it.
-#[derive(Clone, Copy, Debug)]
+#[derive(Clone, Copy)]
 pub struct Notices {
     /// Whether the boards and the candidates are counted for a report.
     pub report: bool,
@@ -22,7 +22,7 @@ pub struct Notices {
 }
 
 /// The first `count` values of a seed, at most 2^40.
-#[derive(Clone, Copy, Debug)]
+#[derive(Clone, Copy)]
 pub struct StreamRequest {
     pub seed: u32,
     pub count: u64,
@@ -30,7 +30,7 @@ pub struct StreamRequest {
 }
 
 /// What is asked for.
-#[derive(Clone, Copy, Debug)]
+#[derive(Clone, Copy)]
 pub enum Request<'a> {
     /// The boards of the accepted candidates.
     Make {

@@ -11,7 +11,7 @@ use cards::MAX_CANDIDATES;
 
 /// Which candidates of a seed are tried, and which of them are accepted. What an option was not
 /// given has its default.
-#[derive(Clone, Copy, Debug)]
+#[derive(Clone, Copy)]
 pub struct Search<'a> {
     pub seed: u32,
     /// How many candidates are tried; all that there are from the first on, if it isn't given.

@@ -2,7 +2,7 @@
 
 /// When something is shown on the error output that is meant for a person: a run's counts while it
 /// lasts, or what helps below a refusal. Nothing else depends on it.
-#[derive(Clone, Copy, PartialEq, Eq, Debug)]
+#[derive(Clone, Copy)]
 pub enum When {
     /// If the error output is a terminal.
     Auto,

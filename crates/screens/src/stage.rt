@@ -3,7 +3,7 @@
 ghost use Rattle.std.specs.Prelude.{◌≡◌};
 
 /// Which hands of a candidate are known.
-#[derive(Clone, Copy, Debug)]
+#[derive(Clone, Copy)]
 pub(crate) enum Stage {
     /// West's.
     OneHand,
@@ -12,7 +12,7 @@ pub(crate) enum Stage {
 }
 
 /// A bound of a value: of all deals that are still possible none has less, or none has more.
-#[derive(Clone, Copy, Debug)]
+#[derive(Clone, Copy)]
 pub(crate) enum Bound {
     Least,
     Greatest,

@@ -5,7 +5,8 @@ ghost use Rattle.std.specs.Prelude.{◌≡◌, []};
 use crate::support::{equals, holds};
 use cards::{Candidates, Fixed, Seat};
 use cond_lang::{Cond, parse};
-use lanes::{JobAround, LaneIn, LaneOut, OpenGate, Share, WorkEnd, lane, work_around};
+use lanes::{JobAround, LaneIn, LaneOut, OpenGate, WorkEnd, lane, work_around};
+use plans::Plan;
 use std::alloc::Global;
 use std::process::Abort;
 use std::sync::atomic::AtomicBool;
@@ -46,13 +47,9 @@ fn fixed_at(cards: &[usize], seat: Seat) -> Result<Fixed, &'static str> {
 }
 
 /// The work on every second one of the candidates, from the second on.
-fn job(cond: Cond, fixed: Fixed) -> Result<JobAround, Fail> {
-    Ok(JobAround {
-        seed: SEED,
-        share: Share::new(0, 2 * COUNT, 2, 1).ok_or("a share")?,
-        cond,
-        fixed,
-    })
+fn job(cond: &Cond, fixed: Fixed) -> Result<JobAround, Fail> {
+    let plan = Plan::new(SEED, 0, 2 * COUNT, 2, 1).ok().ok_or("a plan")?;
+    Ok(JobAround::of(&plan.around(fixed), cond, 1)?)
 }
 
 /// Works the whole job.
@@ -83,7 +80,7 @@ fn rejected_candidates(rt: HostRuntime) -> Result<(), Fail> {
         let cond = parse(rt.alloc(), text.as_bytes())?;
         let fixed = fixed_at(cards, *seat)?;
         let (sender, mut taker) = lane(rt.alloc(), 4096)?;
-        let end = works(&rt, rt.alloc(), job(cond.try_clone()?, fixed)?, sender)?;
+        let end = works(&rt, rt.alloc(), job(&cond, fixed)?, sender)?;
         holds(&rt, "done", matches!(&end, WorkEnd::Done(_)));
         are_verdicts(&rt, &mut taker, &cond, &fixed);
     }

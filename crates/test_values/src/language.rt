@@ -5,6 +5,7 @@
 mod beginnings;
 mod excluded;
 mod questions;
+mod spelling;
 mod trees;
 mod truths;
 mod words;

@@ -103,7 +103,7 @@ fn texts_have_lines(rt: HostRuntime) -> Result<(), std::test::Fail> {
     for (text, most, count, end) in TEXTS {
         let read = read_tricks(rt.alloc(), &mut Reader::new(text), most)?;
         same(&rt, read.table.len(), count);
-        same(&rt, read.end, end);
+        same(&rt, read.end as u8, end as u8);
     }
     Ok(())
 }

@@ -1,7 +1,7 @@
 //! What clap refuses, by the text that it says of it.
 
 /// What is refused of the words.
-#[derive(Clone, Copy, PartialEq, Eq)]
+#[derive(Clone, Copy)]
 pub(crate) enum What {
     /// An option, or another word, that isn't expected.
     Argument,

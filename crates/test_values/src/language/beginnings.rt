@@ -130,11 +130,16 @@ fn what_could_stand_there(rt: HostRuntime) -> Result<(), Fail> {
 fn is_expected(alloc: Global, text: &str, expected: &[Kind]) -> Result<bool, CondError> {
     let beginning = Beginning::of(alloc, text.as_bytes())?;
     for kind in Kind::ALL {
-        if beginning.allows(kind)? != expected.contains(&listed(kind)) {
+        if beginning.allows(kind)? != lists(expected, listed(kind)) {
             return Ok(false);
         }
     }
     Ok(true)
+}
+
+/// Whether the kind is one of these.
+pub fn lists(kinds: &[Kind], kind: Kind) -> bool {
+    kinds.iter().any(|listed| listed.place() == kind.place())
 }
 
 /// The kind as the sets have it.

@@ -1,5 +1,6 @@
 //! The trees that texts spell, each of a clone of the condition.
 
+use super::spelling::tree_text;
 use super::*;
 
 /// Texts, and their trees.
@@ -108,13 +109,11 @@ const TREES: [(&str, &str); 43] = [
     ),
     (
         "cards(north,spades,kq)>=1",
-        "Compare { left: SuitCards(North, Spades, Honours { ace: false, king: true, queen: true, \
-        jack: false, ten: false }), op: AtLeast, right: Number(1) }",
+        "Compare { left: SuitCards(North, Spades, KQ), op: AtLeast, right: Number(1) }",
     ),
     (
         "cards(north,ta)>=1",
-        "Compare { left: Cards(North, Honours { ace: true, king: false, queen: false, \
-        jack: false, ten: true }), op: AtLeast, right: Number(1) }",
+        "Compare { left: Cards(North, AT), op: AtLeast, right: Number(1) }",
     ),
     ("shape(north,4-3-3-3)", "Shape(North, [4, 3, 3, 3])"),
     (
@@ -194,5 +193,5 @@ fn tree_of_clone(alloc: Global, cond: &Cond) -> Result<String, Fail> {
 }
 
 fn spelled(alloc: Global, cond: &Cond) -> Result<String, Fail> {
-    Ok(format!(in alloc; "{:?}", cond.tree())?)
+    Ok(tree_text(alloc, cond.tree())?)
 }
