@@ -89,13 +89,14 @@ impl<E: Write> Counts<E> {
     /// Draws the line of these counts.
     fn draw(&mut self, tally: &Tally) -> Result<(), AllocError> {
         let text = tally_line(self.alloc, tally)?;
-        let drawn = if self.style == Style::Redrawn {
+        let (before, after) = if self.style == Style::Redrawn {
             self.drawn.note();
             // A line longer than the terminal is wide is cut there, and not broken in two.
-            format!(in self.alloc; "\r\x1b[?7l{text}\x1b[K\x1b[?7h")?
+            ("\r\x1b[?7l", "\x1b[K\x1b[?7h")
         } else {
-            format!(in self.alloc; "{text}\n")?
+            ("", "\n")
         };
+        let drawn = [before, text.as_str(), after].concat(self.alloc)?;
         let _ = self.err.write_all(drawn.as_bytes());
         Ok(())
     }

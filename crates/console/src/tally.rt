@@ -52,13 +52,34 @@ fn rate_text(alloc: Global, rate: u64) -> Result<String, AllocError> {
 fn time_text(alloc: Global, seconds: u64) -> Result<String, AllocError> {
     let minutes = seconds / 60;
     let hours = minutes / 60;
-    let days = hours / 24;
-    match seconds {
-        0..=59 => format!(in alloc; "{seconds} s"),
-        60..=3599 => format!(in alloc; "{minutes} min {} s", seconds % 60),
-        3600..=86_399 => format!(in alloc; "{hours} h {} min", minutes % 60),
-        _ => format!(in alloc; "{days} d {} h", hours % 24),
-    }
+    let (many, unit, rest, small) = match seconds {
+        0..=59 => return format!(in alloc; "{seconds} s"),
+        60..=3599 => (minutes, "min", seconds % 60, "s"),
+        3600..=86_399 => (hours, "h", minutes % 60, "min"),
+        _ => (hours / 24, "d", hours % 24, "h"),
+    };
+    format!(in alloc; "{many} {unit} {rest} {small}")
+}
+
+/// The candidates, with this text after their number, the boards, and the candidates a second.
+fn counts_text(alloc: Global, tally: &Tally, of_all: &str) -> Result<String, AllocError> {
+    let candidates = grouped(alloc, tally.candidates)?;
+    let boards = grouped(alloc, tally.boards)?;
+    let noun = if tally.boards == 1 {
+        " board  "
+    } else {
+        " boards  "
+    };
+    let rate = rate_text(alloc, tally.rate())?;
+    [
+        candidates.as_str(),
+        of_all,
+        " candidates  ",
+        boards.as_str(),
+        noun,
+        rate.as_str(),
+    ]
+    .concat(alloc)
 }
 
 /// The line of these counts: per cent, candidates, boards, candidates a second, and the time left.
@@ -68,18 +89,13 @@ fn time_text(alloc: Global, seconds: u64) -> Result<String, AllocError> {
 ///
 /// Only if memory ran out.
 pub fn tally_line(alloc: Global, tally: &Tally) -> Result<String, AllocError> {
-    let candidates = grouped(alloc, tally.candidates)?;
-    let boards = grouped(alloc, tally.boards)?;
-    let noun = if tally.boards == 1 { "board" } else { "boards" };
-    let rate = rate_text(alloc, tally.rate())?;
     let Some(all) = tally.all else {
-        return format!(in alloc; "{candidates} candidates  {boards} {noun}  {rate}");
+        return counts_text(alloc, tally, "");
     };
+    let of_all = [" of ", grouped(alloc, all)?.as_str()].concat(alloc)?;
+    let counts = counts_text(alloc, tally, of_all.as_str())?;
     let percent = tally.candidates.saturating_mul(100) / all.max(1);
     let left = all.saturating_sub(tally.candidates);
     let time = time_text(alloc, left.div_ceil(tally.rate().max(1)))?;
-    let all = grouped(alloc, all)?;
-    format!(in alloc;
-        "{percent}%  {candidates} of {all} candidates  {boards} {noun}  {rate}  {time} left"
-    )
+    format!(in alloc; "{percent}%  {counts}  {time} left")
 }

@@ -1,4 +1,3 @@
-pub mod Saying
 pub mod Serving
 pub mod Reports
 pub mod Counted

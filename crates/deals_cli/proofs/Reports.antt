@@ -5,11 +5,11 @@ use Rattle.plans.specs.Plans.{Planned}
 use Rattle.sinks.specs.Appended.{AppendsAll, append_known}
 use Rattle.jobs.specs.Makings.{plan_of}
 use Rattle.deals_cli.specs.Reported.{Counts, Reports, ReportsFor, wants_report}
-use Rattle.deals_cli.specs.Reports.{next_line, report_line, report_of}
+use Rattle.plans.specs.Reports.{next_line, report_line, report_of}
 use Rattle.request_types.specs.Requests.{Look, Search, Wish, conditions, count, draw, make, make_with_tricks, pick, stream}
 use Rattle.request_types.specs.declared.request.Notices.{Notices}
 use Rattle.boards.specs.declared.format.Format.{Format}
-use Rattle.deals_cli.specs.declared.report.Report.{Report}
+use Rattle.plans.specs.declared.report.Report.{Report}
 
 same_text : (format : Format) (plan : Planned) (form : Form) (r : Report) → Counts format plan form r
     → report_line r.plan r.candidates r.boards ++ next_line r.format r.plan r.candidates r.boards ≡ report_of format plan form

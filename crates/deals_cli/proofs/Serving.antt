@@ -17,7 +17,7 @@ use Rattle.jobs.specs.declared.boards_job.BoardsJob.{BoardsJob}
 use Rattle.jobs.specs.declared.count_job.CountJob.{CountJob}
 use Rattle.jobs.specs.declared.job.PickJob.{PickJob}
 use Rattle.jobs.specs.declared.job.Job.TheVariants.{Boards, Conditions, Count, Pick, Seed, Stream, WithTricks}
-use Rattle.deals_cli.specs.declared.report.Report.{Report}
+use Rattle.plans.specs.declared.report.Report.{Report}
 use Rattle.request_types.specs.declared.request.StreamRequest.{StreamRequest}
 use Rattle.deals_cli.specs.internal.Ends.{EndsBoards, EndsCount, EndsDraw, EndsPicking, EndsReady}
 use Rattle.deals_cli.specs.WithTricks.{BreaksTold, FailsTold, StopsAtLine}

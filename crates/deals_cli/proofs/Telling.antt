@@ -18,7 +18,7 @@ use Rattle.deals_cli.specs.WithTricks.{BreaksTold, FailsTold, InterruptsTold, St
 use Rattle.jobs.specs.declared.failure.Failure.{Failure}
 use Rattle.jobs.specs.declared.failure.Failure.TheVariants.{CommandLine, Plan, Label, Hand, Condition, Question, Cells, Interrupted, Line, Input, EndOfInput}
 use Rattle.jobs.specs.declared.boards_job.BoardsJob.{BoardsJob}
-use Rattle.deals_cli.specs.declared.report.Report.{Report}
+use Rattle.plans.specs.declared.report.Report.{Report}
 use Rattle.request_types.specs.declared.request.Notices.{Notices}
 use Rattle.deals_cli.specs.internal.Ends.{EndsReady, EndsTold, EndsTricks, FaultsOfRun, WroteTold, told_of}
 use Rattle.deals_cli.proofs.ToldText.{accepted_told, end_told, few_told, many_told, text_all, text_cut}

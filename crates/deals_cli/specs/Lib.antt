@@ -9,7 +9,6 @@ pub mod Wishes
 pub mod Runs
 pub mod WithTricks
 pub mod Interruptions
-pub mod Reports
 pub mod Reported
 pub mod Program
 pub mod internal

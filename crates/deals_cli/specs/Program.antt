@@ -16,7 +16,7 @@ use Rattle.deals_cli.specs.Reported.{Reports, ReportsFor, wants_report}
 use Rattle.jobs.specs.Jobs.{IsReady, ReadsInput}
 use Rattle.request_types.specs.Requests.{Look, Search, Wish, draw, make, make_with_tricks}
 use Rattle.jobs.specs.Statuses.{HasInput}
-use Rattle.deals_cli.specs.declared.report.Report.{Report}
+use Rattle.plans.specs.declared.report.Report.{Report}
 use Rattle.request_types.specs.declared.request.Notices.{Notices}
 use Rattle.jobs.specs.declared.failure.Failure.{Failure}
 use Rattle.jobs.specs.declared.failure.Failure.TheVariants.{Interrupted, Input}

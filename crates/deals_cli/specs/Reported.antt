@@ -4,13 +4,13 @@ use Rattle.cond_lang.specs.Form.{Form}
 use Rattle.plans.specs.Text.{accepted, end_of}
 use Rattle.plans.specs.Plans.{Planned}
 use Rattle.jobs.specs.Makings.{Means, plan_of}
-use Rattle.deals_cli.specs.Reports.{report_of}
+use Rattle.plans.specs.Reports.{report_of}
 use Rattle.sinks.specs.Appended.{AppendsAll}
 use Rattle.boards.specs.declared.format.Format.{Format}
 use Rattle.request_types.specs.Requests.{Look, Search, Wish, conditions, count, draw, make}
 use Rattle.request_types.specs.Requests.{make_with_tricks, pick, stream}
 use Rattle.request_types.specs.declared.request.Notices.{Notices}
-use Rattle.deals_cli.specs.declared.report.Report.{Report}
+use Rattle.plans.specs.declared.report.Report.{Report}
 
 -- the counts of a plan's run under a condition: the candidates are those up to the one whose board
 -- met the limit, or all; the boards are those of the accepted ones

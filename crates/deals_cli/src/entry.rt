@@ -10,11 +10,11 @@ ghost use Rattle.request_types.specs.Requests.{Wish};
 ghost use Rattle.jobs.specs.Statuses.{IsStatus, IsStatusWithInput};
 ghost use Rattle.deals_cli.specs.Wishes.{Appends, AppendsFrom};
 
-use crate::report::Report;
 use crate::task::{perform, prepare};
 use command_line::read_words;
 use jobs::Failure;
 use picking::{NoBytes, Source};
+use plans::Report;
 use sinks::Sink;
 use std::alloc::Global;
 use std::sync::Wait;

@@ -7,7 +7,6 @@
 
 mod entry;
 pub mod laws;
-mod report;
 mod seed_job;
 mod service;
 mod shown;
@@ -19,7 +18,7 @@ mod written;
 pub use command_line::{laws as examples, read_words};
 pub use entry::{program, program_with_input};
 pub use jobs::{BoardsJob, CountJob, Failure, Job, PickJob, planned};
-pub use report::Report;
+pub use plans::Report;
 pub use request_types::{
     Format, LabelName, Look, Notices, QuestionName, Questions, Request, Search, Show,
     StreamRequest, Style, When, Workers,

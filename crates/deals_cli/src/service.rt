@@ -9,7 +9,6 @@ ghost use Rattle.deals_cli.specs.Wishes.{language_page};
 ghost use Rattle.deals_cli.specs.internal.Ends.{EndsBoards, EndsCount, EndsPicking, FaultsOfRun};
 ghost use Rattle.sinks.specs.Sinks.{AppendsOrBreaksOff, CountsFault};
 
-use crate::report::Report;
 use crate::seed_job::draw;
 use crate::tricks_job::write_with_tricks;
 use crate::workers::worked;
@@ -18,7 +17,7 @@ use cond_lang::LANGUAGE;
 use jobs::{BoardsJob, CountJob, Failure, Job, PickJob};
 use notations::AnyPrinter;
 use picking::{PickFault, Source, pick};
-use plans::Cause;
+use plans::{Cause, Report};
 use sinks::{Sink, SinkFault, put_all};
 use statistics::Counter;
 use std::alloc::Global;

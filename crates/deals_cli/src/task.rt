@@ -10,7 +10,6 @@ ghost use Rattle.deals_cli.specs.Program.{ReadsTask, is_shown};
 ghost use Rattle.deals_cli.specs.internal.Kinds.{RefusesError};
 ghost use Rattle.jobs.specs.Failures.{CountsInput, faults_in, status_in, status_of};
 
-use crate::report::Report;
 use crate::service::serve;
 use crate::shown::shown_text;
 use clap::Error;
@@ -18,6 +17,7 @@ use clap::error::ErrorKind;
 use dealrun::Cause;
 use jobs::{Failure, Job};
 use picking::Source;
+use plans::Report;
 use request_types::Request;
 use sinks::{Sink, put_all};
 use std::alloc::Global;

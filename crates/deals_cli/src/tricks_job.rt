@@ -7,14 +7,13 @@ ghost use Rattle.deals_cli.specs.WithTricks.{line_fault, most_lines, plan_told};
 ghost use Rattle.deals_cli.specs.internal.Ends.{EndsReady, EndsTold, FaultsOfRun, by_cause};
 ghost use Rattle.deals_cli.specs.internal.Ends.{told_of};
 
-use crate::report::Report;
 use crate::workers::worked;
 use crate::written::write_plan;
 use boards::Tricks;
 use jobs::{BoardsJob, Failure};
 use notations::AnyPrinter;
 use picking::{LineFault, LinesEnd, RefusedLine, Source, TricksRead, read_tricks};
-use plans::{Cause, Plan};
+use plans::{Cause, Plan, Report};
 use sinks::Sink;
 use std::alloc::Global;
 use std::sync::Wait;

@@ -3,3 +3,4 @@ pub mod Results
 pub mod BoardLists
 pub mod Accepting
 pub mod Running
+pub mod Saying

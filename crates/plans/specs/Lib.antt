@@ -2,3 +2,4 @@ pub mod Plans
 pub mod Refusals
 pub mod Text
 pub mod Reference
+pub mod Reports

@@ -10,9 +10,11 @@ mod next_board;
 mod plan;
 mod reference;
 mod refusal;
+mod report;
 
 pub use cause::Cause;
 pub use next_board::{is_full, put_board};
 pub use plan::{Plan, PlanError};
 pub use reference::{PlainFault, run_plain_in};
 pub use refusal::{LineFault, RefusedLine};
+pub use report::Report;

@@ -34,7 +34,7 @@ use Rattle.jobs.specs.declared.failure.Failure.TheVariants.{EndOfInput, Input, I
 use Rattle.jobs.specs.declared.boards_job.BoardsJob.{BoardsJob}
 use Rattle.jobs.specs.declared.count_job.CountJob.{CountJob}
 use Rattle.jobs.specs.declared.job.PickJob.{PickJob}
-use Rattle.deals_cli.specs.declared.report.Report.{Report}
+use Rattle.plans.specs.declared.report.Report.{Report}
 use Rattle.deals_cli.specs.declared.written.Written.{Written}
 use Rattle.sinks.specs.Appended.{AppendsAll, AppendsPart}
 use Rattle.statistics.specs.Counting.{counting}

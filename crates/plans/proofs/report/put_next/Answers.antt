@@ -1,7 +1,7 @@
 use Rattle.std.proofs.Common.{◌∙◌, ◌++◌, sym, append_assoc, codes, decimal}
-use Rattle.deals_cli.specs.Reports.{goes_on_at}
-use Rattle.deals_cli.proofs.Saying.{as_text, goes_on, last_part, ok_as_text}
-use Rattle.deals_cli.proofs.report.put_next.Goals as goal
+use Rattle.plans.specs.Reports.{goes_on_at}
+use Rattle.plans.proofs.Saying.{as_text, goes_on, last_part, ok_as_text}
+use Rattle.plans.proofs.report.put_next.Goals as goal
 
 pub returns-clause-text : goal.returns-clause-text
 returns-clause-text g c =

@@ -1,8 +1,8 @@
 use Rattle.std.proofs.Common.{◌∙◌, ◌++◌, ap, sym, append_assoc, codes, decimal, refl}
 use Rattle.std.proofs.lemmas.List.{append-nil}
-use Rattle.deals_cli.specs.Reports.{boards_text, candidates_text, report_line, shortfall}
-use Rattle.deals_cli.proofs.Saying.{as_text, last_part, part, written}
-use Rattle.deals_cli.proofs.report.Report.say_counts.Goals as goal
+use Rattle.plans.specs.Reports.{boards_text, candidates_text, report_line, shortfall}
+use Rattle.plans.proofs.Saying.{as_text, last_part, part, written}
+use Rattle.plans.proofs.report.Report.say_counts.Goals as goal
 
 pub returns-clause-text : goal.returns-clause-text
 returns-clause-text g c =

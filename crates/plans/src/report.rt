@@ -3,12 +3,12 @@
 ghost use Rattle.std.specs.Prelude.{◌-◌, ◌+◌, ◌^◌, ◌<◌, ◌≤◌, ◌++◌, OnOk, Option};
 ghost use Rattle.sinks.specs.Appended.{AppendsAll};
 ghost use Rattle.sinks.specs.Sinks.{CountsFault};
-ghost use Rattle.deals_cli.specs.Reports.{boards_text, candidates_text, goes_on_at, goes_on_from};
-ghost use Rattle.deals_cli.specs.Reports.{next_line, report_line, shortfall};
+ghost use Rattle.plans.specs.Reports.{boards_text, candidates_text, goes_on_at, goes_on_from};
+ghost use Rattle.plans.specs.Reports.{next_line, report_line, shortfall};
 
+use crate::plan::Plan;
 use boards::Format;
 use cards::MAX_CANDIDATES;
-use plans::Plan;
 use sinks::{Message, Sink, SinkFault, put_all};
 
 /// How many boards a run wrote, and from how many candidates.

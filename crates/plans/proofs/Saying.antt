@@ -5,7 +5,7 @@ use Rattle.std.proofs.lemmas.List.{append-nil}
 use Rattle.sinks.specs.Appended.{append_known, AppendsAll, AppendsPart}
 use Rattle.sinks.specs.Sinks.{AppendsOrBreaksOff}
 use Rattle.sinks.proofs.SinkLemmas.{append_known-append, append_known-nil, whole_then_part}
-use Rattle.deals_cli.specs.Reports.{candidates_text, goes_on_at, goes_on_from, next_line, shortfall}
+use Rattle.plans.specs.Reports.{candidates_text, goes_on_at, goes_on_from, next_line, shortfall}
 use Rattle.boards.specs.Formats.{numbers_boards}
 use Rattle.boards.specs.declared.format.Format.{Format}
 use Rattle.plans.specs.Plans.{Planned}

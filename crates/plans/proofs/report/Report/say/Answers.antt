@@ -1,7 +1,7 @@
 use Rattle.std.proofs.Common.{◌++◌, refl}
-use Rattle.deals_cli.specs.Reports.{next_line, report_line}
-use Rattle.deals_cli.proofs.Saying.{last_part}
-use Rattle.deals_cli.proofs.report.Report.say.Goals as goal
+use Rattle.plans.specs.Reports.{next_line, report_line}
+use Rattle.plans.proofs.Saying.{last_part}
+use Rattle.plans.proofs.report.Report.say.Goals as goal
 
 pub returns-clause-text : goal.returns-clause-text
 returns-clause-text g c =

@@ -1,7 +1,7 @@
 use Rattle.std.proofs.Common.{◌∙◌, ◌++◌, ap, arith, codes, decimal}
-use Rattle.deals_cli.specs.Reports.{shortfall}
-use Rattle.deals_cli.proofs.Saying.{fewer, ok_as_text}
-use Rattle.deals_cli.proofs.report.put_shortfall.Goals as goal
+use Rattle.plans.specs.Reports.{shortfall}
+use Rattle.plans.proofs.Saying.{fewer, ok_as_text}
+use Rattle.plans.proofs.report.put_shortfall.Goals as goal
 
 pub returns-in-Some-clause-text : goal.returns-in-Some-clause-text
 returns-in-Some-clause-text g c =

@@ -1,7 +1,7 @@
 use Rattle.std.proofs.Common.{◌∙◌, ap, ap₂, ◌+◌}
-use Rattle.deals_cli.specs.Reports.{goes_on_at, goes_on_from, next_line}
-use Rattle.deals_cli.proofs.Saying.{next_board_line, next_candidate_line, ok_as_text}
-use Rattle.deals_cli.proofs.report.Report.say_next.Goals as goal
+use Rattle.plans.specs.Reports.{goes_on_at, goes_on_from, next_line}
+use Rattle.plans.proofs.Saying.{next_board_line, next_candidate_line, ok_as_text}
+use Rattle.plans.proofs.report.Report.say_next.Goals as goal
 
 pub returns-then-numbers_boards-clause-text : goal.returns-then-numbers_boards-clause-text
 returns-then-numbers_boards-clause-text g c =

@@ -1,7 +1,7 @@
 -- The report of a run that wrote all that its plan asks for: two lines.
 use Rattle.std.specs.Prelude.{ℕ, ◌+◌, ◌-◌, ◌^◌, ◌==◌, ◌||◌, List, [], ◌++◌, Option, None, Some}
 use Rattle.std.specs.Prelude.{codes, decimal, length, nat_lt, if◌then◌else◌}
-use Rattle.cond_lang.specs.Form.{Form}
+use Rattle.conditions.specs.Form.{Form}
 use Rattle.plans.specs.Text.{accepted, end_of}
 use Rattle.plans.specs.Plans.{Planned}
 use Rattle.boards.specs.Formats.{numbers_boards}
