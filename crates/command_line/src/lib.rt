@@ -2,7 +2,7 @@
 //!
 //! `options.rt` has the subcommands and their options as tables, `helps.rt` and `texts.rt` what is
 //! said of them, `choices.rt` the words that an option may have, and `words.rt` reads words as a
-//! request.
+//! request. `shown.rt` shows what clap says of them.
 #![tactic(auto)]
 
 mod choices;
@@ -10,8 +10,10 @@ mod helps;
 pub mod laws;
 mod options;
 mod refusals;
+mod shown;
 mod texts;
 mod words;
 mod workers;
 
+pub use shown::shown_text;
 pub use words::read_words;

@@ -9,7 +9,6 @@ mod entry;
 pub mod laws;
 mod seed_job;
 mod service;
-mod shown;
 mod task;
 mod tricks_job;
 mod workers;

@@ -11,9 +11,9 @@ ghost use Rattle.deals_cli.specs.internal.Kinds.{RefusesError};
 ghost use Rattle.jobs.specs.Failures.{CountsInput, faults_in, status_in, status_of};
 
 use crate::service::serve;
-use crate::shown::shown_text;
 use clap::Error;
 use clap::error::ErrorKind;
+use command_line::shown_text;
 use dealrun::Cause;
 use jobs::{Failure, Job};
 use picking::Source;
