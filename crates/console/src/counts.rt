@@ -89,14 +89,13 @@ impl<E: Write> Counts<E> {
     /// Draws the line of these counts.
     fn draw(&mut self, tally: &Tally) -> Result<(), AllocError> {
         let text = tally_line(self.alloc, tally)?;
-        let (before, after) = if self.style == Style::Redrawn {
+        let drawn = if self.style == Style::Redrawn {
             self.drawn.note();
             // A line longer than the terminal is wide is cut there, and not broken in two.
-            ("\r\x1b[?7l", "\x1b[K\x1b[?7h")
+            ["\r\x1b[?7l", text.as_str(), "\x1b[K\x1b[?7h"].concat(self.alloc)?
         } else {
-            ("", "\n")
+            [text.as_str(), "\n"].concat(self.alloc)?
         };
-        let drawn = [before, text.as_str(), after].concat(self.alloc)?;
         let _ = self.err.write_all(drawn.as_bytes());
         Ok(())
     }

@@ -92,7 +92,8 @@ pub fn tally_line(alloc: Global, tally: &Tally) -> Result<String, AllocError> {
     let Some(all) = tally.all else {
         return counts_text(alloc, tally, "");
     };
-    let of_all = [" of ", grouped(alloc, all)?.as_str()].concat(alloc)?;
+    let grouped_all = grouped(alloc, all)?;
+    let of_all = [" of ", grouped_all.as_str()].concat(alloc)?;
     let counts = counts_text(alloc, tally, of_all.as_str())?;
     let percent = tally.candidates.saturating_mul(100) / all.max(1);
     let left = all.saturating_sub(tally.candidates);
