@@ -1,6 +1,6 @@
 //! Trees as text: each variant by its name, with its fields in brackets.
 
-use cards::{Honours, Measure, Seat};
+use cards::{Honours, Measure, Seat, Suit};
 use cond_lang::{Item, Op, Tree, Value};
 use std::alloc::{AllocError, Global};
 
@@ -19,58 +19,57 @@ pub fn tree_text(alloc: Global, tree: &Tree) -> Result<String, AllocError> {
             tree_text(alloc, left)?,
             tree_text(alloc, right)?,
         ),
-        Tree::Negation(inner) => {
-            let inner = tree_text(alloc, inner)?;
-            format!(in alloc; "Negation({inner})")
-        }
-        Tree::Compare { left, op, right } => {
-            let (left, right) = (value_text(alloc, left)?, value_text(alloc, right)?);
-            let op = op_text(*op);
-            format!(in alloc; "Compare {{ left: {left}, op: {op}, right: {right} }}")
-        }
+        Tree::Negation(inner) => one(alloc, "Negation", tree_text(alloc, inner)?),
+        Tree::Compare { left, op, right } => compared(
+            alloc,
+            value_text(alloc, left)?,
+            *op,
+            value_text(alloc, right)?,
+        ),
         Tree::Within(value, least, most) => {
-            let value = value_text(alloc, value)?;
-            format!(in alloc; "Within({value}, {least}, {most})")
+            within(alloc, value_text(alloc, value)?, *least, *most)
         }
-        Tree::Balanced(seat) => format!(in alloc; "Balanced({seat:?})"),
-        Tree::Shape(seat, lengths) => format!(in alloc; "Shape({seat:?}, {lengths:?})"),
-        Tree::Pattern(seat, lengths) => format!(in alloc; "Pattern({seat:?}, {lengths:?})"),
-        Tree::LooseShape(seat, items) => loose_text(alloc, "LooseShape", *seat, items),
-        Tree::LoosePattern(seat, items) => loose_text(alloc, "LoosePattern", *seat, items),
-        Tree::Stops(seat, suit) => format!(in alloc; "Stops({seat:?}, {suit:?})"),
+        Tree::Balanced(seat) => call(alloc, "Balanced", &[seat_text(*seat)]),
+        Tree::Shape(seat, lengths) => of_seat(alloc, "Shape", *seat, listed(alloc, lengths)?),
+        Tree::Pattern(seat, lengths) => of_seat(alloc, "Pattern", *seat, listed(alloc, lengths)?),
+        Tree::LooseShape(seat, items) => {
+            of_seat(alloc, "LooseShape", *seat, items_text(alloc, items)?)
+        }
+        Tree::LoosePattern(seat, items) => {
+            of_seat(alloc, "LoosePattern", *seat, items_text(alloc, items)?)
+        }
+        Tree::Stops(seat, suit) => call(alloc, "Stops", &[seat_text(*seat), suit_text(*suit)]),
     }
-}
-
-/// A variant of two parts.
-fn two(alloc: Global, name: &str, left: String, right: String) -> Result<String, AllocError> {
-    format!(in alloc; "{name}({left}, {right})")
 }
 
 fn value_text(alloc: Global, value: &Value) -> Result<String, AllocError> {
     match value {
-        Value::Number(number) => format!(in alloc; "Number({number})"),
-        Value::Points(seat) => format!(in alloc; "Points({seat:?})"),
-        Value::SuitPoints(seat, suit) => format!(in alloc; "SuitPoints({seat:?}, {suit:?})"),
+        Value::Number(number) => one(alloc, "Number", number.to_string(alloc)?),
+        Value::Points(seat) => call(alloc, "Points", &[seat_text(*seat)]),
+        Value::SuitPoints(seat, suit) => {
+            call(alloc, "SuitPoints", &[seat_text(*seat), suit_text(*suit)])
+        }
         Value::Total(measure, seat) => {
-            let measure = measure_text(*measure);
-            format!(in alloc; "Total({measure}, {seat:?})")
+            call(alloc, "Total", &[measure_text(*measure), seat_text(*seat)])
         }
-        Value::SuitTotal(measure, seat, suit) => {
-            let measure = measure_text(*measure);
-            format!(in alloc; "SuitTotal({measure}, {seat:?}, {suit:?})")
-        }
-        Value::Cards(seat, ranks) => {
-            let ranks = ranks_text(alloc, *ranks)?;
-            format!(in alloc; "Cards({seat:?}, {ranks})")
-        }
+        Value::SuitTotal(measure, seat, suit) => call(
+            alloc,
+            "SuitTotal",
+            &[measure_text(*measure), seat_text(*seat), suit_text(*suit)],
+        ),
+        Value::Cards(seat, ranks) => of_seat(alloc, "Cards", *seat, ranks_text(alloc, *ranks)?),
         Value::SuitCards(seat, suit, ranks) => {
             let ranks = ranks_text(alloc, *ranks)?;
-            format!(in alloc; "SuitCards({seat:?}, {suit:?}, {ranks})")
+            call(
+                alloc,
+                "SuitCards",
+                &[seat_text(*seat), suit_text(*suit), ranks.as_str()],
+            )
         }
-        Value::Length(seat, suit) => format!(in alloc; "Length({seat:?}, {suit:?})"),
-        Value::Longest(seat) => format!(in alloc; "Longest({seat:?})"),
-        Value::Second(seat) => format!(in alloc; "Second({seat:?})"),
-        Value::Shortest(seat) => format!(in alloc; "Shortest({seat:?})"),
+        Value::Length(seat, suit) => call(alloc, "Length", &[seat_text(*seat), suit_text(*suit)]),
+        Value::Longest(seat) => call(alloc, "Longest", &[seat_text(*seat)]),
+        Value::Second(seat) => call(alloc, "Second", &[seat_text(*seat)]),
+        Value::Shortest(seat) => call(alloc, "Shortest", &[seat_text(*seat)]),
         Value::Sum(left, right) => two(
             alloc,
             "Sum",
@@ -80,23 +79,67 @@ fn value_text(alloc: Global, value: &Value) -> Result<String, AllocError> {
     }
 }
 
-fn op_text(op: Op) -> &'static str {
-    match op {
-        Op::Equal => "Equal",
-        Op::NotEqual => "NotEqual",
-        Op::Less => "Less",
-        Op::AtMost => "AtMost",
-        Op::More => "More",
-        Op::AtLeast => "AtLeast",
-    }
+/// A variant and its fields.
+fn call(alloc: Global, name: &str, fields: &[&str]) -> Result<String, AllocError> {
+    let fields = fields.join(alloc, ", ")?;
+    [name, "(", fields.as_str(), ")"].concat(alloc)
 }
 
-fn measure_text(measure: Measure) -> &'static str {
-    match measure {
-        Measure::Hcp => "Hcp",
-        Measure::Controls => "Controls",
-        Measure::Losers => "Losers",
+fn one(alloc: Global, name: &str, field: String) -> Result<String, AllocError> {
+    call(alloc, name, &[field.as_str()])
+}
+
+fn two(alloc: Global, name: &str, left: String, right: String) -> Result<String, AllocError> {
+    call(alloc, name, &[left.as_str(), right.as_str()])
+}
+
+fn of_seat(alloc: Global, name: &str, seat: Seat, field: String) -> Result<String, AllocError> {
+    call(alloc, name, &[seat_text(seat), field.as_str()])
+}
+
+fn compared(alloc: Global, left: String, op: Op, right: String) -> Result<String, AllocError> {
+    [
+        "Compare { left: ",
+        left.as_str(),
+        ", op: ",
+        op_text(op),
+        ", right: ",
+        right.as_str(),
+        " }",
+    ]
+    .concat(alloc)
+}
+
+fn within(alloc: Global, value: String, least: u16, most: u16) -> Result<String, AllocError> {
+    let least = least.to_string(alloc)?;
+    let most = most.to_string(alloc)?;
+    call(
+        alloc,
+        "Within",
+        &[value.as_str(), least.as_str(), most.as_str()],
+    )
+}
+
+/// The four lengths in square brackets.
+fn listed(alloc: Global, lengths: &[u16; 4]) -> Result<String, AllocError> {
+    format!(in alloc; "{lengths:?}")
+}
+
+/// The four items in square brackets, an `x` as `Any`.
+fn items_text(alloc: Global, items: &[Item; 4]) -> Result<String, AllocError> {
+    let mut text = String::new(alloc);
+    for item in items {
+        text.push_str(if text.is_empty() { "[" } else { ", " })?;
+        match item {
+            Item::Length(length) => {
+                let length = one(alloc, "Length", length.to_string(alloc)?)?;
+                text.push_str(length.as_str())?;
+            }
+            Item::Any => text.push_str("Any")?,
+        }
     }
+    text.push_str("]")?;
+    Ok(text)
 }
 
 /// The letters of the ranks that are counted.
@@ -117,23 +160,39 @@ fn ranks_text(alloc: Global, ranks: Honours) -> Result<String, AllocError> {
     Ok(text)
 }
 
-/// A shape or a pattern that has items, an `x` as `Any`.
-fn loose_text(
-    alloc: Global,
-    name: &str,
-    seat: Seat,
-    items: &[Item; 4],
-) -> Result<String, AllocError> {
-    let mut text = format!(in alloc; "{name}({seat:?}, [")?;
-    for (at, item) in items.iter().enumerate() {
-        if at > 0 {
-            text.push_str(", ")?;
-        }
-        match item {
-            Item::Length(length) => text.push_str(format!(in alloc; "Length({length})")?.as_str())?,
-            Item::Any => text.push_str("Any")?,
-        }
+fn seat_text(seat: Seat) -> &'static str {
+    match seat {
+        Seat::North => "North",
+        Seat::East => "East",
+        Seat::South => "South",
+        Seat::West => "West",
     }
-    text.push_str("])")?;
-    Ok(text)
+}
+
+fn suit_text(suit: Suit) -> &'static str {
+    match suit {
+        Suit::Spades => "Spades",
+        Suit::Hearts => "Hearts",
+        Suit::Diamonds => "Diamonds",
+        Suit::Clubs => "Clubs",
+    }
+}
+
+fn op_text(op: Op) -> &'static str {
+    match op {
+        Op::Equal => "Equal",
+        Op::NotEqual => "NotEqual",
+        Op::Less => "Less",
+        Op::AtMost => "AtMost",
+        Op::More => "More",
+        Op::AtLeast => "AtLeast",
+    }
+}
+
+fn measure_text(measure: Measure) -> &'static str {
+    match measure {
+        Measure::Hcp => "Hcp",
+        Measure::Controls => "Controls",
+        Measure::Losers => "Losers",
+    }
 }
