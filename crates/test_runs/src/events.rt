@@ -11,8 +11,8 @@ use std::test::Fail;
 fn replay(rt: &impl Abort, core: &mut Core, events: &[(Event, bool)])
     ensures { core.new.workers ≡ core.old.workers }
 {
-    for (at, (event, allowed)) in events.iter().enumerate() {
-        assert_eq!(rt; core.step(*event), *allowed, "event {at}");
+    for (event, allowed) in events {
+        assert_eq!(rt; core.step(*event), *allowed);
     }
 }
 
