@@ -89,7 +89,7 @@ def shown_on_terminal(bash):
     shown = harness.all_of(ours)
     os.close(ours)
     process.wait(timeout=PATIENCE)
-    return shown.replace(b"\r\n", b"\n")
+    return harness.without_counts(shown.replace(b"\r\n", b"\n"))
 
 
 def complaint_of(command, wanted, folder, before=""):
@@ -167,7 +167,7 @@ def check_page(path, folder):
     if solver() is not None:
         (folder / "bin" / "deals-tricks").symlink_to(solver())
     (folder / "bin" / "deals").symlink_to(harness.PROGRAM)
-    (folder / "deals").symlink_to(harness.TOP / "deals")
+    (folder / "deals").symlink_to(harness.TOP / "deals" if harness.PROGRAM == harness.BUILT else harness.PROGRAM)
     (folder / "examples").symlink_to(harness.TOP / "examples")
     for lines in blocks_of(path):
         before = ""

@@ -1,9 +1,11 @@
-"""Runs the launcher `deals` in small checkouts, with a stand-in for the toolchain's `rt`: nothing is proved or built.
+"""Runs the launcher `deals` and `check` in small checkouts, with a stand-in for the toolchain's `rt`: nothing is proved
+or compiled but a small program that prints its words. `slow` runs the real ones too (unproved.py).
 
-The stand-in notes each build and puts a program in place that prints its own name, its words and its input. The
-launcher has to build when a source is another one, and else not; to build in a folder of its own, with the product's
-crates alone; to work through links, from any folder, in a path of any bytes; to say on a terminal how far it is; to end
-what it started; and to leave no file behind.
+The stand-in notes each call. Asked to build, it puts the small program in place; asked to try, it runs it as `rt try`
+does. The launcher has to run the program that was built, and nothing else, where it was built from these sources; else
+the sources, and to say so. `check program` has to build once, in a room of its own, from the product's crates alone.
+Both have to work through links, from any folder, in a path of any bytes; to say on a terminal how far they are; to end
+what they started; and to leave no file behind.
 """
 
 import contextlib
@@ -16,39 +18,68 @@ import subprocess
 import tempfile
 import time
 
+import harness
 import report
 
-TOP = pathlib.Path(__file__).resolve().parent.parent.parent
+TOP = harness.TOP
 PATIENCE = 60
-# Prints each word and its end; with `cat` as the first word its input too, with `end` it ends with status 41.
+SCRIPTS = ["deals", "check", *(f"tools/{name}.bash" for name in ("sources", "rooms", "unproved", "build"))]
+# Prints each word and its end; with `pick` or `cat` as the first word its input too, with `end` it ends with status 41,
+# with `err` it says something of its own.
 SHOWN = r"""
 #include <stdio.h>
 #include <string.h>
 int main(int count, char **words) {
+    const char *first = count > 1 ? words[1] : "";
     for (int at = 0; at < count; at++) fwrite(words[at], 1, strlen(words[at]) + 1, stdout);
-    if (count > 1 && !strcmp(words[1], "cat"))
+    if (!strcmp(first, "cat") || !strcmp(first, "pick") || (count > 2 && !strcmp(words[2], "--tricks")))
         for (int byte; (byte = getchar()) != EOF;) putchar(byte);
-    return count > 1 && !strcmp(words[1], "end") ? 41 : 0;
+    if (!strcmp(first, "err")) fputs("said\nraces: its own\n", stderr);
+    return !strcmp(first, "end") ? 41 : 0;
 }
 """
-# Notes its folder and words, reads its input to the end, and does what the file `how` beside it says.
-STAND_IN = r"""#!/bin/sh
+# Notes its folder and words, keeps its input, and does what the file `how` beside it says.
+STAND_IN = r"""#!/bin/bash
 here=${0%/*}
-printf '%s\0' "$PWD" "$@" >> "$here/calls"
+printf '%s\0' "$PWD" "$1" >> "$here/calls"
 find . -type f | LC_ALL=C sort > "$here/listed"
-cp crates.txt "$here/crates.txt"
+[ "$1" = try ] || cp crates.txt "$here/crates.txt"
 cat > "$here/input"
-echo "words for standard output"
-echo "words for standard error" >&2
+tries() {
+    shift 2
+    (exec -a deals "$here/shown" "$@") < "$here/input"
+    local status=$?
+    printf 'checked: ended status=%s\nraces: not looked for\n' "$status" >&2
+    printf 'run=ended status=%s runners=1 races=unchecked proved=no\n' "$status" >&2
+    exit "$status"
+}
+[ "$1" = try ] || {
+    echo "words for standard output"
+    echo "words for standard error" >&2
+}
 . "$here/how"
 """
-BUILDS = 'mkdir -p crates/deals/out; cp "$here/shown" crates/deals/out/deals\n'
-CHANGES = "echo '// later' >> \"$here/../checkout/crates/deals/src/main.rt\"\n" + BUILDS
-TELLS = "echo 'rt: low is kept: so'; sleep 2; echo 'rt: deals proved'; sleep 2\n" + BUILDS
-FAILS = 'for at in $(seq 100); do echo "line $at"; done; exit 3\n'
+DOES = '[ "$1" != try ] || tries "$@"\nmkdir -p crates/deals/out; cp "$here/shown" crates/deals/out/deals\n'
+CHANGES = "echo '// later' >> \"$here/../checkout/crates/deals/src/main.rt\"\n" + DOES
+TELLS = "[ \"$1\" != try ] || { sleep 2; tries \"$@\"; }\n"
+TELLS += "echo 'rt: low is kept: so'; sleep 2; echo 'rt: deals proved'; sleep 2\n" + DOES
+FAILS = 'for at in $(seq 100); do echo "line $at" >&2; done; exit 3\n'
 LASTS = 'sleep 300 & echo "$$ $!" > "$here/pids.new"; mv "$here/pids.new" "$here/pids"; wait\n'
 STAYS = "trap '' TERM; " + LASTS.replace("wait\n", "while :; do sleep 1; done\n")
-FIRST_LINE = b"deals: proving and building the program, which takes some minutes the first time\n"
+WAITS = "sleep 1\n" + DOES
+# What `rt try` says where there is no answer: too much output, too long a run, a fault that the checks found.
+LACKS = {
+    "too much": ("checked: no-answer: the program wrote more than 1048576 bytes\nraces: no\nrun=no-answer proved=no", 6),
+    "too long": ("checked: no-answer: the program ran for 60 seconds\nraces: no\nrun=no-answer proved=no", 6),
+    "a fault": ("checked: fault: an index at or past the length\nrun=fault proved=no", 4),
+    "sources that are wrong": ("src/main.rt:1: error: expected an item\nrun=none proved=no", 1),
+    "nothing": ("", 2),
+}
+UNPROVED = b"deals: %s without proofs, with checks, in about a minute; ./check program proves and builds it\n"
+FIRST_LINE = UNPROVED % b"not built here: running it"
+CHANGED_LINE = UNPROVED % b"the sources have changed since the program was built: running them"
+BUILD_LINE = b"check: proving and building the program, which takes some 20 minutes on four cores\n"
+LAST_LINE = b"check: the program is built, and ./deals runs it\n"
 SOURCES = {
     "crates.txt": "low:\ndeals: low\ntest_low: low\n",
     "HANDLES": "Handles allowed: none.\n",
@@ -81,12 +112,14 @@ class Checkout:
             os.makedirs(path)
         for source, text in SOURCES.items():
             self.put(source, text)
-        shutil.copy(TOP / "deals", self.path("deals"))
+        os.makedirs(self.path("tools"))
+        for script in SCRIPTS:
+            shutil.copy(TOP / script, self.path(script))
         shutil.copy(shown, os.path.join(self.tools, b"shown"))
         tool = os.path.join(self.tools, b"rt")
         pathlib.Path(os.fsdecode(tool)).write_text(STAND_IN)
         os.chmod(tool, 0o755)
-        self.build_by(BUILDS)
+        self.works_by(DOES)
 
     def path(self, name):
         return os.path.join(self.folder, os.fsencode(name))
@@ -96,7 +129,7 @@ class Checkout:
         with open(self.path(name), "w", encoding="utf-8") as file:
             file.write(text)
 
-    def build_by(self, how):
+    def works_by(self, how):
         with open(os.path.join(self.tools, b"how"), "w", encoding="utf-8") as file:
             file.write(how)
 
@@ -106,27 +139,34 @@ class Checkout:
             plain["PATH"] = self.tools + b":/usr/bin:/bin"
         return {**plain, **more}
 
-    def call(self, *words, launcher=None, folder="/", given=b"", has_tools=True, **more):
-        """The status and the two texts of a call of the launcher."""
+    def start(self, *words, launcher=None, folder="/", has_tools=True, **more):
+        """A call of the launcher that goes on."""
         words = [launcher or self.path("deals"), *words]
-        environment = self.environment(has_tools, **more)
-        end = subprocess.run(
-            words, cwd=folder, env=environment, input=given, capture_output=True, timeout=PATIENCE
-        )
-        return end.returncode, end.stdout, end.stderr
+        pipes = {name: subprocess.PIPE for name in ("stdin", "stdout", "stderr")}
+        return subprocess.Popen(words, cwd=folder, env=self.environment(has_tools, **more), **pipes)
 
-    def builds(self):
-        """How many builds there were since the last time that this was asked."""
+    def call(self, *words, given=b"", **more):
+        """The status and the two texts of a call of the launcher."""
+        process = self.start(*words, **more)
+        out, err = process.communicate(given, timeout=PATIENCE)
+        return process.returncode, out, err
+
+    def build(self, **more):
+        """The same of `check program`."""
+        return self.call("program", launcher=self.path("check"), **more)
+
+    def calls(self, command):
+        """How many calls of this command the stand-in has noted, with those that were wrong; it forgets them."""
         try:
             with open(os.path.join(self.tools, b"calls"), "rb") as file:
-                calls = file.read()
+                noted = file.read().split(b"\0")[:-1]
             os.remove(os.path.join(self.tools, b"calls"))
         except FileNotFoundError:
             return 0
-        words = calls.split(b"\0")[:-1]
-        within = os.path.join(self.scratch, b"deals-build.")
-        is_right = all(folder.startswith(within) for folder in words[::2]) and set(words[1::2]) <= {b"ci"}
-        return len(words) // 2 if is_right else -1
+        within = {b"ci": os.path.join(self.scratch, b"deals-build."), b"try": self.path("crates/deals")}
+        pairs = list(zip(noted[::2], noted[1::2]))
+        is_right = all(name == command.encode() and folder.startswith(within[name]) for folder, name in pairs)
+        return len(pairs) if is_right else -1
 
     def told(self, name):
         with open(os.path.join(self.tools, os.fsencode(name)), encoding="utf-8") as file:
@@ -143,6 +183,18 @@ def shown(*words):
     return b"".join(os.fsencode(word) + b"\0" for word in ("deals", *words))
 
 
+def on_terminal(words, environment):
+    """The status, and what a command says on a terminal."""
+    ours, theirs = pty.openpty()
+    end = subprocess.Popen(
+        words, cwd="/", env=environment, stdin=subprocess.DEVNULL, stdout=theirs, stderr=theirs, start_new_session=True
+    )
+    os.close(theirs)
+    said = harness.all_of(ours)
+    os.close(ours)
+    return end.wait(timeout=PATIENCE), said
+
+
 class Checks:
     """The tests; each is a method, and yields names and whether they are right."""
 
@@ -154,44 +206,108 @@ class Checks:
         subprocess.run(["cc", "-O1", "-Wall", "-o", self.shown, source], check=True)
 
     @contextlib.contextmanager
-    def checkout(self, name=b"checkout"):
+    def checkout(self, name=b"checkout", is_built=False):
         with tempfile.TemporaryDirectory(dir=self.folder) as folder:
-            yield Checkout(folder, self.shown, name)
+            it = Checkout(folder, self.shown, name)
+            if is_built:
+                it.build()
+                it.calls("ci")
+            yield it
 
-    def check_first(self):
+    def check_unproved(self):
         with self.checkout() as it:
-            yield "built at first", it.call("a", "b") == (0, shown("a", "b"), FIRST_LINE) and it.builds() == 1
-            yield "not built again", it.call() == (0, shown(), b"") and it.builds() == 0
+            yield "without proofs", it.call("a", "b") == (0, shown("a", "b"), FIRST_LINE) and it.calls("try") == 1
+            yield "again", it.call() == (0, shown(), FIRST_LINE) and it.calls("try") == 1
             words = ["", "two words", "a\nb", b"\xff\xfe", "'", "*", "--", "-n"]
-            yield "words of any bytes", it.call(*words) == (0, shown(*words), b"")
-            yield "the program's status", it.call("end")[0] == 41
-            yield "no file is left", it.is_clean()
+            yield "words of any bytes", it.call(*words) == (0, shown(*words), FIRST_LINE)
+            yield "the program's status", it.call("end")[:2] == (41, shown("end"))
+            own = FIRST_LINE + b"said\nraces: its own\n"
+            yield "what the program says itself", it.call("err") == (0, shown("err"), own)
+            yield "no file is left", it.is_clean() and not os.path.exists(it.path("crates/deals/out"))
+            given = b"1\n2\n\x00\xff" * 40000
+            for words in (["pick"], ["make", "--tricks"]):
+                right = (0, shown(*words) + given, FIRST_LINE)
+                yield f"the input of {words}", it.call(*words, given=given) == right
+            process = it.start("stream")
+            yield "an input that nothing reads", process.stdout.read() == shown("stream") and process.wait() == 0
+            process.communicate()
+            refused = it.call("pick", given=bytes((64 << 20) + 1))
+            yield "too much input", refused[:2] == (1, b"") and b"64 MiB" in refused[2] and it.is_clean()
+            with subprocess.Popen(["true"]) as closed:
+                closed.wait()
+            end = subprocess.run(
+                ["bash", "-c", '"$0" a | true; echo "${PIPESTATUS[0]}"', it.path("deals")],
+                env=it.environment(), capture_output=True, timeout=PATIENCE,
+            )
+            yield "a reader that left", end.stdout in (b"0\n", b"4\n") and it.is_clean()
+
+    def check_no_answer(self):
+        for name, (said, status) in LACKS.items():
+            with self.checkout() as it:
+                it.works_by(f"echo 'a part of it'; printf '%s\\n' '{said}' >&2; exit {status}\n")
+                status, out, err = it.call("x")
+                last = err.splitlines()[-1]
+                is_said = last.startswith(b"deals: without proofs") and b"./check program" in last
+                yield f"no answer, {name}", (status, out) == (1, b"") and is_said and it.is_clean()
+                if "no-answer" in said:
+                    yield f"no answer, {name}, why", said.split("\n")[0].split(": ")[2].encode() in last
+
+    def check_built(self):
         with self.checkout() as it:
-            given = b"1\n2\n" * 40000
-            right = (0, shown("cat") + given, FIRST_LINE)
-            yield "the input is the program's", it.call("cat", given=given) == right
-            yield "the build has none", os.path.getsize(os.path.join(it.tools, b"input")) == 0
+            yield "built", it.build() == (0, b"", BUILD_LINE + LAST_LINE) and it.calls("ci") == 1
+            yield "the build has no input", os.path.getsize(os.path.join(it.tools, b"input")) == 0
             yield "built from the product alone", it.told("listed") == BUILT_FROM
             yield "with its crates alone", it.told("crates.txt") == "low:\ndeals: low\n"
-        with self.checkout() as it:
-            it.build_by(TELLS)
-            status, said = self.on_terminal(it)
-            yield "on a terminal", status == 0 and said.startswith(FIRST_LINE.replace(b"\n", b"\r\n"))
-            yield "how far it is", all(b"deals: %d of 2 crates proved" % at in said for at in (1, 2))
-            yield "the count is wiped", said.endswith(b"\r\x1b[K")
+            it.works_by(FAILS)
+            words = ["", "two words", "a\nb", b"\xff\xfe", "'", "*", "--", "-n"]
+            yield "built, words of any bytes", it.call(*words) == (0, shown(*words), b"")
+            yield "built, the program's status", it.call("end") == (41, shown("end"), b"")
+            given = b"1\n2\n" * 40000
+            yield "built, the input", it.call("cat", given=given) == (0, shown("cat") + given, b"")
+            yield "built, not again", it.build() == (0, b"", LAST_LINE)
+            time.sleep(2.1)
+            yield "built, some time ago", it.call("x") == (0, shown("x"), b"") and it.call("y") == (0, shown("y"), b"")
+            yield "built, rt isn't called", it.calls("ci") == 0 and it.is_clean()
+            it.put("crates/low/src/lib.rt", "// LOW\n")
+            yield "built, a change later", it.call("x")[2].startswith(CHANGED_LINE)
+            usage = it.call("programme", launcher=it.path("check"))
+            yield "a wrong word", usage[0] == 2 and usage[2].count(b"\n") == 1 and b"./check program" in usage[2]
 
-    def on_terminal(self, it):
-        """The status, and what a call of the launcher says on a terminal."""
-        ours, theirs = pty.openpty()
-        end = subprocess.run([it.path("deals")], cwd="/", env=it.environment(), stdin=subprocess.DEVNULL,
-                             stdout=subprocess.DEVNULL, stderr=theirs, timeout=PATIENCE)
-        os.close(theirs)
-        said = b""
-        with contextlib.suppress(OSError):
-            while piece := os.read(ours, 65536):
-                said += piece
-        os.close(ours)
-        return end.returncode, said
+    def check_terminal(self):
+        with self.checkout() as it:
+            it.works_by(TELLS)
+            status, said = on_terminal([it.path("deals"), "a"], it.environment())
+            first, rest = said.split(b"\r\n", 1)
+            yield "on a terminal", status == 0 and first + b"\n" == FIRST_LINE
+            yield "the seconds", rest.startswith(b"\rdeals: 0 seconds") and b"\rdeals: 2 seconds" in rest
+            yield "are wiped", rest.endswith(b"\r\x1b[K" + shown("a"))
+            status, said = on_terminal([it.path("check"), "program"], it.environment())
+            yield "a build on a terminal", status == 0 and said.startswith(BUILD_LINE.replace(b"\n", b"\r\n"))
+            yield "how far it is", all(b"check: %d of 2 crates proved, 0 minutes" % at in said for at in (1, 2))
+            yield "the count is wiped", said.endswith(b"\r\x1b[K" + LAST_LINE.replace(b"\n", b"\r\n"))
+
+    def check_whole(self):
+        """`./check` itself, with stand-ins for its steps."""
+        steps = [f"tests/{name}/run" for name in ("rows", "second", "faults", "terminal", "install", "others")]
+        with self.checkout() as it:
+            for step in [*steps, "tools/statement", "tools/calls"]:
+                it.put(step, "#!/bin/sh\necho 'part: 20 passed, 0 failed, 1 s'; sleep 0.1; echo '20 passed, 0 failed'\n")
+                os.chmod(it.path(step), 0o755)
+            says = "echo 'rt: low proved'; echo 'rt: low: trying its must-fail edits (1)'; sleep 3\n" + DOES
+            it.works_by(says + "echo '3 passed, 0 failed'\n")
+            environment = it.environment()
+            end = subprocess.run([it.path("check")], cwd="/", env=environment, capture_output=True, timeout=PATIENCE)
+            right = end.returncode == 0 and end.stdout.endswith(b"\n163 passed, 0 failed\n")
+            yield "the whole check", right and b"\ncheck: tests/rows/run\n" in end.stdout and b"\r" not in end.stdout
+            it.works_by(FAILS)
+            yield "it leaves the program built", it.call("x") == (0, shown("x"), b"")
+            failed = subprocess.run([it.path("check")], cwd="/", env=environment, capture_output=True, timeout=PATIENCE)
+            yield "a whole check that fails", failed.returncode == 3 and b"line 100" in failed.stdout
+            it.works_by(says + "echo '3 passed, 0 failed'\n")
+            status, said = on_terminal([it.path("check")], environment)
+            told = b"\rcheck: rt ci: 1 of 3 crates proved, 1 of 1 edits tried, 0 minutes"
+            yield "the whole check on a terminal", status == 0 and told in said and b"163 passed, 0 failed\r\n" in said
+            yield "shows no more there", b"words for" not in said and b"tests passed, 0 minutes" in said
 
     def check_without_toolchain(self):
         with self.checkout() as it:
@@ -199,23 +315,54 @@ class Checks:
             is_said = err.startswith(b"deals: ") and err.count(b"\n") == 1 and err.endswith(b"\n")
             yield "no toolchain", (status, out) == (127, b"") and is_said
             yield "no toolchain, what to do", all(word in err for word in (b"rt", b"toolchain", b"package"))
+            yield "no toolchain, nothing to build by", it.build(has_tools=False)[:2] == (127, b"")
             yield "no toolchain, nothing is left", not os.path.exists(it.path("crates/deals/out")) and it.is_clean()
-            it.call()
+            it.build()
             yield "no toolchain, but built", it.call("x", has_tools=False) == (0, shown("x"), b"")
+            yield "no toolchain, built before", it.build(has_tools=False) == (0, b"", LAST_LINE)
             it.put("crates/low/src/lib.rt", "// another\n")
             yield "no toolchain, built from others", it.call(has_tools=False) == (127, b"", err)
             it.put("crates/low/src/lib.rt", SOURCES["crates/low/src/lib.rt"])
             yield "no toolchain, and back", it.call(has_tools=False) == (0, shown(), b"")
-        for name in ("crates.txt", "HANDLES", "crates/deals"):
-            with self.checkout() as it:
-                it.call()
+        for name in ("crates.txt", "HANDLES", "crates/deals", "tools/rooms.bash"):
+            with self.checkout(is_built=True) as it:
                 os.rename(it.path(name), it.path("away"))
                 status, out, err = it.call()
                 is_said = err.startswith(b"deals: " + os.fsencode(name)) and err.count(b"\n") == 1
                 yield f"{name} is missing", (status, out) == (1, b"") and is_said
 
-    def check_places(self):
+    def check_unwritable(self):
+        """A place that can't be written is refused before anything is built; without proofs nothing is written there."""
         with self.checkout() as it:
+            it.put("crates/deals/out", "a file in its place\n")
+            status, out, err = it.build()
+            yield "no place for the program", (status, out) == (1, b"") and b"can't be written" in err
+            yield "no place, nothing is built", it.calls("ci") == 0 and os.listdir(it.scratch) == []
+            yield "no place, without proofs", it.call("x") == (0, shown("x"), FIRST_LINE)
+            nowhere = it.call("x", TMPDIR="/nonexistent")
+            yield "no folder to work in", nowhere[:2] == (1, b"") and b"set TMPDIR" in nowhere[2]
+
+    def check_at_once(self):
+        with self.checkout() as it:
+            it.works_by(WAITS)
+            both = [it.start("program", launcher=it.path("check")) for _ in range(2)]
+            ends = [(process.wait(timeout=PATIENCE), process.communicate()[1]) for process in both]
+            waits = [err for _, err in ends if b"check: waiting for another build in this checkout\n" in err]
+            yield "two builds at once", all(status == 0 and err.endswith(LAST_LINE) for status, err in ends)
+            yield "one builds, and one takes it", it.calls("ci") == 1 and len(waits) == 1 and it.is_clean()
+        with self.checkout() as it:
+            it.works_by("sleep 0.3\n" + DOES)
+            line = '"$0" a | "$0" pick | "$0" pick | "$0" pick'
+            settings = {"env": it.environment(), "capture_output": True, "timeout": PATIENCE}
+            end = subprocess.run(["bash", "-c", line, it.path("deals")], **settings)
+            right = shown("pick") * 3 + shown("a")
+            yield "a pipe of four", (end.returncode, end.stdout) == (0, right) and it.is_clean()
+            many = [it.start(str(at)) for at in range(12)]
+            ends = [process.communicate(timeout=PATIENCE)[0] for process in many]
+            yield "twelve at once", ends == [shown(str(at)) for at in range(12)] and it.is_clean()
+
+    def check_places(self):
+        with self.checkout(is_built=True) as it:
             links = os.path.join(it.scratch, b"links")
             os.makedirs(links)
             os.symlink(it.path("deals"), os.path.join(links, b"far"))
@@ -228,7 +375,7 @@ class Checks:
                 yield f"through {name}, from there", it.call(launcher=b"./" + name, folder=links)[:2] == (0, shown())
             path = links + b":" + it.tools + b":/usr/bin:/bin"
             yield "by the PATH", it.call("-c", "deals x", launcher="sh", PATH=path)[:2] == (0, shown("x"))
-            yield "one build for all", it.builds() == 1 and not os.path.exists(os.path.join(links, b"crates"))
+            yield "nothing built there", it.calls("ci") == 0 and not os.path.exists(os.path.join(links, b"crates"))
             for folder, launcher in ((".", "./deals"), ("crates", "../deals"), ("crates/low/src", "../../../deals")):
                 yield f"from {folder}", it.call(launcher=launcher, folder=it.path(folder)) == (0, shown(), b"")
             decoy = os.path.join(it.scratch, b"decoy")
@@ -243,9 +390,10 @@ class Checks:
             for language in ("C", "C.UTF-8"):
                 with self.checkout(name) as it:
                     end = it.call("x", LC_ALL=language)
-                    yield f"in {name}, {language}", end == (0, shown("x"), FIRST_LINE) and it.builds() == 1
+                    yield f"in {name}, {language}", end == (0, shown("x"), FIRST_LINE) and it.calls("try") == 1
+                    yield f"in {name}, {language}, built", it.build(LC_ALL=language)[0] == 0 and it.calls("ci") == 1
                     again = it.call("x", launcher=b"./deals", folder=it.folder, LC_ALL=language)
-                    yield f"in {name}, {language}, again", again == (0, shown("x"), b"") and it.builds() == 0
+                    yield f"in {name}, {language}, again", again == (0, shown("x"), b"") and it.calls("try") == 0
 
     def check_sources(self):
         def aged(seconds):
@@ -259,112 +407,101 @@ class Checks:
             os.rename(it.path("crates/deals/src/part.rt"), it.path("crates/deals/src/parts.rt"))
 
         changes = {
-            "a source": (lambda it: it.put("crates/low/src/lib.rt", "// changed\n"), 1),
-            "a source, with an old time": (older, 1),
-            "a definition": (lambda it: it.put("crates/low/specs/Low.antt", "-- changed\n"), 1),
-            "a new source": (lambda it: it.put("crates/low/src/more.rt", ""), 1),
-            "a deleted source": (lambda it: os.remove(it.path("crates/deals/src/part.rt")), 1),
-            "a renamed source": (rename, 1),
-            "the list of crates": (lambda it: it.put("crates.txt", "low:\ndeals: low # changed\ntest_low: low\n"), 1),
-            "HANDLES": (lambda it: it.put("HANDLES", "Handles allowed: Threads, Wait.\n"), 1),
-            "the program is missing": (lambda it: os.remove(it.path("crates/deals/out/deals")), 1),
-            "the program is another": (lambda it: it.put("crates/deals/out/deals", "#!/bin/sh\n"), 1),
-            "the program can't be run": (lambda it: os.chmod(it.path("crates/deals/out/deals"), 0o644), 1),
-            "the note is missing": (lambda it: os.remove(it.path("crates/deals/out/built-from")), 1),
-            "a time from the future": (aged(4_000_000_000), 0),
-            "an old time": (aged(1_000_000_000), 0),
-            "an edit": (lambda it: it.put("crates/low/must-fail/a.edit", "file: src/main.rt\n"), 0),
-            "a crate of tests": (lambda it: it.put("crates/test_low/src/lib.rt", "// changed\n"), 0),
-            "the stored run": (lambda it: it.put("crates/deals/stdout", "changed\n"), 1),
-            "what another build made": (lambda it: it.put("crates/low/out/made.rt", ""), 0),
-            "a page": (lambda it: it.put("README.md", ""), 0),
-            "an editor's lock": (lambda it: os.symlink("nowhere", it.path("crates/low/src/.#lib.rt")), 0),
+            "a source": (lambda it: it.put("crates/low/src/lib.rt", "// changed\n"), True),
+            "a source, by as many bytes": (lambda it: it.put("crates/low/src/lib.rt", "// LOW\n"), True),
+            "a source, with an old time": (older, True),
+            "a definition": (lambda it: it.put("crates/low/specs/Low.antt", "-- changed\n"), True),
+            "a new source": (lambda it: it.put("crates/low/src/more.rt", ""), True),
+            "a deleted source": (lambda it: os.remove(it.path("crates/deals/src/part.rt")), True),
+            "a renamed source": (rename, True),
+            "the list of crates": (lambda it: it.put("crates.txt", "low:\ndeals: low # x\ntest_low: low\n"), True),
+            "HANDLES": (lambda it: it.put("HANDLES", "Handles allowed: Threads, Wait.\n"), True),
+            "the program is missing": (lambda it: os.remove(it.path("crates/deals/out/deals")), True),
+            "the program is another": (lambda it: it.put("crates/deals/out/deals", "#!/bin/sh\n"), True),
+            "the program can't be run": (lambda it: os.chmod(it.path("crates/deals/out/deals"), 0o644), True),
+            "the note is missing": (lambda it: os.remove(it.path("crates/deals/out/built-from")), True),
+            "a time from the future": (aged(4_000_000_000), False),
+            "an old time": (aged(1_000_000_000), False),
+            "an edit": (lambda it: it.put("crates/low/must-fail/a.edit", "file: src/main.rt\n"), False),
+            "a crate of tests": (lambda it: it.put("crates/test_low/src/lib.rt", "// changed\n"), False),
+            "the stored run": (lambda it: it.put("crates/deals/stdout", "changed\n"), True),
+            "what another build made": (lambda it: it.put("crates/low/out/made.rt", ""), False),
+            "a page": (lambda it: it.put("README.md", ""), False),
+            "an editor's lock": (lambda it: os.symlink("nowhere", it.path("crates/low/src/.#lib.rt")), False),
         }
-        for name, (change, builds) in changes.items():
-            with self.checkout() as it:
-                it.call()
-                it.builds()
+        for name, (change, is_told) in changes.items():
+            with self.checkout(is_built=True) as it:
+                if name == "a source":
+                    time.sleep(2.1)
+                    it.call()
                 change(it)
-                right = (0, shown(), FIRST_LINE if builds else b"")
-                yield f"changed: {name}", it.call() == right and it.builds() == builds
-                yield f"changed: {name}, once", it.call() == (0, shown(), b"") and it.builds() == 0
+                status, out, err = it.call()
+                line = FIRST_LINE if name.startswith("the program is missing") or "can't be run" in name else CHANGED_LINE
+                right = (status, out, err) == (0, shown(), line if is_told else b"")
+                yield f"changed: {name}", right and it.calls("try") == is_told
+                yield f"changed: {name}, built", it.build()[0] == 0 and it.calls("ci") == is_told
+                yield f"changed: {name}, and run", it.call() == (0, shown(), b"") and it.calls("try") == 0
         with self.checkout() as it:
-            it.build_by(CHANGES)
-            it.call()
-            it.build_by(BUILDS)
-            yield "changed during the build", it.builds() == 1 and it.call()[0] == 0 and it.builds() == 1
-
-    def check_noted(self):
-        """`./check` reads the launcher for what it does, and notes the program that its gate built."""
-        with self.checkout() as it:
-            os.makedirs(it.path("crates/deals/out"))
-            shutil.copy(self.shown, it.path("crates/deals/out/deals"))
-            words = ["bash", "-euc", '. "$1"; note_built', "bash", it.path("deals")]
-            end = subprocess.run(words, cwd="/", env=it.environment(), capture_output=True, timeout=PATIENCE)
-            yield "noted", (end.returncode, end.stdout, end.stderr) == (0, b"", b"")
-            yield "noted, not built", it.call("x") == (0, shown("x"), b"") and it.builds() == 0
-            it.put("crates/low/src/lib.rt", "// changed\n")
-            yield "noted, and a source changed", it.call("x") == (0, shown("x"), FIRST_LINE) and it.builds() == 1
+            it.works_by(CHANGES)
+            it.build()
+            it.works_by(DOES)
+            yield "changed during the build", it.calls("ci") == 1 and it.call()[2] == CHANGED_LINE
 
     def check_failed(self):
         with self.checkout() as it:
-            it.build_by(FAILS)
-            status, out, err = it.call("x")
+            it.works_by(FAILS)
+            status, out, err = it.build()
             tail = b"".join(b"line %d\n" % at for at in range(61, 101))
-            right = (1, b"", FIRST_LINE + tail + b"deals: the build failed\n")
+            right = (1, b"", BUILD_LINE + tail + b"check: the build failed\n")
             yield "a build that fails", (status, out, err) == right and it.is_clean()
-            it.build_by("exit 0\n")
-            status, out, err = it.call("x")
-            yield "a build that makes nothing", (status, out) == (1, b"") and err.endswith(b"deals: the build failed\n")
-            it.build_by(BUILDS)
-            yield "and one that doesn't fail", it.call("x") == (0, shown("x"), FIRST_LINE)
-            it.builds()
+            it.works_by("exit 0\n")
+            status, out, err = it.build()
+            yield "a build that makes nothing", (status, out) == (1, b"") and err.endswith(b"check: the build failed\n")
+            it.works_by(DOES)
+            yield "and one that doesn't fail", it.build()[0] == 0 and it.call("x") == (0, shown("x"), b"")
+            it.calls("ci")
             it.put("crates/low/src/lib.rt", "// wrong\n")
-            it.build_by(FAILS)
-            yield "another that fails", it.call()[0] == 1
+            it.works_by(FAILS)
+            yield "another that fails", it.build()[0] == 1
             it.put("crates/low/src/lib.rt", SOURCES["crates/low/src/lib.rt"])
-            it.build_by(BUILDS)
-            yield "back to what was built", it.call() == (0, shown(), b"") and it.builds() == 1
+            it.works_by(DOES)
+            yield "back to what was built", it.call() == (0, shown(), b"") and it.calls("ci") == 1
 
     def check_ended(self):
         for how in (LASTS, STAYS):
             for number in (signal.SIGINT, signal.SIGTERM, signal.SIGHUP, signal.SIGQUIT):
                 if how == STAYS and number != signal.SIGTERM:
                     continue
-                yield from self.check_ended_by(number, how, "ended" if how == LASTS else "ended, a stubborn build")
+                yield from self.check_ended_by(number, how, "ended" if how == LASTS else "ended, a stubborn child")
         yield from self.check_ended_by(signal.SIGKILL, LASTS, "killed")
 
     def check_ended_by(self, number, how, name):
-        name = f"{name} by {number.name}"
-        with self.checkout() as it:
-            it.build_by(how)
-            started = subprocess.Popen(
-                [it.path("deals")],
-                cwd="/",
-                env=it.environment(),
-                stdin=subprocess.DEVNULL,
-                stdout=subprocess.PIPE,
-                stderr=subprocess.PIPE,
-            )
-            pids = pids_in(os.path.join(it.tools, b"pids"))
-            started.send_signal(number)
-            out, err = started.communicate(timeout=PATIENCE) if number != signal.SIGKILL else (b"", FIRST_LINE)
-            status = started.wait(timeout=PATIENCE)
-            # bash itself can't end by SIGQUIT.
-            wanted = signal.SIGTERM if number == signal.SIGQUIT else number
-            yield f"{name}, the status", (status, out, err) == (-wanted, b"", FIRST_LINE)
-            if number == signal.SIGKILL:
-                os.kill(pids[0], signal.SIGKILL)
-                os.kill(pids[1], signal.SIGKILL)
-                started.communicate()
-            yield f"{name}, the build has ended", all(has_ended(pid) for pid in pids)
-            yield f"{name}, no file is left", it.is_clean() or number == signal.SIGKILL
-            it.build_by(BUILDS)
-            yield f"{name}, the next call", it.call("x") == (0, shown("x"), FIRST_LINE) and it.is_clean()
+        for script, words, line in (("deals", ["x"], FIRST_LINE), ("check", ["program"], BUILD_LINE)):
+            with self.checkout() as it:
+                yield from self.judge_end(it, number, how, script, words, line, f"{script} {name} by {number.name}")
+
+    def judge_end(self, it, number, how, script, words, line, name):
+        it.works_by(how)
+        started = it.start(*words, launcher=it.path(script))
+        pids = pids_in(os.path.join(it.tools, b"pids"))
+        started.send_signal(number)
+        out, err = started.communicate(timeout=PATIENCE) if number != signal.SIGKILL else (b"", line)
+        status = started.wait(timeout=PATIENCE)
+        # bash itself can't end by SIGQUIT.
+        wanted = signal.SIGTERM if number == signal.SIGQUIT else number
+        yield f"{name}, the status", (status, out, err) == (-wanted, b"", line)
+        if number == signal.SIGKILL:
+            os.kill(pids[0], signal.SIGKILL)
+            os.kill(pids[1], signal.SIGKILL)
+            started.communicate()
+        yield f"{name}, its child has ended", all(has_ended(pid) for pid in pids)
+        yield f"{name}, no file is left", it.is_clean() or number == signal.SIGKILL
+        it.works_by(DOES)
+        yield f"{name}, the next call", it.call(*words, launcher=it.path(script))[0] == 0 and it.is_clean()
 
 
 def pids_in(path):
-    """The numbers of the build's processes, once they run."""
+    """The numbers of the child's processes, once they run."""
     began = time.monotonic()
     while not os.path.exists(path) and time.monotonic() - began < PATIENCE:
         time.sleep(0.02)
@@ -386,7 +523,7 @@ def has_ended(pid):
 
 
 def launched():
-    """The launcher, over a stand-in for what builds."""
+    """The launcher and `check program`, over a stand-in for what builds and tries."""
     # A job in the background, or one under nohup, is started with these ignored, and so would be what it starts.
     for number in (signal.SIGINT, signal.SIGQUIT, signal.SIGHUP):
         signal.signal(number, signal.SIG_DFL)

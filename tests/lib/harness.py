@@ -3,14 +3,20 @@
 import dataclasses
 import os
 import pathlib
+import re
 import struct
 import subprocess
+import sys
 import tempfile
 
 HERE = pathlib.Path(__file__).resolve().parent
 TOP = HERE.parent.parent
-PROGRAM = TOP / "crates" / "deals" / "out" / "deals"
+BUILT = TOP / "crates" / "deals" / "out" / "deals"
+# The program that the tests run: the one that is built here, or the one that PROGRAM names.
+PROGRAM = pathlib.Path(os.environ.get("PROGRAM") or BUILT).absolute()
 SECONDS = 20
+# The line of counts as it is drawn on a terminal, which a run shows after a second, and as it is wiped.
+COUNTS = re.compile(rb"\r\x1b\[\?7l[^\x1b]*\x1b\[K\x1b\[\?7h|\r\x1b\[K")
 REPORT = struct.Struct("QQq")
 
 
@@ -49,8 +55,11 @@ def compile_shim(folder):
 
 
 def build():
-    """Builds the program, where it is missing or was built from other sources."""
-    subprocess.run([TOP / "deals", "--version"], check=True, stdout=subprocess.DEVNULL)
+    """Builds the program, where it is missing or was built from other sources, or says which one runs in its place."""
+    if PROGRAM != BUILT:
+        print(f"the tests run {PROGRAM}", file=sys.stderr, flush=True)
+        return
+    subprocess.run([TOP / "check", "program"], check=True, stderr=subprocess.DEVNULL)
 
 
 def deals(*words, given=b"", stdin=None):
@@ -92,6 +101,11 @@ def run(command, shim, fault, at, stderr=subprocess.PIPE, given=b""):
 
 def scratch():
     return tempfile.TemporaryDirectory(prefix="faults-")
+
+
+def without_counts(shown):
+    """What a terminal was given, without the lines of counts: how many there are depends on how busy the machine is."""
+    return COUNTS.sub(b"", shown)
 
 
 def all_of(terminal):

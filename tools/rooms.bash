@@ -1,0 +1,76 @@
+# Rooms: folders outside the checkout in which a build or a run works, and how all ends by a signal. Read by the launcher
+# `deals` and by `check`.
+
+child="" # the process group that works in the room
+room=""
+
+# Ends the child and all that it started, and then this shell, by a signal.
+end_by() {
+    trap '' INT TERM HUP QUIT
+    if [ -n "$child" ]; then
+        kill -TERM -- "-$child" || true
+        for _ in {1..50}; do
+            kill -0 -- "-$child" || break
+            sleep 0.1
+        done
+        kill -KILL -- "-$child" || true
+        disown "$child" || true
+    fi 2>/dev/null
+    leave_room
+    trap - "$1"
+    kill -s "$1" $$
+}
+
+# bash itself can't end by SIGQUIT.
+end_by_signals() {
+    trap 'end_by INT' INT
+    trap 'end_by TERM' TERM QUIT
+    trap 'end_by HUP' HUP
+}
+
+# Makes a room of this kind, and removes those that killed shells left. A room is locked while its shell lives, and it
+# gets the name by which others find it once it is locked.
+make_room() {
+    local left within=${TMPDIR:-/var/tmp} made
+    for left in "$within/deals-$1".*/; do
+        [ -O "$left" ] && flock -n "$left" rm -rf -- "$left" || true
+    done
+    made=$(mktemp -d -- "$within/deals.XXXXXX" 2>/dev/null) ||
+        refuse 1 "there is no folder to work in: set TMPDIR to one"
+    room=$made
+    exec 4<"$room"
+    flock 4
+    trap leave_room EXIT
+    room=$within/deals-$1.${made##*.}
+    mv -T -- "$made" "$room"
+}
+
+leave_room() {
+    [ -z "$room" ] || rm -rf -- "$room"
+    room=""
+}
+
+# Says with `how_far` on a terminal how far the child is.
+show_progress() {
+    while kill -0 "$child" 2>/dev/null; do
+        printf '\r%s' "$(how_far)" >&2
+        sleep 0.5
+    done
+    printf '\r\033[K' >&2
+}
+
+# Starts a command in a process group of its own.
+start() {
+    set -m
+    "$@" &
+    child=$!
+    set +m
+}
+
+# Waits for the child, and shows on a terminal how far it is. Sets `ended` to its status.
+wait_for_child() {
+    ended=0
+    [ ! -t 2 ] || show_progress
+    wait "$child" 2>/dev/null || ended=$?
+    child=""
+}

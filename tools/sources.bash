@@ -1,0 +1,59 @@
+# Which sources the program is built from, and whether the one that is there was built from them. Read by the launcher
+# `deals` and by `check`, which set `top`, the folder of the checkout.
+
+out=${top}crates/deals/out
+program=$out/deals
+built=$out/built-from
+
+# What `find` begins with, and what it takes: the files of crates that aren't tests, without the must-fail edits, and
+# what the program's stored run reads and writes.
+places=(-L crates.txt HANDLES crates)
+kinds=(\( -name out -o -name must-fail -o -name 'test_*' \) -prune -o -type f
+    \( -name '*.rt' -o -name '*.antt' -o -name crates.txt -o -name HANDLES -o -path 'crates/deals/[^/]*' \))
+
+# The files that the program is built from, each ended by a NUL.
+list_sources() (
+    cd -- "$top" && find "${places[@]}" "${kinds[@]}" -print0 | LC_ALL=C sort -z
+)
+
+# One line that says from what a build is made: the name and the bytes of every source. A line feed in a name is
+# written as \n there, so that no two trees have the same.
+sum_sources() {
+    list_sources | (cd -- "$top" && xargs -0 -r sha256sum --) | sha256sum
+}
+
+sum_program() {
+    sha256sum <"$program"
+}
+
+# One line that tells the sources and the program from any others without reading them: their places, sizes and times
+# of change, which nobody can set. It is another one after a copy of the checkout, and the sums aren't.
+stamp() {
+    (cd -- "$top" && find "${places[@]}" crates/deals/out/deals \
+        "${kinds[@]}" -printf '%D %i %s %C@ %p\0' -o -path crates/deals/out/deals -printf '%D %i %s %C@ %#m\0') |
+        sha256sum
+}
+
+# Whether a file changed in the last two seconds, so that a change of now might have the same time.
+is_fresh() {
+    [ -n "$(cd -- "$top" && find "${places[@]}" crates/deals/out/deals -newerct '2 seconds ago' -type f -print -quit)" ]
+}
+
+# Notes that the program was built from the sources with this sum.
+note_built() {
+    local seen=""
+    is_fresh || seen=$(stamp)
+    printf '%s\n' "$1" "$(sum_program)" "$seen" >"$built.$$" && mv -f -- "$built.$$" "$built"
+}
+
+# Whether the program is there, is the one that was built, and was built from the sources as they are.
+is_built() {
+    local noted seen
+    [ -x "$program" ] && [ -f "$built" ] || return 1
+    mapfile -t noted <"$built"
+    seen=$(stamp) || return 1
+    [ "${noted[2]-}" != "$seen" ] || return 0
+    seen=$(sum_sources) || refuse 1 "the sources can't be read"
+    [ "${noted[0]-}" = "$seen" ] && [ "${noted[1]-}" = "$(sum_program)" ] || return 1
+    [ ! -w "$out" ] || note_built "$seen"
+}
