@@ -5,11 +5,11 @@
 #SBATCH --output=deals-%A_%a.log
 # A shard of a search for each number of the array, COUNT candidates each:
 #
-#   sbatch --array=0-99 examples/search.slurm FOLDER COUNT OPTIONS_OF_FIND..
+#   sbatch --array=0-99 search.slurm FOLDER COUNT OPTIONS_OF_FIND..
 #
-# The folder is shared by all machines. Submit it from the folder that has examples/.
+# The folder is shared by all machines. Each has the script `shard`: where the package puts it, or where SHARD says.
 set -eu
 folder=$1
 count=$2
 shift 2
-exec examples/shard "$folder" $((SLURM_ARRAY_TASK_ID * count)) "$count" "$@"
+exec "${SHARD:-/usr/share/doc/deals/examples/shard}" "$folder" $((SLURM_ARRAY_TASK_ID * count)) "$count" "$@"

@@ -36,9 +36,18 @@ make_folder() {
     made="$2/ $made"
 }
 
+# Refuses a place where a folder has the name of a file.
+look_at() {
+    for name in $files; do
+        if [ -d "$1/$name" ]; then
+            echo "install.sh: $1/$name is a folder: move it away, and nothing was installed" >&2
+            exit 1
+        fi
+    done
+}
+
 install_all() {
     made=''
-    files=$(cd "$here/files" && find . -type f | sed 's,^\./,,' | sort)
     for name in $files; do
         make_folder "$1" "${name%/*}"
         cp "$here/files/$name" "$1/$name.new"
@@ -83,6 +92,8 @@ case $1 in
             exit 1
         }
         umask 022
+        files=$(cd "$here/files" && find . -type f | sed 's,^\./,,' | sort)
+        look_at "$1"
         mkdir -p "$1"
         remove "$1"
         install_all "$1"

@@ -113,7 +113,7 @@ def of_texts():
     yield Case("stream", ["stream", "--seed", "0", "--count", "3"], out=b"366850414\n1610402240\n206956554\n")
     yield Case("stream, nothing", ["stream", "--seed", "0", "--count", "0"])
     yield Case("stream, long", ["stream", "--seed", "9", "--count", "20000"], out=model.values(9, 20000))
-    yield Case("version", ["--version"], out=b"deals 0.2.0\n")
+    yield Case("version", ["--version"], out=b"deals 0.3.0\n")
     for words in (["--help"], ["help"], ["help", "make"], ["make", "--help"], ["stream", "-h"]):
         yield Case(" ".join(words), words, out=None)
 

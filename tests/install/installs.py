@@ -69,6 +69,8 @@ def check_made(folder):
     yield "the files that the man page names", bool(named) and all("." + name in listed for name in named)
     right = all(owner == b"root/root" and mode[5:6] != b"w" for mode, owner in listed.values())
     yield "the package's owners and rights", right
+    scripts = [doc + "examples/" + name for name in ("shard", "resume", "search.slurm")]
+    yield "the package's scripts can be run", all(listed[name][0] == b"-rwxr-xr-x" for name in scripts)
     _, out, _ = told(["dpkg-deb", "-f", first[0], "Version"])
     yield "the package's version", b"deals " + out == told([harness.PROGRAM, "--version"])[1]
 
@@ -112,6 +114,12 @@ def check_tarball(folder):
     kept.parent.mkdir(parents=True)
     kept.write_text("")
     install = ["sh", unpacked / "install.sh", prefix]
+    (prefix / "bin" / "deals").mkdir(parents=True)
+    status, out, err = told(install)
+    left = [path for path in prefix.rglob("*") if path.is_file()]
+    right = (status, out, left) == (1, b"", [kept]) and b"bin/deals is a folder" in err
+    yield "the tarball, over a folder", right
+    shutil.rmtree(prefix / "bin")
     for _ in range(2):
         status, out, err = told(install)
         yield "the tarball installs", (status, err) == (0, b"") and out.startswith(b"deals is in ")

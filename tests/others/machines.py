@@ -87,6 +87,7 @@ def shown(words, changes):
     """The command of docs/SCALE.md that has these words, with other numbers and another condition."""
     text = (harness.TOP / "docs" / "SCALE.md").read_text(encoding="utf-8")
     [command] = [block for block in re.findall(r"^```sh\n(.*?)^```", text, re.MULTILINE | re.DOTALL) if words in block]
+    command = command.replace("/usr/share/doc/deals/", "")
     for before, after in changes.items():
         if before not in command:
             raise ValueError(f"docs/SCALE.md: {before!r} isn't in the command with {words!r}")
@@ -226,7 +227,7 @@ def is_idle(folder, known):
 
 def slurm_works(deals, folder):
     """An array of jobs, by a Slurm of this folder."""
-    known = settings(SLURM_CONF=str(folder / "slurm.conf"), SBATCH_WAIT="1")
+    known = settings(SLURM_CONF=str(folder / "slurm.conf"), SBATCH_WAIT="1", SHARD=str(shards.SHARD))
     if not start_cluster(folder, known):
         yield "Slurm", daemons.said(folder, "munged.log", "slurmctld.log", "slurmd.log", "state.log")
         return

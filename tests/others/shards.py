@@ -54,11 +54,13 @@ def joined(deals):
     yield "shards picked", None if right else "aren't what make writes"
 
 
-def search_of(first):
-    """The process of the search from this candidate on, once there is one."""
+def search_of(first, seconds=SECONDS):
+    """The process of the search from this candidate on, once there is one; it is looked for at least once."""
     wanted = f"\0find\0--first\0{first}\0".encode()
-    end = time.monotonic() + SECONDS
-    while time.monotonic() < end:
+    end = time.monotonic() + seconds
+    is_first = True
+    while is_first or time.monotonic() < end:
+        is_first = False
         for entry in pathlib.Path("/proc").iterdir():
             try:
                 if entry.name.isdigit() and wanted in (entry / "cmdline").read_bytes():
@@ -106,12 +108,62 @@ def resumed(deals):
         yield "a search resumed", None if right else f"{run}, {len(file.read_bytes())} of {len(whole)} bytes"
 
 
+# What is wrong with a file that a search was to go on with, and what is said of it; None where it goes on.
+BEGUN = [
+    (b"5\n", "3", b"has candidate 5 already"),
+    (b"abc\n", "20", b"is not a number"),
+    (b"5\r\n", "20", b"is not a number"),
+    (b"\n", "20", b"is not a number"),
+    (b"", "2x", b"'2x' is not a number"),
+    (b"", "99999999999999", b"at most 13 digits"),
+    (b"010\n", "011", None),
+    (b"7\n12", "8", None),
+]
+
+
+def begun(_):
+    """What resume says of a file that it can't go on with, which stays as it is; numbers are read in ten."""
+    with tempfile.TemporaryDirectory(prefix="resume-") as folder:
+        file = pathlib.Path(folder) / "found"
+        for kept, count, said in BEGUN:
+            file.write_bytes(kept)
+            words = ["sh", str(RESUME), str(file), count, *SEED]
+            run = subprocess.run(words, env={**os.environ, "DEALS": "false"}, capture_output=True, check=False)
+            if said is None:
+                right = (run.returncode, run.stdout) == (0, b"") and b"all %d " % int(count) in run.stderr
+            else:
+                right = run.returncode == 2 and said in run.stderr and file.read_bytes() == kept
+            yield f"resume, {kept}, {count}", None if right else str(run)
+
+
+def stopped(deals):
+    """A shard that is stopped alone, by each signal: its search has ended, and nothing is left of it."""
+    for sign in (signal.SIGHUP, signal.SIGINT, signal.SIGQUIT, signal.SIGTERM):
+        with tempfile.TemporaryDirectory(prefix="shards-") as folder:
+            words = ["sh", str(SHARD), folder, "3", "1000000000000", *SEED, "--where", "hcp(north)>=37"]
+            settings = {**os.environ, "DEALS": str(harness.PROGRAM)}
+            process = subprocess.Popen(words, env=settings, stderr=subprocess.DEVNULL, preexec_fn=usual_signals)
+            found = search_of(3)
+            began = time.monotonic()
+            process.send_signal(sign)
+            status = process.wait(SECONDS)
+            is_soon = time.monotonic() - began < 5
+            right = status == 128 + sign and is_soon and not os.listdir(folder) and search_of(3, 0) is None
+            yield f"a shard, {sign.name}", None if found and right else f"{status}, {os.listdir(folder)}"
+
+
+def usual_signals():
+    """A job in the background ignores these, and so would what it starts."""
+    for sign in (signal.SIGINT, signal.SIGQUIT, signal.SIGHUP):
+        signal.signal(sign, signal.SIG_DFL)
+
+
 def array(deals):
     """The script for Slurm: its shards, started as the jobs of an array are."""
     with tempfile.TemporaryDirectory(prefix="shards-") as folder:
         for task in range(4):
             words = [harness.TOP / "examples" / "search.slurm", folder, "3000000", *SEED, *WHERE]
-            settings = {**os.environ, "DEALS": str(harness.PROGRAM), "SLURM_ARRAY_TASK_ID": str(task)}
+            settings = {**os.environ, "DEALS": str(harness.PROGRAM), "SLURM_ARRAY_TASK_ID": str(task), "SHARD": str(SHARD)}
             subprocess.run(words, cwd=harness.TOP, env=settings, check=True)
         yield "an array of jobs", None if picked(deals, folder) == made(deals) else "isn't what make writes"
 

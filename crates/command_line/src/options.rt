@@ -345,7 +345,7 @@ fn top<'a>(alloc: Global) -> Command<'a>
     ensures local { (fields_of result).has_globals ≡ false }
 {
     Command::new(alloc, "deals")
-        .version("0.2.0")
+        .version("0.3.0")
         .about(ABOUT)
         .after_help(PROGRAM_EXAMPLES)
         .subcommand_required(true)
