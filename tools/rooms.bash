@@ -28,13 +28,14 @@ end_by_signals() {
     trap 'end_by HUP' HUP
 }
 
-# Makes a room of this kind, and removes those that killed shells left. A room is locked while its shell lives, and it
-# gets the name by which others find it once it is locked.
+# Makes a room of this kind, and removes what killed shells left. A room is locked while its shell lives, and it gets
+# the name by which others find it once it is locked; before, it is young.
 make_room() {
     local left within=${TMPDIR:-/var/tmp} made
     for left in "$within/deals-$1".*/; do
         [ -O "$left" ] && flock -n "$left" rm -rf -- "$left" || true
     done
+    find "$within" -maxdepth 1 -name 'deals.??????' -user "$(id -u)" -empty -mmin +10 -delete 2>/dev/null || true
     made=$(mktemp -d -- "$within/deals.XXXXXX" 2>/dev/null) ||
         refuse 1 "there is no folder to work in: set TMPDIR to one"
     room=$made
