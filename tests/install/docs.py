@@ -17,6 +17,7 @@ import shlex
 import subprocess
 import tempfile
 
+import board_formats
 import commands
 import harness
 import packages
@@ -30,9 +31,6 @@ ASSIGNS = re.compile(r"\w+=")
 # What other tests and ./check themselves run.
 ELSEWHERE = ("sudo dpkg ", "parallel ", "tar -xzf ", "sh ", "package/build", "./check", "tests/", "rt ")
 ELSEWHERE += ("companion/build",)
-# How a board begins in each format.
-SECTION = rb'<section class="board"'
-BOARDS = {"pbn": rb"^\[Deal ", "hands": rb"^Board \d", "lin": rb"^qx\|", "html": SECTION, "sheet": SECTION, "json": b"^{"}
 PATIENCE = 600
 # How many words the pages have at most, and how often what isn't plain English may be written.
 MOST_WORDS = 17_000
@@ -114,7 +112,7 @@ def complaint_of(command, wanted, folder, before=""):
         return None
     text = (folder / words[-1]).read_bytes() if words[-2] == ">" else end.stdout
     form = words[words.index("--format") + 1] if "--format" in words else "pbn"
-    boards = len(re.findall(BOARDS[form], text, re.M))
+    boards = len(re.findall(b"^" + board_formats.TABLE[form].begins, text, re.M))
     return None if boards in (wanted_boards(words), boards * (wanted_boards(words) is None)) else f"{boards} boards"
 
 

@@ -7,6 +7,7 @@ import re
 import tempfile
 
 import commands
+import harness
 import installs
 import packages
 import report
@@ -39,6 +40,19 @@ def check_man(_):
     text = commands.plain(commands.MAN.read_text(encoding="utf-8"))
     known = {option for name in names() for option in commands.options(name)}
     yield "man, no option that isn't there", set(commands.LONG.findall(text)) <= known
+
+
+# A row of the table of options that hints of refused words go through: the option and its letter.
+HINTED = re.compile(r'^    known! \{ "(--[a-z-]+)" "(-\w)?"', re.M)
+
+
+def check_hinted(_):
+    """Hints of refused words know the options that help lists, with their letters."""
+    source = harness.TOP / "crates" / "word_hints" / "src" / "options.rt"
+    hinted = dict(HINTED.findall(source.read_text(encoding="utf-8")))
+    listed = {long: short for name in names() for short, long, _ in commands.listed_options(name)}
+    listed = {long: short for long, short in listed.items() if long not in ("--help", "--version")}
+    yield "the options that hints know", hinted == listed
 
 
 def check_man_form(_):
@@ -121,7 +135,7 @@ def check_zsh(_):
     shell.close()
 
 
-QUICK = [check_man, check_man_form, check_bash, check_fish, check_zsh, *installs.QUICK]
+QUICK = [check_man, check_hinted, check_man_form, check_bash, check_fish, check_zsh, *installs.QUICK]
 
 
 def packaged():

@@ -14,6 +14,7 @@ import time
 
 import harness
 import report
+from board_formats import FORMATS
 
 PATIENCE = 900
 SEARCH = ["--seed", "7", "--boards", "3", "--where", "hcp(north) in 15-17 and balanced(north)"]
@@ -33,16 +34,9 @@ CALLS = [
 ]
 
 
-def formats():
-    """The formats that help lists."""
-    told = subprocess.run([harness.PROGRAM, "make", "--help"], capture_output=True, text=True, check=True).stdout
-    listed = told.partition("--format")[2].partition("[possible values: ")[2].partition("]")[0]
-    return " ".join(listed.split()).split(", ")
-
-
 def calls():
-    """All calls; those of a format are made of the program's own list of formats."""
-    return [*CALLS, *((["make", *SEARCH, "--format", name], b"") for name in formats())]
+    """All calls, with one for each format."""
+    return [*CALLS, *((["make", *SEARCH, "--format", name], b"") for name in FORMATS)]
 
 
 class Fresh:

@@ -14,11 +14,12 @@ import random
 import re
 import subprocess
 
+import board_formats
 import harness
 import model
 import notation
 
-FORMATS = ("pbn", "hands", "lin", "html", "sheet", "json")
+FORMATS = board_formats.FORMATS
 SHOWS = ("all", "dealer", "north", "east", "south", "west", "ns", "ew")
 PAGE = 4096
 # By how many KiB the peak may differ from run to run, less than six bytes a board.
@@ -165,6 +166,7 @@ def constant_memory():
 
 def written():
     """What is wrong with each call; None where nothing is."""
+    yield from board_formats.checked()
     for words, wanted in cases():
         ended = run(words)
         right = ended.returncode == 0 and ended.stdout == wanted and ended.stderr == b""

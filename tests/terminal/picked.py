@@ -12,6 +12,7 @@ import subprocess
 import time
 
 import harness
+from board_formats import FORMATS
 
 # The words, the input, the status, and the length and the sha256 of what is written. What is said is the last.
 LIN_ONE = (103, "a4de71a769e5681641f7f6b3a3330869a0dedbd360486e3d80b4291645263dfd")
@@ -96,7 +97,7 @@ def found_and_picked():
     turned = harness.deals("pick", "--seed", "0", "--rotate", "--format", "hands", given=numbers).stdout
     right = hashlib.sha256(turned).hexdigest() == "1452d846105c742103d889206e9e13c31c771725a1951cbb82b1f83212dfcf21"
     yield "find | pick --rotate --format hands", None if right else f"{len(turned)} bytes"
-    for form in ("pbn", "hands", "lin", "html", "sheet", "json"):
+    for form in FORMATS:
         for more in OPTIONS:
             words = ["--seed", "0", "--format", form, *more]
             picked = harness.deals("pick", *words, given=numbers)

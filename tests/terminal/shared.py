@@ -8,11 +8,11 @@ import time
 
 import harness
 import screen
+from board_formats import FORMATS
 
 # Boards that come slowly, so that counts are drawn between them, and for how many seconds at least.
 RARE = ["--seed", "9", "--where", "hcp(north)>=30"]
 SECONDS = 2.5
-FORMATS = ("pbn", "hands", "lin", "html", "json")
 # A line of counts, which is cut where the screen ends.
 COUNTS = re.compile(r"(\d+%  )?[\d,]+ (of [\d,]+ )?candidates  [\d,]+ boards? .*")
 # What ends the line of counts.

@@ -17,18 +17,8 @@ import tempfile
 import time
 
 import harness
+from board_formats import FORMATS, TABLE
 
-FORMATS = ("pbn", "hands", "lin", "html", "json")
-# How a board begins in each format.
-BOARDS = {
-    "pbn": rb"^\[Deal ",
-    "hands": rb"^Board \d",
-    "lin": rb"^qx\|",
-    "html": rb'<section class="board"',
-    "json": rb'^\{"board":',
-}
-# How one ends.
-ENDS = {"pbn": b"\n\n", "hands": b"\n\n", "lin": b"\n", "html": b"</section>\n", "json": b"\n"}
 EVERY = ["--candidates", "1000000000"]
 # So rare that what is gathered between two looks at the clock goes into a pipe in one piece: up to 4,096 bytes.
 RARE = [*EVERY, "--where", "hcp(north)>=30"]
@@ -96,8 +86,8 @@ def fault_of(kind, into, form, seconds):
     """What is wrong with the output of a stopped run, or None."""
     words = words_of(kind, form)
     out, drawn = stopped(words, into, seconds)
-    begun = len(re.findall(BOARDS[form], out, re.M))
-    is_whole = out.endswith(ENDS[form]) if begun else out in (b"", whole_text(kind, form, 0))
+    begun = len(re.findall(b"^" + TABLE[form].begins, out, re.M))
+    is_whole = out.endswith(TABLE[form].ends) if begun else out in (b"", whole_text(kind, form, 0))
     # A board may be cut before it is counted.
     if not whole_text(kind, form, begun + 1).startswith(out):
         return f"{len(out)} bytes that don't begin the right text"
