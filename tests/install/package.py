@@ -40,6 +40,8 @@ def check_man(_):
     text = commands.plain(commands.MAN.read_text(encoding="utf-8"))
     known = {option for name in names() for option in commands.options(name)}
     yield "man, no option that isn't there", set(commands.LONG.findall(text)) <= known
+    head = commands.MAN.read_text(encoding="utf-8").splitlines()[0]
+    yield "man, the version", f'"{commands.told("--version").strip()}"' in head
 
 
 # A row of the table of options that hints of refused words go through: the option and its letter.
