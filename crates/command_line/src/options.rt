@@ -339,16 +339,20 @@ pub fn named_command<'a>(alloc: Global, name: &str) -> Result<Command<'a>, Alloc
     command_of(alloc, sub)?.bin_name(sub.in_full)
 }
 
-/// The program's name, without subcommands.
-fn top<'a>(alloc: Global) -> Command<'a>
-    ensures app { app_of result ≡ deals_top }
-    ensures local { (fields_of result).has_globals ≡ false }
+/// The program's name, without subcommands. Its texts call it so, whatever its file is called.
+///
+/// # Errors
+/// `AllocError` if an allocation failed.
+fn top<'a>(alloc: Global) -> Result<Command<'a>, AllocError>
+    ensures app { IfOk result (λ c. app_of c ≡ deals_top) }
+    ensures local { IfOk result (λ c. (fields_of c).has_globals ≡ false) }
 {
     Command::new(alloc, "deals")
         .version("0.3.0")
         .about(ABOUT)
         .after_help(PROGRAM_EXAMPLES)
         .subcommand_required(true)
+        .bin_name("deals")
 }
 
 /// The command with each of these subcommands.
@@ -374,5 +378,5 @@ fn with_subcommands<'a>(
 pub fn command<'a>(alloc: Global) -> Result<Command<'a>, AllocError>
     ensures { IfOk result (λ c. app_of c ≡ deals) }
 {
-    with_subcommands(alloc, top(alloc), subcommands())
+    with_subcommands(alloc, top(alloc)?, subcommands())
 }

@@ -15,4 +15,4 @@ pub returns : goal.returns
 returns c =
     let subs = map top_for c.subcommands.result.now in
     let tops = map (λ a. a.top) subcommands in
-    on_top_of c.with_subcommands.result (app_of c.top.result) deals_top subs tops c.top.ensures.app c.subcommands.ensures c.with_subcommands.ensures
+    on_top_of c.with_subcommands.result (app_of c.in_ok-top.field-0) deals_top subs tops c.in_ok-top.ensures.app c.subcommands.ensures c.with_subcommands.ensures
