@@ -118,8 +118,15 @@ def first_byte():
         return time.monotonic() - began
 
 
+def by_another_name():
+    """What a refused option's usage calls the program, where its file is called otherwise."""
+    end = subprocess.run(["other", "make", "--sed", "7"], executable=harness.PROGRAM, capture_output=True, check=False)
+    return None if b"\nUsage: deals make " in end.stderr else str(end.stderr)
+
+
 def started():
     """The launcher over a real checkout: without proofs, and how soon the built program answers."""
+    yield "by another name", by_another_name()
     yield from answered()
     if harness.PROGRAM == harness.BUILT:
         # Others only ever slow a run down.
