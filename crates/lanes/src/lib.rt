@@ -2,6 +2,7 @@
 //! the writer.
 #![tactic(auto)]
 
+mod bell;
 mod ends;
 mod job;
 pub mod laws;
