@@ -22,9 +22,9 @@ ghost use Rattle.lanes.specs.declared.wait.Pace.TheVariants.{Spins};
 
 use crate::bell::Bell;
 use crate::ends::{LaneIn, LaneOut};
+use std::hint;
 use std::sync::Wait;
 use std::sync::atomic::{AtomicBool, Ordering};
-use std::hint;
 
 /// The fewest spins between two looks, for a lane of one verdict.
 const MIN_SPINS: usize = 4;
