@@ -12,6 +12,7 @@
 #include <string>
 #include <system_error>
 #include <thread>
+#include <utility>
 
 #include <fcntl.h>
 #include <unistd.h>
@@ -106,6 +107,21 @@ Failure ended(int count, char **words) {
         tell(failure.text);
     std::_Exit(failure.status);
 }
+
+// Nothing here calls exit(), and all exceptions are caught: libdds exits or throws where memory is refused, even when it
+// is loaded. So both ways out are laid before libraries begin.
+[[noreturn]] void end_without_memory() {
+    static const char line[] = "deals-tricks: out of memory\n";
+    [[maybe_unused]] const ssize_t length = write(STDERR_FILENO, line, sizeof line - 1);
+    std::_Exit(MEMORY);
+}
+
+void before_libraries() {
+    std::set_terminate(end_without_memory);
+    std::atexit(end_without_memory);
+}
+
+[[gnu::section(".preinit_array"), gnu::used]] void (*const first_call)() = before_libraries;
 
 } // namespace
 
