@@ -245,17 +245,17 @@ def no_room():
     """Memory and threads that are refused: by limits, and one by one. It never aborts, and writes whole boards."""
     texts = {5: f"{NAMES}out of memory\n", 6: f"{NAMES}thread not started\n", 0: ""}
     right = [HEAD + b"".join(GAMES[:count]) for count in range(len(GAMES) + 1)] + [b""]
-    for kilobytes in [14_000, 20_000, 23_000, 30_000, 60_000, 90_000, 100_000, 120_000, 150_000]:
-        run = kept(HEAD + b"".join(GAMES), *EACH, preexec_fn=room(kilobytes))
-        whole = run.stdout in right and texts.get(run.returncode) == run.stderr.decode()
-        yield f"{kilobytes} KiB", whole
-    with harness.scratch() as folder:
-        shim = harness.compile_shim(folder)
-        for fault, places in [(harness.Fault("thread"), range(1, 7)), (harness.Fault("alloc"), range(1, 400, 13))]:
-            for at in places:
-                end = harness.run([PROGRAM, *EACH], shim, fault, at, given=HEAD + b"".join(GAMES))
-                whole = end.out in right and texts.get(end.status) == end.err.decode()
-                yield f"{fault} at {at}", whole
+    rows = [({}, kilobytes) for kilobytes in [14_000, 20_000, 23_000, 30_000, 60_000, 90_000, 100_000, 120_000, 150_000]]
+    rows += [({"REFUSED": f"thread {at}"}, 0) for at in range(1, 7)]
+    rows += [({"REFUSED": f"new {at}"}, 0) for at in (*range(1, 100, 9), *range(100, 2000, 95))]
+    with tempfile.TemporaryDirectory() as folder:
+        shim, source = f"{folder}/refused.so", tricks.HERE / "refused.cpp"
+        subprocess.run(["g++", "-O2", "-Wall", "-Wextra", "-shared", "-fPIC", "-o", shim, source, "-ldl"], check=True)
+        for more, kilobytes in rows:
+            settings = {"env": {**os.environ, **more, "LD_PRELOAD": shim}} if more else {"preexec_fn": room(kilobytes)}
+            run = kept(HEAD + b"".join(GAMES), *EACH, **settings)
+            whole = run.stdout in right and texts.get(run.returncode) == run.stderr.decode()
+            yield f"{more or kilobytes}: {run.returncode}", whole
 
 
 def peak():
