@@ -29,7 +29,7 @@ EACH = ["--tricks", "S-N>=0"]
 NONE = ["--beaten", "1S-N", "--makes", "1S-N"]
 # With the board's number, by Law 2.
 VULNERABLE = ["None", "NS", "EW", "All", "NS", "EW", "All", "None", "EW", "All", "None", "NS", "All", "None", "NS", "EW"]
-BATCH = 40
+BATCH = 20
 
 
 def kept(text: bytes, *words, **more) -> subprocess.CompletedProcess:
@@ -59,11 +59,12 @@ LINES = [as_json(index + 1, deal) for index, deal in enumerate(DEALS)]
 
 def one_batch(deals: list[str], dice: random.Random, times: int):
     """Some boards under several lists of rules, in both notations: the boards, the numbers, their order."""
-    tables = second_solver.tables(deals)
+    strains = dice.sample(second_solver.STRAINS, dice.choice([1, 1, 1, 2]))
+    tables = second_solver.tables(deals, strains)
     games = [pbn(index + 1, deal) for index, deal in enumerate(deals)]
     lines = [as_json(index + 1, deal) for index, deal in enumerate(deals)]
     for _ in range(times):
-        rules = second_solver.rules(dice)
+        rules = second_solver.rules(dice, strains)
         words = [word for rule in rules for word in rule.words()]
         chosen = [index for index, table in enumerate(tables) if all(rule.is_met(table) for rule in rules)]
         boards = b"".join([HEAD, *(games[index] for index in chosen)])
@@ -74,10 +75,9 @@ def one_batch(deals: list[str], dice: random.Random, times: int):
 
 def compared():
     dice = random.Random(2026)
-    batches = 50 if report.has("many") else 1
-    deals = list(tricks.dealt(batches * BATCH))
+    deals = list(tricks.dealt(2000 if report.has("many") else 60))
     for at in range(0, len(deals), BATCH):
-        yield from one_batch(deals[at : at + BATCH], dice, 16)
+        yield from one_batch(deals[at : at + BATCH], dice, 8)
 
 
 def rows_of_rules():

@@ -27,8 +27,8 @@ def cards_of(deal: str) -> Cards:
     return Cards(*((ctypes.c_uint * 4)(*hand) for hand in hands))
 
 
-def tables(deals: list[str]) -> list[dict]:
-    """The tricks of each deal, by strain and declarer."""
+def tables(deals: list[str], strains: list[str]) -> list[dict]:
+    """The tricks of each deal in these strains, by strain and declarer."""
     library = ctypes.CDLL("libdds.so.0")
     found = []
     for at in range(0, len(deals), MOST_TABLES):
@@ -36,11 +36,12 @@ def tables(deals: list[str]) -> list[dict]:
         asked, answer, no_par = Deals(count=len(some)), Tables(), ctypes.create_string_buffer(1 << 16)
         for index, deal in enumerate(some):
             asked.deals[index] = cards_of(deal)
-        filters = (ctypes.c_int * 5)()
-        if library.CalcAllTables(ctypes.byref(asked), -1, filters, ctypes.byref(answer), no_par) != 1:
+        left_out = (ctypes.c_int * 5)(*(strain not in strains for strain in STRAINS))
+        if library.CalcAllTables(ctypes.byref(asked), -1, left_out, ctypes.byref(answer), no_par) != 1:
             raise RuntimeError("libdds refuses")
         for table in answer.tables[: len(some)]:
-            found.append({(strain, seat): table[s][d] for s, strain in enumerate(STRAINS) for d, seat in enumerate(SEATS)})
+            rows = zip(STRAINS, table)
+            found.append({(strain, seat): row[at] for strain, row in rows for at, seat in enumerate(SEATS)})
     return found
 
 
@@ -68,12 +69,13 @@ class Rule:
         return {"=": self.number in tricks, ">=": max(tricks) >= self.number, "<=": min(tricks) <= self.number}[self.sign]
 
 
-def rules(dice: random.Random) -> list[Rule]:
-    """One to three rules."""
+def rules(dice: random.Random, strains: list[str]) -> list[Rule]:
+    """One to three rules of these strains."""
     found = []
     for _ in range(dice.choice([1, 1, 2, 3])):
         option = dice.choice(["--makes", "--beaten", "--tricks"])
-        strain, declarers = dice.choice(STRAINS), dice.choice([*SEATS, "NS", "EW"])
-        number = dice.choice([*range(14), 6, 7, 8, 9]) if option == "--tricks" else dice.choice([1, 1, 2, 2, 3, 4, 5, 6, 7])
-        found.append(Rule(option, strain, declarers, number, dice.choice(["=", ">=", "<="]) if option == "--tricks" else ""))
+        strain, declarers = dice.choice(strains), dice.choice([*SEATS, "NS", "EW"])
+        is_tricks = option == "--tricks"
+        number = dice.choice([*range(14), 6, 7, 8, 9] if is_tricks else [1, 1, 2, 2, 3, 4, 5, 6, 7])
+        found.append(Rule(option, strain, declarers, number, dice.choice(["=", ">=", "<="]) if is_tricks else ""))
     return found
