@@ -3,16 +3,29 @@
 #include <algorithm>
 #include <utility>
 
+#include <poll.h>
 #include <unistd.h>
 
 #include "failure.hpp"
+
+namespace {
+
+// Whether a read that failed may be tried again, once there is something where the input doesn't wait by itself.
+bool is_passing(int descriptor) {
+    pollfd input{descriptor, POLLIN, 0};
+    if (errno == EAGAIN)
+        poll(&input, 1, -1);
+    return errno == EAGAIN || errno == EINTR;
+}
+
+} // namespace
 
 // Reads more, and tells whether there was any.
 bool Input::fill() {
     ssize_t length;
     do
         length = read(descriptor, room.data(), room.size());
-    while (length < 0 && errno == EINTR);
+    while (length < 0 && is_passing(descriptor));
     if (length < 0)
         throw system_failure(INPUT, "input failed");
     begin = 0;

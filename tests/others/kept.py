@@ -1,5 +1,5 @@
-"""The boards that `deals-tricks` keeps by rules: compared with a second program over libdds's tables, byte for byte with
-what was read; input that is cut, binary, huge or endless; input, output, memory and threads that fail; ends of pipes.
+"""The boards that `deals-tricks` keeps by rules: compared with a second program over libdds's tables, and byte for byte
+with what was read; input that is cut, binary, huge or endless; streams, memory and threads that fail; ends of pipes.
 With `many` 2,000 boards are compared.
 """
 
@@ -81,8 +81,8 @@ def compared():
 
 
 def rows_of_rules():
-    """Rules over a board of the solver's examples: in spades North and South take 5 tricks, East and West 8; in clubs 7 and 5;
-    in hearts and notrump 6 each."""
+    """Rules over a board of the solver's examples: in spades North and South take 5 tricks, East and West 8; in clubs
+    7 and 5; in hearts and notrump 6 each."""
     deal = tricks.EXAMPLES[0][0]
     for words, is_met in {
         "--makes 2S-E": True, "--makes 3S-E": False, "--makes 2S-EW": True, "--makes 1S-NS": False,
@@ -219,14 +219,6 @@ def streams():
     """Streams that fail."""
     run = subprocess.run([PROGRAM, *EACH], stdin=os.open("/", os.O_RDONLY), capture_output=True, check=False, timeout=SECONDS)
     yield "a folder as input", said(run) == (1, b"", f"{NAMES}input failed: {os.strerror(errno.EISDIR)}\n")
-    terminal, other = pty.openpty()
-    os.write(terminal, HEAD + GAMES[0])
-    with subprocess.Popen([PROGRAM, *EACH], stdin=other, stdout=subprocess.PIPE, stderr=subprocess.PIPE) as process:
-        os.close(other)
-        first = process.stdout.read(len(HEAD + GAMES[0]))
-        os.close(terminal)
-        process.wait(SECONDS)
-        yield "input that fails after a board", (first, process.returncode) == (HEAD + GAMES[0], 1)
     with open("/dev/full", "wb") as full:
         run = subprocess.run([PROGRAM, *EACH], input=GAMES[0], stdout=full, stderr=subprocess.PIPE, check=False)
     told = f"{NAMES}output failed: {os.strerror(errno.ENOSPC)}\n"
@@ -256,6 +248,9 @@ def no_room():
             run = kept(HEAD + b"".join(GAMES), *EACH, **settings)
             whole = run.stdout in right and texts.get(run.returncode) == run.stderr.decode()
             yield f"{more or kilobytes}: {run.returncode}", whole
+        run = kept(HEAD + GAMES[0], *EACH, env={**os.environ, "REFUSED": "read 2", "LD_PRELOAD": shim})
+        told = f"{NAMES}input failed: {os.strerror(errno.EIO)}\n"
+        yield "input that fails after a board", said(run) == (1, HEAD + GAMES[0], told)
 
 
 def peak():
@@ -295,6 +290,22 @@ def pipes():
             process.kill()
 
 
+def behind_find():
+    """Twelve boards of a thousand million candidates: all of the pipe has ended a second after the twelfth."""
+    harness.build()
+    find = f"{harness.PROGRAM} find --seed 7 --candidates 1000000000 --where 'hcp(north)>=24' 2>/dev/null"
+    pick = f"{harness.PROGRAM} pick --seed 7 --format json 2>/dev/null"
+    line = f"{find} | {pick} | {PROGRAM} --tricks 'S-N>=0' --boards 12 --numbers"
+    with subprocess.Popen(["bash", "-c", line], stdout=subprocess.PIPE, stderr=subprocess.PIPE, text=True) as process:
+        numbers = [int(process.stdout.readline()) for _ in range(12)]
+        began = time.monotonic()
+        rest, told = process.communicate(timeout=SECONDS)
+        seconds = time.monotonic() - began
+    yield f"behind find: {seconds:.1f} s", (process.returncode, rest, told, seconds < 1) == (0, "", "", True)
+    words = ["find", "--seed", "7", "--candidates", str(numbers[-1] + 1), "--where", "hcp(north)>=24"]
+    yield "its numbers", harness.deals(*words).stdout == "".join(f"{number}\n" for number in numbers).encode()
+
+
 def stopped():
     """Ctrl-C leaves whole boards."""
     whole = re.compile(rb'(\[Event .*\n\[Board .*\n\[Dealer .*\n\[Vul.*\n\[Deal "[^"]*"\]\n\n)*')
@@ -329,5 +340,5 @@ def by_rules():
     """The boards that are kept by rules."""
     tricks.build()
     parts = [compared, rows_of_rules, bytes_as_read, added, refused_words, refused_boards]
-    for part in [*parts, endless, streams, no_room, peak, pipes, stopped, counted]:
+    for part in [*parts, endless, streams, no_room, peak, pipes, behind_find, stopped, counted]:
         yield from report.judged(part())

@@ -1,6 +1,7 @@
-// Refuses the N-th allocation or thread, for LD_PRELOAD: REFUSED is `new N` or `thread N`.
+// Refuses the N-th allocation, thread or read of standard input, for LD_PRELOAD: REFUSED is `new N`, `thread N`, `read N`.
 #include <dlfcn.h>
 #include <pthread.h>
+#include <unistd.h>
 
 #include <atomic>
 #include <cerrno>
@@ -37,4 +38,14 @@ extern "C" int pthread_create(pthread_t *thread, const pthread_attr_t *how, void
     if (is_refused("thread ", count))
         return EAGAIN;
     return reinterpret_cast<Create>(dlsym(RTLD_NEXT, "pthread_create"))(thread, how, run, given);
+}
+
+extern "C" ssize_t read(int descriptor, void *room, size_t size) {
+    using Read = ssize_t (*)(int, void *, size_t);
+    static std::atomic<long> count{0};
+    if (descriptor == STDIN_FILENO && is_refused("read ", count)) {
+        errno = EIO;
+        return -1;
+    }
+    return reinterpret_cast<Read>(dlsym(RTLD_NEXT, "read"))(descriptor, room, size);
 }
