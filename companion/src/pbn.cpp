@@ -36,7 +36,7 @@ PbnReader::Tag PbnReader::tag_at(const std::string &line, size_t at) {
     const size_t bracket = line.find_first_not_of(BLANKS, end + 1);
     tag.value = line.substr(quote + 1, end - quote - 1);
     tag.end = bracket != std::string::npos && line[bracket] == ']' ? bracket + 1 : end + 1;
-    tag.is_whole = true;
+    tag.is_whole = !tag.name.empty();
     return tag;
 }
 

@@ -108,6 +108,7 @@ def bytes_as_read():
         "no empty line": GAMES[0].rstrip(b"\n") + b"\n" + GAMES[1],
         "a comment with quotes": GAMES[0].replace(b'"]\n\n', b'"] ; the "best"\n{ "x" }\n\n') + GAMES[1],
         "several tags on a line": GAMES[0].replace(b"]\n[", b"] [") + GAMES[1],
+        "brackets that aren't tags": GAMES[0][:-1] + b'["x"]\n["x"]\n[y]\n\n' + GAMES[1],
         "notes": GAMES[0][:-1] + b'[Auction "N"]\n1NT =1= AP\n[Note "1:15-17"]\n[Note "2:x"]\n\n' + GAMES[1],
         "a line of JSON without its end": LINES[0] + LINES[1].rstrip(b"\n"),
         "JSON with CR LF and more names": LINES[0].replace(b"}\n", b', "more": [1, {"a": "}"}]}\r\n') + LINES[1],
