@@ -1,5 +1,5 @@
-// deals-tricks: how many tricks each hand makes at each strain, and par, for the boards of its input; or the boards
-// whose contracts make. It is a front end of the double dummy solver DDS by Bo Haglund and Soren Hein (Debian's libdds).
+// deals-tricks: how many tricks each hand makes in each strain, and par, for the boards of its input; or the boards whose
+// contracts make. It is a front end of the double dummy solver DDS by Bo Haglund and Soren Hein (Debian's libdds).
 // Nothing of it is proved.
 //
 // One thread reads boards (reader.hpp), one for each core judges them (solver.hpp, rules.hpp, lines.hpp), and the first
@@ -108,8 +108,8 @@ Failure ended(int count, char **words) {
     std::_Exit(failure.status);
 }
 
-// Nothing here calls exit(), and all exceptions are caught: libdds exits or throws where memory is refused, even when it
-// is loaded. So both ways out are laid before libraries begin.
+// Nothing here calls exit(), and all exceptions are caught: libdds exits or throws where memory is refused, even when
+// it is loaded. So both ways out are laid before libraries begin.
 [[noreturn]] void end_without_memory() {
     static const char line[] = "deals-tricks: out of memory\n";
     [[maybe_unused]] const ssize_t length = write(STDERR_FILENO, line, sizeof line - 1);

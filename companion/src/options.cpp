@@ -2,7 +2,6 @@
 
 #include <charconv>
 #include <cstdint>
-#include <cstring>
 #include <string>
 
 #include <getopt.h>
@@ -59,7 +58,7 @@ size_t boards_of(const std::string &text) {
     uint64_t number = 0;
     const auto [end, error] = std::from_chars(text.data(), text.data() + text.size(), number);
     if (error != std::errc() || end != text.data() + text.size() || number < 1 || number > MOST_BOARDS)
-        throw refusal("--boards " + text + ": can't be read", "write a number from 1 to " + std::to_string(MOST_BOARDS));
+        throw refusal("--boards " + text + ": can't be read", "write 1 to " + std::to_string(MOST_BOARDS));
     return number;
 }
 

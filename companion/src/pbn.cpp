@@ -97,8 +97,8 @@ void PbnReader::read_tags(const std::string &line) {
     }
 }
 
-// Reads a tag, and tells where the line goes on. What isn't a tag is text, but not where a deal is awaited, or where the
-// input was cut.
+// Reads a tag, and tells where the line goes on. What isn't a tag is text, but not where a deal is awaited, or where
+// the input was cut.
 size_t PbnReader::read_tag(const std::string &line, size_t at) {
     const Tag tag = tag_at(line, at);
     if (tag.is_whole)
@@ -156,7 +156,7 @@ void PbnReader::keep(const std::string &line, size_t end) {
 
 void PbnReader::hand_on() {
     if (wanted == Wanted::number)
-        throw line_failure(input.number(), "no numbers: the boards have to be JSON, as deals pick --format json writes it");
+        throw line_failure(input.number(), "no numbers: they need JSON, as deals pick --format json writes it");
     if (!has_boards && wanted == Wanted::text)
         put_head();
     has_boards = true;
@@ -187,8 +187,10 @@ void PbnReader::end_input() {
         end_game();
     if (!has_boards && has_text)
         throw Failure{INPUT, "no deal: the input has to be PBN or JSON, as deals make writes it"};
+    if (comment)
+        throw line_failure(comment, "the comment isn't closed");
     if (is_cut)
-        throw line_failure(comment ? comment : input.number(), comment ? "the comment isn't closed" : "the board is cut off");
+        throw line_failure(input.number(), "the board is cut off");
     if (!has_boards && wanted == Wanted::text) {
         head = std::move(board.text);
         put_head();

@@ -1,7 +1,7 @@
 // Boards in Portable Bridge Notation.
 //
-// A game ends at an empty line, and at a tag that it has already; its text begins where that of the game before ended. A
-// game with a deal is a board. What comes before the first tag are the file's first lines.
+// A game ends at an empty line, and at a tag that it has already; its text begins where that of the game before ended.
+// A game with a deal is a board. What comes before the first tag are the file's first lines.
 
 #pragma once
 

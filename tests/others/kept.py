@@ -154,7 +154,7 @@ def added():
 def refused_words():
     contract = "  write a level 1 to 7, C, D, H, S or NT, -, and N, E, S, W, NS or EW: 4S-NS\n"
     form = "  write C, D, H, S or NT, -, N, E, S, W, NS or EW, then =, >= or <= and 0 to 13: S-N=10\n"
-    boards = "  write a number from 1 to 1099511627776\n"
+    boards = "  write 1 to 1099511627776\n"
     for option, wrong, advice in [
         *(("--makes", word, contract) for word in ["", "8S-N", "0S-N", "4S", "4S-NE", "4s-N", "4N-N", "44S-N", "4S-NS "]),
         *(("--beaten", word, contract) for word in ["4NT-SN", "S-N=10"]),

@@ -1,4 +1,5 @@
-// Refuses the N-th allocation, thread or read of standard input, for LD_PRELOAD: REFUSED is `new N`, `thread N`, `read N`.
+// Refuses the N-th allocation, thread or read of standard input: for LD_PRELOAD, with `new N` (`thread N`, `read N`) in
+// REFUSED.
 #include <dlfcn.h>
 #include <pthread.h>
 #include <unistd.h>
