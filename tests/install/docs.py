@@ -150,6 +150,7 @@ def solver():
     try:
         packages.need("g++", "g++")
         packages.need("libdds-dev", "/usr/include/dds/dll.h")
+        packages.need("nlohmann-json3-dev", "/usr/include/nlohmann/json.hpp")
     except packages.Missing as missing:
         if os.environ.get("CI") == "true":
             raise

@@ -146,12 +146,12 @@ def refusals():
         yield name, said == (1, "deals-tricks: line 3: the deal can't be read\n", digits(EXAMPLES[0][1]) + "\n")
     with open("/dev/full", "w", encoding="ascii") as full:
         run = subprocess.run([PROGRAM], input=game(GOOD), stdout=full, stderr=subprocess.PIPE, text=True, check=False)
-    yield "a full output", run.returncode == 1 and "can't be written" in run.stderr
+    yield "a full output", run.returncode == 4 and run.stderr.startswith("deals-tricks: output failed: ")
     run = subprocess.run([PROGRAM], input="hello\n", capture_output=True, text=True, check=False)
     yield "a text without a deal", run.returncode == 1 and "no deal" in run.stderr and run.stdout == ""
     for word in ("--what", "boards.pbn"):
         run = subprocess.run([PROGRAM, word], capture_output=True, text=True, check=False)
-        says = "write deals-tricks < FILE\n\nusage: " in run.stderr
+        says = ("unrecognized option" if word[0] == "-" else "write deals-tricks < FILE\n") in run.stderr
         yield f"an unknown word: {word}", run.returncode == 2 and says and run.stdout == ""
     run = subprocess.run([PROGRAM, "--help"], capture_output=True, text=True, check=False)
     yield "help", run.returncode == 0 and run.stdout.startswith("usage: ") and max(map(len, run.stdout.split("\n"))) <= 120
@@ -194,11 +194,17 @@ def package(folder):
     yield "the man page", man is None or (man.returncode == 0 and not man.stderr and "SYNOPSIS" in man.stdout)
 
 
-def tricks():
-    """The companion program, where the solver is there."""
+def build():
+    """Builds the companion program, where the solver is there."""
     packages.need("g++", "g++")
     packages.need("libdds-dev", "/usr/include/dds/dll.h")
+    packages.need("nlohmann-json3-dev", "/usr/include/nlohmann/json.hpp")
     subprocess.run([TOP / "companion" / "build"], check=True)
+
+
+def tricks():
+    """The companion program without rules."""
+    build()
     for part in (tables, sheets, pars, texts, refusals, streams, boards):
         yield from report.judged(part())
     with tempfile.TemporaryDirectory() as folder:

@@ -1,0 +1,33 @@
+// A board, and how it is spelled in Portable Bridge Notation and in JSON alike.
+
+#pragma once
+
+#include <cstdint>
+#include <optional>
+#include <string>
+
+#include <dds/dll.h>
+
+enum class Form { pbn, json };
+
+struct Board {
+    Form form = Form::pbn;
+    // The bytes as they were read. Without a deal they are a file's first lines.
+    std::string text;
+    std::optional<ddTableDeal> cards;
+    // The solver's numbers; none where they aren't known.
+    std::optional<int> dealer, vulnerable;
+    // The number of the candidate, if the board has one.
+    std::optional<uint64_t> number;
+    // Where in the text tricks would be added, and whether it has some.
+    size_t add_at = 0;
+    bool has_tricks = false;
+};
+
+// The cards of a Deal value, all four hands of it (PBN 2.1, section 3.4.11).
+std::optional<ddTableDeal> read_deal(const std::string &value);
+
+std::optional<int> read_dealer(const std::string &word);
+
+// PBN 2.1, section 3.4.10.
+std::optional<int> read_vulnerable(const std::string &word);

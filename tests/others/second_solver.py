@@ -1,0 +1,81 @@
+"""The tricks of boards by libdds's own tables, and rules over them, for the comparison with deals-tricks."""
+
+import ctypes
+import dataclasses
+import random
+
+SEATS = "NESW"
+STRAINS = ["S", "H", "D", "C", "NT"]
+RANKS = "23456789TJQKA"
+# As in dll.h.
+MOST_TABLES = 40
+Cards = ctypes.c_uint * 4 * 4
+Table = ctypes.c_int * 4 * 5
+
+
+class Deals(ctypes.Structure):
+    _fields_ = [("count", ctypes.c_int), ("deals", Cards * (MOST_TABLES * 5))]
+
+
+class Tables(ctypes.Structure):
+    _fields_ = [("count", ctypes.c_int), ("tables", Table * (MOST_TABLES * 5))]
+
+
+def cards_of(deal: str) -> Cards:
+    """The cards of a Deal value that begins with North."""
+    hands = [[sum(4 << RANKS.index(rank) for rank in suit) for suit in hand.split(".")] for hand in deal[2:].split(" ")]
+    return Cards(*((ctypes.c_uint * 4)(*hand) for hand in hands))
+
+
+def tables(deals: list[str], strains: list[str]) -> list[dict]:
+    """The tricks of each deal in these strains, by strain and declarer."""
+    library = ctypes.CDLL("libdds.so.0")
+    found = []
+    for at in range(0, len(deals), MOST_TABLES):
+        some = deals[at : at + MOST_TABLES]
+        asked, answer, no_par = Deals(count=len(some)), Tables(), ctypes.create_string_buffer(1 << 16)
+        for index, deal in enumerate(some):
+            asked.deals[index] = cards_of(deal)
+        left_out = (ctypes.c_int * 5)(*(strain not in strains for strain in STRAINS))
+        if library.CalcAllTables(ctypes.byref(asked), -1, left_out, ctypes.byref(answer), no_par) != 1:
+            raise RuntimeError("libdds refuses")
+        for table in answer.tables[: len(some)]:
+            rows = zip(STRAINS, table)
+            found.append({(strain, seat): row[at] for strain, row in rows for at, seat in enumerate(SEATS)})
+    return found
+
+
+@dataclasses.dataclass
+class Rule:
+    """A rule as its option has it, and what it says of a table."""
+
+    option: str
+    strain: str
+    declarers: str
+    number: int
+    sign: str = ""
+
+    def words(self) -> list[str]:
+        if self.option == "--tricks":
+            return [self.option, f"{self.strain}-{self.declarers}{self.sign}{self.number}"]
+        return [self.option, f"{self.number}{self.strain}-{self.declarers}"]
+
+    def is_met(self, table: dict) -> bool:
+        tricks = [table[self.strain, seat] for seat in self.declarers]
+        if self.option == "--makes":
+            return max(tricks) >= self.number + 6
+        if self.option == "--beaten":
+            return max(tricks) < self.number + 6
+        return {"=": self.number in tricks, ">=": max(tricks) >= self.number, "<=": min(tricks) <= self.number}[self.sign]
+
+
+def rules(dice: random.Random, strains: list[str]) -> list[Rule]:
+    """One to three rules of these strains."""
+    found = []
+    for _ in range(dice.choice([1, 1, 2, 3])):
+        option = dice.choice(["--makes", "--beaten", "--tricks"])
+        strain, declarers = dice.choice(strains), dice.choice([*SEATS, "NS", "EW"])
+        is_tricks = option == "--tricks"
+        number = dice.choice([*range(14), 6, 7, 8, 9] if is_tricks else [1, 1, 2, 2, 3, 4, 5, 6, 7])
+        found.append(Rule(option, strain, declarers, number, dice.choice(["=", ">=", "<="]) if is_tricks else ""))
+    return found
