@@ -13,7 +13,6 @@ import collections
 import concurrent.futures
 import errno
 import os
-import shutil
 import threading
 
 import cases
@@ -177,12 +176,13 @@ def threads_started(case, shim, tally):
 
 
 def threads_by_cores(shim, tally):
-    """Checks that `--workers auto` starts a thread for each core but one, and at least one."""
-    cores = [str(core) for core in sorted(os.sched_getaffinity(0))]
+    """Checks that `--workers auto` starts a thread for each core that it may use but one, and at least one."""
+    cores = sorted(os.sched_getaffinity(0))
+    words = ["make", "--seed", "7", "--candidates", "40", "--workers", "auto"]
     for count in range(1, len(cores) + 1):
-        some = [shutil.which("taskset"), "-c", ",".join(cores[:count])]
-        words = ["make", "--seed", "7", "--candidates", "40", "--workers", "auto"]
-        end = harness.run([*some, harness.PROGRAM, *words], shim, Fault("thread"), 0)
+        os.sched_setaffinity(0, cores[:count])
+        end = harness.run([harness.PROGRAM, *words], shim, Fault("thread"), 0)
+        os.sched_setaffinity(0, cores)
         wanted = min(max(count - 1, 1), 16)
         complaint = None if end.calls == wanted else f"{end.calls} threads were started, and not {wanted}"
         tally.note(f"make, auto, {count} cores", "threads counted", end.status, complaint)
