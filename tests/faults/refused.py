@@ -175,6 +175,19 @@ def threads_started(case, shim, tally):
     tally.note(f"{case.name}, threads", "threads counted", end.status, complaint)
 
 
+def threads_by_cores(shim, tally):
+    """Checks that `--workers auto` starts a thread for each core that it may use but one, and at least one."""
+    cores = sorted(os.sched_getaffinity(0))
+    words = ["make", "--seed", "7", "--candidates", "40", "--workers", "auto"]
+    for count in range(1, len(cores) + 1):
+        os.sched_setaffinity(0, cores[:count])
+        end = harness.run([harness.PROGRAM, *words], shim, Fault("thread"), 0)
+        os.sched_setaffinity(0, cores)
+        wanted = min(max(count - 1, 1), 16)
+        complaint = None if end.calls == wanted else f"{end.calls} threads were started, and not {wanted}"
+        tally.note(f"make, auto, {count} cores", "threads counted", end.status, complaint)
+
+
 def work_of(chosen, is_all, shim, tally):
     """All that is tried, as calls with no arguments."""
     for case in chosen:
@@ -193,6 +206,7 @@ def undisturbed_and_refused():
         shim = harness.compile_shim(folder)
         list(pool.map(lambda case: undisturbed(case, shim, tally), chosen))
         list(pool.map(lambda case: threads_started(case, shim, tally), chosen))
+        threads_by_cores(shim, tally)
         list(pool.map(lambda check: streams.note(check, tally), streams.every()))
         list(pool.map(lambda work: work(), work_of(chosen, is_all, shim, tally)))
     if report.has("slow"):

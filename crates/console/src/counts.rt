@@ -157,7 +157,7 @@ impl Drawn {
 }
 
 /// A writer that wipes the line of counts on the error output before it writes. Each piece is
-/// written at once.
+/// written at once. It tells the bytes that the writer below tells.
 pub struct OverLine<W, E> {
     writer: W,
     err: E,
@@ -184,6 +184,8 @@ impl<W: Write, E: Write> OverLine<W, E> {
 }
 
 impl<W: Write, E: Write> Write for OverLine<W, E> {
+    ghost contents = { λ o. W.contents o.writer };
+
     fn write(&mut self, buf: &[u8]) -> io::Result<usize> {
         if let Some(drawn) = &self.drawn {
             drawn.wipe(&mut self.err);

@@ -1,13 +1,13 @@
 //! The output, with its boards passed on as they are found.
 
-ghost use Rattle.std.specs.Prelude.{◌≡◌, ◌+◌, ◌-◌, ◌^◌, ◌<◌, false, IfOk, IsSome};
+ghost use Rattle.std.specs.Prelude.{◌≡◌, ◌+◌, ◌-◌, ◌^◌, ◌<◌, [], false, IfOk, IsSome, OnOk};
+ghost use Rattle.std.specs.Io.Buffered.{writer_buffer, writer_contents};
 ghost use Rattle.sinks.specs.Sinks.{CountsFault};
 ghost use Rattle.sinks.specs.Writers.{told};
 
 use crate::counts::Counts;
 use sinks::{Sink, SinkFault};
-use std::io;
-use std::io::{Error, Write};
+use std::io::{BufWriter, Error, Write};
 use std::snapshot::Snapshot;
 use std::time::Clock;
 
@@ -19,8 +19,8 @@ pub fn millis(clock: &impl Clock) -> Option<u64> {
     u64::try_from(clock.monotonic().ok()?.as_millis()).ok()
 }
 
-/// A sink over a writer that gathers, for a person who may watch. It tells the bytes that the
-/// writer tells, as a `Piped` does.
+/// A sink over a writer with a buffer, for a person who may watch. It tells the bytes that the
+/// writer tells and those in the buffer, and is flushed when the buffer is empty.
 ///
 /// When the run says how far it is, whatever was gathered for this many milliseconds is passed on;
 /// so is all that was gathered before counts are shown, and no board is missing that they count.
@@ -28,15 +28,15 @@ pub fn millis(clock: &impl Clock) -> Option<u64> {
 ///
 /// Any error of the writer is a fault, and so is a count of 0 for a piece that isn't empty. If
 /// passing on fails, the next `write` or `flush` is a fault.
-pub struct Prompt<W: Write, C, E> {
-    writer: W,
+pub struct Prompt<W: Write + Drop, C, E> {
+    writer: BufWriter<W>,
     // The writer as it was handed in, for proofs alone: it takes no memory.
-    first: Snapshot<W>,
+    first: Snapshot<BufWriter<W>>,
     clock: C,
     counts: Counts<E>,
     /// For how many milliseconds bytes are gathered.
     gathered_millis: u64,
-    /// Whether bytes were gathered since the last ones were passed on, and when that was.
+    /// Whether bytes may be in the buffer, and when the last ones were passed on.
     gathers: bool,
     passed_on: u64,
     /// Whether passing on failed, and no call told it so far.
@@ -44,7 +44,9 @@ pub struct Prompt<W: Write, C, E> {
     /// Why the writer failed last.
     reason: Option<Error>,
     faults: u64,
-    ghost tells: { IsSome (W.contents first.value) → IsSome (W.contents writer) },
+    ghost tells: { IsSome (writer_contents W.contents first.value)
+        → IsSome (writer_contents W.contents writer) },
+    ghost gathered: { gathers ≡ false → writer_buffer writer ≡ [] },
 }
 
 // By hand, so that to drop one is a call (docs/DECISIONS.md).
@@ -65,20 +67,27 @@ impl<W: Write + Drop, C: Drop, E: Drop> Drop for Prompt<W, C, E> {
     }
 }
 
-impl<W: Write, C: Clock, E: Write> Prompt<W, C, E> {
+impl<W: Write + Drop, C: Clock, E: Write> Prompt<W, C, E> {
     /// A sink over `writer` that gathers for this many milliseconds, with no fault so far.
-    pub fn new(writer: W, clock: C, counts: Counts<E>, gathered_millis: u64) -> Prompt<W, C, E>
-        ensures bytes { ⟦<Prompt<W, C, E> as Sink>⟧.bytes result ≡ W.contents writer }
+    pub fn new(
+        writer: BufWriter<W>,
+        clock: C,
+        counts: Counts<E>,
+        gathered_millis: u64,
+    ) -> Prompt<W, C, E>
+        ensures bytes { ⟦<Prompt<W, C, E> as Sink>⟧.bytes result
+            ≡ writer_contents W.contents writer }
         ensures faults { ⟦<Prompt<W, C, E> as Sink>⟧.faults result ≡ 0 }
     {
         let first = Snapshot::of(&writer);
+        let gathers = !writer.buffer().is_empty();
         Prompt {
             writer,
             first,
             clock,
             counts,
             gathered_millis,
-            gathers: false,
+            gathers,
             passed_on: 0,
             fails: false,
             reason: None,
@@ -103,25 +112,37 @@ impl<W: Write, C: Clock, E: Write> Prompt<W, C, E> {
         now.saturating_sub(self.passed_on) >= self.gathered_millis
     }
 
+    /// Has the writer pass on what is in the buffer.
+    fn empty_buffer(&mut self) -> Result<(), Error>
+        ensures empty { OnOk result (writer_buffer self.new.writer ≡ []) }
+        ensures bytes { told (writer_contents W.contents) self.new.first.value self.new.writer
+            ≡ told (writer_contents W.contents) self.old.first.value self.old.writer }
+        ensures same { (self.new.fails ≡ self.old.fails) × (self.new.faults ≡ self.old.faults) }
+    {
+        self.gathers = true;
+        self.writer.flush()?;
+        self.gathers = false;
+        Ok(())
+    }
+
     /// Passes on what was gathered, if anything was.
     fn pass_on(&mut self, now: u64)
-        ensures bytes { told W.contents self.new.first.value self.new.writer
-            ≡ told W.contents self.old.first.value self.old.writer }
+        ensures bytes { told (writer_contents W.contents) self.new.first.value self.new.writer
+            ≡ told (writer_contents W.contents) self.old.first.value self.old.writer }
         ensures faults { self.new.faults ≡ self.old.faults }
     {
         if !self.gathers {
             return;
         }
-        self.gathers = false;
         self.passed_on = now;
-        if let Err(error) = self.writer.flush() {
+        if let Err(error) = self.empty_buffer() {
             self.fails = true;
             self.reason = Some(error);
         }
     }
 }
 
-impl<W: Write, C: Clock, E: Write> Prompt<W, C, E> {
+impl<W: Write + Drop, C: Clock, E: Write> Prompt<W, C, E> {
     /// Counts a fault, and says nothing more of the counts.
     fn fault(&mut self) -> SinkFault
         requires { self.old.faults < 2 ^ 64 - 1 }
@@ -148,22 +169,22 @@ impl<W: Write, C: Clock, E: Write> Prompt<W, C, E> {
     }
 }
 
-impl<W: Write, C: Clock, E: Write> Sink for Prompt<W, C, E> {
+impl<W: Write + Drop, C: Clock, E: Write> Sink for Prompt<W, C, E> {
+    ghost use Rattle.std.specs.Prelude.{[]};
+    ghost use Rattle.std.specs.Io.Buffered.{writer_buffer, writer_contents};
     ghost use Rattle.sinks.specs.Writers.{told};
 
-    ghost bytes = { λ s. told W.contents s.first.value s.writer };
+    ghost bytes = { λ s. told (writer_contents W.contents) s.first.value s.writer };
 
     ghost faults = { λ s. s.faults };
 
-    ghost is_flushed = { λ s. (s.gathers ≡ false) × (s.fails ≡ false) };
+    ghost is_flushed = { λ s. (writer_buffer s.writer ≡ []) × (s.fails ≡ false) };
 
     fn write(&mut self, piece: &[u8]) -> Result<usize, SinkFault> {
         self.tell()?;
+        self.gathers = true;
         match self.writer.write(piece) {
-            Ok(taken) if taken > 0 || piece.is_empty() => {
-                self.gathers = true;
-                Ok(taken)
-            }
+            Ok(taken) if taken > 0 || piece.is_empty() => Ok(taken),
             Ok(_) => Err(self.fault()),
             Err(error) => {
                 self.reason = Some(error);
@@ -176,11 +197,8 @@ impl<W: Write, C: Clock, E: Write> Sink for Prompt<W, C, E> {
     fn flush(&mut self) -> Result<(), SinkFault> {
         self.tell()?;
         self.counts.wipe();
-        match self.writer.flush() {
-            Ok(()) => {
-                self.gathers = false;
-                Ok(())
-            }
+        match self.empty_buffer() {
+            Ok(()) => Ok(()),
             Err(error) => {
                 self.reason = Some(error);
                 Err(self.fault())

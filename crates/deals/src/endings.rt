@@ -1,31 +1,11 @@
-//! How a run ended, as a program reads it and as a person does.
-
-ghost use Rattle.std.specs.Prelude.{◌-◌, ◌<◌, ◌^◌};
+//! How a run ended, as a person is told.
 
 use crate::streams::Said;
 use deals_cli::{Failure, Report};
-use sinks::{Sink, put_all};
+use sinks::put_all;
 use std::io;
 use std::io::{ErrorKind, IsTerminal};
 use word_hints::without_far_tips;
-
-/// Says how it ended, as a program reads it: the report if one was asked for, or what failed.
-/// Returns the status.
-pub fn say(ended: &Result<Option<Report>, Failure>, err: &mut Said) -> u8
-    requires { ⟦<Said as Sink>⟧.faults err.old < 2 ^ 64 - 1 }
-{
-    match ended {
-        Ok(None) => 0,
-        Ok(Some(report)) => {
-            let _ = report.say(err);
-            0
-        }
-        Err(failure) => {
-            let _ = failure.say(err);
-            failure.status()
-        }
-    }
-}
 
 /// How it ended, as a person is told: without tips that lead astray.
 pub fn for_person(

@@ -14,14 +14,14 @@ mod unread;
 ghost use Rattle.std.specs.Prelude.{◌-◌, ◌^◌, ◌<◌, map, string_bytes};
 ghost use Rattle.command_line.specs.Reading.{AreRead};
 
-use crate::endings::{cut_off, for_person, say, say_more};
+use crate::endings::{cut_off, for_person, say_more};
 use crate::help::help;
 use crate::notes::{put_note, put_notes};
 use crate::streams::{Given, Output, Said, hints_of, is_time, open};
 use advice::Reasons;
 use clap::Error;
 use command_line::read_words;
-use deals_cli::{Failure, Report, Request, Task, perform, prepare};
+use deals_cli::{Failure, Report, Request, Task, conclude, perform, prepare};
 use picking::Reader;
 use sinks::{Piped, Sink, put_all};
 use std::cell::Cell;
@@ -74,7 +74,7 @@ fn tell(
     requires { ⟦<Said as Sink>⟧.faults err.old < 2 ^ 64 - 1 }
 {
     let ended = for_person(rt, ended);
-    let status = say(&ended, err);
+    let status = conclude(&ended, err);
     if let Err(failure) = &ended {
         let request = read.as_ref().ok();
         say_more(help(rt.alloc(), words, request, failure, reasons), err);
@@ -104,7 +104,7 @@ fn answer<R: Threads + Wait + Clone + Send + 'static>(
         Err(failure) => Err(failure),
     };
     if !hints {
-        return say(&ended, err);
+        return conclude(&ended, err);
     }
     if let Some(status) = cut_off(rt, &ended, out.reason()) {
         return status;

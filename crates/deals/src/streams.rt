@@ -90,7 +90,7 @@ impl Read for Given<'_> {
 }
 
 /// Standard output, as the boards are written to it.
-pub type Output = Prompt<BufWriter<OverLine<io::Stdout, io::Stderr>>, HostRuntime, io::Stderr>;
+pub type Output = Prompt<OverLine<io::Stdout, io::Stderr>, HostRuntime, io::Stderr>;
 
 /// Standard error, over the line of counts.
 pub type Said = Piped<OverLine<io::Stderr, io::Stderr>>;

@@ -1,5 +1,5 @@
 -- What is found, and read back.
-use Rattle.std.proofs.Common.{◌≡◌, ◌∙◌, ◌<◌, ◌≤◌, ◌^◌, ℕ, suc, zero, ◌+◌, Bool, true, false, cond, List, [], ◌∷◌, ◌++◌, length, map, Option, None, Some, refl, sym, ap, arith, All, decimal}
+use Rattle.std.proofs.Common.{◌≡◌, ◌∙◌, ◌<◌, ◌≤◌, ◌^◌, ℕ, suc, zero, ◌+◌, Bool, true, false, cond, List, [], ◌∷◌, ◌++◌, length, map, Option, None, Some, refl, sym, ap, ap₂, arith, All, decimal}
 use Rattle.std.specs.Prelude.{filter}
 use Rattle.std.specs.List.{enumerate_from, flat_map, range_with_len}
 use Rattle.std.proofs.lemmas.Grind.{flat_map-append}
@@ -11,7 +11,7 @@ use Rattle.boards.specs.declared.setting.Setting.{Setting}
 use Rattle.cards.specs.declared.seat.Seat.{Seat}
 use Rattle.conditions.specs.Form.{Form}
 use Rattle.conditions.specs.Meaning.{holds}
-use Rattle.plans.specs.Text.{accepted, accepted_among, board_of, boards_of, end_of, limited, text_in, text_of}
+use Rattle.plans.specs.Text.{accepted, accepted_among, board_of, boards_of, end_of, limited, needed_by, text_in, text_of}
 use Rattle.picking.specs.NumberTexts.{said}
 use Rattle.picking.proofs.ReadBack.{read_back}
 use Rattle.notations.specs.Numbers.{number_line, numbers}
@@ -85,6 +85,7 @@ found_is_picked layout plan form S B alike h =
 
 -- ---- shards
 
+-- what is accepted of the first m candidates and of the next n
 accepted_two : (deals : ℕ → List Seat) (first : ℕ) (form : Form) (m n : ℕ) → accepted_among deals first form (m + n) ≡ accepted_among deals first form m ++ accepted_among deals (first + m) form n
 unfolding accepted_among
 accepted_two deals first form m n =
@@ -99,3 +100,22 @@ shards plan form m n none all =
     ∙ flat_map-append line_of (accepted_among (candidate_of plan) plan.first form m) (accepted_among (candidate_of plan) (plan.first + m) form n)
     ∙ ap (λ l. l ++ flat_map line_of (accepted_among (candidate_of plan) (plan.first + m) form n)) (sym (found_text (record plan { count = m }) form ∙ ap (λ l. flat_map line_of (limited l (accepted_among (candidate_of plan) plan.first form m))) none))
     ∙ ap (λ l. text_in numbers (record plan { count = m }) form ++ l) (sym (found_text (record plan { first = plan.first + m; count = n }) form ∙ ap (λ l. flat_map line_of (limited l (accepted_among (candidate_of plan) (plan.first + m) form n))) none))
+
+accepted_all : (plan : Planned) (form : Form) → plan.limit ≡ None → accepted plan form ≡ accepted_among (candidate_of plan) plan.first form plan.count
+accepted_all plan form none = ap (λ l. limited l (accepted_among (candidate_of plan) plan.first form plan.count)) none
+
+pub accepted_shards : (plan : Planned) (form : Form) (m n : ℕ) → plan.limit ≡ None → plan.count ≡ m + n
+    → accepted plan form ≡ accepted (record plan { count = m }) form ++ accepted (record plan { first = plan.first + m; count = n }) form
+accepted_shards plan form m n none all =
+    accepted_all plan form none ∙ ap (accepted_among (candidate_of plan) plan.first form) all ∙ accepted_two (candidate_of plan) plan.first form m n
+    ∙ ap₂ (λ (xs ys : List ℕ). xs ++ ys) (sym (accepted_all (record plan { count = m }) form none)) (sym (accepted_all (record plan { first = plan.first + m; count = n }) form none))
+
+tried_all : (plan : Planned) (form : Form) → plan.limit ≡ None → end_of plan form ≡ plan.count
+unfolding needed_by
+tried_all plan form none = rw none refl
+
+pub tried_shards : (plan : Planned) (form : Form) (m n : ℕ) → plan.limit ≡ None → plan.count ≡ m + n
+    → end_of plan form ≡ end_of (record plan { count = m }) form + end_of (record plan { first = plan.first + m; count = n }) form
+tried_shards plan form m n none all =
+    tried_all plan form none ∙ all
+    ∙ ap₂ (λ (x y : ℕ). x + y) (sym (tried_all (record plan { count = m }) form none)) (sym (tried_all (record plan { first = plan.first + m; count = n }) form none))

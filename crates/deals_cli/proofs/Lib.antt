@@ -8,4 +8,6 @@ pub mod Finding
 pub mod Statuses
 pub mod Answering
 pub mod Reporting
+pub mod Concluding
 pub mod NoInput
+pub mod Tables

@@ -8,7 +8,7 @@ use Rattle.clap.specs.declared.error.kind.ErrorKind.{ErrorKind}
 use Rattle.clap.specs.declared.error.kind.ErrorKind.TheVariants as kind
 use Rattle.plans.specs.declared.cause.Cause.TheVariants.{Memory, Output}
 use Rattle.sinks.specs.Appended.{AppendsAll}
-use Rattle.jobs.specs.Failures.{is_refusal, is_untouched, status_in, status_of}
+use Rattle.jobs.specs.Failures.{is_refusal, is_untouched, status_of}
 use Rattle.jobs.specs.FirstRefusal.{IsDueFor}
 use Rattle.deals_cli.specs.Interruptions.{LeavesFrom}
 use Rattle.jobs.specs.Lines.{line_of}
@@ -23,6 +23,7 @@ use Rattle.jobs.specs.declared.failure.Failure.TheVariants.{Interrupted, Input}
 use Rattle.command_line.specs.CommandLine.{asked, kinds_for}
 use Rattle.deals_cli.specs.declared.task.Task.{Task}
 use Rattle.deals_cli.specs.declared.task.Task.TheVariants.{Show, Do}
+pub use Rattle.jobs.specs.Failures.{status_in}
 pub use Rattle.jobs.specs.Makings.{CanDate, CanLabel, HasLabels, HasNumbers, IsPlanned}
 pub use Rattle.jobs.specs.Makings.{Means, plan_of}
 pub use Rattle.jobs.specs.Statuses.{HasInput, HasMeaning, HasPlan, HasRun}
@@ -122,6 +123,9 @@ pub record HasReport (words : List Text) (took_all : Type 0)
     (old new : Option (List ℕ)) : Type 0 where
   pub reported : (s : Search) (l : Look) (notices : Notices)
       → asked words ≡ Some (make s l notices) → notices.report ≡ true → took_all
+      → Reports s l old new
+  pub with_tricks : (s : Search) (l : Look) (notices : Notices)
+      → asked words ≡ Some (make_with_tricks s l notices) → notices.report ≡ true → took_all
       → Reports s l old new
   pub quiet : wants_report (asked words) ≡ false → new ≡ old
 

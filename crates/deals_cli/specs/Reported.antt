@@ -1,10 +1,13 @@
 -- What a wish that was done reports.
-use Rattle.std.specs.Prelude.{◌≡◌, ℕ, Bool, List, length, Option, None, Some, true, false}
+use Rattle.std.specs.Prelude.{◌≡◌, ℕ, Bool, List, ◌++◌, length, Option, None, Some, true, false}
+use Rattle.std.specs.Prelude.{Result, Ok, Err}
 use Rattle.cond_lang.specs.Form.{Form}
 use Rattle.plans.specs.Text.{accepted, end_of}
 use Rattle.plans.specs.Plans.{Planned}
 use Rattle.jobs.specs.Makings.{Means, plan_of}
-use Rattle.plans.specs.Reports.{report_of}
+use Rattle.plans.specs.Reports.{next_line, report_line, report_of}
+use Rattle.jobs.specs.Lines.{line_of}
+use Rattle.jobs.specs.declared.failure.Failure.{Failure}
 use Rattle.sinks.specs.Appended.{AppendsAll}
 use Rattle.boards.specs.declared.format.Format.{Format}
 use Rattle.request_types.specs.Requests.{Look, Search, Wish, conditions, count, draw, make}
@@ -47,3 +50,17 @@ abbrev pub Reports : Search → Look → Option (List ℕ) → Option (List ℕ)
 Reports s l old new =
     (form : Form) × Means s.where_text form
     × AppendsAll old new (report_of l.format (plan_of s l) form)
+
+-- what is said of how it ended, if the error output took all: a report, if there is one, or a
+-- failure's line
+abbrev pub report_text : Report → List ℕ
+report_text r =
+    report_line r.plan r.candidates r.boards ++ next_line r.format r.plan r.candidates r.boards
+
+abbrev pub SaysReport : Option Report → Type 0 → (old new : Option (List ℕ)) → Type 0
+SaysReport None took_all old new = new ≡ old
+SaysReport (Some r) took_all old new = took_all → AppendsAll old new (report_text r)
+
+abbrev pub Says : Result (Option Report) Failure → Type 0 → (old new : Option (List ℕ)) → Type 0
+Says (Ok report) took_all old new = SaysReport report took_all old new
+Says (Err failure) took_all old new = took_all → AppendsAll old new (line_of failure)

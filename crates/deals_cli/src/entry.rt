@@ -10,6 +10,7 @@ ghost use Rattle.request_types.specs.Requests.{Wish};
 ghost use Rattle.jobs.specs.Statuses.{IsStatus, IsStatusWithInput};
 ghost use Rattle.deals_cli.specs.Wishes.{Appends, AppendsFrom};
 
+use crate::ending::conclude;
 use crate::task::{perform, prepare};
 use command_line::read_words;
 use jobs::Failure;
@@ -51,7 +52,6 @@ fn answer<R: Threads + Wait + Clone + Send + 'static, I: Source, O: Sink>(
 /// The statuses are those of `program`, and one more. 7: a line of the input is refused, or the
 /// input couldn't be read; what is on `out` is flushed. It may wait for its workers and its
 /// input.
-#[tactic(auto, using(crate::proofs::Reporting::reporting))]
 pub fn program_with_input<R: Threads + Wait + Clone + Send + 'static, I: Source, O: Sink, E: Sink>(
     rt: &R,
     alloc: Global,
@@ -99,17 +99,8 @@ pub fn program_with_input<R: Threads + Wait + Clone + Send + 'static, I: Source,
     ensures said { (E.faults err.old ≤ E.faults err.new)
         × (E.faults err.new ≤ E.faults err.old + 1) }
 {
-    match answer(rt, alloc, words, input, out) {
-        Ok(None) => 0,
-        Ok(Some(report)) => {
-            let _ = report.say(err);
-            0
-        }
-        Err(failure) => {
-            let _ = failure.say(err);
-            failure.status()
-        }
-    }
+    let ended = answer(rt, alloc, words, input, out);
+    conclude(&ended, err)
 }
 
 /// Runs the program, and returns its exit status. The first word is the program's name.

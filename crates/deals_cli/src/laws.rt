@@ -14,7 +14,11 @@ ghost use Rattle.picking.specs.NumberTexts.{said};
 ghost use Rattle.picking.specs.Picked.{picked_text};
 ghost use Rattle.plans.specs.Plans.{Planned};
 ghost use Rattle.plans.specs.Text.{accepted, text_in};
+ghost use Rattle.boards.specs.declared.style.Style.TheVariants.{Csv};
 ghost use Rattle.deals_cli.specs.Formats.{text_as};
+ghost use Rattle.jobs.specs.Counting.{table_by};
+ghost use Rattle.statistics.specs.Counting.{Subject};
+ghost use Rattle.statistics.specs.Shards.{AddUp};
 
 /// In the format `pbn` the text is that of the runs in Portable Bridge Notation.
 pub fn pbn_is_the_text_of_a_run()
@@ -45,4 +49,14 @@ pub fn shards_join()
         → text_in numbers plan form
         ≡ text_in numbers (record plan { count = m }) form
         ++ text_in numbers (record plan { first = plan.first + m; count = n }) form }
+{}
+
+/// Without a limit, the csv tables of shards add up line by line to the table of the whole.
+pub fn tables_of_shards_add_up()
+    ensures { (subject : Subject) (plan : Planned) (form : Form) (m n : ℕ)
+        → plan.limit ≡ None → plan.count ≡ m + n
+        → AddUp subject
+        (table_by Csv subject (record plan { count = m }) form)
+        (table_by Csv subject (record plan { first = plan.first + m; count = n }) form)
+        (table_by Csv subject plan form) }
 {}

@@ -1,10 +1,11 @@
-//! The program: `task.rt` makes a task of what words ask for and does it, and `entry.rt` has
-//! `program`, which reads words and does it all.
+//! The program: `read_words`, `prepare` and `perform` (`task.rt`), and `conclude` (`ending.rt`), in
+//! this order. `program` (`entry.rt`) calls them, and so does `main`.
 //!
 //! Words ask for a `Request` (`request_types`), and a `Job` is what it means (`jobs`). `serve` does
 //! the job.
 #![tactic(auto)]
 
+mod ending;
 mod entry;
 pub mod laws;
 mod seed_job;
@@ -15,6 +16,7 @@ mod workers;
 mod written;
 
 pub use command_line::{laws as examples, read_words};
+pub use ending::conclude;
 pub use entry::{program, program_with_input};
 pub use jobs::{BoardsJob, CountJob, Failure, Job, PickJob, planned};
 pub use plans::Report;

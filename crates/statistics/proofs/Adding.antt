@@ -13,7 +13,7 @@ pub count_of-append : (n : ℕ) (xs ys : List ℕ) → count_of n (xs ++ ys) ≡
 count_of-append n xs ys = sum_by-append (λ (a : ℕ). cond (eqb a n) 1 0) xs ys
 
 -- each is one of the numbers
-abbrev AreIn : ℕ → ℕ → List ℕ → Type 0
+abbrev pub AreIn : ℕ → ℕ → List ℕ → Type 0
 AreIn first end [] = Unit {0}
 AreIn first end (a ∷ answers) = (first ≤ a) × (a < end) × AreIn first end answers
 
@@ -85,12 +85,19 @@ between m n (a ∷ answers) =
     let g = greatest_so_far (max n a) answers in
     (omega (arith, l), omega (arith, g), between (min m a) (max n a) answers)
 
-from_least : (answers : List ℕ) → AreIn (least_of answers) (greatest_of answers + 1) answers
+pub from_least : (answers : List ℕ) → AreIn (least_of answers) (greatest_of answers + 1) answers
 from_least [] = tt
 from_least (a ∷ answers) =
     let l = least_so_far a answers in
     let g = greatest_so_far (max 0 a) answers in
     (omega (arith, l), omega (arith, g), between a (max 0 a) answers)
+
+pub least_is_less : (answers : List ℕ) → least_of answers ≤ greatest_of answers + 1
+least_is_less [] = omega arith
+least_is_less (a ∷ answers) =
+    let l = least_so_far a answers in
+    let g = greatest_so_far (max 0 a) answers in
+    omega (arith, l, g)
 
 value_rows : (answers : List ℕ) → sum (map (λ (n : ℕ). count_of n answers) (rows false answers)) ≡ length answers
 value_rows [] = refl

@@ -15,3 +15,4 @@ pub mod TwoPage
 pub mod Shading
 pub mod Bodies
 pub mod Adding
+pub mod Shards

@@ -10,4 +10,5 @@ pub mod PageStyle
 pub mod Page
 pub mod Counting
 pub mod Subjects
+pub mod Shards
 pub mod internal

@@ -6,9 +6,11 @@ ghost use Rattle.cards.specs.declared.seat.Seat.{Seat};
 ghost use Rattle.conditions.specs.Questions.{Question, is_condition};
 ghost use Rattle.statistics.specs.Answers.{answers_of, count_of, rows};
 ghost use Rattle.statistics.specs.Columns.{commas};
+ghost use Rattle.statistics.specs.Counting.{Subject, csv_text};
 ghost use Rattle.statistics.specs.OneQuestion.{blocks, mean_text, row};
 ghost use Rattle.statistics.specs.Rounded.{whole_root};
 ghost use Rattle.statistics.specs.Sentence.{sentence};
+ghost use Rattle.statistics.specs.Shards.{AddUp};
 
 /// A number is no wider than a greater one, so that the greatest of a column tells its width.
 pub fn no_number_is_narrower()
@@ -31,9 +33,11 @@ pub fn lines_read()
     ensures mean { mean_text 4 10 30 ≡ codes "mean 2.500, standard deviation 1.118" }
 {}
 
-/// The tables of two runs add up to that of both.
+/// The csv tables of two lists of deals add up to that of both, line by line.
 pub fn tables_add_up()
-    ensures { (n : ℕ) (xs ys : List ℕ) → count_of n (xs ++ ys) ≡ count_of n xs + count_of n ys }
+    ensures { (subject : Subject) (deals more : List (List Seat)) (m n : ℕ)
+        → AddUp subject (csv_text subject deals m) (csv_text subject more n)
+        (csv_text subject (deals ++ more) (m + n)) }
 {}
 
 /// The rows of a table have all deals, each once.

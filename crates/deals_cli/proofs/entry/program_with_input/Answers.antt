@@ -1,27 +1,31 @@
-use Rattle.std.proofs.Common.{◌∙◌, refl, sym, subst, map, string_bytes}
-use Rattle.deals_cli.specs.Reported.{ReportsFor}
-use Rattle.jobs.specs.Statuses.{IsStatusWithInput}
-use Rattle.jobs.proofs.Refusals.{status_of-status}
-use Rattle.request_types.specs.Requests.{make}
-use Rattle.deals_cli.proofs.Reports.{none_made, said, some_made}
-use Rattle.command_line.specs.CommandLine.{asked}
-use Rattle.deals_cli.proofs.Reporting.{heard}
+use Rattle.std.proofs.Common.{sym, subst, map, string_bytes}
+use Rattle.deals_cli.specs.Program.{IsFlushedAfter, IsStatusFor}
+use Rattle.deals_cli.proofs.Concluding.{has_report, input_kept, nothing_written, one_of_seven, output_counted, text_at_zero, why}
 use Rattle.deals_cli.proofs.entry.program_with_input.Goals as goal
 
-pub returns-in-Err-clause-status : goal.returns-in-Err-clause-status
-returns-in-Err-clause-status g c = subst IsStatusWithInput (sym c.status.ensures) (status_of-status c.in-Err.failure)
+pub returns-clause-text : goal.returns-clause-text
+returns-clause-text g c w asks zero = text_at_zero _ _ w _ _ _ _ _ c.answer-ended.ensures.answers c.conclude.ensures.status asks zero
 
-pub returns-in-Ok-None-clause-report : goal.returns-in-Ok-None-clause-report
-returns-in-Ok-None-clause-report g c zero = record {
-  reported = λ s l notices is wants same. absurd (some_made s l notices (subst (λ o. ReportsFor (make s l notices) o) c.in-Ok-None.field-0-is (c.in-Ok-None.ensures.answers.report (make s l notices) is)) wants);
-  quiet = λ quiet. refl;
-}
+pub returns-clause-asked : goal.returns-clause-asked
+returns-clause-asked g c = subst (IsStatusFor (map string_bytes c.args.words.now)) (sym c.conclude.ensures.status) c.answer-ended.ensures.answers.status
 
-pub returns-in-Ok-Some-clause-report : goal.returns-in-Ok-Some-clause-report
-returns-in-Ok-Some-clause-report g c zero = record {
-  reported = λ s l notices is wants same. said s l notices c.in-Ok-Some.report _ _ (subst (λ o. ReportsFor (make s l notices) o) c.in-Ok-Some.field-0-is (c.in-Ok-Some.ensures.answers.report (make s l notices) is))
-      (heard c.say.result _ _ _ c.say.ensures.faults same c.say.ensures.text);
-  quiet = λ quiet. absurd (none_made (asked (map string_bytes c.args.words.now)) c.in-Ok-Some.report
-      (λ w is. subst (λ o. ReportsFor w o) c.in-Ok-Some.field-0-is (c.in-Ok-Some.ensures.answers.report w is))
-      (λ is. sym c.in-Ok-Some.field-0-is ∙ c.in-Ok-Some.ensures.answers.no_report is) quiet);
-}
+pub returns-clause-told : goal.returns-clause-told
+returns-clause-told g c w asks failed = why _ _ w _ _ _ _ _ _ _ _ _ _ c.answer-ended.ensures.answers c.conclude.ensures.status c.answer-ended.ensures.input c.conclude.ensures.says asks failed
+
+pub returns-clause-status : goal.returns-clause-status
+returns-clause-status g c = one_of_seven _ _ c.conclude.ensures.status
+
+pub returns-clause-untouched : goal.returns-clause-untouched
+returns-clause-untouched g c among = nothing_written _ _ _ _ _ _ _ c.answer-ended.ensures.answers c.conclude.ensures.status among
+
+pub returns-clause-output : goal.returns-clause-output
+returns-clause-output g c = output_counted _ _ _ _ c.conclude.ensures.status c.answer-ended.ensures.faults
+
+pub returns-clause-input : goal.returns-clause-input
+returns-clause-input g c four seven = input_kept _ _ _ _ c.conclude.ensures.status c.answer-ended.ensures.input four seven
+
+pub returns-clause-flushed : goal.returns-clause-flushed
+returns-clause-flushed g c = rw c.conclude.ensures.status c.answer-ended.ensures.flushed
+
+pub returns-clause-report : goal.returns-clause-report
+returns-clause-report g c zero = has_report _ _ _ _ _ _ _ _ _ _ c.answer-ended.ensures.answers c.conclude.ensures.status c.conclude.ensures.says zero

@@ -1,5 +1,5 @@
-use Rattle.statistics.proofs.Adding.{count_of-append}
+use Rattle.statistics.proofs.Shards.{adds_up}
 use Rattle.statistics.proofs.laws.tables_add_up.Goals as goal
 
 pub returns : goal.returns
-returns c n xs ys = count_of-append n xs ys
+returns c subject deals more m n = adds_up subject deals more m n

@@ -1,0 +1,140 @@
+-- From what was done, and what was said of it, to what the program promises.
+use Rattle.std.proofs.Common.{◌≡◌, ◌∙◌, ◌⊎◌, ◌+◌, ◌==◌, ℕ, List, Option, None, Some, Result, Ok, Err, true, false, refl, sym, ap, subst, inl, inr, arith}
+use Rattle.std.specs.Prelude.{if◌then◌else◌}
+use Rattle.clap.specs.Walk.{Text}
+use Rattle.plans.specs.declared.cause.Cause.TheVariants as cause
+use Rattle.plans.specs.declared.report.Report.{Report}
+use Rattle.jobs.specs.Failures.{CountsInput, faults_in, is_untouched, status_in, status_of}
+use Rattle.jobs.specs.Statuses.{IsStatusWithInput}
+use Rattle.jobs.specs.declared.failure.Failure.{Failure}
+use Rattle.jobs.specs.declared.failure.Failure.TheVariants.{CommandLine, Plan, Label, Hand, Condition, Question, Cells, Interrupted, Line, Input, EndOfInput}
+use Rattle.jobs.proofs.Refusals.{status_of-status}
+use Rattle.request_types.specs.Requests.{Wish, make, make_with_tricks}
+use Rattle.command_line.specs.CommandLine.{asked}
+use Rattle.deals_cli.specs.Program.{Answers, HasReport, TellsWhyFrom}
+use Rattle.deals_cli.specs.Reported.{Says}
+use Rattle.deals_cli.specs.Wishes.{AppendsFrom}
+use Rattle.deals_cli.proofs.Reports.{none_made, said, said_with_tricks, some_made, some_made_with_tricks}
+
+-- ---- by the failure
+
+no_zero : {X : Type 0} (f : Failure) → status_of f ≡ 0 → X
+no_zero (CommandLine text) is = cc
+no_zero (Plan error) is = cc
+no_zero (Label label) is = cc
+no_zero (Hand seat) is = cc
+no_zero (Condition error) is = cc
+no_zero (Question name error) is = cc
+no_zero Cells is = cc
+no_zero (Interrupted cause.Output) is = cc
+no_zero (Interrupted cause.Memory) is = cc
+no_zero (Interrupted cause.Spawn) is = cc
+no_zero (Interrupted (cause.Stopped worker)) is = cc
+no_zero (Interrupted (cause.Unclosed worker)) is = cc
+no_zero (Line line) is = cc
+no_zero Input is = cc
+no_zero EndOfInput is = cc
+
+-- a status that leaves the output untouched
+abbrev Untouches : ℕ → Type 0
+Untouches s = (s ≡ 2) ⊎ (s ≡ 3) ⊎ (s ≡ 5)
+
+untouched_by : (f : Failure) → Untouches (status_of f) → is_untouched f ≡ true
+untouched_by (CommandLine text) h = refl
+untouched_by (Plan error) h = refl
+untouched_by (Label label) h = refl
+untouched_by (Hand seat) h = refl
+untouched_by (Condition error) h = refl
+untouched_by (Question name error) h = refl
+untouched_by Cells h = refl
+untouched_by (Interrupted cause.Output) h = elim h [ inl a ↦ cc | inr (inl a) ↦ cc | inr (inr a) ↦ cc ]
+untouched_by (Interrupted cause.Memory) h = refl
+untouched_by (Interrupted cause.Spawn) h = refl
+untouched_by (Interrupted (cause.Stopped worker)) h = elim h [ inl a ↦ cc | inr (inl a) ↦ cc | inr (inr a) ↦ cc ]
+untouched_by (Interrupted (cause.Unclosed worker)) h = elim h [ inl a ↦ cc | inr (inl a) ↦ cc | inr (inr a) ↦ cc ]
+untouched_by (Line line) h = elim h [ inl a ↦ cc | inr (inl a) ↦ cc | inr (inr a) ↦ cc ]
+untouched_by Input h = elim h [ inl a ↦ cc | inr (inl a) ↦ cc | inr (inr a) ↦ cc ]
+untouched_by EndOfInput h = refl
+
+faults_by_status : (r : Result (Option Report) Failure) → faults_in r ≡ (if status_in r == 4 then 1 else 0)
+faults_by_status (Ok report) = refl
+faults_by_status (Err (CommandLine text)) = refl
+faults_by_status (Err (Plan error)) = refl
+faults_by_status (Err (Label label)) = refl
+faults_by_status (Err (Hand seat)) = refl
+faults_by_status (Err (Condition error)) = refl
+faults_by_status (Err (Question name error)) = refl
+faults_by_status (Err Cells) = refl
+faults_by_status (Err (Interrupted cause.Output)) = refl
+faults_by_status (Err (Interrupted cause.Memory)) = refl
+faults_by_status (Err (Interrupted cause.Spawn)) = refl
+faults_by_status (Err (Interrupted (cause.Stopped worker))) = refl
+faults_by_status (Err (Interrupted (cause.Unclosed worker))) = refl
+faults_by_status (Err (Line line)) = refl
+faults_by_status (Err Input) = refl
+faults_by_status (Err EndOfInput) = refl
+
+-- ---- the clauses
+
+pub text_at_zero : (words : List Text) (r : Result (Option Report) Failure) (w : Wish) (s : ℕ) (before after old new : Option (List ℕ)) → Answers words r before after old new → s ≡ status_in r
+    → asked words ≡ Some w → s ≡ 0 → AppendsFrom w before after old new
+text_at_zero words (Ok report) w s before after old new a is asks zero = a.text w asks
+text_at_zero words (Err f) w s before after old new a is asks zero = no_zero f (sym is ∙ zero)
+
+pub why : (words : List Text) (r : Result (Option Report) Failure) (w : Wish) (s : ℕ) (before after old new : Option (List ℕ)) (input_old input_new : ℕ) (took_all : Type 0) (err_old err_new : Option (List ℕ))
+    → Answers words r before after old new → s ≡ status_in r → CountsInput r input_old input_new → Says r took_all err_old err_new → asked words ≡ Some w → (s ≡ 0 → ⊥)
+    → TellsWhyFrom w s before after (input_new ≡ input_old + 1) old new took_all err_old err_new
+why words (Ok report) w s before after old new input_old input_new took_all err_old err_new a is counts says asks failed = absurd (failed is)
+why words (Err f) w s before after old new input_old input_new took_all err_old err_new a is counts says asks failed = record {
+  failure = f;
+  due = a.due w asks;
+  status_is = is;
+  stands = a.stands w asks;
+  input = λ input. subst (λ (x : Failure). CountsInput {T = Option Report} (Err x) input_old input_new) input counts;
+  line = says;
+}
+
+pub one_of_seven : (r : Result (Option Report) Failure) (s : ℕ) → s ≡ status_in r → IsStatusWithInput s
+one_of_seven (Ok report) s is = (0, omega arith, sym is)
+one_of_seven (Err f) s is = subst IsStatusWithInput (sym is) (status_of-status f)
+
+pub nothing_written : (words : List Text) (r : Result (Option Report) Failure) (s : ℕ) (before after old new : Option (List ℕ)) → Answers words r before after old new → s ≡ status_in r
+    → Untouches s → new ≡ old
+nothing_written words (Ok report) s before after old new a is h =
+    let zero : s ≡ 0 = is in absurd (elim h [ inl b ↦ omega (arith, zero, b) | inr (inl b) ↦ omega (arith, zero, b) | inr (inr b) ↦ omega (arith, zero, b) ])
+nothing_written words (Err f) s before after old new a is h = a.untouched (untouched_by f (subst Untouches is h))
+
+pub output_counted : (r : Result (Option Report) Failure) (s old new : ℕ) → s ≡ status_in r → new ≡ old + faults_in r → new ≡ old + (if s == 4 then 1 else 0)
+output_counted r s old new is h = subst (λ (n : ℕ). new ≡ old + (if n == 4 then 1 else 0)) (sym is) (h ∙ ap (λ (n : ℕ). old + n) (faults_by_status r))
+
+pub input_kept : (r : Result (Option Report) Failure) (s old new : ℕ) → s ≡ status_in r → CountsInput r old new → (s ≡ 4 → ⊥) → (s ≡ 7 → ⊥) → new ≡ old
+input_kept (Ok report) s old new is h four seven = h
+input_kept (Err (CommandLine text)) s old new is h four seven = h
+input_kept (Err (Plan error)) s old new is h four seven = h
+input_kept (Err (Label label)) s old new is h four seven = h
+input_kept (Err (Hand seat)) s old new is h four seven = h
+input_kept (Err (Condition error)) s old new is h four seven = h
+input_kept (Err (Question name error)) s old new is h four seven = h
+input_kept (Err Cells) s old new is h four seven = h
+input_kept (Err (Interrupted cause.Output)) s old new is h four seven = absurd (four is)
+input_kept (Err (Interrupted cause.Memory)) s old new is h four seven = h
+input_kept (Err (Interrupted cause.Spawn)) s old new is h four seven = h
+input_kept (Err (Interrupted (cause.Stopped worker))) s old new is h four seven = h
+input_kept (Err (Interrupted (cause.Unclosed worker))) s old new is h four seven = h
+input_kept (Err (Line line)) s old new is h four seven = h
+input_kept (Err Input) s old new is h four seven = absurd (seven is)
+input_kept (Err EndOfInput) s old new is h four seven = h
+
+pub has_report : (words : List Text) (r : Result (Option Report) Failure) (s : ℕ) (before after old new : Option (List ℕ)) (took_all : Type 0) (err_old err_new : Option (List ℕ))
+    → Answers words r before after old new → s ≡ status_in r → Says r took_all err_old err_new → s ≡ 0 → HasReport words took_all err_old err_new
+has_report words (Err f) s before after old new took_all err_old err_new a is says zero = no_zero f (sym is ∙ zero)
+has_report words (Ok None) s before after old new took_all err_old err_new a is says zero = record {
+  reported = λ search look notices asks wants took. absurd (some_made search look notices (a.report (make search look notices) asks) wants);
+  with_tricks = λ search look notices asks wants took. absurd (some_made_with_tricks search look notices (a.report (make_with_tricks search look notices) asks) wants);
+  quiet = λ quiet. says;
+}
+has_report words (Ok (Some report)) s before after old new took_all err_old err_new a is says zero = record {
+  reported = λ search look notices asks wants took. said search look notices report err_old err_new (a.report (make search look notices) asks) (says took);
+  with_tricks = λ search look notices asks wants took. said_with_tricks search look notices report err_old err_new (a.report (make_with_tricks search look notices) asks) (says took);
+  quiet = λ quiet. absurd (none_made (asked words) report a.report a.no_report quiet);
+}
