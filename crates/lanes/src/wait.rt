@@ -14,7 +14,7 @@
 //!
 //! One loop a lane's end: look at the stop flag, pause, count. It ends with enough, with less once
 //! the other end makes no progress, or without when the flag is up. A pause is some spins at first,
-//! and a sleep once these were in vain. No end yields: to yield gives a whole time slice to whatever
+//! and a sleep once these were in vain. No end yields: to yield gives a whole time slice to what
 //! else runs on the machine, a hundred times as long as the other end takes to fill a short lane.
 
 ghost use Rattle.std.specs.Prelude.{◌≡◌, ◌+◌, ◌<◌, ◌≤◌, ◌↔◌, true, false};
