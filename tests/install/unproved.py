@@ -129,6 +129,6 @@ def started():
     yield "by another name", by_another_name()
     yield from answered()
     if harness.PROGRAM == harness.BUILT:
-        # Others only ever slow a run down.
+        # Others only ever slow a run down: on a quiet machine, as `slow` asks for, it takes 20 milliseconds at the most.
         best = min(first_byte() for _ in range(40))
-        yield "the first byte", None if best < 0.020 else f"after {best * 1000:.0f} ms"
+        yield "the first byte", None if best < (0.020 if report.has("slow") else 0.100) else f"after {best * 1000:.0f} ms"
