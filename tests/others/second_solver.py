@@ -1,8 +1,15 @@
-"""The tricks of boards by libdds's own tables, and rules over them, for the comparison with deals-tricks."""
+"""The tricks of boards by libdds's own tables, and rules over them, for the comparison with deals-tricks.
+
+second_solver.py STRAIN.. < DEALS prints them as JSON: a process of its own, since libdds isn't made to be unloaded.
+"""
 
 import ctypes
 import dataclasses
+import json
+import os
 import random
+import subprocess
+import sys
 
 SEATS = "NESW"
 STRAINS = ["S", "H", "D", "C", "NT"]
@@ -29,6 +36,13 @@ def cards_of(deal: str) -> Cards:
 
 def tables(deals: list[str], strains: list[str]) -> list[dict]:
     """The tricks of each deal in these strains, by strain and declarer."""
+    words = [sys.executable, __file__, *strains]
+    run = subprocess.run(words, input="\n".join(deals), capture_output=True, text=True, check=True)
+    return [{(strain, seat): tricks for strain, seat, tricks in table} for table in json.loads(run.stdout)]
+
+
+def solved(deals: list[str], strains: list[str]) -> list[list]:
+    """The same, each table as a list."""
     library = ctypes.CDLL("libdds.so.0")
     found = []
     for at in range(0, len(deals), MOST_TABLES):
@@ -41,7 +55,7 @@ def tables(deals: list[str], strains: list[str]) -> list[dict]:
             raise RuntimeError("libdds refuses")
         for table in answer.tables[: len(some)]:
             rows = zip(STRAINS, table)
-            found.append({(strain, seat): row[at] for strain, row in rows for at, seat in enumerate(SEATS)})
+            found.append([(strain, seat, row[at]) for strain, row in rows for at, seat in enumerate(SEATS)])
     return found
 
 
@@ -79,3 +93,8 @@ def rules(dice: random.Random, strains: list[str]) -> list[Rule]:
         number = dice.choice([*range(14), 6, 7, 8, 9] if is_tricks else [1, 1, 2, 2, 3, 4, 5, 6, 7])
         found.append(Rule(option, strain, declarers, number, dice.choice(["=", ">=", "<="]) if is_tricks else ""))
     return found
+
+
+if __name__ == "__main__":
+    print(json.dumps(solved(sys.stdin.read().splitlines(), sys.argv[1:])), flush=True)
+    os._exit(0)
