@@ -1,5 +1,5 @@
 -- From what was done, and what was said of it, to what the program promises.
-use Rattle.std.proofs.Common.{◌≡◌, ◌∙◌, ◌⊎◌, ◌+◌, ◌==◌, ℕ, List, Option, None, Some, Result, Ok, Err, true, false, refl, sym, ap, subst, inl, inr, arith}
+use Rattle.std.proofs.Common.{◌≡◌, ◌∙◌, ◌⊎◌, ◌+◌, ◌==◌, ℕ, List, Option, None, Some, Result, Ok, Err, true, refl, sym, ap, subst, inl, inr, arith}
 use Rattle.std.specs.Prelude.{if◌then◌else◌}
 use Rattle.clap.specs.Walk.{Text}
 use Rattle.plans.specs.declared.cause.Cause.TheVariants as cause

@@ -1,5 +1,5 @@
 use Rattle.std.proofs.Common.{sym, subst, map, string_bytes}
-use Rattle.deals_cli.specs.Program.{IsFlushedAfter, IsStatusFor}
+use Rattle.deals_cli.specs.Program.{IsStatusFor}
 use Rattle.deals_cli.proofs.Concluding.{has_report, input_kept, nothing_written, one_of_seven, output_counted, text_at_zero, why}
 use Rattle.deals_cli.proofs.entry.program_with_input.Goals as goal
 
