@@ -6,7 +6,7 @@ use sinks::{Sink, put_all};
 use std::alloc::Global;
 use std::cell::{Cell, RefCell};
 use std::io;
-use std::io::{ErrorKind, Write};
+use std::io::{BufWriter, ErrorKind, Write};
 use std::process::Abort;
 use std::test::Fail;
 use std::time::{Clock, Duration};
@@ -45,32 +45,28 @@ impl Write for Pen<'_> {
     }
 }
 
-/// A writer that gathers all, until it is flushed.
+/// A pen that can break.
 #[derive(Drop)]
-struct Gatherer<'a> {
-    gathered: Vec<u8>,
+struct Breakable<'a> {
     pen: Pen<'a>,
     broken: &'a Cell<bool>,
 }
 
-impl Write for Gatherer<'_> {
+impl Write for Breakable<'_> {
     fn write(&mut self, buf: &[u8]) -> io::Result<usize> {
-        self.gathered.extend_from_slice(buf)?;
-        Ok(buf.len())
-    }
-
-    fn flush(&mut self) -> io::Result<()> {
         if self.broken.get() {
             return Err(io::Error::from(ErrorKind::StorageFull));
         }
-        self.pen.write_all(self.gathered.as_slice())?;
-        self.gathered.clear();
-        Ok(())
+        self.pen.write(buf)
+    }
+
+    fn flush(&mut self) -> io::Result<()> {
+        self.pen.flush()
     }
 }
 
 /// The sink of a test.
-type OnDesk<'a> = Prompt<Gatherer<'a>, Hand<'a>, Pen<'a>>;
+type OnDesk<'a> = Prompt<Breakable<'a>, Hand<'a>, Pen<'a>>;
 
 /// All that a test sets and reads.
 #[derive(Drop)]
@@ -92,19 +88,19 @@ impl Desk {
     }
 
     /// A run of a thousand candidates that starts now.
-    fn prompt(&self, alloc: Global, style: Style, drawn: Drawn) -> OnDesk<'_> {
+    fn prompt(&self, alloc: Global, style: Style, drawn: Drawn) -> io::Result<OnDesk<'_>> {
         let err = Pen { paper: &self.err };
         let now = self.millis.get();
         let counts = Counts::new(alloc, err, drawn, style, Some(1000), now);
         let clock = Hand {
             millis: &self.millis,
         };
-        let writer = Gatherer {
-            gathered: Vec::new(alloc),
+        let pen = Breakable {
             pen: Pen { paper: &self.out },
             broken: &self.broken,
         };
-        Prompt::new(writer, clock, counts, GATHERED_MILLIS)
+        let writer = BufWriter::new(alloc, pen)?;
+        Ok(Prompt::new(writer, clock, counts, GATHERED_MILLIS))
     }
 }
 
@@ -137,7 +133,7 @@ fn stands(rt: &impl Abort, paper: &RefCell<Vec<u8>>, text: &[u8]) {
 #[test]
 fn a_board_is_passed_on_after_a_fifth_of_a_second(rt: HostRuntime) -> Result<(), Fail> {
     let desk = Desk::new(rt.alloc());
-    let mut prompt = desk.prompt(rt.alloc(), Style::Never, Drawn::new(rt.alloc())?);
+    let mut prompt = desk.prompt(rt.alloc(), Style::Never, Drawn::new(rt.alloc())?)?;
     passes_on(&rt, &desk, &mut prompt);
     Ok(())
 }
@@ -177,7 +173,7 @@ const DRAWN: [(u64, u64, u64, &[u8]); 4] = [
 #[test]
 fn counts_are_drawn_and_wiped(rt: HostRuntime) -> Result<(), Fail> {
     let desk = Desk::new(rt.alloc());
-    let mut prompt = desk.prompt(rt.alloc(), Style::Redrawn, Drawn::new(rt.alloc())?);
+    let mut prompt = desk.prompt(rt.alloc(), Style::Redrawn, Drawn::new(rt.alloc())?)?;
     draws(&rt, &desk, &mut prompt);
     wipes_once(&rt, &desk, &mut prompt);
     Ok(())
@@ -200,7 +196,7 @@ fn wipes_once(rt: &impl Abort, desk: &Desk, prompt: &mut OnDesk<'_>) {
 #[test]
 fn a_line_a_second_without_a_terminal(rt: HostRuntime) -> Result<(), Fail> {
     let desk = Desk::new(rt.alloc());
-    let mut prompt = desk.prompt(rt.alloc(), Style::Lines, Drawn::new(rt.alloc())?);
+    let mut prompt = desk.prompt(rt.alloc(), Style::Lines, Drawn::new(rt.alloc())?)?;
     for millis in 50..80 {
         watch_at(&desk, &mut prompt, millis * 100, millis, 0);
     }
@@ -217,7 +213,7 @@ fn what_is_said_wipes_the_line(rt: HostRuntime) -> Result<(), Fail> {
     let drawn = Drawn::new(rt.alloc())?;
     let pen = Pen { paper: &desk.err };
     let mut err = OverLine::new(pen, pen, Some(drawn.try_clone()?));
-    let mut prompt = desk.prompt(rt.alloc(), Style::Redrawn, drawn);
+    let mut prompt = desk.prompt(rt.alloc(), Style::Redrawn, drawn)?;
     let said = say_around_a_line(&desk, &mut prompt, &mut err);
     holds(&rt, "all is said", said.is_ok());
     let text = b"before\n\r\x1b[?7l0%  0 of 1,000 candidates  0 boards  0 /s  16 min 40 s left\
@@ -241,7 +237,7 @@ fn say_around_a_line(
 #[test]
 fn counted_boards_were_passed_on(rt: HostRuntime) -> Result<(), Fail> {
     let desk = Desk::new(rt.alloc());
-    let mut prompt = desk.prompt(rt.alloc(), Style::Lines, Drawn::new(rt.alloc())?);
+    let mut prompt = desk.prompt(rt.alloc(), Style::Lines, Drawn::new(rt.alloc())?)?;
     counts_two(&rt, &desk, &mut prompt);
     Ok(())
 }
@@ -267,7 +263,7 @@ fn boards_wipe_the_line_of_their_terminal(rt: HostRuntime) -> Result<(), Fail> {
     let drawn = Drawn::new(rt.alloc())?;
     let pen = Pen { paper: &desk.err };
     let mut out = OverLine::new(pen, pen, Some(drawn.try_clone()?));
-    let mut prompt = desk.prompt(rt.alloc(), Style::Redrawn, drawn);
+    let mut prompt = desk.prompt(rt.alloc(), Style::Redrawn, drawn)?;
     let written = write_over_a_line(&desk, &mut prompt, &mut out);
     holds(&rt, "all is written", written.is_ok());
     let text = b"\r\x1b[?7l0%  0 of 1,000 candidates  0 boards  0 /s  16 min 40 s left\
@@ -292,7 +288,7 @@ fn write_over_a_line(
 #[test]
 fn a_failure_is_told_by_the_next_call(rt: HostRuntime) -> Result<(), Fail> {
     let desk = Desk::new(rt.alloc());
-    let mut prompt = desk.prompt(rt.alloc(), Style::Redrawn, Drawn::new(rt.alloc())?);
+    let mut prompt = desk.prompt(rt.alloc(), Style::Redrawn, Drawn::new(rt.alloc())?)?;
     fails_once(&rt, &desk, &mut prompt);
     stands(&rt, &desk.out, b"onethree");
     let line = b"\r\x1b[?7l0%  1 of 1,000 candidates  1 board  0 /s  16 min 39 s left\
