@@ -206,6 +206,8 @@ def check_clean(folder):
     shown, _ = shell.completed("deals make --w")
     yield "clean, --w in bash", "--where" in shown and "--workers" in shown
     shell.close()
+    packages.need("libdds-dev", "/usr/include/dds/dll.h")
+    packages.need("nlohmann-json3-dev", "/usr/include/nlohmann/json.hpp")
     subprocess.run([harness.TOP / "companion" / "build", folder / "one"], check=True)
     [companion] = (folder / "one").glob("deals-tricks_*.deb")
     shutil.copy(companion, clean.root / "deals-tricks.deb")
