@@ -59,7 +59,7 @@ def build():
     if PROGRAM != BUILT:
         print(f"the tests run {PROGRAM}", file=sys.stderr, flush=True)
         return
-    subprocess.run([TOP / "check", "program"], check=True, stderr=subprocess.DEVNULL)
+    subprocess.run([TOP / "check", "program"], check=True)
 
 
 def deals(*words, given=b"", stdin=None):
