@@ -10,6 +10,7 @@
 # The folder is shared by all machines. Each has the script `shard`: where the package puts it, or where SHARD says.
 set -eu
 folder=$1
-count=$2
+# In ten, without zeros in front: the shell's own arithmetic takes 010 for eight.
+count=$(printf '%s\n' "$2" | sed 's/^0*\(.\)/\1/')
 shift 2
 exec "${SHARD:-/usr/share/doc/deals/examples/shard}" "$folder" $((SLURM_ARRAY_TASK_ID * count)) "$count" "$@"

@@ -38,7 +38,7 @@ make_folder() {
 
 # Refuses a place where a folder has the name of a file.
 look_at() {
-    for name in $files; do
+    for name in $files share/doc/deals/install.sh share/doc/deals/installed; do
         if [ -d "$1/$name" ]; then
             echo "install.sh: $1/$name is a folder: move it away, and nothing was installed" >&2
             exit 1
@@ -51,7 +51,7 @@ install_all() {
     for name in $files; do
         make_folder "$1" "${name%/*}"
         cp "$here/files/$name" "$1/$name.new"
-        chmod "$(if [ -x "$here/files/$name" ]; then echo 755; else echo 644; fi)" "$1/$name.new"
+        chmod "$(if [ -n "$(find "$here/files/$name" -perm -100)" ]; then echo 755; else echo 644; fi)" "$1/$name.new"
         mv -f "$1/$name.new" "$1/$name"
     done
     doc=share/doc/deals
@@ -92,7 +92,7 @@ case $1 in
             exit 1
         }
         umask 022
-        files=$(cd "$here/files" && find . -type f | sed 's,^\./,,' | sort)
+        files=$(CDPATH='' cd -- "$here/files" && find . -type f | sed 's,^\./,,' | sort)
         look_at "$1"
         mkdir -p "$1"
         remove "$1"

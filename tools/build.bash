@@ -5,7 +5,7 @@ lock_build() {
     exec 5<"$top"
     flock -n 5 || {
         echo "check: waiting for another build in this checkout" >&2
-        flock 5
+        beside flock 5 </dev/null
     }
 }
 
@@ -61,7 +61,7 @@ build() {
     fi
     rm -f -- "$built"
     mv -f -- "$made" "$program"
-    note_built "$sources"
+    note_built "$sources" "$(sum_program)"
     leave_room
     exec 3>&- 4<&- 5<&-
     trap - INT TERM HUP QUIT

@@ -9,7 +9,8 @@ built=$out/built-from
 # what the program's stored run reads and writes.
 places=(-L crates.txt HANDLES crates)
 kinds=(\( -name out -o -name must-fail -o -name 'test_*' \) -prune -o -type f
-    \( -name '*.rt' -o -name '*.antt' -o -name crates.txt -o -name HANDLES -o -path 'crates/deals/[^/]*' \))
+    \( -name '*.rt' -o -name '*.antt' -o -name crates.txt -o -name HANDLES -o
+        -path 'crates/deals/*' ! -path 'crates/deals/src/*' \))
 
 # The files that the program is built from, each ended by a NUL.
 list_sources() (
@@ -39,11 +40,14 @@ is_fresh() {
     [ -n "$(cd -- "$top" && find "${places[@]}" crates/deals/out/deals -newerct '2 seconds ago' -type f -print -quit)" ]
 }
 
-# Notes that the program was built from the sources with this sum.
+# Notes that the program, with the second sum, was built from the sources with the first. It is known by its stamp from
+# then on if the sources are still those, and not a change of the meantime.
 note_built() {
     local seen=""
     is_fresh || seen=$(stamp)
-    printf '%s\n' "$1" "$(sum_program)" "$seen" >"$built.$$" && mv -f -- "$built.$$" "$built"
+    [ -z "$seen" ] || [ "$(sum_sources)" = "$1" ] && [ "$(sum_program)" = "$2" ] || seen=""
+    { printf '%s\n' "$1" "$2" "$seen" >"$built.$$" && mv -f -- "$built.$$" "$built"; } 2>/dev/null ||
+        { rm -f -- "$built.$$" && return 1; }
 }
 
 # Whether the program is there, is the one that was built, and was built from the sources as they are.
@@ -55,5 +59,5 @@ is_built() {
     [ "${noted[2]-}" != "$seen" ] || return 0
     seen=$(sum_sources) || refuse 1 "the sources can't be read"
     [ "${noted[0]-}" = "$seen" ] && [ "${noted[1]-}" = "$(sum_program)" ] || return 1
-    [ ! -w "$out" ] || note_built "$seen"
+    [ ! -w "$out" ] || note_built "$seen" "${noted[1]}" || true
 }

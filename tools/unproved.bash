@@ -19,7 +19,8 @@ reads_input() {
 # Keeps the program's input, to its end.
 keep_input() {
     reads_input "$@" && [ -e /proc/self/fd/0 ] || return 0
-    head -c $((MOST_INPUT + 1)) >"$room/input" || give_up "its input can't be read"
+    [ ! -t 0 ] || echo "deals: the input is read first, to its end (Ctrl-D)" >&2
+    beside head -c $((MOST_INPUT + 1)) >"$room/input" || give_up "its input can't be read"
     [ "$(stat -c %s "$room/input")" -le "$MOST_INPUT" ] || give_up "its input has more than 64 MiB"
 }
 
@@ -50,7 +51,7 @@ pass_on() {
         echo "output failed" >&2
         exit 4
     fi
-    say_own >&2
+    say_own >&2 2>/dev/null || true
     exit "$1"
 }
 
@@ -66,7 +67,7 @@ explain_failure() {
 say_first() {
     local why="not built here: running it"
     [ ! -x "$program" ] || why="the sources have changed since the program was built: running them"
-    echo "deals: $why without proofs, with checks, in about a minute; $ADVICE" >&2
+    echo "deals: $why without proofs, with checks, in about a minute; $ADVICE" >&2 2>/dev/null || true
 }
 
 run_unproved() {
@@ -74,7 +75,9 @@ run_unproved() {
     command -v rt >/dev/null ||
         refuse 127 "the program isn't built, and what runs or builds it isn't here: install Rattle's toolchain, so that \
 rt is on the PATH, or install a package of deals, which needs none"
+    { : >&2; } 2>/dev/null || exec 2>/dev/null
     end_by_signals
+    trap : PIPE
     make_room try
     say_first
     : >"$room/input"

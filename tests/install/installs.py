@@ -120,6 +120,9 @@ def check_tarball(folder):
     right = (status, out, left) == (1, b"", [kept]) and b"bin/deals is a folder" in err
     yield "the tarball, over a folder", right
     shutil.rmtree(prefix / "bin")
+    (prefix / "share/doc/deals/installed").mkdir(parents=True)
+    yield "the tarball, over a folder for its list", told(install)[0] == 1
+    shutil.rmtree(prefix / "share/doc")
     for _ in range(2):
         status, out, err = told(install)
         yield "the tarball installs", (status, err) == (0, b"") and out.startswith(b"deals is in ")

@@ -12,6 +12,7 @@ import contextlib
 import os
 import pathlib
 import pty
+import re
 import shutil
 import signal
 import subprocess
@@ -66,7 +67,8 @@ TELLS += "echo 'rt: low is kept: so'; sleep 2; echo 'rt: deals proved'; sleep 2\
 FAILS = 'for at in $(seq 100); do echo "line $at" >&2; done; exit 3\n'
 LASTS = 'sleep 300 & echo "$$ $!" > "$here/pids.new"; mv "$here/pids.new" "$here/pids"; wait\n'
 STAYS = "trap '' TERM; " + LASTS.replace("wait\n", "while :; do sleep 1; done\n")
-WAITS = "sleep 1\n" + DOES
+WAITS = "sleep 4\n" + DOES
+EDITED = "(sleep 1; echo '// later' >> \"$here/../checkout/crates/deals/src/main.rt\")\n"
 # What `rt try` says where there is no answer: too much output, too long a run, a fault that the checks found.
 LACKS = {
     "too much": ("checked: no-answer: the program wrote more than 1048576 bytes\nraces: no\nrun=no-answer proved=no", 6),
@@ -233,13 +235,21 @@ class Checks:
             process.communicate()
             refused = it.call("pick", given=bytes((64 << 20) + 1))
             yield "too much input", refused[:2] == (1, b"") and b"64 MiB" in refused[2] and it.is_clean()
-            with subprocess.Popen(["true"]) as closed:
-                closed.wait()
-            end = subprocess.run(
-                ["bash", "-c", '"$0" a | true; echo "${PIPESTATUS[0]}"', it.path("deals")],
-                env=it.environment(), capture_output=True, timeout=PATIENCE,
-            )
-            yield "a reader that left", end.stdout in (b"0\n", b"4\n") and it.is_clean()
+            yield from self.check_left(it)
+            for words in ("2>&-", "2> /dev/full"):
+                line = ["bash", "-c", f'"$0" end {words}', it.path("deals")]
+                end = subprocess.run(line, env=it.environment(), capture_output=True, timeout=PATIENCE)
+                yield f"standard error, {words}", (end.returncode, end.stdout) == (41, shown("end"))
+
+    def check_left(self, it):
+        """A reader of standard output that left."""
+        reading, writing = os.pipe()
+        os.close(reading)
+        settings = {"env": it.environment(), "stdout": writing, "stderr": subprocess.PIPE, "timeout": PATIENCE}
+        end = subprocess.run([it.path("deals"), "a"], **settings)
+        os.close(writing)
+        right = (end.returncode, end.stderr) == (4, FIRST_LINE + b"output failed\n")
+        yield "a reader that left", right and it.is_clean()
 
     def check_no_answer(self):
         for name, (said, status) in LACKS.items():
@@ -279,7 +289,8 @@ class Checks:
             status, said = on_terminal([it.path("deals"), "a"], it.environment())
             first, rest = said.split(b"\r\n", 1)
             yield "on a terminal", status == 0 and first + b"\n" == FIRST_LINE
-            yield "the seconds", rest.startswith(b"\rdeals: 0 seconds") and b"\rdeals: 2 seconds" in rest
+            seconds = [int(at) for at in re.findall(rb"\rdeals: (\d+) seconds", rest)]
+            yield "the seconds", len(set(seconds)) > 1 and seconds == sorted(seconds)
             yield "are wiped", rest.endswith(b"\r\x1b[K" + shown("a"))
             status, said = on_terminal([it.path("check"), "program"], it.environment())
             yield "a build on a terminal", status == 0 and said.startswith(BUILD_LINE.replace(b"\n", b"\r\n"))
@@ -301,6 +312,11 @@ class Checks:
             yield "the whole check", right and b"\ncheck: tests/rows/run\n" in end.stdout and b"\r" not in end.stdout
             it.works_by(FAILS)
             yield "it leaves the program built", it.call("x") == (0, shown("x"), b"")
+            it.works_by(DOES + EDITED + "sleep 3; echo '3 passed, 0 failed'\n")
+            subprocess.run([it.path("check")], cwd="/", env=environment, capture_output=True, timeout=PATIENCE)
+            it.works_by(DOES)
+            yield "changed during the whole check", it.call("x") == (0, shown("x"), CHANGED_LINE)
+            it.works_by(FAILS)
             failed = subprocess.run([it.path("check")], cwd="/", env=environment, capture_output=True, timeout=PATIENCE)
             yield "a whole check that fails", failed.returncode == 3 and b"line 100" in failed.stdout
             it.works_by(says + "echo '3 passed, 0 failed'\n")
@@ -358,8 +374,21 @@ class Checks:
             right = shown("pick") * 3 + shown("a")
             yield "a pipe of four", (end.returncode, end.stdout) == (0, right) and it.is_clean()
             many = [it.start(str(at)) for at in range(12)]
-            ends = [process.communicate(timeout=PATIENCE)[0] for process in many]
-            yield "twelve at once", ends == [shown(str(at)) for at in range(12)] and it.is_clean()
+            ends = [process.communicate(timeout=PATIENCE) for process in many]
+            yield "twelve at once", ends == [(shown(str(at)), FIRST_LINE) for at in range(12)] and it.is_clean()
+
+    def check_rooms(self):
+        """What others put where rooms are is left as it is; what a killed launcher left isn't."""
+        with self.checkout() as it:
+            home, left = os.path.join(it.scratch, b"home"), os.path.join(it.scratch, b"deals-try.left")
+            for folder in (home, left):
+                os.makedirs(folder)
+                with open(os.path.join(folder, b"kept"), "wb"):
+                    pass
+            os.symlink(home, os.path.join(it.scratch, b"deals-try.link"))
+            yield "a link among rooms", it.call("x") == (0, shown("x"), FIRST_LINE)
+            yield "its folder stays", os.listdir(home) == [b"kept"]
+            yield "a room that was left goes", sorted(os.listdir(it.scratch)) == [b"deals-try.link", b"home"]
 
     def check_places(self):
         with self.checkout(is_built=True) as it:
@@ -529,5 +558,6 @@ def launched():
         signal.signal(number, signal.SIG_DFL)
     with tempfile.TemporaryDirectory(prefix="launcher-") as folder:
         checks = Checks(folder)
-        for name in [name for name in dir(Checks) if name.startswith("check_") and name != "check_ended_by"]:
+        parts = [name for name in dir(Checks) if name.startswith("check_") and name not in ("check_ended_by", "check_left")]
+        for name in parts:
             yield from report.judged(getattr(checks, name)())
