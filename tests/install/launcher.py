@@ -553,9 +553,7 @@ def has_ended(pid):
 
 def launched():
     """The launcher and `check program`, over a stand-in for what builds and tries."""
-    # A job in the background, or one under nohup, is started with these ignored, and so would be what it starts.
-    for number in (signal.SIGINT, signal.SIGQUIT, signal.SIGHUP):
-        signal.signal(number, signal.SIG_DFL)
+    harness.usual_signals()
     with tempfile.TemporaryDirectory(prefix="launcher-") as folder:
         checks = Checks(folder)
         parts = [name for name in dir(Checks) if name.startswith("check_") and name not in ("check_ended_by", "check_left")]

@@ -126,6 +126,7 @@ def by_another_name():
 
 def started():
     """The launcher over a real checkout: without proofs, and how soon the built program answers."""
+    harness.usual_signals()
     yield "by another name", by_another_name()
     yield from answered()
     if harness.PROGRAM == harness.BUILT:

@@ -4,6 +4,7 @@ import dataclasses
 import os
 import pathlib
 import re
+import signal
 import struct
 import subprocess
 import sys
@@ -97,6 +98,12 @@ def run(command, shim, fault, at, stderr=subprocess.PIPE, given=b""):
     calls, failed, live = REPORT.unpack(os.pread(report, REPORT.size, 0))
     os.close(report)
     return End(status, out, err or b"", calls, failed, live)
+
+
+def usual_signals():
+    """A job in the background, or one under nohup, is started with these ignored, and so would be what it starts."""
+    for number in (signal.SIGINT, signal.SIGQUIT, signal.SIGHUP):
+        signal.signal(number, signal.SIG_DFL)
 
 
 def scratch():

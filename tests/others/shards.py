@@ -142,7 +142,7 @@ def stopped(deals):
         with tempfile.TemporaryDirectory(prefix="shards-") as folder:
             words = ["sh", str(SHARD), folder, "3", "1000000000000", *SEED, "--where", "hcp(north)>=37"]
             settings = {**os.environ, "DEALS": str(harness.PROGRAM)}
-            process = subprocess.Popen(words, env=settings, stderr=subprocess.DEVNULL, preexec_fn=usual_signals)
+            process = subprocess.Popen(words, env=settings, stderr=subprocess.DEVNULL, preexec_fn=harness.usual_signals)
             found = search_of(3)
             began = time.monotonic()
             process.send_signal(sign)
@@ -150,12 +150,6 @@ def stopped(deals):
             is_soon = time.monotonic() - began < 5
             right = status == 128 + sign and is_soon and not os.listdir(folder) and search_of(3, 0) is None
             yield f"a shard, {sign.name}", None if found and right else f"{status}, {os.listdir(folder)}"
-
-
-def usual_signals():
-    """A job in the background ignores these, and so would what it starts."""
-    for sign in (signal.SIGINT, signal.SIGQUIT, signal.SIGHUP):
-        signal.signal(sign, signal.SIG_DFL)
 
 
 def array(deals):
