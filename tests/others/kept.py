@@ -315,7 +315,8 @@ def stopped():
         source.write_bytes(b"".join(GAMES) * 20_000)
         for number in (signal.SIGINT, signal.SIGTERM, signal.SIGHUP) * 4:
             with source.open("rb") as given, target.open("wb") as out:
-                process = subprocess.Popen([PROGRAM, *EACH], stdin=given, stdout=out, stderr=subprocess.PIPE)
+                settings = {"stderr": subprocess.PIPE, "preexec_fn": harness.usual_signals}
+                process = subprocess.Popen([PROGRAM, *EACH], stdin=given, stdout=out, **settings)
                 while target.stat().st_size == 0 and process.poll() is None:
                     time.sleep(0.001)
                 process.send_signal(number)
