@@ -8,14 +8,12 @@ ghost use Rattle.std.specs.Prelude.{true, false, MatchBool};
 ghost use Rattle.lanes.specs.Slots.{verdict_in, verdicts_in};
 ghost use Rattle.lanes.specs.declared.ends.LaneError.TheVariants.{Capacity, Memory};
 
-use crate::bell::{Bell, Bells};
 use crate::verdict::{Block, MAX_BLOCK, Slot, Verdict};
-use crate::wait::{Pace, Patience, Pause, Raised};
+use crate::wait::Pace;
 use cards::MAX_CAPACITY;
 use rtrb::{Consumer, Finished, Producer, RingBuffer};
 use std::alloc::Global;
 use std::marker::Model;
-use std::sync::Arc;
 use thiserror::Error;
 
 /// A block is the capacity divided by this: two blocks and the ring between them share it.
@@ -27,7 +25,7 @@ pub enum LaneError {
     /// The capacity is not 1 to 4,096.
     #[error("a lane holds 1 to 4096 verdicts")]
     Capacity,
-    /// There was no memory for it.
+    /// There was no memory for the ring.
     #[error("out of memory")]
     Memory,
 }
@@ -38,8 +36,7 @@ pub struct LaneIn {
     producer: Producer<Slot>,
     // How many candidates the worker judges before it sends their verdicts.
     ahead: usize,
-    patience: Patience,
-    bells: Arc<Bells, Global>,
+    pace: Pace,
 }
 
 impl Model for LaneIn {
@@ -60,12 +57,10 @@ impl Model for LaneIn {
     ghost invariant = { λ l. (1 ≤ l.ahead) × (l.ahead ≤ 16) };
 }
 
-/// What a closed sending end leaves. Contracts see all that was ever sent, which ring it is, and
-/// whether the end was closed short: by a worker that had raised the stop flag.
+/// What a closed sending end leaves. Contracts see all that was ever sent, and which ring it is.
 #[derive(Drop)]
 pub struct Closed {
     finished: Finished<Slot>,
-    is_short: bool,
 }
 
 impl Model for Closed {
@@ -79,7 +74,6 @@ impl Model for Closed {
     ghost view = { λ c. record {
       sent = verdicts_in (all_sent c.finished);
       ring = ring_of_finished c.finished;
-      is_short = c.is_short;
     } };
 }
 
@@ -89,8 +83,7 @@ pub struct LaneOut {
     consumer: Consumer<Slot>,
     block: Block,
     settled: bool,
-    patience: Patience,
-    bells: Arc<Bells, Global>,
+    pace: Pace,
 }
 
 impl Model for LaneOut {
@@ -118,7 +111,7 @@ impl Model for LaneOut {
 /// Makes a lane that holds at most `capacity` verdicts, and returns its two ends.
 ///
 /// # Errors
-/// `Capacity` unless that is 1 to 4,096; `Memory` if an allocation failed.
+/// `Capacity` unless that is 1 to 4,096; `Memory` if the allocation of the ring failed.
 pub fn lane(alloc: Global, capacity: u32) -> Result<(LaneIn, LaneOut), LaneError>
     ensures capacity { IsErrOf result Capacity ↔ ((capacity ≡ 0) ⊎ (4096 < capacity)) }
     ensures ring { IfOk result (λ r. r.0.ring ≡ r.1.ring) }
@@ -176,24 +169,16 @@ fn ends_with_blocks(
     let Ok((producer, consumer)) = RingBuffer::new(alloc, slots) else {
         return Err(LaneError::Memory);
     };
-    let Ok(bells) = Arc::new(alloc, Bells::new()) else {
-        return Err(LaneError::Memory);
-    };
-    let Ok(theirs) = Arc::try_clone(&bells) else {
-        return Err(LaneError::Memory);
-    };
     let sender = LaneIn {
         producer,
         ahead: block.max(1),
-        patience: Patience::of(pace),
-        bells: theirs,
+        pace,
     };
     let taker = LaneOut {
         consumer,
         block: Block::new(block),
         settled: false,
-        patience: Patience::of(pace),
-        bells,
+        pace,
     };
     Ok((sender, taker))
 }
@@ -204,8 +189,7 @@ impl Drop for LaneIn {
         let LaneIn {
             producer: _,
             ahead: _,
-            patience: _,
-            bells: _,
+            pace: _,
         } = self;
     }
 }
@@ -271,8 +255,6 @@ impl LaneIn {
     {
         // A push is the core's Send.
         self.producer.push_reserved(verdict);
-        // The worker may now wait at its gate, for longer than the writer is to sleep.
-        self.bells.writer.ring();
     }
 
     /// Sends all these verdicts, as the lane keeps them, or none if too few slots are free. Never
@@ -287,24 +269,14 @@ impl LaneIn {
         self.producer.push_entire_slice(verdicts).is_ok()
     }
 
-    /// Begins to wait for room, once the writer is awake.
-    pub(crate) fn begin_wait(&mut self) -> Pause
-        ensures { self.new ≡ self.old }
-    {
-        self.bells.writer.ring();
-        self.patience.begin(self.producer.capacity())
+    /// How many verdicts the ring holds at most.
+    pub(crate) fn capacity(&self) -> usize {
+        self.producer.capacity()
     }
 
-    /// Ends a wait.
-    pub(crate) fn end_wait(&mut self, pause: &Pause)
-        ensures { self.new ≡ self.old }
-    {
-        self.patience.learn(pause, &self.bells.worker);
-    }
-
-    /// What wakes it.
-    pub(crate) fn bell(&self) -> &Bell {
-        &self.bells.worker
+    /// What it does while it waits.
+    pub(crate) fn pace(&self) -> Pace {
+        self.pace
     }
 
     /// How many candidates the worker is to judge before it sends their verdicts.
@@ -317,38 +289,16 @@ impl LaneIn {
     /// Closes the lane, and returns what tells all that was sent. It returns `None` if the other
     /// end was let go before, since the ring then can't say how it ended. Never blocks.
     pub fn close(self) -> Option<Closed>
-        ensures sent { IfSome result (λ c. (c.sent ≡ self.sent) × (c.ring ≡ self.ring)) }
-        ensures whole { IfSome result (λ c. c.is_short ≡ false) }
-    {
-        self.finish(false)
-    }
-
-    /// Closes the lane as `close` does, after the stop flag was raised.
-    pub(crate) fn close_short(self, _raised: &Raised) -> Option<Closed>
-        ensures sent { IfSome result (λ c. (c.sent ≡ self.sent) × (c.ring ≡ self.ring)) }
-        ensures short { IfSome result (λ c. c.is_short ≡ true) }
-    {
-        self.finish(true)
-    }
-
-    /// Closes the lane, and wakes the writer.
-    fn finish(self, is_short: bool) -> Option<Closed>
-        ensures sent { IfSome result (λ c. (c.sent ≡ self.sent) × (c.ring ≡ self.ring)) }
-        ensures short { IfSome result (λ c. c.is_short ≡ is_short) }
+        ensures { IfSome result (λ c. (c.sent ≡ self.sent) × (c.ring ≡ self.ring)) }
     {
         let LaneIn {
             producer,
             ahead: _,
-            patience: _,
-            bells,
+            pace: _,
         } = self;
         // Giving up the producing end is the core's Close.
-        let finished = producer.finish();
-        bells.writer.ring();
-        Some(Closed {
-            finished: finished?,
-            is_short,
-        })
+        let finished = producer.finish()?;
+        Some(Closed { finished })
     }
 }
 
@@ -359,8 +309,7 @@ impl Drop for LaneOut {
             consumer: _,
             block: _,
             settled: _,
-            patience: _,
-            bells: _,
+            pace: _,
         } = self;
     }
 }
@@ -407,9 +356,6 @@ impl LaneOut {
             return self.consumer.cached_slots() > 0;
         }
         self.block.fill(&mut self.consumer);
-        if self.consumer.cached_slots() == 0 {
-            self.bells.worker.ring();
-        }
         !self.block.is_empty() || !self.consumer.is_empty()
     }
 
@@ -493,28 +439,13 @@ impl LaneOut {
         self.settled
     }
 
-    /// Wakes the worker if it sleeps: once the stop flag is raised, so that it is seen. Never
-    /// blocks.
-    pub fn wake_worker(&self) {
-        self.bells.worker.ring();
+    /// What it does while it waits.
+    pub(crate) fn pace(&self) -> Pace {
+        self.pace
     }
 
-    /// Begins to wait for a verdict.
-    pub(crate) fn begin_wait(&mut self) -> Pause
-        ensures { self.new ≡ self.old }
-    {
-        self.patience.begin(self.consumer.capacity())
-    }
-
-    /// Ends a wait.
-    pub(crate) fn end_wait(&mut self, pause: &Pause)
-        ensures { self.new ≡ self.old }
-    {
-        self.patience.learn(pause, &self.bells.writer);
-    }
-
-    /// What wakes it.
-    pub(crate) fn bell(&self) -> &Bell {
-        &self.bells.writer
+    /// How many verdicts the ring holds at most.
+    pub(crate) fn capacity(&self) -> usize {
+        self.consumer.capacity()
     }
 }

@@ -2,7 +2,6 @@
 //! the writer.
 #![tactic(auto)]
 
-mod bell;
 mod ends;
 mod job;
 pub mod laws;

@@ -13,18 +13,15 @@
 //! half a lane's content.
 //!
 //! One loop a lane's end: look at the stop flag, pause, count. It ends with enough, with less once
-//! the other end makes no progress, or without when the flag is up. A pause is some spins at first,
-//! and a sleep once these were in vain. No end yields: to yield gives a whole time slice to what
-//! else runs on the machine, a hundred times as long as the other end takes to fill a short lane.
+//! the other end makes no progress, or without when the flag is up.
 
 ghost use Rattle.std.specs.Prelude.{◌≡◌, ◌+◌, ◌<◌, ◌≤◌, ◌↔◌, true, false};
 ghost use Rattle.lanes.specs.declared.wait.Pace.TheVariants.{Spins};
 
-use crate::bell::Bell;
 use crate::ends::{LaneIn, LaneOut};
-use std::hint;
 use std::sync::Wait;
 use std::sync::atomic::{AtomicBool, Ordering};
+use std::{hint, thread};
 
 /// The fewest spins between two looks, for a lane of one verdict.
 const MIN_SPINS: usize = 4;
@@ -36,13 +33,9 @@ const MAX_SPINS: usize = 4096;
 /// lane's content.
 const SPINS_A_VERDICT: usize = 2;
 
-/// How many spins without progress an end waits before it sleeps. That is some ten microseconds:
-/// about what it takes to sleep and to be woken.
-const PATIENCE: usize = 1024;
-
-/// After spins in vain, how many times an end sleeps at once when it has to wait. On a busy machine
-/// the other end seldom runs at the same time, and to spin keeps it from running.
-const WAITS_WITHOUT_SPINS: u32 = 32;
+/// How many spins without progress an end waits before it lets other threads run. That takes a
+/// microsecond or more, as to yield does: an end of a short lane looks again some times instead.
+const PATIENCE: usize = 64;
 
 /// A spinning end goes on with a lane's capacity divided by this: with half of it, one end works
 /// while the other does.
@@ -51,22 +44,22 @@ const PARTS_OF_A_LANE: usize = 2;
 /// How an end of a lane waits for the other one.
 #[derive(Clone, Copy, Drop)]
 pub enum Pace {
-    /// It spins for a while before it sleeps: the other end has a core of its own.
+    /// It spins for a while before it lets other threads run: the other end has a core of its own.
     Spins,
-    /// It sleeps at once: there are more threads than cores.
-    Sleeps,
+    /// It lets other threads run at once: there are more threads than cores.
+    Yields,
 }
 
 impl Pace {
-    /// The pace of a run with this many workers on this many cores: its ends sleep at once unless
-    /// there is a core for each worker and one for the writer.
+    /// The pace of a run with this many workers on this many cores: its ends yield unless there is
+    /// a core for each worker and one for the writer.
     pub fn of(workers: u32, cores: usize) -> Pace
         ensures { (result ≡ Spins) ↔ (workers + 1 ≤ cores) }
     {
         if (workers as usize) < cores {
             Pace::Spins
         } else {
-            Pace::Sleeps
+            Pace::Yields
         }
     }
 }
@@ -89,15 +82,14 @@ impl LaneIn {
         ensures sent { self.new.sent ≡ self.old.sent }
         ensures room { result ≡ true → 0 < self.new.room }
     {
-        let mut pause = self.begin_wait();
+        let mut pause = Pause::new(self.capacity(), self.pace());
         for _ in rt.forever() {
             // A load of the stop flag isn't an event of the core.
             if stop.load(Ordering::SeqCst) {
                 return false;
             }
-            pause.wait(rt, self.bell());
+            pause.wait();
             if pause.is_enough(self.count_room()) {
-                self.end_wait(&pause);
                 return true;
             }
         }
@@ -130,16 +122,15 @@ impl LaneOut {
         ensures some { result ≡ true → 0 < self.new.known }
         ensures none { result ≡ false → self.new.known ≡ 0 }
     {
-        let mut pause = self.begin_wait();
+        let mut pause = Pause::new(self.capacity(), self.pace());
         for _ in rt.forever() {
             // A load of the stop flag isn't an event of the core.
             if stop.load(Ordering::SeqCst) {
                 // The worker may have sent since the last look.
                 return self.has_verdict();
             }
-            pause.wait(rt, self.bell());
+            pause.wait();
             if pause.is_enough(self.count_verdicts()) {
-                self.end_wait(&pause);
                 return true;
             }
         }
@@ -147,108 +138,46 @@ impl LaneOut {
     }
 }
 
-/// Whether an end of a lane spins before it sleeps, the next time that it waits.
-#[derive(Drop)]
-pub(crate) struct Patience {
-    pace: Pace,
-    without: u32,
-}
-
-impl Patience {
-    /// That of an end that waits at this pace, and has not waited yet.
-    pub(crate) fn of(pace: Pace) -> Patience {
-        Patience { pace, without: 0 }
-    }
-
-    /// Begins to wait, at a ring of this capacity.
-    pub(crate) fn begin(&mut self, capacity: usize) -> Pause {
-        if self.without > 0 {
-            self.without -= 1;
-            return Pause::new(capacity, 0);
-        }
-        // Unless `learn` says that the spins were not in vain.
-        self.without = WAITS_WITHOUT_SPINS;
-        let patience = match self.pace {
-            Pace::Spins => PATIENCE,
-            Pace::Sleeps => 0,
-        };
-        Pause::new(capacity, patience)
-    }
-
-    /// Ends a wait of the end that this bell wakes.
-    pub(crate) fn learn(&mut self, pause: &Pause, bell: &Bell) {
-        match pause.stage {
-            Stage::Spins => self.without = 0,
-            Stage::Listens => bell.stop_listening(),
-            Stage::Slept => {}
-        }
-    }
-}
-
-/// How far an end that waits has come.
-#[derive(Clone, Copy, Drop)]
-enum Stage {
-    /// It spins between two looks.
-    Spins,
-    /// It said that it listens for its bell, and looks once more.
-    Listens,
-    /// It slept.
-    Slept,
-}
-
 /// The pauses of an end that waits. One that spins does so again as long as the other end makes
-/// progress, and sleeps once that stopped and its patience is used up.
+/// progress, and yields once that stopped and its patience is used up.
 #[derive(Drop)]
-pub(crate) struct Pause {
+struct Pause {
     spins: usize,
     enough: usize,
     seen: usize,
     patience: usize,
-    stage: Stage,
 }
 
 impl Pause {
-    /// The pauses at a ring of this capacity, with so many spins without progress.
-    fn new(capacity: usize, patience: usize) -> Pause {
+    /// The pauses at a lane of this capacity.
+    fn new(capacity: usize, pace: Pace) -> Pause {
+        let (enough, patience) = match pace {
+            Pace::Spins => (capacity / PARTS_OF_A_LANE, PATIENCE),
+            Pace::Yields => (1, 0),
+        };
         Pause {
             spins: capacity
                 .saturating_mul(SPINS_A_VERDICT)
                 .max(MIN_SPINS)
                 .min(MAX_SPINS),
-            enough: capacity / PARTS_OF_A_LANE,
+            enough,
             seen: 0,
             patience,
-            stage: Stage::Spins,
         }
     }
 
-    /// Waits a little, or says that the end listens for its bell. After that a look is due, and
-    /// then the end sleeps.
-    fn wait<R: Wait>(&mut self, rt: &R, bell: &Bell) {
-        if self.patience > 0 {
-            self.spin();
+    /// Waits a little.
+    fn wait(&self) {
+        if self.patience == 0 {
+            thread::yield_now();
             return;
         }
-        self.stage = match self.stage {
-            Stage::Spins | Stage::Slept => {
-                bell.listen();
-                Stage::Listens
-            }
-            Stage::Listens => {
-                bell.sleep(rt);
-                Stage::Slept
-            }
-        };
-    }
-
-    fn spin(&self) {
         for _ in 0..self.spins {
             hint::spin_loop();
         }
     }
 
-    /// Whether to go on with this many verdicts or slots: with enough, if no more come, or once the
-    /// end was woken for them.
+    /// Whether to go on with this many verdicts or slots: with enough, or if no more come.
     fn is_enough(&mut self, count: usize) -> bool
         ensures { result ≡ true → 0 < count }
     {
@@ -257,7 +186,6 @@ impl Pause {
         if stands_still {
             self.patience = self.patience.saturating_sub(self.spins);
         }
-        let is_all = stands_still || matches!(self.stage, Stage::Slept);
-        count > 0 && (is_all || count >= self.enough)
+        count > 0 && (stands_still || count >= self.enough)
     }
 }

@@ -109,15 +109,12 @@ fn ended(lane: LaneIn, sent: Result<(), Raised>) -> WorkEnd
         (λ _. IsProperPrefix lane.sent verdicts)
         → Ends verdicts lane.ring result }
 {
+    let Some(closed) = lane.close() else {
+        return WorkEnd::Unclosed;
+    };
     match sent {
-        Ok(()) => match lane.close() {
-            Some(closed) => WorkEnd::Done(closed),
-            None => WorkEnd::Unclosed,
-        },
-        Err(raised) => match lane.close_short(&raised) {
-            Some(closed) => WorkEnd::Stopped(closed),
-            None => WorkEnd::Unclosed,
-        },
+        Ok(()) => WorkEnd::Done(closed),
+        Err(_) => WorkEnd::Stopped(closed),
     }
 }
 
