@@ -40,12 +40,12 @@ how_far() {
 # Builds the program, unless it is there.
 build() {
     local began=$SECONDS sources made
-    ! is_built || return 0
+    ! is_proved || return 0
     need_toolchain
     refuse_unwritable
     end_by_signals
     lock_build
-    ! is_built || return 0
+    ! is_proved || return 0
     sources=$(sum_sources) || refuse 1 "the sources can't be read"
     echo "check: proving and building the program, which takes some 20 minutes on four cores" >&2
     make_room build

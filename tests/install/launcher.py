@@ -278,6 +278,11 @@ class Checks:
             time.sleep(2.1)
             yield "built, some time ago", it.call("x") == (0, shown("x"), b"") and it.call("y") == (0, shown("y"), b"")
             yield "built, rt isn't called", it.calls("ci") == 0 and it.is_clean()
+            it.works_by(DOES)
+            it.put("crates/low/proofs/Low.antt", "-- a proof\n")
+            yield "built, a proof later", it.call("x") == (0, shown("x"), b"") and it.calls("ci") == 0
+            yield "a proof is proved", it.build() == (0, b"", BUILD_LINE + LAST_LINE) and it.calls("ci") == 1
+            it.works_by(FAILS)
             it.put("crates/low/src/lib.rt", "// LOW\n")
             yield "built, a change later", it.call("x")[2].startswith(CHANGED_LINE)
             usage = it.call("programme", launcher=it.path("check"))
