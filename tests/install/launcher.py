@@ -360,7 +360,7 @@ class Checks:
             yield "no place for the program", (status, out) == (1, b"") and b"can't be written" in err
             yield "no place, nothing is built", it.calls("ci") == 0 and os.listdir(it.scratch) == []
             yield "no place, without proofs", it.call("x") == (0, shown("x"), FIRST_LINE)
-            nowhere = it.call("x", TMPDIR="/nonexistent")
+            nowhere = it.call("x", TMPDIR=os.path.join(it.scratch, b"absent"))
             yield "no folder to work in", nowhere[:2] == (1, b"") and b"set TMPDIR" in nowhere[2]
 
     def check_at_once(self):
