@@ -1,0 +1,124 @@
+"""deals-desk: serves the page on this machine, and opens it in the browser."""
+
+import argparse
+import logging
+import os
+import shutil
+import signal
+import socket
+import subprocess
+import sys
+import threading
+import webbrowser
+from collections.abc import Sequence
+
+import waitress  # type: ignore[import]
+
+from . import limits
+from .app import create
+from .guard import Guard
+from .runs import Runner
+from .words import DEALS
+
+PORT = 8270
+# Statuses, as `deals` has them.
+WORDS, UNABLE = 2, 6
+THREADS = 16
+
+
+def port(text: str) -> int:
+    number = int(text)
+    if not 0 <= number <= 65535:
+        raise ValueError
+    return number
+
+
+def parser() -> argparse.ArgumentParser:
+    parse = argparse.ArgumentParser(
+        prog="deals-desk",
+        description="Bridge deals on a page: serves it on this machine, and opens it in the browser.",
+        epilog="End it with Ctrl-C.",
+    )
+    parse.add_argument("--port", type=port, default=PORT, metavar="N", help=f"the port, 0 for any that is free [default: {PORT}]")
+    parse.add_argument("--listen", default="127.0.0.1", metavar="ADDRESS", help="the address to listen at [default: 127.0.0.1, this machine alone]")
+    parse.add_argument("--name", action="append", default=[], metavar="HOST", help="a name by which browsers may reach it, as deals.example.org; may be given several times")
+    parse.add_argument("--limits", action="store_true", help="bounds for a club's server: fewer boards, less time")
+    parse.add_argument("--no-browser", action="store_true", help="don't open a browser")
+    parse.add_argument("--version", action="store_true", help="print the version of deals that it runs")
+    return parse
+
+
+def hosts(address: str, number: int, names: Sequence[str]) -> frozenset[str]:
+    """What browsers may call this server."""
+    own = ["127.0.0.1", "localhost", "[::1]"] if address in ("127.0.0.1", "::1", "localhost") else [address]
+    return frozenset([*(f"{name}:{number}" for name in [*own, *names]), *names, *(own if number == 80 else [])])
+
+
+def open_browser(address: str) -> None:
+    """Opens the browser of this machine; in WSL the one of Windows."""
+    if "WSL_DISTRO_NAME" in os.environ and shutil.which("explorer.exe"):
+        subprocess.run(["explorer.exe", address], check=False, stdout=subprocess.DEVNULL, stderr=subprocess.DEVNULL)
+    elif any(name in os.environ for name in ("DISPLAY", "WAYLAND_DISPLAY", "BROWSER")):
+        webbrowser.open(address)
+
+
+def say(text: str) -> None:
+    print(f"deals-desk: {text}", file=sys.stderr, flush=True)
+
+
+def listen(address: str, number: int) -> socket.socket:
+    family = socket.AF_INET6 if ":" in address else socket.AF_INET
+    listening = socket.socket(family, socket.SOCK_STREAM)
+    listening.setsockopt(socket.SOL_SOCKET, socket.SO_REUSEADDR, 1)
+    listening.bind((address, number))
+    listening.listen(64)
+    return listening
+
+
+def end(*_: object) -> None:
+    raise SystemExit(0)
+
+
+def serve(asked: argparse.Namespace, runner: Runner) -> int:
+    try:
+        listening = listen(asked.listen, asked.port)
+    except OSError as error:
+        say(f"can't listen at {asked.listen}, port {asked.port}: {error.strerror}\n  try another by --port")
+        return UNABLE
+    number = listening.getsockname()[1]
+    app = create(runner, Guard(hosts(asked.listen, number, asked.name)))
+    server = waitress.create_server(
+        app, sockets=[listening], threads=THREADS, ident=None, channel_request_lookahead=1, channel_timeout=60,
+        connection_limit=200, max_request_body_size=limits.BODY, clear_untrusted_proxy_headers=True,
+    )
+    shown = f"[{asked.listen}]" if ":" in asked.listen else asked.listen
+    address = f"http://{shown}:{number}/"
+    say(f"the page is at {address} until you end it with Ctrl-C")
+    if not asked.no_browser:
+        threading.Thread(target=open_browser, args=[address], daemon=True).start()
+    signal.signal(signal.SIGTERM, end)
+    signal.signal(signal.SIGHUP, end)
+    try:
+        server.run()
+    except (KeyboardInterrupt, SystemExit):
+        pass
+    finally:
+        app.extensions["desk"].searches.end_all()
+    return 0
+
+
+def main(words: Sequence[str] | None = None) -> int:
+    asked = parser().parse_args(words)
+    logging.getLogger("waitress").setLevel(logging.ERROR)
+    runner = Runner(limits.CLUB if asked.limits else limits.HOME)
+    if not runner.has(DEALS):
+        say("deals isn't installed: its package has to be there")
+        return UNABLE
+    if asked.version:
+        subprocess.run([runner.programs[DEALS], "--version"], check=False)
+        return 0
+    return serve(asked, runner)
+
+
+if __name__ == "__main__":
+    sys.exit(main())

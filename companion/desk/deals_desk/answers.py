@@ -1,0 +1,118 @@
+"""What `deals` says of words that it refuses, told apart for the field that it belongs to."""
+
+import dataclasses
+import re
+
+from . import fields
+
+# The first lines that name a field, and the field; `\1` is what the line names.
+LINES = (
+    (re.compile(r"plan refused: range"), "candidates"),
+    (re.compile(r"plan refused: (boards|first board)"), r"\1"),
+    (re.compile(r"condition refused\b"), "where"),
+    (re.compile(r"(of|by) refused\b"), r"\1"),
+    (re.compile(r"hand refused: (north|east|south|west)"), r"\1"),
+    (re.compile(r"label refused: (event|site|date)"), r"\1"),
+    (re.compile(r"error: .*?'?--([a-z-]+)[ '=]"), r"\1"),
+    (re.compile(r"deals-tricks: --(makes|beaten) "), r"\1"),
+)
+PLACE = re.compile(r"refused at byte (\d+): (.*)")
+MARK = re.compile(r"^ *(\^+)$", re.MULTILINE)
+EXPECTED = re.compile(r"^  expected (.*)$", re.MULTILINE)
+HINT = re.compile(r"^  hint: (.*)$", re.MULTILINE)
+# A hint that puts one word in the place of the marked one.
+WRITE_WORD = re.compile(r'^write "([^"]*)"$')
+# A hint that has a whole condition.
+WRITE_ALL = re.compile(r"^(?:.* )?write: (.*)$")
+
+# What stands for the words that are told by what they are.
+WORDS = {
+    "a seat": fields.SEATS,
+    "a suit": ("spades", "hearts", "diamonds", "clubs"),
+    "a suit or ranks such as akq": ("spades", "hearts", "diamonds", "clubs", "akq"),
+    "ranks such as akq": ("akq", "ak", "a"),
+    "a number": ("12",),
+    'a number or "x"': ("4", "x"),
+    "a condition such as balanced(north)": ("balanced(north)", "hcp(north)>=15", "any suit ("),
+    "a value such as hcp(north)": ("hcp(north)", "len(north,spades)"),
+    "a comparison such as >= or \"in\"": (">=", "<=", "==", "in"),
+}
+QUOTED = re.compile(r'"([^"]*)"')
+
+
+@dataclasses.dataclass(frozen=True)
+class Answer:
+    """A refusal. `at` and `length` mark characters of the field's text; `mended` is the text as a hint has it."""
+
+    field: str
+    line: str
+    text: str
+    at: int | None = None
+    length: int = 0
+    could: tuple[str, ...] = ()
+    hints: tuple[str, ...] = ()
+    mended: str | None = None
+    mend: str = ""
+
+    def told(self) -> dict[str, object]:
+        return dataclasses.asdict(self)
+
+
+def field_of(line: str) -> str:
+    """The field that a first line speaks of; none if it names none."""
+    for pattern, name in LINES:
+        found = pattern.search(line)
+        if found:
+            field = found.expand(name).replace("-", "_").replace(" ", "_")
+            return field if field in fields.BY_NAME else ""
+    return ""
+
+
+def could_stand(said: str) -> tuple[str, ...]:
+    """What could stand at the place, as words to be put there."""
+    found = EXPECTED.search(said)
+    if not found:
+        return ()
+    told = found[1]
+    words: list[str] = []
+    for name in sorted(WORDS, key=len, reverse=True):
+        if name in told:
+            told = told.replace(name, "")
+            words += WORDS[name]
+    return tuple(dict.fromkeys([*QUOTED.findall(told), *words]))
+
+
+def characters(text: str, count: int) -> int:
+    """How many characters so many bytes of a text are."""
+    return len(text.encode()[:count].decode("utf-8", "ignore"))
+
+
+def mended(text: str, at: int, length: int, hints: tuple[str, ...]) -> tuple[str | None, str]:
+    """The text as the first hint wants it, and what the hint puts there: in the place of what is marked, or of a text
+    that is one test."""
+    for hint in hints:
+        word = WRITE_WORD.match(hint)
+        if word:
+            return text[:at] + word[1] + text[at + length :], word[1]
+        whole = WRITE_ALL.match(hint)
+        if whole and not re.search(r"\b(and|or)\b", text):
+            return whole[1], whole[1]
+    return None, ""
+
+
+def read(said: str, form: dict[str, str]) -> Answer:
+    """What is said of a form."""
+    lines = said.rstrip().splitlines() or ["no reason was given"]
+    line = lines[0]
+    field = field_of(line)
+    text = "\n".join(lines[1:])
+    hints = tuple(HINT.findall(said))
+    found = PLACE.search(line)
+    if not found:
+        return Answer(field, line, text, hints=hints)
+    asked = form.get(field, "")
+    at = characters(asked, int(found[1]))
+    mark = MARK.search(said)
+    length = min(len(mark[1]) if mark else 1, max(len(asked) - at, 0))
+    whole, word = mended(asked, at, length, hints)
+    return Answer(field, line, text, at, length, could_stand(said), hints, whole, word)

@@ -1,0 +1,44 @@
+"""What the page asks while somebody types: whether a condition is well, and how rare its hands are."""
+
+from flask import Blueprint, Response, abort, jsonify, request
+
+from . import fields, words
+from .counting import rarity
+from .desk import Refused, checked
+from .words import DEALS, Command
+
+pages = Blueprint("checking", __name__)
+
+# The option of `count` by which a text is tried: a condition by itself, a question by what is counted.
+TRIED = {"where": "--where", "of": "--of", "by": "--of"}
+
+
+def text_of(name: str) -> str:
+    if name not in TRIED:
+        abort(404)
+    return words.cleaned(request.form.get("text", ""))
+
+
+@pages.post("/check/<name>")
+def check(name: str) -> Response:
+    """What is wrong with a text, if anything is."""
+    text = text_of(name)
+    if not text:
+        return jsonify(None)
+    command = Command(((DEALS, "count", "--seed=1", "--candidates=1", words.word(TRIED[name], text), "--hints=always"),))
+    try:
+        checked(command, {name: text, fields.BY_NAME["of"].name: text} if name == "by" else {name: text})
+    except Refused as refused:
+        return jsonify(refused.answer.told())
+    return jsonify(None)
+
+
+@pages.post("/rarity")
+def rare() -> Response:
+    """How many of so many deals meet the condition."""
+    text = text_of("where")
+    try:
+        found, tried = rarity(text)
+    except Refused:
+        return jsonify(None)
+    return jsonify({"found": found, "tried": tried})

@@ -1,0 +1,92 @@
+"""The fields of the pages' forms: one table, from which forms are drawn and words are made."""
+
+import dataclasses
+import enum
+
+
+class Kind(enum.Enum):
+    """How a field is drawn."""
+
+    TEXT = "text"
+    NUMBER = "number"
+    CONDITION = "condition"
+    CHOICE = "choice"
+
+
+@dataclasses.dataclass(frozen=True)
+class Field:
+    """A field of a form. `option` is the option of `deals` that its value goes to; none where `words` knows better."""
+
+    name: str
+    label: str
+    option: str = ""
+    kind: Kind = Kind.TEXT
+    default: str = ""
+    choices: tuple[tuple[str, str], ...] = ()
+    note: str = ""
+    example: str = ""
+
+
+SEATS = ("north", "east", "south", "west")
+# What stands for the options `--rotate` and `--dealer`.
+TURNING = "turn"
+
+TURNS = (
+    (TURNING, "each in turn, with the hand of north"),
+    ("", "by board number"),
+    ("N", "North on each board"),
+    ("E", "East on each board"),
+    ("S", "South on each board"),
+    ("W", "West on each board"),
+)
+VULNERABLE = (
+    ("", "by board number"),
+    ("None", "nobody"),
+    ("NS", "North and South"),
+    ("EW", "East and West"),
+    ("All", "all"),
+)
+
+CONDITION_NOTE = "Each deal has to meet it; leave it empty for any deal."
+HAND_EXAMPLE = "AKQ32.K..A"
+
+FIELDS = (
+    Field("seed", "Seed", "--seed", Kind.NUMBER, "7", note="The same number gives the same boards again."),
+    Field("boards", "How many boards", "--boards", Kind.NUMBER, "12"),
+    Field("first_board", "First board", "--first-board", Kind.NUMBER, "1"),
+    Field("first", "Begin at deal", "--first", Kind.NUMBER, "0"),
+    Field("candidates", "Deals to try", "--candidates", Kind.NUMBER, "100000"),
+    Field("where", "Condition", "--where", Kind.CONDITION, example="hcp(north) in 15-17 and balanced(north)",
+          note=CONDITION_NOTE),
+    Field("of", "What is counted", "--of", Kind.CONDITION, example="len(south,spades)",
+          note="A value, such as hcp(south), or a condition."),
+    Field("by", "In columns", "--by", Kind.CONDITION, example="hcp(south)",
+          note="A second value or condition, or nothing."),
+    Field("turn", "Dealer", "", Kind.CHOICE, TURNING, TURNS),
+    Field("vulnerable", "Vulnerable", "--vulnerable", Kind.CHOICE, "", VULNERABLE),
+    *(Field(seat, seat.title(), f"--{seat}", example=HAND_EXAMPLE) for seat in SEATS),
+    Field("event", "Event", "--event", example="Club night"),
+    Field("site", "Club", "--site", example="Riverside"),
+    Field("date", "Date", "--date", example="2026.11.24"),
+    Field("makes", "A contract that makes", example="4S-NS"),
+    Field("beaten", "A contract that is beaten", example="3NT-NS"),
+)
+BY_NAME = {field.name: field for field in FIELDS}
+
+LABELS = ("event", "site", "date")
+# The fields of each page, in the order of its words.
+TONIGHT = ("seed", "boards", "first_board", *LABELS)
+LESSON = ("seed", "boards", "where", "turn", "vulnerable", *SEATS, *LABELS, "makes", "beaten")
+COUNT = ("seed", "candidates", "where", "of", "by")
+SEARCH = ("seed", "boards", "first", "candidates", "where", *SEATS)
+
+# Where a page begins with another value.
+DEFAULTS = {
+    "tonight": {"boards": "27", "event": "Club night"},
+    "search": {"boards": "4", "candidates": "1000000000"},
+}
+
+
+def begins_with(page: str, name: str) -> str:
+    """What a field has at first."""
+    return DEFAULTS.get(page, {}).get(name, BY_NAME[name].default)

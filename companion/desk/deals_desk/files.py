@@ -1,0 +1,35 @@
+"""What can be had of boards: one table, which buttons, addresses and tests read."""
+
+import dataclasses
+
+
+@dataclasses.dataclass(frozen=True)
+class File:
+    """A text of boards, and what it is for. `look` is its options; one with `tricks` needs a solver. One that is saved is
+    given as a file."""
+
+    name: str
+    label: str
+    what: str
+    look: tuple[str, ...]
+    type: str
+    ending: str
+    saved: bool = False
+    tricks: bool = False
+
+
+HTML = "text/html; charset=utf-8"
+FILES = (
+    File("boards", "Boards", "All four hands of each board.", ("--format=html",), HTML, "html"),
+    File("handout", "Handout", "The dealer's hand alone.", ("--show=dealer", "--format=html"), HTML, "html"),
+    File("sheet", "Sheet", "All hands, eighteen boards on a page, to print from the browser.", ("--format=sheet",), HTML, "html"),
+    File("tricks", "Sheet with tricks", "The same with the tricks of each side, and par. It takes some seconds. Hang it up after "
+         "play.", ("--format=sheet",), HTML, "html", tricks=True),
+    File("pbn", "PBN", "For dealing machines and bridge programs.", ("--format=pbn",), "application/x-pbn", "pbn", saved=True),
+    File("lin", "LIN", "For Bridge Base Online.", ("--format=lin",), "application/x-lin", "lin", saved=True),
+)
+BY_NAME = {file.name: file for file in FILES}
+
+TONIGHT = ("pbn", "tricks", "sheet", "lin")
+LESSON = ("boards", "handout", "pbn", "lin", "sheet", "tricks")
+SEARCH = ("boards", "pbn", "lin", "sheet")

@@ -1,0 +1,35 @@
+"""How much the page may ask of a machine: at home, and of a club's server."""
+
+import dataclasses
+
+
+@dataclasses.dataclass(frozen=True)
+class Limits:
+    """Bounds of all that is run for a page."""
+
+    # How many runs there are at once, and for how long the next one waits for a place.
+    runs: int
+    wait: float
+    # Seconds for a run that a page waits for, without and with a solver.
+    seconds: float
+    solving: float
+    # Bytes that a run may write, and boards that a form may ask for.
+    output: int
+    boards: int
+    # Searches at once, and seconds for each.
+    searches: int
+    searching: float
+    # A search ends when no page has asked for it so long.
+    unasked: float
+
+
+HOME = Limits(
+    runs=4, wait=5, seconds=20, solving=240, output=16 << 20, boards=1000, searches=2, searching=24 * 3600, unasked=60
+)
+# For strangers: less of everything.
+CLUB = Limits(
+    runs=4, wait=2, seconds=5, solving=60, output=4 << 20, boards=128, searches=2, searching=600, unasked=30
+)
+
+# A form's bytes.
+BODY = 65536

@@ -1,0 +1,201 @@
+"""Runs commands for pages: bounded in number, time and output, and ended when nobody waits any more."""
+
+import contextlib
+import dataclasses
+import os
+import select
+import shutil
+import subprocess
+import tempfile
+import threading
+import time
+from collections.abc import Callable, Iterator
+from typing import IO
+
+from .limits import Limits
+from .words import DEALS, TRICKS, Command
+
+PIECE = 65536
+# So often it is looked whether somebody still waits.
+LOOK = 0.1
+# So long a program whose reader has gone may still run.
+GRACE = 0.2
+# Of what is said on standard error, so many bytes are kept.
+MOST_SAID = 65536
+
+
+class Busy(Exception):
+    """Too many runs at once."""
+
+
+class Missing(Exception):
+    """A program that isn't installed."""
+
+
+class TooLong(Exception):
+    """A run that took longer than a page may wait."""
+
+
+class TooLarge(Exception):
+    """A run that wrote more than a page may have."""
+
+
+class Left(Exception):
+    """Nobody waits for the run any more."""
+
+
+@dataclasses.dataclass(frozen=True)
+class Ended:
+    """How a run ended. `said` is what was said on standard error by the program that the status is of."""
+
+    status: int
+    output: bytes
+    said: str
+
+
+def find_programs() -> dict[str, str]:
+    """The paths of the programs: those that the environment names, else those on the PATH."""
+    named = {DEALS: os.environ.get("DEALS"), TRICKS: os.environ.get("DEALS_TRICKS")}
+    found = {name: shutil.which(path or name) for name, path in named.items()}
+    return {name: path for name, path in found.items() if path}
+
+
+class Pipeline:
+    """Programs that run, each with the output of the one before it."""
+
+    def __init__(self, command: Command, programs: dict[str, str], given: bytes = b"") -> None:
+        self.processes: list[subprocess.Popen[bytes]] = []
+        self.saids: list[IO[bytes]] = []
+        # The first program reads a file, which needs no thread that feeds it.
+        source = tempfile.TemporaryFile()
+        source.write(given)
+        source.seek(0)
+        reading: IO[bytes] = source
+        try:
+            for name, *words in command.steps:
+                said = tempfile.TemporaryFile()
+                self.saids.append(said)
+                process = subprocess.Popen(
+                    [programs[name], *words], stdin=reading, stdout=subprocess.PIPE, stderr=said, env=ENVIRONMENT
+                )
+                self.processes.append(process)
+                reading.close()
+                assert process.stdout is not None
+                reading = process.stdout
+        except (OSError, ValueError):
+            self.end()
+            raise
+        self.output = reading
+
+    def end(self) -> None:
+        """Ends what still runs."""
+        for process in self.processes:
+            if process.poll() is None:
+                process.kill()
+        for process in self.processes:
+            process.wait()
+
+    def ended(self, output: bytes) -> Ended:
+        """How it ended, after the last one wrote all: by the first program that refused something. What still runs then
+        has lost its reader, and is ended."""
+        self.processes[-1].wait()
+        for process in self.processes[:-1]:
+            end_soon(process)
+        statuses = [process.returncode for process in self.processes]
+        refused = [place for place, status in enumerate(statuses) if is_refusal(status)]
+        told = refused[0] if refused else len(statuses) - 1
+        return Ended(statuses[told], output, self.said_by(told))
+
+    def said_by(self, place: int) -> str:
+        said = self.saids[place]
+        said.seek(0)
+        return said.read(MOST_SAID).decode("utf-8", "replace")
+
+    def close(self) -> None:
+        self.end()
+        self.output.close()
+        for said in self.saids:
+            said.close()
+
+
+ENVIRONMENT = {"PATH": "/usr/local/bin:/usr/bin:/bin", "LC_ALL": "C.UTF-8"}
+# The output failed because the next program needs no more, or a signal said so: no refusal.
+OUTPUT_FAILED = 4
+
+
+def end_soon(process: subprocess.Popen[bytes]) -> None:
+    """Waits a little for a program that is about to end, and ends it."""
+    try:
+        process.wait(GRACE)
+    except subprocess.TimeoutExpired:
+        process.kill()
+        process.wait()
+
+
+def is_refusal(status: int) -> bool:
+    return status > 0 and status != OUTPUT_FAILED
+
+
+def read_all(output: IO[bytes], most: int, seconds: float, is_left: Callable[[], bool]) -> bytes:
+    """All that comes, unless it is too much, too late, or nobody waits for it."""
+    until = time.monotonic() + seconds
+    os.set_blocking(output.fileno(), False)
+    read = bytearray()
+    while True:
+        piece = output.read(PIECE)
+        if piece:
+            read += piece
+            if len(read) > most:
+                raise TooLarge
+            continue
+        if piece == b"":
+            return bytes(read)
+        if time.monotonic() > until:
+            raise TooLong
+        if is_left():
+            raise Left
+        wait_for(output, LOOK)
+
+
+def wait_for(output: IO[bytes], seconds: float) -> None:
+    """Waits until there is something to read, or so long."""
+    select.select([output], [], [], seconds)
+
+
+class Runner:
+    """Runs commands, at most so many at once."""
+
+    def __init__(self, limits: Limits) -> None:
+        self.limits = limits
+        self.programs = find_programs()
+        self.places = threading.BoundedSemaphore(limits.runs)
+
+    def has(self, name: str) -> bool:
+        return name in self.programs
+
+    def need(self, command: Command) -> None:
+        for name, *_ in command.steps:
+            if name not in self.programs:
+                raise Missing(name)
+
+    @contextlib.contextmanager
+    def place(self) -> Iterator[None]:
+        """Waits for a place among the runs."""
+        if not self.places.acquire(timeout=self.limits.wait):
+            raise Busy
+        try:
+            yield
+        finally:
+            self.places.release()
+
+    def run(self, command: Command, given: bytes = b"", is_left: Callable[[], bool] = lambda: False) -> Ended:
+        """Runs a command to its end."""
+        self.need(command)
+        seconds = self.limits.solving if command.needs_tricks else self.limits.seconds
+        with self.place():
+            pipeline = Pipeline(command, self.programs, given)
+            try:
+                output = read_all(pipeline.output, self.limits.output, seconds, is_left)
+                return pipeline.ended(output)
+            finally:
+                pipeline.close()

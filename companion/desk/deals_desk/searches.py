@@ -1,0 +1,144 @@
+"""Long searches: they go on while a page asks for them, and keep the numbers that they found."""
+
+import dataclasses
+import re
+import secrets
+import signal
+import subprocess
+import tempfile
+import threading
+import time
+
+from .runs import ENVIRONMENT, MOST_SAID, Busy, Runner
+from .words import Command, Form
+
+# What `--progress=always` writes each second.
+PROGRESS = re.compile(r"^\s*\S+%\s+([\d,]+) of [\d,]+ candidates.*$", re.MULTILINE)
+MOST_FOUND = 10_000
+
+
+@dataclasses.dataclass
+class Search:
+    """A search and what is known of it."""
+
+    form: dict[str, str]
+    command: Command
+    process: subprocess.Popen[bytes]
+    said: tempfile._TemporaryFileWrapper  # type: ignore[type-arg]
+    began: float
+    asked: float
+    numbers: list[int] = dataclasses.field(default_factory=list)
+    ended: float | None = None
+    stopped: bool = False
+
+    @property
+    def status(self) -> int | None:
+        return self.process.poll()
+
+    @property
+    def is_running(self) -> bool:
+        return self.status is None
+
+    def lines(self) -> str:
+        with open(self.said.name, "rb") as file:
+            file.seek(max(0, file.seek(0, 2) - MOST_SAID))
+            return file.read().decode("utf-8", "replace").replace("\r", "\n")
+
+    def progress(self) -> str:
+        """The last line of progress."""
+        found = [match[0].strip() for match in PROGRESS.finditer(self.lines())]
+        return found[-1] if found else ""
+
+    def searched(self) -> int:
+        """How many candidates are searched for sure: as the line before the last one told, since the numbers of the last
+        second may still be on their way."""
+        told = [int(match[1].replace(",", "")) for match in PROGRESS.finditer(self.lines())]
+        return told[-2] if len(told) > 1 else 0
+
+    def goes_on_at(self) -> int:
+        """The first deal that isn't searched, or is searched again."""
+        after = self.numbers[-1] + 1 if self.numbers else 0
+        return max(after, int(self.form.get("first") or 0) + self.searched())
+
+    def stop(self) -> None:
+        if self.is_running:
+            self.stopped = True
+            self.process.send_signal(signal.SIGINT)
+            try:
+                self.process.wait(2)
+            except subprocess.TimeoutExpired:
+                self.process.kill()
+
+    def collect(self) -> None:
+        """Reads numbers until the search ends."""
+        assert self.process.stdout is not None
+        for line in self.process.stdout:
+            if line.endswith(b"\n"):
+                self.numbers.append(int(line))
+            if len(self.numbers) >= MOST_FOUND:
+                self.stop()
+        self.process.wait()
+        self.ended = time.monotonic()
+
+    def given(self) -> bytes:
+        """The numbers that were found, as `pick` reads them."""
+        return "".join(f"{number}\n" for number in list(self.numbers)).encode()
+
+
+class Searches:
+    """The searches of all pages. One that no page asks for ends, and is forgotten some time later."""
+
+    FORGET = 3600.0
+
+    def __init__(self, runner: Runner) -> None:
+        self.runner = runner
+        self.all: dict[str, Search] = {}
+        self.lock = threading.Lock()
+        threading.Thread(target=self.watch, daemon=True).start()
+
+    def start(self, form: Form, command: Command) -> str:
+        """Starts a search and tells its name."""
+        self.runner.need(command)
+        with self.lock:
+            if sum(search.is_running for search in self.all.values()) >= self.runner.limits.searches:
+                raise Busy
+            said = tempfile.NamedTemporaryFile(prefix="deals-desk-")
+            (name, *words), *_ = command.steps
+            process = subprocess.Popen(
+                [self.runner.programs[name], *words, "--progress=always"],
+                stdin=subprocess.DEVNULL, stdout=subprocess.PIPE, stderr=said, env=ENVIRONMENT,
+            )
+            now = time.monotonic()
+            search = Search(dict(form), command, process, said, now, now)
+            key = secrets.token_urlsafe(12)
+            self.all[key] = search
+        threading.Thread(target=search.collect, daemon=True).start()
+        return key
+
+    def get(self, key: str) -> Search | None:
+        """The search of this name, which somebody asks for now."""
+        search = self.all.get(key)
+        if search:
+            search.asked = time.monotonic()
+        return search
+
+    def look(self) -> None:
+        """Ends what nobody asks for, or what took too long; forgets what ended long ago."""
+        now = time.monotonic()
+        limits = self.runner.limits
+        for key, search in list(self.all.items()):
+            if search.is_running and (now - search.asked > limits.unasked or now - search.began > limits.searching):
+                search.stop()
+            elif search.ended and now - max(search.ended, search.asked) > self.FORGET:
+                with self.lock:
+                    del self.all[key]
+                search.said.close()
+
+    def watch(self) -> None:
+        while True:
+            time.sleep(1)
+            self.look()
+
+    def end_all(self) -> None:
+        for search in list(self.all.values()):
+            search.stop()

@@ -1,0 +1,100 @@
+"""The page for a club's night."""
+
+from flask import Blueprint, Response, abort, jsonify, redirect, request
+from werkzeug.wrappers import Response as AnyResponse
+
+from . import fields, files, nights, words
+from .desk import Refused, bounded, checked, command_of, desk, lines, page, written
+from .nights import COOKIE, Night
+from .words import DEALS, TRICKS, Command
+
+pages = Blueprint("tonight", __name__)
+
+
+def drawn() -> str:
+    """A seed that nobody can guess."""
+    return checked(Command(((DEALS, "seed"),)), {}).output.decode().strip()
+
+
+def offered() -> list[files.File]:
+    """The files that can be had here."""
+    has_solver = desk().runner.has(TRICKS)
+    return [files.BY_NAME[name] for name in files.TONIGHT if has_solver or not files.BY_NAME[name].tricks]
+
+
+def shown(night: Night, refused: Refused | None = None) -> Response:
+    answer = refused.answer if refused else None
+    return page(
+        "tonight.html", 422 if refused else 200, form=night, answer=answer, files=offered(),
+        lines=lines(offered(), night), has_solver=desk().runner.has(TRICKS),
+    )
+
+
+def kept(response: AnyResponse, night: Night) -> AnyResponse:
+    """The response, once the night is kept for this browser."""
+    name = desk().nights.put(request.cookies.get(COOKIE), night)
+    response.set_cookie(COOKIE, name, httponly=True, samesite="Strict", max_age=int(nights.LASTS))
+    return response
+
+
+def posted() -> Night:
+    return words.asked_for(fields.TONIGHT, request.form, "tonight")
+
+
+@pages.get("/")
+def tonight() -> AnyResponse:
+    night = desk().nights.get(request.cookies.get(COOKIE))
+    if night:
+        return shown(night)
+    night = nights.first(drawn())
+    return kept(shown(night), night)
+
+
+@pages.post("/tonight")
+def update() -> AnyResponse:
+    """Keeps what the form says."""
+    night = posted()
+    try:
+        bounded(night)
+        checked(words.check(night), night)
+    except Refused as refused:
+        return kept(shown(night, refused), night)
+    return kept(redirect("/", 303), night)
+
+
+@pages.post("/tonight/new")
+def anew() -> AnyResponse:
+    """Draws another seed."""
+    return kept(redirect("/", 303), {**posted(), "seed": drawn()})
+
+
+@pages.post("/tonight/more")
+def more() -> AnyResponse:
+    night = posted()
+    try:
+        bounded(night)
+        checked(words.check(night), night)
+    except Refused as refused:
+        return kept(shown(night, refused), night)
+    return kept(redirect("/", 303), nights.more(night, drawn()))
+
+
+@pages.post("/tonight/lines")
+def typed() -> Response:
+    """The commands of what the form says now."""
+    return jsonify(lines(offered(), posted()))
+
+
+@pages.post("/tonight/<name>")
+def file(name: str) -> AnyResponse:
+    """One file of the night's boards."""
+    if name not in files.TONIGHT:
+        abort(404)
+    night = posted()
+    wanted = files.BY_NAME[name]
+    try:
+        bounded(night)
+        ended = checked(command_of(wanted, night), night)
+    except Refused as refused:
+        return kept(shown(night, refused), night)
+    return kept(written(ended.output, wanted, "night"), night)

@@ -1,0 +1,154 @@
+"""The desk, asked by who means harm: other hosts and origins, words that would be options, bodies of any bytes, many
+requests at once, runs that never end, and clients that never read."""
+
+import concurrent.futures
+import http.client
+import os
+import random
+import socket
+import time
+
+import harness
+import report
+import serving
+from deals_desk import fields
+
+OWN = {"Sec-Fetch-Site": "same-origin"}
+NIGHT = {"seed": "1", "boards": "2"}
+NASTY = [
+    "--where=", "-", "--help", "$(touch {file})", "`touch {file}`", "; touch {file}", "| touch {file}", "' ; touch {file} ; '",
+    "../../../../etc/passwd", "\0", "\r\nX-Set: 1", "<script>alert(1)</script>", "{{ 7*7 }}", "%s%n", "\ud7ff\u202e", "9" * 4000,
+    "((((((((((", "--format=json --where=1==1", '"', "\\", "\u0000--boards=9", "e\u0301" * 500,
+]
+
+
+def foreign(desk):
+    """Requests that other sites make, or that come by another name."""
+    own = f"http://127.0.0.1:{desk.port}"
+    rows = [
+        ("another host", "GET", "/", {"Host": "evil.example"}, 403),
+        ("another port", "GET", "/", {"Host": "127.0.0.1:1"}, 403),
+        ("no host", "GET", "/", {"Host": ""}, 403),
+        ("another origin", "POST", "/tonight", {"Origin": "http://evil.example"}, 403),
+        ("an origin without a name", "POST", "/tonight", {"Origin": "null"}, 403),
+        ("an origin like ours", "POST", "/tonight", {"Origin": own + ".evil.example"}, 403),
+        ("a form of another site", "POST", "/tonight", {"Sec-Fetch-Site": "cross-site"}, 403),
+        ("a picture of another site", "GET", "/lesson/boards", {"Sec-Fetch-Site": "cross-site", "Sec-Fetch-Mode": "no-cors"}, 403),
+        ("a frame of another site", "GET", "/lesson",
+         {"Sec-Fetch-Site": "cross-site", "Sec-Fetch-Mode": "navigate", "Sec-Fetch-Dest": "iframe"}, 403),
+        ("a link on another site", "GET", "/lesson",
+         {"Sec-Fetch-Site": "cross-site", "Sec-Fetch-Mode": "navigate", "Sec-Fetch-Dest": "document"}, 200),
+        ("this site", "POST", "/check/where", {"Origin": own, **OWN}, 200),
+    ]
+    for name, method, path, headers, status in rows:
+        form = NIGHT if method == "POST" else None
+        yield name, desk.ask(method, path, form, headers).status == status
+
+
+def is_page(answer):
+    """Whether an answer is a whole page or text of ours, without a trace of Python, and with its policy."""
+    return (
+        answer.status in (200, 303, 400, 403, 404, 405, 413, 422)
+        and "Traceback" not in answer.text
+        and "default-src 'none'" in answer.headers.get("Content-Security-Policy", "")
+        and "X-Set" not in answer.headers
+    )
+
+
+def nasty_fields(desk):
+    """Fields with anything in them run nothing and make no file."""
+    with harness.scratch() as folder:
+        file = f"{folder}/made"
+        drawn = random.Random(20261128)
+        names = [*fields.BY_NAME, "x"]
+        for number in range(500):
+            values = {name: drawn.choice(NASTY).replace("{file}", file) for name in drawn.sample(names, 4)}
+            if drawn.random() < 0.3:
+                values["seed"], values["boards"] = "1", "1"
+            encoded = {name: value.encode("utf-8", "replace") for name, value in values.items()}
+            path = drawn.choice(["/lesson", "/lesson/boards", "/lesson/pbn", "/count", "/count/html"])
+            answer = desk.get(path, encoded) if number % 2 else desk.post(drawn.choice(["/tonight", "/tonight/pbn"]), encoded)
+            is_html = answer.headers.get("Content-Type", "").startswith("text/html")
+            yield f"fields, {number}: {values}", is_page(answer) and not (is_html and "<script>alert" in answer.text)
+        yield "no file was made", os.listdir(folder) == []
+
+
+def nasty_bodies(desk):
+    """Bodies of any bytes, and of too many."""
+    drawn = random.Random(7)
+    for number in range(200):
+        body = drawn.randbytes(drawn.choice([0, 1, 100, 5000]))
+        kind = drawn.choice(["application/x-www-form-urlencoded", "multipart/form-data; boundary=x", "text/plain"])
+        path = drawn.choice(["/tonight", "/tonight/pbn", "/check/where", "/rarity", "/search", "/tonight/more"])
+        answer = desk.ask("POST", path, headers={"Content-Type": kind}, body=body)
+        yield f"body, {number}", is_page(answer) and answer.status < 500
+    try:
+        status = desk.post("/tonight", {"event": "x" * 10_000_000}).status
+    except (BrokenPipeError, ConnectionResetError, http.client.HTTPException):
+        status = 413
+    yield "a body of 10 MB", status in (400, 413)
+    yield "no such page", desk.get("/nothing").status == 404
+    yield "a file outside", desk.get("/static/../app.py").status == 404
+    yield "a method that isn't taken", desk.ask("DELETE", "/").status == 405
+
+
+def many(desk):
+    """Two hundred requests at once are answered, and few runs work at a time."""
+    form = {"boards": "100", "seed": "5", "where": "hcp(north)>=20"}
+    with concurrent.futures.ThreadPoolExecutor(200) as pool:
+        asked = [pool.submit(desk.get, "/lesson/boards", form) for _ in range(200)]
+        most = 0
+        while not all(future.done() for future in asked):
+            most = max(most, len(desk.children()))
+            time.sleep(0.02)
+        statuses = [future.result().status for future in asked]
+    yield "all are answered", set(statuses) <= {200, 503} and 200 in statuses
+    yield f"runs at once: {most}", most <= 4
+    yield "no run is left", until(lambda: not desk.children())
+
+
+def until(is_so, seconds=10):
+    end = time.monotonic() + seconds
+    while time.monotonic() < end:
+        if is_so():
+            return True
+        time.sleep(0.1)
+    return False
+
+
+NEVER = "/lesson/boards?boards=5&seed=1&where=hcp(north)%3E%3D37"
+
+
+def endless(desk):
+    """A run that never ends is ended, and one whose page goes too."""
+    began = time.monotonic()
+    answer = desk.get(NEVER)
+    yield "a run that never ends", answer.status == 504 and time.monotonic() - began < 10
+    yield "it is ended", until(lambda: not desk.children())
+    connection = http.client.HTTPConnection("127.0.0.1", desk.port)
+    connection.request("GET", NEVER, headers={"Host": f"127.0.0.1:{desk.port}"})
+    yield "a run works", until(lambda: bool(desk.children()))
+    connection.sock.close()
+    yield "it is ended when its page goes", until(lambda: not desk.children(), 3)
+
+
+def idle(desk):
+    """Clients that never read, or never ask, don't stop others."""
+    held = []
+    for number in range(40):
+        client = socket.create_connection(("127.0.0.1", desk.port))
+        if number % 2:
+            text = f"GET /lesson/boards?boards=128&seed={number} HTTP/1.1\r\nHost: 127.0.0.1:{desk.port}\r\n\r\n"
+            client.sendall(text.encode())
+        held.append(client)
+    yield "another is served", until(lambda: desk.get("/help").status == 200)
+    for client in held:
+        client.close()
+    yield "no run is left", until(lambda: not desk.children())
+
+
+def refused():
+    serving.need()
+    with serving.desk("--limits") as desk:
+        for part in (foreign, nasty_fields, nasty_bodies, many, endless, idle):
+            yield from report.judged(part(desk))

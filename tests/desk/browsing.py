@@ -1,0 +1,307 @@
+"""The desk in Chromium, on a phone, a tablet and a desktop: each page's whole way, also without scripts and without a
+mouse, with Back and reload; what is downloaded is what the shown line writes."""
+
+import contextlib
+import json
+import pathlib
+import time
+
+import harness
+import packages
+import report
+import serving
+
+WIDTHS = (360, 768, 1280)
+SECONDS = 20
+HERE = pathlib.Path(__file__).resolve().parent
+AUDIT = (HERE / "audit.js").read_text()
+NOTRUMP = "hcp(north) in 15-17 and balanced(north)"
+
+
+def need():
+    serving.need()
+    packages.need("chromium", "chromium")
+    packages.need("chromium-driver", "chromedriver")
+    packages.need("python3-selenium", "/usr/lib/python3/dist-packages/selenium/__init__.py")
+
+
+@contextlib.contextmanager
+def browser(width, folder, has_scripts=True):
+    """A browser with a window of this width, which downloads into the folder."""
+    from selenium import webdriver
+    from selenium.webdriver.chrome.service import Service
+
+    options = webdriver.ChromeOptions()
+    for word in ("--headless=new", "--no-sandbox", "--disable-gpu", "--disable-dev-shm-usage", f"--window-size={max(width, 500)},1000"):
+        options.add_argument(word)
+    settings = {"download.default_directory": str(folder), "download.prompt_for_download": False}
+    if not has_scripts:
+        settings["profile.managed_default_content_settings.javascript"] = 2
+    options.add_experimental_option("prefs", settings)
+    if width < 500:
+        options.add_experimental_option("mobileEmulation", {"deviceMetrics": {"width": width, "height": 800, "pixelRatio": 1}})
+    driver = webdriver.Chrome(options=options, service=Service("/usr/bin/chromedriver"))
+    driver.implicitly_wait(5)
+    try:
+        yield Window(driver, pathlib.Path(folder))
+    finally:
+        driver.quit()
+
+
+class Window:
+    """A browser's window, and what a person does in it."""
+
+    def __init__(self, driver, folder):
+        self.driver = driver
+        self.folder = folder
+
+    def go(self, address):
+        self.driver.get(address)
+
+    def find(self, css):
+        return self.driver.find_element("css selector", css)
+
+    def all(self, css):
+        return self.driver.find_elements("css selector", css)
+
+    def button(self, text):
+        return self.driver.find_element("xpath", f"//button[normalize-space()='{text}']")
+
+    def write(self, name, text):
+        field = self.find(f"[name={name}]")
+        field.clear()
+        field.send_keys(text)
+
+    def press(self, text):
+        """Clicks a button, as a person can: it has to be in sight and nothing before it."""
+        found = self.button(text)
+        found.location_once_scrolled_into_view  # noqa: B018
+        found.click()
+
+    def until(self, is_so, what="it"):
+        end = time.monotonic() + SECONDS
+        while time.monotonic() < end:
+            with contextlib.suppress(Exception):
+                if is_so():
+                    return True
+            time.sleep(0.1)
+        raise AssertionError(f"{what} did not come")
+
+    def downloaded(self, name):
+        """A file that was downloaded, once it is whole."""
+        file = self.folder / name
+        self.until(lambda: file.exists() and not list(self.folder.glob("*.crdownload")), name)
+        body = file.read_bytes()
+        file.unlink()
+        return body
+
+    def frame_text(self):
+        """What the frame of the page shows."""
+        self.driver.switch_to.frame(self.find("iframe"))
+        try:
+            return self.find("body").text
+        finally:
+            self.driver.switch_to.default_content()
+
+    def is_seen(self, css):
+        return self.driver.execute_script("return document.querySelector(arguments[0]).checkVisibility()", css)
+
+    def overflows(self):
+        return self.driver.execute_script("return document.documentElement.scrollWidth > document.documentElement.clientWidth")
+
+    def shown_lines(self):
+        return self.driver.execute_script("return [...document.querySelectorAll('pre code')].map((code) => code.textContent)")
+
+
+def fits(window, name):
+    """The page fits its window, and everything on it has a label and enough contrast."""
+    yield f"{name}: fits", not window.overflows()
+    for fault in window.driver.execute_script(AUDIT):
+        yield f"{name}: {fault}", False
+
+
+def tonight(window, desk):
+    window.go(desk.address)
+    seed = window.find("[name=seed]").get_attribute("value")
+    yield "a seed is drawn", seed.isdigit()
+    yield from fits(window, "tonight")
+    window.find(".seed summary").click()
+    yield "the seed is hidden by a click", not window.is_seen("[name=seed]")
+    window.write("event", "Monday pairs")
+    window.press("PBN")
+    given = window.downloaded("night.pbn")
+    line = desk.post("/tonight/lines", {"seed": seed, "boards": "27", "event": "Monday pairs"}).text
+    yield "PBN is what its line writes", given == serving.typed(json.loads(line)["pbn"]) != b""
+    yield "the seed is in no address", seed not in window.driver.current_url
+    window.driver.refresh()
+    yield "a reload keeps the night", window.find("[name=seed]").get_attribute("value") == seed
+    yield "and its words", window.find("[name=event]").get_attribute("value") == "Monday pairs"
+    window.write("boards", "0")
+    window.press("PBN")
+    yield "a fault is at its field", window.find("#boards-refusal").is_displayed()
+    window.write("boards", "4")
+    window.press("More boards")
+    window.until(lambda: window.find("[name=first_board]").get_attribute("value") == "5", "more boards")
+    yield "more boards have another seed", window.find("[name=seed]").get_attribute("value") != seed
+    window.driver.back()
+    window.driver.forward()
+    yield "Back keeps the night", window.find("[name=first_board]").get_attribute("value") == "5"
+
+
+def sheet(window, desk):
+    window.go(desk.address)
+    window.write("boards", "4")
+    window.press("Sheet with tricks")
+    window.until(lambda: len(window.driver.window_handles) == 2, "a tab")
+    first, second = window.driver.window_handles
+    window.driver.switch_to.window(second)
+    window.until(lambda: "Par" in window.find("body").text, "the sheet")
+    yield "a sheet with par", len(window.all("section.board")) == 4
+    window.driver.close()
+    window.driver.switch_to.window(first)
+
+
+def lesson(window, desk):
+    window.go(f"{desk.address}/lesson")
+    yield from fits(window, "lesson")
+    window.find(".starts summary").click()
+    window.find(".starts a").click()
+    window.until(lambda: window.find("[name=where]").get_attribute("value") == NOTRUMP, "the lesson")
+    window.press("Deal")
+    window.until(lambda: "Board 12" in window.frame_text(), "the boards")
+    yield from fits(window, "a lesson's boards")
+    yield "its line", window.shown_lines() == [f"deals make --seed=7 --boards=12 '--where={NOTRUMP}' --rotate --format=html"]
+    window.press("PBN")
+    yield "PBN", window.downloaded("lesson.pbn") == serving.typed(window.shown_lines()[0].replace("html", "pbn")) != b""
+    address = window.driver.current_url
+    window.driver.refresh()
+    window.until(lambda: "Board 12" in window.frame_text(), "the boards again")
+    yield "its address has all", "where=" in address and window.driver.current_url == address
+
+
+def mistake(window, desk):
+    window.go(f"{desk.address}/lesson")
+    window.write("where", "hcp(nord) in 15-17")
+    window.until(lambda: window.find(".refusal .mend").is_displayed(), "the refusal")
+    yield from fits(window, "a mistake")
+    yield "the fault is marked", window.find(".marks mark").get_attribute("textContent") == "nord"
+    yield "what could stand there", True
+    window.find(".refusal .mend").click()
+    yield "it is mended", window.find("[name=where]").get_attribute("value") == "hcp(north) in 15-17"
+    window.until(lambda: "One deal in" in window.find("[data-rarity]").text, "how rare they are")
+    yield "nothing is refused", not window.all(".refusal")
+    window.write("where", "len(north,")
+    window.until(lambda: window.find(".chip").is_displayed(), "what could stand")
+    window.find(".chip").click()
+    yield "a word is put in", window.find("[name=where]").get_attribute("value").startswith("len(north,")
+
+
+def hands(window, desk):
+    window.go(f"{desk.address}/lesson")
+    window.driver.find_element("xpath", "//summary[.='Cards that a seat has']").click()
+    window.write("south", "AQ742.K5.KJ3.84")
+    window.write("boards", "2")
+    window.press("Deal")
+    window.until(lambda: "AQ742" in window.frame_text(), "the hand")
+    yield "the hand that was given", "Board 2" in window.frame_text()
+    window.write("south", "AQ742.K5.KJ3.8422")
+    window.press("Deal")
+    yield "a hand that is refused", window.find("#south-refusal").is_displayed()
+    yield from fits(window, "a hand that is refused")
+
+
+def counted(window, desk):
+    window.go(f"{desk.address}/count")
+    yield from fits(window, "count")
+    window.write("of", "hcp(north)")
+    window.write("by", "len(north,spades)")
+    window.write("candidates", "1000")
+    window.press("Count")
+    window.until(lambda: "1,000" in window.frame_text(), "the table")
+    yield from fits(window, "a table")
+
+
+def searched(window, desk):
+    window.go(f"{desk.address}/search")
+    yield from fits(window, "search")
+    window.write("where", "hcp(north)>=31")
+    window.write("boards", "1000")
+    window.press("Search")
+    window.until(lambda: int(window.find("[data-found]").text) > 0, "a board")
+    window.until(lambda: "%" in window.find("[data-progress]").text, "the progress")
+    yield from fits(window, "a search")
+    window.press("Stop")
+    window.until(lambda: "Stopped" in window.find("[role=status]").text, "the end")
+    window.until(lambda: "Board 1" in window.frame_text(), "the boards")
+    window.driver.find_element("link text", "Go on from here").click()
+    yield "it goes on", int(window.find("[name=first]").get_attribute("value")) > 0
+    yield "with the same condition", window.find("[name=where]").get_attribute("value") == "hcp(north)>=31"
+
+
+def contracts(window, desk):
+    window.go(f"{desk.address}/lesson?where=len(south,spades)>%3D5&boards=2")
+    window.driver.find_element("xpath", "//summary[.='Contracts that make']").click()
+    window.write("makes", "4S-NS")
+    window.write("beaten", "3NT-NS")
+    window.press("Deal")
+    window.until(lambda: "Board 2" in window.frame_text(), "the boards")
+    yield "its line", "deals-tricks --makes=4S-NS --beaten=3NT-NS" in window.shown_lines()[0]
+
+
+def by_keyboard(window, desk):
+    """From the top of the page to the boards by keys alone."""
+    from selenium.webdriver.common.keys import Keys
+
+    window.go(f"{desk.address}/lesson?where=hcp(north)>%3D20&boards=1")
+    for _ in range(60):
+        window.driver.switch_to.active_element.send_keys(Keys.TAB)
+        focused = window.driver.switch_to.active_element
+        if focused.text == "Deal":
+            break
+    yield "the button is reached", focused.text == "Deal"
+    focused.send_keys(Keys.ENTER)
+    window.until(lambda: "Board 1" in window.frame_text(), "the board")
+
+
+WAYS = (tonight, sheet, lesson, mistake, hands, counted, searched, contracts, by_keyboard)
+
+
+def plain(window, desk):
+    """Without scripts: a night's file, a lesson, a refusal at its field, a search."""
+    window.go(desk.address)
+    window.write("boards", "3")
+    window.press("PBN")
+    yield "plain: PBN", window.downloaded("night.pbn").count(b"[Deal ") == 3
+    window.go(f"{desk.address}/lesson")
+    window.write("where", "hcp(nord)>=15")
+    window.press("Deal")
+    yield "plain: a refusal", "nord" in window.find("#where-refusal").text
+    window.write("where", "hcp(north)>=15")
+    window.press("Deal")
+    window.until(lambda: "Board 12" in window.frame_text(), "the boards")
+    window.go(f"{desk.address}/search")
+    window.write("where", "hcp(north)>=31")
+    window.write("boards", "1000")
+    window.press("Search")
+    window.until(lambda: window.find("iframe"), "a board")
+    window.press("Stop")
+    yield "plain: stopped", "Stopped" in window.find("[role=status]").text
+
+
+def gone(ways_to_go, width, desk, has_scripts=True):
+    """Ways in a window of this width. What didn't come is told, and the next way tried."""
+    with harness.scratch() as folder, browser(width, folder, has_scripts) as window:
+        for way in ways_to_go:
+            try:
+                for name, is_right in way(window, desk):
+                    yield f"{width}: {name}", is_right
+            except Exception as error:
+                yield f"{width}: {way.__name__}: {str(error).splitlines()[0]}", False
+
+
+def ways():
+    need()
+    with serving.desk() as desk:
+        for width in WIDTHS:
+            yield from report.judged(gone(WAYS, width, desk))
+        yield from report.judged(gone([plain], 1280, desk, has_scripts=False))

@@ -1,0 +1,102 @@
+"""What forms become: words, in the place of forms and servers; and what is read from the answers of `deals`."""
+
+import subprocess
+
+import board_formats
+import harness
+import packages
+import report
+import tables
+from deals_desk import answers, fields, files, words
+
+WHERE = "hcp(north) in 15-17 and balanced(north)"
+
+# A page, what its form has, and the words that it becomes.
+ROWS = [
+    ({}, "deals make --seed=7 --boards=12 --rotate"),
+    ({"where": WHERE}, f"deals make --seed=7 --boards=12 '--where={WHERE}' --rotate"),
+    ({"turn": "N", "vulnerable": "NS"}, "deals make --seed=7 --boards=12 --dealer=N --vulnerable=NS"),
+    ({"turn": "", "north": "AKQ32.K..A"}, "deals make --seed=7 --boards=12 --north=AKQ32.K..A"),
+    ({"turn": "", "event": "It's; $(x)"}, "deals make --seed=7 --boards=12 '--event=It'\"'\"'s; $(x)'"),
+    ({"turn": "", "where": "-x", "boards": "\r\n 3 "}, "deals make --seed=7 --boards=3 --where=-x"),
+    ({"turn": "", "where": "1==1\r\nand 2==2"}, "deals make --seed=7 --boards=12 '--where=1==1\nand 2==2'"),
+    (
+        {"turn": "", "where": "1==1", "makes": "4S-NS", "beaten": "3NT-NS 4H-N"},
+        "deals find --seed=7 --candidates=10000000 --where=1==1 |\n"
+        "    deals pick --seed=7 --format=json |\n"
+        "    deals-tricks --makes=4S-NS --beaten=3NT-NS --beaten=4H-N --numbers --boards=12 |\n"
+        "    deals pick --seed=7",
+    ),
+]
+
+# What a person is told of a text, the characters that are marked, and the mended text.
+FAULTS = [
+    ("hcp(nord)>=15", "where", "nord", "hcp(north)>=15"),
+    ("balanced(north) and hcp(nord)>=15", "where", "nord", "balanced(north) and hcp(north)>=15"),
+    ("hcp(north)=12+", "where", "=", "hcp(north)>=12"),
+    ("hcp(north) in", "where", "", None),
+    ("\u00fc", "where", "\u00fc", None),
+]
+
+
+def told():
+    """The command of each form."""
+    for given, line in ROWS:
+        form = words.asked_for(fields.LESSON, given, "lesson")
+        yield f"{given}", words.boards(form, ()).line() == line
+
+
+def marked():
+    """What is refused, told apart."""
+    for text, field, fault, mended in FAULTS:
+        ended = harness.deals("make", "--seed=1", "--boards=1", f"--where={text}", "--hints=always")
+        answer = answers.read(ended.stderr.decode(), {"where": text})
+        found = text[answer.at : answer.at + answer.length]
+        yield text, (answer.field, found, answer.mended) == (field, fault, mended)
+
+
+def named():
+    """The field that each refusal of an option belongs to."""
+    rows = [
+        ("seed", "x"), ("boards", "0"), ("first_board", "-1"), ("north", "AKQ"), ("event", '"'), ("date", "today"),
+        ("vulnerable", "Nobody"), ("candidates", "9999999999999"),
+    ]
+    for name, value in rows:
+        option = fields.BY_NAME[name].option
+        ended = harness.deals("make", "--seed=1", "--candidates=1", f"{option}={value}")
+        yield f"{option}={value}", answers.read(ended.stderr.decode(), {}).field == name
+    for name in ("of", "by"):
+        ended = harness.deals("count", "--seed=1", "--candidates=1", "--of=1", f"--{name}=nord")
+        yield name, answers.read(ended.stderr.decode(), {name: "nord"}).field == name
+
+
+def standing():
+    """All that could stand anywhere has words to be put there."""
+    for left, text in tables.lines(harness.TOP / "tests" / "rows" / "places" / "expected.txt"):
+        if text is not None:
+            expected = left.partition("; ")[2]
+            has_end = expected in ("the end", "nothing more")
+            yield f"{expected} | {text}", has_end or bool(answers.could_stand(f"  expected {expected}\n"))
+
+
+def listed():
+    """Each format that a file has is one of `deals`."""
+    for file in files.FILES:
+        style = file.look[-1].partition("=")[2]
+        yield file.name, style in board_formats.FORMATS
+
+
+def typed():
+    """The desk's types, by a checker."""
+    packages.need("mypy", "/usr/bin/mypy")
+    folder = harness.TOP / "companion" / "desk"
+    with harness.scratch() as cache:
+        words = ["/usr/bin/mypy", "--strict", f"--cache-dir={cache}", "deals_desk"]
+        ended = subprocess.run(words, cwd=folder, capture_output=True, text=True, check=False)
+    return ended.stdout.strip() if ended.returncode else None
+
+
+def words_of_forms():
+    yield "types", typed()
+    for part in (told, marked, named, standing, listed):
+        yield from report.judged(part())
