@@ -136,6 +136,9 @@ def tonight(window, desk):
     window.driver.refresh()
     yield "a reload keeps the night", window.find("[name=seed]").get_attribute("value") == seed
     yield "and its words", window.find("[name=event]").get_attribute("value") == "Monday pairs"
+    window.find("[name=site]").send_keys("Riverside\n")
+    window.until(lambda: "Riverside" in window.driver.page_source, "the same page")
+    yield "the return key draws no seed", window.find("[name=seed]").get_attribute("value") == seed
     window.write("boards", "0")
     window.press("PBN")
     yield "a fault is at its field", window.find("#boards-refusal").is_displayed()

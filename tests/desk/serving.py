@@ -78,11 +78,11 @@ class Desk:
 
 
 @contextlib.contextmanager
-def desk(*words, programs=None):
+def desk(*words, program=DESK):
     """A server, which ends at the end."""
-    settings = {**os.environ, "DEALS": str(harness.PROGRAM), "DEALS_TRICKS": str(TRICKS), **(programs or {})}
+    settings = {**os.environ, "DEALS": str(harness.PROGRAM), "DEALS_TRICKS": str(TRICKS)}
     process = subprocess.Popen(
-        [PYTHON, DESK, "--port", "0", "--no-browser", *words], env=settings, stderr=subprocess.PIPE, text=True
+        [PYTHON, program, "--port", "0", "--no-browser", *words], env=settings, stderr=subprocess.PIPE, text=True
     )
     try:
         line = process.stderr.readline()

@@ -23,8 +23,8 @@ FILES = (
     File("boards", "Boards", "All four hands of each board.", ("--format=html",), HTML, "html"),
     File("handout", "Handout", "The dealer's hand alone.", ("--show=dealer", "--format=html"), HTML, "html"),
     File("sheet", "Sheet", "All hands, eighteen boards on a page, to print from the browser.", ("--format=sheet",), HTML, "html"),
-    File("tricks", "Sheet with tricks", "The same with the tricks of each side, and par. It takes some seconds. Hang it up after "
-         "play.", ("--format=sheet",), HTML, "html", tricks=True),
+    File("tricks", "Sheet with tricks", "Eighteen boards on a page, with the tricks of each side and par: to hang up after play. "
+         "It takes some seconds.", ("--format=sheet",), HTML, "html", tricks=True),
     File("pbn", "PBN", "For dealing machines and bridge programs.", ("--format=pbn",), "application/x-pbn", "pbn", saved=True),
     File("lin", "LIN", "For Bridge Base Online.", ("--format=lin",), "application/x-lin", "lin", saved=True),
 )
