@@ -10,11 +10,12 @@ import signal
 import subprocess
 import urllib.parse
 
+import companion
 import harness
 import packages
 
 DESK = harness.TOP / "companion" / "desk" / "deals-desk"
-TRICKS = harness.TOP / "companion" / "out" / "deals-tricks"
+TRICKS = companion.PROGRAM
 PYTHON = "/usr/bin/python3"
 SECONDS = 60
 
@@ -23,10 +24,7 @@ def need():
     """The packages of the desk and of its solver."""
     packages.need("python3-flask", "/usr/lib/python3/dist-packages/flask/__init__.py")
     packages.need("python3-waitress", "/usr/lib/python3/dist-packages/waitress/__init__.py")
-    packages.need("g++", "g++")
-    packages.need("libdds-dev", "/usr/include/dds/dll.h")
-    packages.need("nlohmann-json3-dev", "/usr/include/nlohmann/json.hpp")
-    subprocess.run([harness.TOP / "companion" / "build"], check=True)
+    companion.build()
 
 
 @dataclasses.dataclass(frozen=True)

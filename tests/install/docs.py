@@ -19,6 +19,7 @@ import tempfile
 
 import board_formats
 import commands
+import companion
 import harness
 import packages
 
@@ -148,16 +149,12 @@ def what_it_sets(command, folder):
 def solver():
     """The companion program, or None where the solver isn't there and can't be installed."""
     try:
-        packages.need("g++", "g++")
-        packages.need("libdds-dev", "/usr/include/dds/dll.h")
-        packages.need("nlohmann-json3-dev", "/usr/include/nlohmann/json.hpp")
+        return companion.build()
     except packages.Missing as missing:
         if os.environ.get("CI") == "true":
             raise
         print(f"SKIPPED: commands with tricks: {missing}")
         return None
-    subprocess.run([harness.TOP / "companion" / "build"], check=True)
-    return harness.TOP / "companion" / "out" / "deals-tricks"
 
 
 def check_page(path, folder):

@@ -6,6 +6,7 @@ import shutil
 import subprocess
 
 import commands
+import companion
 import harness
 import packages
 
@@ -209,11 +210,9 @@ def check_clean(folder):
     shown, _ = shell.completed("deals make --w")
     yield "clean, --w in bash", "--where" in shown and "--workers" in shown
     shell.close()
-    packages.need("libdds-dev", "/usr/include/dds/dll.h")
-    packages.need("nlohmann-json3-dev", "/usr/include/nlohmann/json.hpp")
-    subprocess.run([harness.TOP / "companion" / "build", folder / "one"], check=True)
-    [companion] = (folder / "one").glob("deals-tricks_*.deb")
-    shutil.copy(companion, clean.root / "deals-tricks.deb")
+    companion.build(folder / "one")
+    [package] = (folder / "one").glob("deals-tricks_*.deb")
+    shutil.copy(package, clean.root / "deals-tricks.deb")
     status, _, err = clean.told("dpkg", "-i", "/deals-tricks.deb")
     yield "clean, the companion", status == 0
     status, out, err = clean.told("sh", "-euc", NIGHT)

@@ -1,0 +1,122 @@
+"""The script of a club's night: killed at every step and run again, run twice, with words of another night, and where a
+program fails. There is never a sheet of other boards."""
+
+import os
+import pathlib
+import signal
+import subprocess
+
+import companion
+import harness
+import report
+
+NIGHT = harness.TOP / "examples" / "night"
+WORDS = ("4", "Club night", "night")
+# A program that counts its calls in a file, and at one of them stops the script that called it, or fails.
+STAND_IN = """#!/bin/bash
+count=$(($(cat "$COUNTS" 2>/dev/null) + 1))
+echo "$count" >"$COUNTS"
+if [ "$count" = "$AT" ]; then
+    [ "$HOW" != killed ] || kill -KILL "$PPID"
+    [ "$HOW" != half ] || "{program}" "$@" | head -c 40
+    exit 5
+fi
+exec "{program}" "$@"
+"""
+
+
+def stand_ins(folder):
+    """A folder with both programs, by stand-ins."""
+    programs = folder / "bin"
+    programs.mkdir()
+    for name, program in (("deals", harness.PROGRAM), ("deals-tricks", companion.build())):
+        (programs / name).write_text(STAND_IN.replace("{program}", str(program)))
+        (programs / name).chmod(0o755)
+    return programs
+
+
+class Night:
+    """A folder in which nights are made."""
+
+    def __init__(self, folder):
+        self.folder = pathlib.Path(folder)
+        self.programs = stand_ins(self.folder)
+
+    def run(self, *words, at=0, how="", without=()):
+        """The script's status, and what it said; `at` is the call that goes wrong."""
+        counts = self.folder / "counts"
+        counts.unlink(missing_ok=True)
+        path = f"{self.programs}:/usr/bin:/bin"
+        settings = {"PATH": path, "COUNTS": str(counts), "AT": str(at), "HOW": how}
+        for name in without:
+            (self.programs / name).rename(self.folder / name)
+        try:
+            ended = subprocess.run(["sh", NIGHT, *words], cwd=self.folder, env=settings, capture_output=True, text=True, check=False)
+        finally:
+            for name in without:
+                (self.folder / name).rename(self.programs / name)
+        return ended.returncode, ended.stderr
+
+    def files(self):
+        there = self.folder / "night"
+        return {file.name: file.read_bytes() for file in there.iterdir()} if there.is_dir() else {}
+
+    def is_right(self):
+        """Whether all files are those of the seed that is kept."""
+        files = self.files()
+        make = ["make", "--seed", files["seed"].decode().strip(), "--boards", "4", "--event=Club night"]
+        pbn = harness.deals(*make).stdout
+        tricks = subprocess.run([companion.build()], input=pbn, capture_output=True, check=True).stdout
+        page = harness.deals(*make, "--format", "sheet", "--tricks", given=tricks).stdout
+        return files["night.pbn"] == pbn and files["night.tricks"] == tricks and files["night.html"] == page != b""
+
+
+def made():
+    """A night is made, and made again it stays as it is."""
+    with harness.scratch() as folder:
+        night = Night(folder)
+        status, said = night.run(*WORDS)
+        yield "made", status == 0 and night.is_right()
+        first = night.files()
+        for again in range(2):
+            status, said = night.run(*WORDS)
+            yield f"pasted again, {again}", status == 0 and night.files() == first and "stays as it is" in said
+        status, said = night.run("5", *WORDS[1:])
+        yield "another night in its folder", status == 2 and night.files() == first and "another folder" in said
+        status, _ = night.run("x", "Club night", "other")
+        yield "words that can't be read", status == 2 and not (night.folder / "other").exists()
+        status, _ = night.run("4", 'a "quoted" event', "other")
+        yield "a label that is refused", status == 2 and not (night.folder / "other").exists()
+        status, _ = night.run("4")
+        yield "too few words", status == 2
+
+
+def stopped():
+    """Killed at each call of a program, or with one that fails at once or after some bytes, and run again."""
+    for how, status, calls in (("killed", -signal.SIGKILL, (1, 2, 3, 4, 5)), ("fails", 5, (2, 4)), ("half", 5, (3, 4, 5))):
+        for at in calls:
+            with harness.scratch() as folder:
+                night = Night(folder)
+                ended, _ = night.run(*WORDS, at=at, how=how)
+                left = night.files()
+                yield f"{how} at call {at}", ended == status and "night.html" not in left
+                seed = left.get("seed")
+                ended, _ = night.run(*WORDS)
+                is_kept = seed is None or night.files()["seed"] == seed
+                yield f"{how} at call {at}, run again", ended == 0 and is_kept and night.is_right()
+
+
+def without():
+    """Without deals-tricks the sheet has no tricks, and that is said."""
+    with harness.scratch() as folder:
+        night = Night(folder)
+        status, said = night.run(*WORDS, without=["deals-tricks"])
+        files = night.files()
+        is_plain = "night.tricks" not in files and b"Par" not in files["night.html"]
+        yield "without the solver", status == 0 and is_plain and "deals-tricks isn't installed" in said
+
+
+def nights():
+    os.umask(0o022)
+    for part in (made, stopped, without):
+        yield from report.judged(part())
