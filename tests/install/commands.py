@@ -60,6 +60,11 @@ def values(text):
     return found.group(1).split(", ") if found else []
 
 
+def completed(text):
+    """The words that are completed for an option: these, or one that stands for a number, as `auto`."""
+    return values(text) or (["auto"] if re.search(r";\s+auto:", text) else [])
+
+
 def plain(text):
     """A man page's line without its marks."""
     text = re.sub(r"\\f.", "", text).replace(r"\-", "-").replace(r"\(aq", "'").replace(r"\(dq", '"')

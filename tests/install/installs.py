@@ -68,12 +68,26 @@ def check_made(folder):
     yield "the package's files", all(name in listed for name in files)
     named = re.findall(r"/usr/share/doc/deals/[\w./-]*", commands.plain(commands.MAN.read_text(encoding="utf-8")))
     yield "the files that the man page names", bool(named) and all("." + name in listed for name in named)
+    yield from linked(first[0], folder / "pages")
     right = all(owner == b"root/root" and mode[5:6] != b"w" for mode, owner in listed.values())
     yield "the package's owners and rights", right
-    scripts = [doc + "examples/" + name for name in ("shard", "resume", "search.slurm")]
+    scripts = [doc + "examples/" + name for name in ("night", "shard", "resume", "search.slurm")]
     yield "the package's scripts can be run", all(listed[name][0] == b"-rwxr-xr-x" for name in scripts)
     _, out, _ = told(["dpkg-deb", "-f", first[0], "Version"])
     yield "the package's version", b"deals " + out == told([harness.PROGRAM, "--version"])[1]
+
+
+# A link of a page to another file.
+LINK = re.compile(r"\]\((?!https?:|#)([^)#\s]+)[^)]*\)")
+
+
+def linked(package, folder):
+    """Each link of an installed page leads to an installed file."""
+    subprocess.run(["dpkg-deb", "-x", package, folder], check=True)
+    for page in sorted((folder / "usr/share/doc/deals").rglob("*.md")):
+        targets = LINK.findall(page.read_text(encoding="utf-8"))
+        missing = [target for target in targets if not (page.parent / target).exists()]
+        yield f"the links of {page.name}{': ' if missing else ''}{', '.join(missing)}", not missing
 
 
 def check_lint(folder):

@@ -74,8 +74,8 @@ def right_words(name):
     yield "--", set(options)
     yield "-", set(options) | commands.shorts(name)
     for option, text in options.items():
-        if commands.values(text):
-            yield f"{option} ", set(commands.values(text))
+        if commands.completed(text):
+            yield f"{option} ", set(commands.completed(text))
 
 
 def check_bash(_):
