@@ -1,0 +1,1 @@
+"""deals-dealer: scripts of the program dealer, as commands of `deals`."""

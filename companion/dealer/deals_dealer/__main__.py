@@ -1,0 +1,95 @@
+"""deals-dealer: prints the commands of `deals` that do what a script of dealer does."""
+
+import argparse
+import os
+import subprocess
+import sys
+from collections.abc import Sequence
+
+from .commands import Command, Translation
+from .reading import read
+from .tree import Refusal
+
+# Statuses: the script is refused or can't be read; words that can't be read; the output failed.
+SCRIPT, WORDS, OUTPUT = 1, 2, 4
+MOST_SEED = 4294967295
+
+
+def seed(text: str) -> int:
+    number = int(text)
+    if not 0 <= number <= MOST_SEED:
+        raise ValueError
+    return number
+
+
+def parser() -> argparse.ArgumentParser:
+    parse = argparse.ArgumentParser(
+        prog="deals-dealer",
+        description="Prints the commands of deals that do what a script of dealer does, each on a line.",
+        epilog="What can't be said in deals is refused with its line and column.",
+    )
+    parse.add_argument("script", nargs="?", default="-", metavar="FILE", help="the script; -: from standard input [default: -]")
+    parse.add_argument("--seed", type=seed, metavar="S", help="the seed, 0 to 4294967295 [default: that of the script, else 1]")
+    parse.add_argument("--run", action="store_true", help="runs the commands, in place of printing them")
+    return parse
+
+
+def say(text: str) -> None:
+    print(f"deals-dealer: {text}", file=sys.stderr)
+
+
+def text_of(path: str) -> str:
+    """The script's text; bytes that are no UTF-8 may stand in its comments."""
+    if path == "-":
+        return sys.stdin.buffer.read().decode("utf-8", "replace")
+    with open(path, "rb") as file:
+        return file.read().decode("utf-8", "replace")
+
+
+def notes_of(commands: Sequence[Command]) -> list[str]:
+    return list(dict.fromkeys(note for command in commands for note in command.notes))
+
+
+def run(commands: Sequence[Command]) -> int:
+    """Runs the commands one after another, up to the first that fails."""
+    program = os.environ.get("DEALS", "deals")
+    for command in commands:
+        try:
+            status = subprocess.run([program, *command.words[1:]], check=False).returncode
+        except OSError:
+            say("deals isn't installed: its package has to be there")
+            return SCRIPT
+        if status:
+            return status if status > 0 else 128 - status
+    return 0
+
+
+def main(words: Sequence[str] | None = None) -> int:
+    asked = parser().parse_args(words)
+    try:
+        text = text_of(asked.script)
+    except OSError as error:
+        say(f"{asked.script}: {error.strerror}")
+        return SCRIPT
+    try:
+        commands = Translation(read(text), asked.seed).commands()
+    except Refusal as refused:
+        say(f"line {refused.place.line}, column {refused.place.column}: {refused.text}")
+        return SCRIPT
+    except RecursionError:
+        say("line 1, column 1: brackets or definitions within one another go too deep")
+        return SCRIPT
+    for note in notes_of(commands):
+        say(f"note: {note}")
+    if asked.run:
+        return run(commands)
+    try:
+        print("".join(f"{command.line()}\n" for command in commands), end="", flush=True)
+    except BrokenPipeError:
+        os.dup2(os.open(os.devnull, os.O_WRONLY), sys.stdout.fileno())
+        return OUTPUT
+    return 0
+
+
+if __name__ == "__main__":
+    sys.exit(main())

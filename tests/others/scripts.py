@@ -1,0 +1,185 @@
+"""Scripts of dealer, translated: dealer deals, and says which of its deals a script's condition accepts; the second reader of
+conditions says which the translated one accepts. They have to be the same, one by one."""
+
+import pathlib
+import random
+import re
+import shlex
+import subprocess
+
+import harness
+import language
+import packages
+import report
+import tables
+
+TRANSLATOR = harness.TOP / "companion" / "dealer" / "deals-dealer"
+PYTHON = "/usr/bin/python3"
+DEALER = "/usr/games/dealer"
+EXAMPLES = pathlib.Path("/usr/share/doc/dealer/examples")
+# What deals has nothing for, and the place that is told.
+REFUSED = {"evaluation": "line 27, column 16", "test_dealer": "line 36, column 50", "test_operator_order": "line 68, column 1"}
+DEALS, MANY_DEALS = 2_000, 100_000
+SCRIPTS, MANY_SCRIPTS = 40, 200
+SPOILED, MANY_SPOILED = 80, 300
+SEATS = ("north", "east", "south", "west")
+SUITS = ("spades", "hearts", "diamonds", "clubs")
+RANKS = "AKQJT98765432"
+
+
+def translated(script):
+    """What the translator writes of a script: its status, its commands, and what it says."""
+    ended = subprocess.run([PYTHON, TRANSLATOR], input=script, capture_output=True, text=True, check=False)
+    return ended.returncode, [shlex.split(line) for line in ended.stdout.splitlines()], ended.stderr
+
+
+def where_of(words):
+    """The condition of a command; what every deal meets, if it has none."""
+    found = [word.partition("=")[2] for word in words if word.startswith("--where=")]
+    return found[0] if found else "1==1"
+
+
+def dealt(script, count):
+    """The deals that dealer prints of a script, as texts of four hands."""
+    asked = f"{script}\ngenerate {count}\nproduce {count}\naction printoneline\n"
+    ended = subprocess.run([DEALER, "-s", "7", "-v"], input=asked, capture_output=True, text=True, check=True)
+    return [line for line in ended.stdout.splitlines() if line.startswith("n ")]
+
+
+def hands_of(line):
+    """The four hands of a line, as lists of card numbers."""
+    hands = []
+    for text in line.split()[1::2]:
+        suits = text.split(".")
+        hands.append([13 * suit + RANKS.index(rank) for suit in range(4) for rank in suits[suit]])
+    return hands
+
+
+def complaint(script):
+    """What is wrong with a translation: the deals that dealer accepts and the condition doesn't, or the other way."""
+    count = MANY_DEALS if report.has("many") else DEALS
+    status, commands, said = translated(script + "\naction printpbn\n")
+    if status != 0:
+        return said.strip()
+    test = language.condition(where_of(commands[0]))
+    accepted = set(dealt(script, count))
+    all_deals = dealt(f"{script}\ncondition 1\n", count)
+    wrong = [line for line in all_deals if bool(test(hands_of(line))) != (line in accepted)]
+    if len(all_deals) != count or not accepted <= set(all_deals):
+        return f"{len(all_deals)} deals, {len(accepted)} accepted"
+    return f"{len(wrong)} deals, as {wrong[0]}, by {where_of(commands[0])}" if wrong else None
+
+
+def without_actions(text):
+    """A script's hands and condition alone. Dealer takes the first number of deals that is said."""
+    return re.sub(r"\b(generate|produce)\s+\d+", "", re.split(r"^action", text, maxsplit=1, flags=re.M)[0])
+
+
+def examples():
+    """The scripts of Debian's package: translated whole, or refused at the first thing that can't be said."""
+    for file in sorted(EXAMPLES.glob("Descr.*")):
+        name, text = file.suffix[1:], file.read_text(encoding="latin-1")
+        status, commands, said = translated(text)
+        if name in REFUSED:
+            yield name, None if status == 1 and REFUSED[name] in said else said or "not refused"
+            continue
+        yield name, said if status else None
+        yield f"{name}, the same deals", complaint(without_actions(text))
+        for words in commands:
+            tried = ["--candidates=10" if word.startswith("--candidates=") else word for word in words[1:]]
+            ended = harness.deals(*tried)
+            yield f"{name}, {words[1]}", None if ended.returncode == 0 else ended.stderr.decode()
+
+
+class Writer:
+    """Writes expressions of dealer at random."""
+
+    def __init__(self, dice):
+        self.dice = dice
+
+    def count(self):
+        dice, seat, suit = self.dice, self.dice.choice(SEATS), self.dice.choice(SUITS)
+        word = dice.choice(["hcp", "control", "loser", "aces", "kings", "top3", "top4", "c13", "pt0", "pt6", "queens", "tens"])
+        return dice.choice([f"{suit}({seat})", f"{word}({seat})", f"{word}({seat}, {suit})", f"hcp({seat})", f"{suit[:-1]}({seat})"])
+
+    def number(self, depth):
+        dice = self.dice
+        kind = dice.randrange(10) if depth else dice.randrange(3)
+        if kind < 3:
+            return dice.choice([self.count(), self.count(), str(dice.randrange(14))])
+        if kind < 7:
+            return f"{self.number(depth - 1)} {dice.choice('+-')} {self.number(0)}"
+        if kind == 7:
+            return f"{dice.randrange(1, 4)}*{self.count()}"
+        if kind == 8:
+            return f"({self.test(0)} ? {self.number(0)} : {self.number(0)})"
+        return f"(({self.test(0)}) + ({self.test(0)}))"
+
+    def shape(self):
+        dice = self.dice
+        texts = ["any 4333", "any 4432", "any 5332", "5xxx", "x5xx", "any 0xxx", "4441", "54xx", "any 54xx", "xx6x", "any 7xxx"]
+        parts = [dice.choice(texts)]
+        for _ in range(dice.randrange(4)):
+            parts += [dice.choice([" + ", " - ", " + ", ", "]), dice.choice(texts)]
+        return f"shape({dice.choice(SEATS)}, {''.join(parts)})"
+
+    def test(self, depth):
+        dice = self.dice
+        kind = dice.randrange(8) if depth else dice.randrange(5)
+        if kind < 3:
+            return f"{self.number(min(depth, 1))} {dice.choice(['<', '<=', '>', '>=', '==', '!='])} {self.number(0)}"
+        if kind == 3:
+            return self.shape()
+        if kind == 4:
+            return f"hascard({dice.choice(SEATS)}, {dice.choice('AKQJT')}{dice.choice('SHDC')})"
+        if kind == 5:
+            return f"{dice.choice(['!', 'not '])}({self.test(depth - 1)})"
+        if kind == 6:
+            return f"({self.test(depth - 1)} {dice.choice(['and', '&&'])} {self.test(depth - 1)})"
+        return f"({self.test(depth - 1)} {dice.choice(['or', '||'])} {self.test(depth - 1)})"
+
+    def script(self):
+        """A script with names, a comment, and perhaps cards that a seat has."""
+        dice = self.dice
+        lines = ["# made at random", f"one = {self.test(2)}", f"two = {self.number(1)}"]
+        if dice.random() < 0.3:
+            lines.insert(1, f"pointcount {' '.join(str(dice.randrange(6)) for _ in range(5))}")
+        if dice.random() < 0.3:
+            lines.append("predeal south SAQ5, HK /* some cards */ west DT")
+        lines.append(f"condition one {dice.choice(['and', 'or'])} two > {dice.randrange(12)} // the last")
+        return "\n".join(lines)
+
+
+def random_scripts():
+    dice = random.Random(20261128)
+    scripts = [Writer(dice).script() for _ in range(MANY_SCRIPTS if report.has("many") else SCRIPTS)]
+    yield from report.asked(complaint, scripts, name=lambda script: script.replace("\n", "; "))
+
+
+def table():
+    """Scripts by hand, with what is told of them: a command, or a refusal by line and column."""
+    for told, script in tables.lines(pathlib.Path(__file__).parent / "scripts.txt"):
+        status, commands, said = translated(script)
+        answer = shlex.join(commands[0]) if status == 0 else said.strip()
+        yield script, None if answer == told else answer
+
+
+def spoiled():
+    """Scripts that lost, gained or changed some bytes: a line, a column and a sentence, and no trace of Python."""
+    dice = random.Random(7)
+    texts = [file.read_text(encoding="latin-1") for file in sorted(EXAMPLES.glob("Descr.*"))]
+    for number in range(MANY_SPOILED if report.has("many") else SPOILED):
+        text = list(dice.choice(texts)[:1500])
+        for _ in range(dice.randrange(1, 4)):
+            at = dice.randrange(len(text))
+            text[at : at + dice.randrange(3)] = dice.choice(["", "(", ")", "\0", "9", "\u00fc", "condition", "=", '"', ",", "/*"])
+        status, _, said = translated("".join(text))
+        is_told = status == 0 or (status == 1 and re.search(r"^deals-dealer: line \d+, column \d+: .+$", said, re.M))
+        yield f"spoiled, {number}", None if is_told and "Traceback" not in said else f"{status}: {said}"
+
+
+def scripts():
+    packages.need("dealer", DEALER)
+    packages.need("python3-lark", "/usr/lib/python3/dist-packages/lark/__init__.py")
+    for part in (table, examples, random_scripts, spoiled):
+        yield from part()
