@@ -29,7 +29,8 @@ WORDS = {
     **dict.fromkeys(["north", "east", "south", "west"], "seat"),
     **dict.fromkeys(["spades", "hearts", "diamonds", "clubs"], "suit"),
     # A class is a kind of its own: which one may stand depends on those around it.
-    **{word: f"class {word}" for word in language.CLASSES},
+    **{word: f"class {word}" for word in [*language.CLASSES, *language.SIDES]},
+    **{word: word for word in language.BESIDE},
 }
 SYMBOLS = {**{sign: sign for sign in "(),-+"}, **dict.fromkeys(["==", "!=", "<=", ">=", "<", ">"], "relation")}
 PIECE = re.compile(rb"[ \t\r\n]+|#[^\n]*|(?P<word>[a-z]+)|(?P<number>[0-9]+)|(?P<symbol>[<>=!]=|[<>]|[(),+-])")
@@ -41,7 +42,7 @@ INNERMOST = VALUES | {"balanced", "shape", "stops", "not", "("}
 BEGINNING = {"condition": INNERMOST | {"any"}, "innermost": INNERMOST, "value": VALUES}
 # What must follow a word whatever happens, a letter each, and the state behind it: q a seat, s a suit, r ranks, n a
 # number, i a length or x, e a suit or ranks, ? a comma with a suit or a bracket, c a class, [ the bracket in which it
-# stands for a suit, and signs for themselves.
+# stands for a suit or a seat, and signs for themselves.
 OWED = {
     "balanced": ("(q)", "test"),
     "shape": ("(q,i-i-i-i)", "test"),
@@ -54,7 +55,7 @@ OWED = {
     "longest": ("(q)", "atom"),
 }
 MEANT = {
-    "q": {"seat"},
+    "q": {"seat", *language.BESIDE},
     "s": {"suit"},
     "[": {"("},
     "r": {"ranks"},
@@ -63,11 +64,12 @@ MEANT = {
     "e": {"suit", "ranks"},
     "?": {",", ")"},
 }
-CLASS_KINDS = [f"class {word}" for word in language.CLASSES]
+SUIT_KINDS = {f"class {word}" for word in language.CLASSES}
+SEAT_KINDS = {f"class {word}" for word in language.SIDES}
 # How each is named where it could stand, in the order of the line that names them.
 NAMES = {
     "condition": "a condition such as balanced(north)",
-    # Where four classes are bound no more can be.
+    # Where all classes are bound no more can be.
     "innermost": '"not", "(", "balanced", "shape", "pattern", "stops" or a value such as hcp(north)',
     "value": "a value such as hcp(north)",
     "+": '"+"',
@@ -79,6 +81,8 @@ NAMES = {
     "(": '"("',
     ",": '","',
     "seat": "a seat",
+    **{f"class {word}": f'"{word}"' for word in language.SIDES},
+    **{word: f'"{word}"' for word in ["partner", "left", "right"]},
     "suit": "a suit",
     **{f"class {word}": f'"{word}"' for word in language.CLASSES},
     "ranks": "ranks such as akq",
@@ -104,13 +108,14 @@ class Machine:
     def free(self):
         """The classes that may be bound here."""
         bound = {name for name, _ in self.around}
-        return set(CLASS_KINDS) - bound - (set() if bound else {"class other"})
+        return (SUIT_KINDS | SEAT_KINDS) - bound - (set() if bound & SUIT_KINDS else {"class other"})
 
     def due(self):
         """The kinds of tokens of which one must come next."""
         code = self.owed[0]
         kinds = self.free() if code == "c" else MEANT.get(code, {code})
-        return kinds | {name for name, _ in self.around} if "suit" in kinds else kinds
+        bound = {name for name, _ in self.around}
+        return kinds | (bound & SUIT_KINDS if "suit" in kinds else set()) | (bound & SEAT_KINDS if "seat" in kinds else set())
 
     def allowed(self):
         """The kinds of tokens that may come next, `condition` and `value` for all that begins one."""
@@ -160,6 +165,8 @@ class Machine:
             self.around.append((self.named, self.depth))
             self.depth += 1
             self.is_left = True
+        elif code == "q" and kind in language.BESIDE:
+            self.owed = f"(q){self.owed}"
         elif code == "?" and kind == ",":
             self.owed = "s)"
         elif code == "e" and kind != "ranks":

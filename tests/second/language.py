@@ -15,6 +15,10 @@ SEATS = ["north", "east", "south", "west"]
 SUITS = ["spades", "hearts", "diamonds", "clubs"]
 # The suits of a class; `other` has those that no class around it stands for.
 CLASSES = {"suit": [0, 1, 2, 3], "major": [0, 1], "minor": [2, 3], "other": [0, 1, 2, 3]}
+# The seats of a class.
+SIDES = {"seat": [0, 1, 2, 3], "ns": [0, 2], "ew": [1, 3]}
+# How many seats further clockwise each is.
+BESIDE = {"left": 1, "partner": 2, "right": 3}
 RANKS = "akqjt"
 RELATIONS = {
     "==": operator.eq,
@@ -70,7 +74,7 @@ class Reader:
 
     def __init__(self, tokens):
         self.tokens = tokens
-        # The classes around what is read; and, when the condition is asked, the suit that each stands for.
+        # The classes around what is read; and, when the condition is asked, the suit or seat that each stands for.
         self.around = []
         self.bound = {}
 
@@ -123,9 +127,10 @@ class Reader:
         return self.comparison()
 
     def quantified(self, of):
-        """Whether the bracket is true with some suit of a class, or with each."""
+        """Whether the bracket is true with some suit or seat of a class, or with each."""
         name = self.next()
-        if name not in CLASSES or name in self.around or (name == "other" and not self.around):
+        is_alone = not any(around in CLASSES for around in self.around)
+        if name not in CLASSES | SIDES or name in self.around or (name == "other" and is_alone):
             raise ValueError(f"{name!r} for a class")
         self.around.append(name)
         self.expect("(")
@@ -134,47 +139,59 @@ class Reader:
         self.around.remove(name)
 
         def holds(hands):
-            taken = set(self.bound.values()) if name == "other" else set()
-            answers = [self.with_suit(name, suit, inner, hands) for suit in CLASSES[name] if suit not in taken]
-            return of(answers)
+            taken = {self.bound[around] for around in self.bound if around in CLASSES} if name == "other" else set()
+            members = [member for member in (CLASSES | SIDES)[name] if member not in taken]
+            return of([self.with_member(name, member, inner, hands) for member in members])
 
         return holds
 
-    def with_suit(self, name, suit, inner, hands):
-        self.bound[name] = suit
+    def with_member(self, name, member, inner, hands):
+        self.bound[name] = member
         answer = inner(hands)
         del self.bound[name]
         return answer
 
     def suit(self):
         """A suit's word, or that of a class around it: a function of nothing."""
+        return self.member(self.next(), SUITS, CLASSES)
+
+    def seat(self):
+        """A seat's word, that of a class around it, or a seat beside one: a function of nothing."""
         word = self.next()
-        if word in self.around:
+        if word not in BESIDE:
+            return self.member(word, SEATS, SIDES)
+        self.expect("(")
+        inner = self.seat()
+        self.expect(")")
+        return lambda: (inner() + BESIDE[word]) % 4
+
+    def member(self, word, words, classes):
+        if word in self.around and word in classes:
             return lambda: self.bound[word]
-        found = SUITS.index(word)
+        found = words.index(word)
         return lambda: found
 
     def stopper(self):
         self.expect("stops")
         self.expect("(")
-        seat = self.one_of(SEATS)
+        seat = self.seat()
         self.expect(",")
         suit = self.suit()
         self.expect(")")
 
         def holds(hands):
-            held = ranks_in(hands[seat], suit())
+            held = ranks_in(hands[seat()], suit())
             return any(honour in held and len(held) > honour for honour in range(4))
 
         return holds
 
     def shape(self, word):
         self.expect("(")
-        seat = self.one_of(SEATS)
+        seat = self.seat()
         if word == "balanced":
             self.expect(")")
             wanted = ([3, 3, 3, 4], [2, 3, 4, 4], [2, 3, 3, 5])
-            return lambda hands: sorted(lengths(hands[seat])) in wanted
+            return lambda hands: sorted(lengths(hands[seat()])) in wanted
         items = []
         for sign in ",---":
             self.expect(sign)
@@ -183,7 +200,7 @@ class Reader:
         self.expect(")")
         orders = [tuple(items)] if word == "shape" else set(itertools.permutations(items))
         fits = lambda order, held: all(item in (None, length) for item, length in zip(order, held))  # noqa: E731
-        return lambda hands: any(fits(order, lengths(hands[seat])) for order in orders)
+        return lambda hands: any(fits(order, lengths(hands[seat()])) for order in orders)
 
     def comparison(self):
         left = self.value()
@@ -209,15 +226,15 @@ class Reader:
         if word.isdigit():
             return lambda hands: int(word)
         self.expect("(")
-        seat = self.one_of(SEATS)
+        seat = self.seat()
         if word in ("longest", "second", "shortest"):
             self.expect(")")
             place = {"longest": 3, "second": 2, "shortest": 0}[word]
-            return lambda hands: sorted(lengths(hands[seat]))[place]
+            return lambda hands: sorted(lengths(hands[seat()]))[place]
         suits = lambda: range(4)  # noqa: E731
         if word in ("len", "cards") or self.sees(","):
             self.expect(",")
-            if word != "cards" or self.sees(*SUITS, *self.around):
+            if word != "cards" or self.sees(*SUITS, *CLASSES):
                 suit = self.suit()
                 suits = lambda: [suit()]  # noqa: E731
                 if word == "cards":
@@ -225,11 +242,11 @@ class Reader:
         ranks = {RANKS.index(letter) for letter in self.next()} if word == "cards" else set()
         self.expect(")")
         if word == "cards":
-            return lambda hands: sum(card % 13 in ranks and card // 13 in suits() for card in hands[seat])
+            return lambda hands: sum(card % 13 in ranks and card // 13 in suits() for card in hands[seat()])
         if word == "len":
-            return lambda hands: sum(card // 13 in suits() for card in hands[seat])
+            return lambda hands: sum(card // 13 in suits() for card in hands[seat()])
         measure = MEASURES[word]
-        return lambda hands: measure(hands[seat], suits())
+        return lambda hands: measure(hands[seat()], suits())
 
 
 def condition(text):

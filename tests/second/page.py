@@ -39,4 +39,4 @@ def complaint():
     if wide or refused or len(examples) != EXAMPLES:
         return f"wide {wide}, refused {refused}, {len(examples)} examples"
     missing = [word for word in words() if (f"  {word}(north" if word in VALUES else word) not in page]
-    return f"without {missing} of {len(words())} words" if missing or len(words()) < 31 else None
+    return f"without {missing} of {len(words())} words" if missing or len(words()) < 37 else None

@@ -12,7 +12,9 @@ DEEPEST = 4
 
 def test(dice, around, depth=0):
     """A test; `around` are the classes that are bound around it."""
-    free = [name for name in language.CLASSES if name not in around and (name != "other" or around)]
+    classes = [*language.CLASSES, *language.SIDES]
+    has_suit = any(name in language.CLASSES for name in around)
+    free = [name for name in classes if name not in around and (name != "other" or has_suit)]
     kind = dice.randrange(10 if depth < DEEPEST else 5)
     if kind < 5 or (kind < 7 and not free):
         return single(dice, around)
@@ -26,7 +28,7 @@ def test(dice, around, depth=0):
 
 
 def single(dice, around):
-    seat = dice.choice(language.SEATS)
+    seat = hand(dice, around)
     match dice.randrange(8):
         case 0:
             return f"balanced({seat})"
@@ -46,7 +48,7 @@ def single(dice, around):
 
 def of_hand(dice, around):
     """A value, and what it is about."""
-    seat = dice.choice(language.SEATS)
+    seat = hand(dice, around)
     match dice.randrange(3):
         case 0:
             word = dice.choice(list(HANDS))
@@ -60,4 +62,16 @@ def of_hand(dice, around):
 
 def suit(dice, around):
     """A suit's word, or that of a class around it."""
-    return dice.choice(around) if around and dice.randrange(4) else dice.choice(language.SUITS)
+    return member(dice, [name for name in around if name in language.CLASSES], language.SUITS)
+
+
+def hand(dice, around):
+    """A seat's word, that of a class around it, or a seat beside one."""
+    if dice.randrange(6) == 0:
+        return f"{dice.choice(list(language.BESIDE))}({hand(dice, around)})"
+    return member(dice, [name for name in around if name in language.SIDES], language.SEATS)
+
+
+def member(dice, around, words):
+    """One of the classes around it, or one of the words."""
+    return dice.choice(around) if around and dice.randrange(4) else dice.choice(words)

@@ -18,6 +18,7 @@ PIECES = [
     *["hcp(north)", "len(south,clubs)", "hcp(east,hearts)", "controls(east)", "losers(east,hearts)", "cards(north,ak)"],
     *["hcp(north) in", "balanced(west)", "shape(west,4-3-3-3)", "shape(west,x-x-3-3)", "pattern(north,5-4-3-1)"],
     *["any suit (", "every major (", "any other (", "len(north,suit)", "stops(east,minor)", "second(west)", ")"],
+    *["any seat (", "every ns (", "hcp(seat)", "len(partner(ew),suit)", "balanced(left(north))", "shape(right(ns),"],
 ]
 
 

@@ -1,5 +1,5 @@
 -- A condition stays one if a token gives way to another of its kind, and if the bound classes stand
--- for other suits.
+-- for others of their members.
 use Rattle.std.proofs.Common.{◌≡◌, ℕ, true, List, [], ◌∷◌, ◌++◌, Option, Some, None, refl, sym, ap, ◌∙◌, subst}
 use Rattle.std.specs.Prelude.{is_some, fold}
 use Rattle.cards.specs.declared.honours.Honours.{Honours}
@@ -7,6 +7,7 @@ use Rattle.cards.specs.declared.hand.Measure.{Measure as AMeasure}
 use Rattle.cards.specs.declared.seat.Seat.{Seat as ASeat}
 use Rattle.cards.specs.declared.suit.Suit.{Suit as ASuit}
 use Rattle.cond_lang.specs.declared.classes.Bound.{Bound}
+use Rattle.cond_lang.specs.declared.classes.Choice.{Choice}
 use Rattle.cond_lang.specs.declared.classes.Class.{Class as AClass}
 use Rattle.cond_lang.specs.declared.classes.Quantifier.{Quantifier as AQuantifier}
 use Rattle.cond_lang.specs.declared.words.Kind.{Kind}
@@ -15,13 +16,13 @@ use Rattle.conditions.specs.declared.tree.Item.{Item}
 use Rattle.conditions.specs.declared.tree.Item.TheVariants.{Length, Any}
 use Rattle.conditions.specs.declared.tree.Op.{Op}
 use Rattle.cond_lang.specs.declared.scanner.Token.{Token}
-use Rattle.cond_lang.specs.declared.scanner.Token.TheVariants.{Or, And, Not, Balanced, Shape, Pattern, Quantifier, Stops, Measure, Cards, Len, Longest, Second, Shortest, In, X, Seat, Suit, Class, Ranks, Number, Open, Close, Comma, Dash, Plus, Relation}
+use Rattle.cond_lang.specs.declared.scanner.Token.TheVariants.{Or, And, Not, Balanced, Shape, Pattern, Quantifier, Stops, Measure, Cards, Len, Longest, Second, Shortest, In, X, Seat, Suit, Class, Neighbour, Ranks, Number, Open, Close, Comma, Dash, Plus, Relation}
 use Rattle.cond_lang.specs.Continuations.{kind_of}
 use Rattle.cond_lang.specs.Faults.{IsViable}
 use Rattle.conditions.specs.Form.{Amount, sum, number, measured, suit_measured, cards_held, suit_cards_held, suit_length, longest, second, shortest, Form, any_of, all_of, negation, compare, within, balanced, shaped, patterned, stops}
-use Rattle.cond_lang.specs.Classes.{unbound, bound_to, bind, members, Names, by_suit, by_class}
-use Rattle.cond_lang.specs.Grammar.{SpellsAtom, SpellsValue, atom, plus, a_number, measure, measure_in, len, cards, cards_in, longest_suit, second_suit, shortest_suit, item_token, four, SpellsCond, both, or, SpellsBoth, unit, and, SpellsUnit, not, brackets, quantified, test, SpellsTest, comparison, in_range, is_balanced, has_shape, has_pattern, has_stopper, joined, SpellsEach, none as no_more, one_more}
-use Rattle.cond_lang.proofs.Scopes.{SameScope, same_scope, bind_same, can_bind_same, some_of, members_some}
+use Rattle.cond_lang.specs.Classes.{unbound, bound_to, seat_bound_to, seat_beside, bind, members, Names, by_suit, by_class}
+use Rattle.cond_lang.specs.Grammar.{SpellsSeat, by_word, by_bound, beside, SpellsCount, SpellsHandTest, SpellsAtom, SpellsValue, atom, plus, a_number, count, measure, measure_in, len, cards, cards_in, longest_suit, second_suit, shortest_suit, item_token, four, SpellsCond, both, or, SpellsBoth, unit, and, SpellsUnit, not, brackets, quantified, test, SpellsTest, comparison, in_range, of_hand, is_balanced, has_shape, has_pattern, has_stopper, joined, SpellsEach, none as no_more, one_more}
+use Rattle.cond_lang.proofs.Scopes.{SameScope, same_scope, bind_same, can_bind_same, some_of, members_some, suits_alike, seats_alike}
 
 -- the lists have tokens of the same kinds
 data Alike : List Token → List Token → Type 0 where
@@ -65,6 +66,7 @@ only kind.Dash = Some Dash
 only kind.X = Some X
 only kind.Comma = Some Comma
 only (kind.Class c) = Some (Class c)
+only (kind.Neighbour n) = Some (Neighbour n)
 only kind.Close = Some Close
 only kind.And = Some And
 only kind.Or = Some Or
@@ -93,6 +95,7 @@ only_of Comma t e = cc
 only_of Dash t e = cc
 only_of Plus t e = cc
 only_of (Class c) t e = cc
+only_of (Neighbour n) t e = cc
 only_of (Seat q) t e = absurd (cc)
 only_of (Suit s) t e = absurd (cc)
 only_of (Ranks h) t e = absurd (cc)
@@ -131,14 +134,14 @@ like_suit F s y e = absurd (cc)
 class_named : (F : Bound) (c : AClass) (y : Token) → y ≡ Class c → (r : ASuit) × (bound_to F c ≡ Some r) → SomeNamed F y
 class_named F c y e r = (r.0, subst (λ x. Names F x r.0) (sym e) (by_class r.1))
 
-bound_is_some : (o : Option ASuit) (s : ASuit) → o ≡ Some s → is_some o ≡ true
+bound_is_some : {A : Type 0} (o : Option A) (s : A) → o ≡ Some s → is_some o ≡ true
 bound_is_some None s e = absurd (cc)
 bound_is_some (Some r) s e = refl
 
 like_named : {E F : Bound} → SameScope E F → {x : Token} {s : ASuit} → Names E x s → (y : Token) → kind_of x ≡ kind_of y → SomeNamed F y
 like_named {E} {F} f (by_suit {s}) y e = like_suit F s y e
 like_named {E} {F} f (by_class {c} {s} h) y e =
-    class_named F c y (same_class c e) (some_of (bound_to F c) (sym (f c) ∙ bound_is_some (bound_to E c) s h))
+    class_named F c y (same_class c e) (some_of (bound_to F c) (sym (suits_alike f c) ∙ bound_is_some (bound_to E c) s h))
 
 like_ranks : (h : Honours) (y : Token) → kind_of (Ranks h) ≡ kind_of y → (r : Honours) × (y ≡ Ranks r)
 like_ranks h (Ranks r) e = (r, refl)
@@ -183,55 +186,87 @@ between (z ∷ L) x R (y ∷ U) (more e a) =
 split_is : {L R U : List Token} {x : Token} (p : Between L x R U) → only (kind_of x) ≡ Some x → U ≡ p.left ++ x ∷ p.right
 split_is {L} {R} {U} {x} p h = p.is ∙ ap (λ y. p.left ++ y ∷ p.right) (same x h p.like)
 
+-- two lists, one after the other
+record Parts (L R U : List Token) : Type 0 where
+  first : List Token
+  second : List Token
+  is : U ≡ first ++ second
+  like_first : Alike L first
+  like_second : Alike R second
+
+parts : (L R U : List Token) → Alike (L ++ R) U → Parts L R U
+parts [] R U a = record { first = []; second = U; is = refl; like_first = none; like_second = a }
+parts (z ∷ L) R [] a = elim a [ ]
+parts (z ∷ L) R (y ∷ U) (more e a) =
+    let p = parts L R U a in
+    record { first = y ∷ p.first; second = p.second; is = ap (λ L. y ∷ L) p.is; like_first = more e p.like_first; like_second = p.like_second }
+
+nothing_like : (U : List Token) → Alike [] U → U ≡ []
+nothing_like [] none = refl
+nothing_like (y ∷ U) a = elim a [ ]
+
+-- a token that ends the list
+ends_with : {L U : List Token} {x : Token} (p : Between L x [] U) → only (kind_of x) ≡ Some x → U ≡ p.left ++ x ∷ []
+ends_with {L} {U} {x} p h = split_is p h ∙ ap (λ R. p.left ++ x ∷ R) (nothing_like p.right p.like_right)
+
+-- ---- seats
+
+abbrev SomeSeat : Bound → List Token → Type 0
+SomeSeat E T = (q : ASeat) × SpellsSeat E T q
+
+keep_seat : {E F : Bound} {T U : List Token} {q : ASeat} → SameScope E F → SpellsSeat E T q → Alike T U → SomeSeat F U
+keep_seat {F} f (by_word {q}) (more {y} e none) =
+    let r = like_seat q y e in (r.0, moved (λ L. SpellsSeat F L r.0) (join r.1 refl) by_word)
+keep_seat {E} {F} f (by_bound {c} {q} w h) (more {y} e none) =
+    let r = some_of (seat_bound_to F c) (sym (seats_alike f c) ∙ bound_is_some (seat_bound_to E c) q h) in
+    (r.0, moved (λ L. SpellsSeat F L r.0) (join (same_class c e) refl) (by_bound w r.1))
+keep_seat {F} f (beside {n} {Q} w h) (more e0 (more {U} e1 a)) =
+    let p = between Q Close [] U a in
+    let r = keep_seat f h p.like_left in
+    (seat_beside n r.0, moved (λ L. SpellsSeat F L (seat_beside n r.0)) (join (same (Neighbour n) refl e0) (join (same Open refl e1) (ends_with p refl))) (beside w r.1))
+
 -- ---- atoms
 
 abbrev SomeAtom : Bound → List Token → Type 0
 SomeAtom E T = (a : Amount) × SpellsAtom E T a
 
-some_atom : {E : Bound} {T U : List Token} (a : Amount) → U ≡ T → SpellsAtom E T a → SomeAtom E U
-some_atom {E} a e h = (a, moved (λ L. SpellsAtom E L a) e h)
+-- what counts, with other suits and ranks
+abbrev SomeCount : Bound → Token → List Token → Type 0
+SomeCount E c R = (f : ASeat → Amount) × SpellsCount E c R f
+
+some_count : {E : Bound} {c d : Token} {R S : List Token} (f : ASeat → Amount) → d ≡ c → S ≡ R → SpellsCount E c R f → SomeCount E d S
+some_count {E} {c} {d} {R} {S} f e i h = (f, subst (λ c. SpellsCount E c S f) (sym e) (subst (λ R. SpellsCount E c R f) (sym i) h))
+
+keep_count :
+    {E F : Bound} {c d : Token} {R S : List Token} {f : ASeat → Amount} → SameScope E F → SpellsCount E c R f → kind_of c ≡ kind_of d → Alike R S
+    → SomeCount F d S
+keep_count f (measure {m}) e0 (more e1 none) = some_count (λ q. measured m q) (same_measure m e0) (join (same Close refl e1) refl) measure
+keep_count f (measure_in {m} i) e0 (more e1 (more {y = z} e2 (more e3 none))) =
+    let t = like_named f i z e2 in
+    some_count (λ q. suit_measured m q t.0) (same_measure m e0) (join (same Comma refl e1) (join refl (join (same Close refl e3) refl))) (measure_in t.1)
+keep_count f (len i) e0 (more e1 (more {y = z} e2 (more e3 none))) =
+    let t = like_named f i z e2 in
+    some_count (λ q. suit_length q t.0) (same Len refl e0) (join (same Comma refl e1) (join refl (join (same Close refl e3) refl))) (len t.1)
+keep_count f (cards {h}) e0 (more e1 (more {y = z} e2 (more e3 none))) =
+    let t = like_ranks h z e2 in
+    some_count (λ q. cards_held q t.0) (same Cards refl e0) (join (same Comma refl e1) (join t.1 (join (same Close refl e3) refl))) cards
+keep_count f (cards_in {h} i) e0 (more e1 (more {y = z} e2 (more e3 (more {y = w} e4 (more e5 none))))) =
+    let t = like_named f i z e2 in
+    let g = like_ranks h w e4 in
+    some_count (λ q. suit_cards_held q t.0 g.0) (same Cards refl e0)
+    (join (same Comma refl e1) (join refl (join (same Comma refl e3) (join g.1 (join (same Close refl e5) refl))))) (cards_in t.1)
+keep_count f longest_suit e0 (more e1 none) = some_count (λ q. longest q) (same Longest refl e0) (join (same Close refl e1) refl) longest_suit
+keep_count f (second_suit w) e0 (more e1 none) = some_count (λ q. second q) (same Second refl e0) (join (same Close refl e1) refl) (second_suit w)
+keep_count f shortest_suit e0 (more e1 none) = some_count (λ q. shortest q) (same Shortest refl e0) (join (same Close refl e1) refl) shortest_suit
 
 keep_atom : {E F : Bound} {T U : List Token} {a : Amount} → SameScope E F → SpellsAtom E T a → Alike T U → SomeAtom F U
-keep_atom f (a_number {n}) (more {y} e none) =
-    let m = like_number n y e in some_atom (number m.0) (join m.1 refl) a_number
-keep_atom f (measure {m} {q}) (more e0 (more e1 (more {y} e2 (more e3 none)))) =
-    let r = like_seat q y e2 in
-    some_atom (measured m r.0) (join (same_measure m e0) (join (same Open refl e1) (join r.1 (join (same Close refl e3) refl)))) measure
-keep_atom f (measure_in {m} {q} {s} i) (more e0 (more e1 (more {y} e2 (more e3 (more {y = z} e4 (more e5 none)))))) =
-    let r = like_seat q y e2 in
-    let t = like_named f i z e4 in
-    some_atom (suit_measured m r.0 t.0)
-    (join (same_measure m e0) (join (same Open refl e1) (join r.1 (join (same Comma refl e3) (join refl (join (same Close refl e5) refl))))))
-    (measure_in t.1)
-keep_atom f (len {q} {s} i) (more e0 (more e1 (more {y} e2 (more e3 (more {y = z} e4 (more e5 none)))))) =
-    let r = like_seat q y e2 in
-    let t = like_named f i z e4 in
-    some_atom (suit_length r.0 t.0)
-    (join (same Len refl e0) (join (same Open refl e1) (join r.1 (join (same Comma refl e3) (join refl (join (same Close refl e5) refl))))))
-    (len t.1)
-keep_atom f (cards {q} {h}) (more e0 (more e1 (more {y} e2 (more e3 (more {y = z} e4 (more e5 none)))))) =
-    let r = like_seat q y e2 in
-    let t = like_ranks h z e4 in
-    some_atom (cards_held r.0 t.0)
-    (join (same Cards refl e0) (join (same Open refl e1) (join r.1 (join (same Comma refl e3) (join t.1 (join (same Close refl e5) refl))))))
-    cards
-keep_atom f (cards_in {q} {s} {h} i) (more e0 (more e1 (more {y} e2 (more e3 (more {y = z} e4 (more e5 (more {y = w} e6 (more e7 none)))))))) =
-    let r = like_seat q y e2 in
-    let t = like_named f i z e4 in
-    let g = like_ranks h w e6 in
-    some_atom (suit_cards_held r.0 t.0 g.0)
-    (join (same Cards refl e0) (join (same Open refl e1) (join r.1 (join (same Comma refl e3) (join refl
-    (join (same Comma refl e5) (join g.1 (join (same Close refl e7) refl))))))))
-    (cards_in t.1)
-keep_atom f (longest_suit {q}) (more e0 (more e1 (more {y} e2 (more e3 none)))) =
-    let r = like_seat q y e2 in
-    some_atom (longest r.0) (join (same Longest refl e0) (join (same Open refl e1) (join r.1 (join (same Close refl e3) refl)))) longest_suit
-keep_atom f (second_suit {q} w) (more e0 (more e1 (more {y} e2 (more e3 none)))) =
-    let r = like_seat q y e2 in
-    some_atom (second r.0) (join (same Second refl e0) (join (same Open refl e1) (join r.1 (join (same Close refl e3) refl)))) (second_suit w)
-keep_atom f (shortest_suit {q}) (more e0 (more e1 (more {y} e2 (more e3 none)))) =
-    let r = like_seat q y e2 in
-    some_atom (shortest r.0) (join (same Shortest refl e0) (join (same Open refl e1) (join r.1 (join (same Close refl e3) refl)))) shortest_suit
+keep_atom {F} f (a_number {n}) (more {y} e none) =
+    let m = like_number n y e in (number m.0, moved (λ L. SpellsAtom F L (number m.0)) (join m.1 refl) a_number)
+keep_atom {F} f (count {c} {Q} {R} k h) (more {y} e0 (more {U} e1 a)) =
+    let p = parts Q R U a in
+    let r = keep_seat f h p.like_first in
+    let g = keep_count f k e0 p.like_second in
+    (g.0 r.0, moved (λ L. SpellsAtom F L (g.0 r.0)) (join refl (join (same Open refl e1) p.is)) (count g.1 r.1))
 
 -- ---- values
 
@@ -263,34 +298,51 @@ like_range m n U (more {y} e0 (more e1 (more {y = z} e2 none))) =
     let l = like_number n z e2 in
     (k.0, (l.0, join k.1 (join (same Dash refl e1) (join l.1 refl))))
 
--- ( seat , item - item - item - item )
+-- , item - item - item - item )
 record IsFour (U : List Token) : Type 0 where
-  seat : ASeat
   first : Item
   second : Item
   third : Item
   fourth : Item
-  is : U ≡ four seat first second third fourth
+  is : U ≡ four first second third fourth
 
-like_four : (q : ASeat) (a b c d : Item) (U : List Token) → Alike (four q a b c d) U → IsFour U
-like_four q a b c d U
-    (more e0 (more {y = s} e1 (more e2 (more {y = i} e3 (more e4 (more {y = j} e5 (more e6 (more {y = k} e7 (more e8 (more {y = l} e9 (more e10 none))))))))))) =
-    let r = like_seat q s e1 in
+like_four : (a b c d : Item) (U : List Token) → Alike (four a b c d) U → IsFour U
+like_four a b c d U (more e2 (more {y = i} e3 (more e4 (more {y = j} e5 (more e6 (more {y = k} e7 (more e8 (more {y = l} e9 (more e10 none))))))))) =
     let w = like_item a i e3 in
     let x = like_item b j e5 in
     let y = like_item c k e7 in
     let z = like_item d l e9 in
     record {
-      seat = r.0;
       first = w.0;
       second = x.0;
       third = y.0;
       fourth = z.0;
       is =
-          join (same Open refl e0) (join r.1 (join (same Comma refl e2)
+          join (same Comma refl e2)
           (join w.1 (join (same Dash refl e4) (join x.1 (join (same Dash refl e6) (join y.1 (join (same Dash refl e8) (join z.1
-          (join (same Close refl e10) refl))))))))));
+          (join (same Close refl e10) refl))))))));
     }
+
+-- a test of a hand, with other suits and items
+abbrev SomeHandTest : Bound → Token → List Token → Type 0
+SomeHandTest E c R = (f : ASeat → Form) × SpellsHandTest E c R f
+
+some_hand_test : {E : Bound} {c d : Token} {R S : List Token} (f : ASeat → Form) → d ≡ c → S ≡ R → SpellsHandTest E c R f → SomeHandTest E d S
+some_hand_test {E} {c} {d} {R} {S} f e i h = (f, subst (λ c. SpellsHandTest E c S f) (sym e) (subst (λ R. SpellsHandTest E c R f) (sym i) h))
+
+keep_hand_test :
+    {E F : Bound} {c d : Token} {R S : List Token} {f : ASeat → Form} → SameScope E F → SpellsHandTest E c R f → kind_of c ≡ kind_of d → Alike R S
+    → SomeHandTest F d S
+keep_hand_test s is_balanced e0 (more e1 none) = some_hand_test (λ q. balanced q) (same Balanced refl e0) (join (same Close refl e1) refl) is_balanced
+keep_hand_test {S} s (has_shape a b c d) e h =
+    let f = like_four a b c d S h in
+    some_hand_test (λ q. shaped q (f.first ∷ f.second ∷ f.third ∷ f.fourth ∷ [])) (same Shape refl e) f.is (has_shape f.first f.second f.third f.fourth)
+keep_hand_test {S} s (has_pattern a b c d) e h =
+    let f = like_four a b c d S h in
+    some_hand_test (λ q. patterned q (f.first ∷ f.second ∷ f.third ∷ f.fourth ∷ [])) (same Pattern refl e) f.is (has_pattern f.first f.second f.third f.fourth)
+keep_hand_test s (has_stopper v i) e0 (more e1 (more {y = z} e2 (more e3 none))) =
+    let t = like_named s i z e2 in
+    some_hand_test (λ q. stops q t.0) (same Stops refl e0) (join (same Comma refl e1) (join refl (join (same Close refl e3) refl))) (has_stopper v t.1)
 
 keep_test : {E F : Bound} {T U : List Token} {t : Form} → SameScope E F → SpellsTest E T t → Alike T U → SomeTest F U
 keep_test {T} {U} f (comparison {L} {R} {a} {b} {o} l r) h =
@@ -304,29 +356,13 @@ keep_test {T} {U} f (in_range {L} {a} {m} {n = k} l) h =
     let left = keep_value f l p.like_left in
     let r = like_range m k p.right p.like_right in
     some_test (within left.0 r.0 r.1.0) (split_is p refl ∙ ap (λ R. p.left ++ In ∷ R) r.1.1) (in_range left.1)
-keep_test f (is_balanced {q}) (more e0 (more e1 (more {y} e2 (more e3 none)))) =
-    let r = like_seat q y e2 in
-    some_test (balanced r.0) (join (same Balanced refl e0) (join (same Open refl e1) (join r.1 (join (same Close refl e3) refl)))) is_balanced
-keep_test s (has_shape {q} a b c d) (more {U} e h) =
-    let f = like_four q a b c d U h in
-    some_test (shaped f.seat (f.first ∷ f.second ∷ f.third ∷ f.fourth ∷ []))
-    (join (same Shape refl e) f.is) (has_shape f.first f.second f.third f.fourth)
-keep_test s (has_pattern {q} a b c d) (more {U} e h) =
-    let f = like_four q a b c d U h in
-    some_test (patterned f.seat (f.first ∷ f.second ∷ f.third ∷ f.fourth ∷ []))
-    (join (same Pattern refl e) f.is) (has_pattern f.first f.second f.third f.fourth)
-keep_test f (has_stopper {q} {s} v i) (more e0 (more e1 (more {y} e2 (more e3 (more {y = z} e4 (more e5 none)))))) =
-    let r = like_seat q y e2 in
-    let t = like_named f i z e4 in
-    some_test (stops r.0 t.0)
-    (join (same Stops refl e0) (join (same Open refl e1) (join r.1 (join (same Comma refl e3) (join refl (join (same Close refl e5) refl))))))
-    (has_stopper v t.1)
+keep_test {F} f (of_hand {c} {Q} {R} k h) (more {y} e0 (more {U} e1 a)) =
+    let p = parts Q R U a in
+    let r = keep_seat f h p.like_first in
+    let g = keep_hand_test f k e0 p.like_second in
+    some_test (g.0 r.0) (join refl (join (same Open refl e1) p.is)) (of_hand g.1 r.1)
 
 -- ---- conditions
-
-nothing_like : (U : List Token) → Alike [] U → U ≡ []
-nothing_like [] none = refl
-nothing_like (y ∷ U) a = elim a [ ]
 
 abbrev pub SomeCond : Bound → List Token → Type 0
 SomeCond E T = (t : Form) × SpellsCond E T t
@@ -337,18 +373,18 @@ SomeBoth E T = (t : Form) × SpellsBoth E T t
 abbrev SomeUnit : Bound → List Token → Type 0
 SomeUnit E T = (t : Form) × SpellsUnit E T t
 
--- with each suit of the class the list spells a tree
+-- with each member of the class the list spells a tree
 abbrev pub SomeEach : Bound → AClass → List Token → Type 0
 SomeEach E c T = (t : Form) × (ts : List Form) × SpellsEach E c (members E c) T (t ∷ ts)
 
-each_of : (E : Bound) (c : AClass) (T : List Token) → ((s : ASuit) → SomeCond (bind E c s) T) → (ss : List ASuit) → (ts : List Form) × SpellsEach E c ss T ts
+each_of : (E : Bound) (c : AClass) (T : List Token) → ((s : Choice) → SomeCond (bind E c s) T) → (ss : List Choice) → (ts : List Form) × SpellsEach E c ss T ts
 each_of E c T f [] = ([], no_more)
 each_of E c T f (s ∷ ss) =
     let t = f s in
     let ts = each_of E c T f ss in
     (t.0 ∷ ts.0, one_more t.1 ts.1)
 
-pub some_each : (E : Bound) (c : AClass) (T : List Token) → ((s : ASuit) → SomeCond (bind E c s) T) → SomeEach E c T
+pub some_each : (E : Bound) (c : AClass) (T : List Token) → ((s : Choice) → SomeCond (bind E c s) T) → SomeEach E c T
 some_each E c T f =
     let m = members_some E c in
     let t = f m.0 in
@@ -379,12 +415,12 @@ mutual
   keep_unit {F} f (brackets {T} h) (more {U} e a) =
       let p = between T Close [] U a in
       let k = keep_cond f h p.like_left in
-      let is : U ≡ p.left ++ Close ∷ [] = split_is p refl ∙ ap (λ R. p.left ++ Close ∷ R) (nothing_like p.right p.like_right) in
+      let is : U ≡ p.left ++ Close ∷ [] = ends_with p refl in
       (k.0, moved (λ L. SpellsUnit F L k.0) (join (same Open refl e) is) (brackets k.1))
   keep_unit {F} f (quantified {k} {c} {T} w b each) (more e0 (more e1 (more {U} e2 a))) =
       let p = between T Close [] U a in
       let ts = some_each F c p.left (keep_each f each p.like_left) in
-      let is : U ≡ p.left ++ Close ∷ [] = split_is p refl ∙ ap (λ R. p.left ++ Close ∷ R) (nothing_like p.right p.like_right) in
+      let is : U ≡ p.left ++ Close ∷ [] = ends_with p refl in
       let t : Form = fold (joined k) ts.0 ts.1 in (
         t,
         moved (λ L. SpellsUnit F L t) (join (same_quantifier k e0) (join (same_class c e1) (join (same Open refl e2) is)))
@@ -393,11 +429,11 @@ mutual
   keep_unit f (test h) a = let k = keep_test f h a in (k.0, test k.1)
 
   keep_each :
-      {E F : Bound} {c : AClass} {ss : List ASuit} {T U : List Token} {t : Form} {ts : List Form}
-      → SameScope E F → SpellsEach E c ss T (t ∷ ts) → Alike T U → (s : ASuit) → SomeCond (bind F c s) U
+      {E F : Bound} {c : AClass} {ss : List Choice} {T U : List Token} {t : Form} {ts : List Form}
+      → SameScope E F → SpellsEach E c ss T (t ∷ ts) → Alike T U → (s : Choice) → SomeCond (bind F c s) U
   keep_each {c} f (one_more {s = r} h hs) a s = keep_cond (bind_same f c r s) h a
 
--- What is spelled with some suits for the bound classes is spelled with others.
+-- What is spelled with some suits and seats for the bound classes is spelled with others.
 pub spelled_with : {E F : Bound} {T : List Token} {t : Form} → SameScope E F → SpellsCond E T t → SomeCond F T
 spelled_with {T} f h = keep_cond f h (alike_refl T)
 

@@ -1,21 +1,22 @@
 -- A value has no more atoms than tokens.
-use Rattle.std.proofs.Common.{ℕ, Bool, true, false, if◌then◌else◌, map, ◌≤◌, List, [], ◌∷◌, length, length-append, arith}
+use Rattle.std.proofs.Common.{ℕ, Bool, true, false, if◌then◌else◌, map, ◌≤◌, List, [], ◌∷◌, ◌++◌, length, length-append, arith}
 use Rattle.cards.specs.declared.hand.Measure.{Measure}
 use Rattle.cards.specs.declared.hand.Measure.TheVariants.{Hcp}
 use Rattle.cards.specs.declared.seat.Seat.{Seat}
 use Rattle.cards.specs.declared.suit.Suit.{Suit}
 use Rattle.cond_lang.specs.declared.classes.Bound.{Bound}
+use Rattle.cond_lang.specs.declared.classes.Choice.{Choice}
 use Rattle.cond_lang.specs.declared.classes.Class.{Class as AClass}
 use Rattle.cond_lang.specs.declared.classes.Quantifier.{Quantifier as AQuantifier}
 use Rattle.cond_lang.specs.declared.classes.Quantifier.TheVariants.{Any as OneOf, Every}
 use Rattle.cond_lang.specs.declared.scanner.Token.{Token}
-use Rattle.cond_lang.specs.declared.scanner.Token.TheVariants.{Or, And, Shape, Pattern, In, Number, Dash, Close, Plus, Relation}
+use Rattle.cond_lang.specs.declared.scanner.Token.TheVariants.{Or, And, In, Number, Dash, Open, Close, Plus, Relation}
 use Rattle.conditions.specs.Form.{Amount, measured, suit_measured, Form, any_of, all_of, negation, compare, within, balanced, shape, pattern, loose_shape, loose_pattern, stops, is_any, number_of, shaped, patterned}
 use Rattle.std.specs.Prelude.{fold}
 use Rattle.std.specs.List.{AllByRecursion, list_any}
 use Rattle.conditions.specs.declared.tree.Item.{Item}
 use Rattle.cond_lang.specs.Classes.{unbound}
-use Rattle.cond_lang.specs.Grammar.{SpellsAtom, SpellsValue, atom, plus, a_number, measure, measure_in, len, cards, cards_in, longest_suit, second_suit, shortest_suit, four, SpellsCond, both, or, SpellsBoth, unit, and, SpellsUnit, not, brackets, quantified, SpellsEach, none, one_more, joined, test, comparison, in_range, is_balanced, has_shape, has_pattern, has_stopper, Spells}
+use Rattle.cond_lang.specs.Grammar.{SpellsCount, SpellsHandTest, SpellsAtom, SpellsValue, atom, plus, a_number, count, measure, measure_in, len, cards, cards_in, longest_suit, second_suit, shortest_suit, SpellsCond, both, or, SpellsBoth, unit, and, SpellsUnit, not, brackets, quantified, SpellsEach, none, one_more, joined, test, comparison, in_range, of_hand, is_balanced, has_shape, has_pattern, has_stopper, Spells}
 use Rattle.conditions.specs.Limits.{atoms_of, HasAtMostAtoms}
 
 -- however the measure is written, it is one atom
@@ -27,27 +28,23 @@ suit_measured_count : (m : Measure) (q : Seat) (s : Suit) → atoms_of (suit_mea
 suit_measured_count Hcp q s = omega arith
 suit_measured_count m q s = omega arith
 
+count_count : {E : Bound} {c : Token} {R : List Token} {f : Seat → Amount} → SpellsCount E c R f → (q : Seat) → atoms_of (f q) ≤ 1
+count_count (measure {m}) q = measured_count m q
+count_count (measure_in {m} {s} i) q = suit_measured_count m q s
+count_count (len i) q = omega arith
+count_count cards q = omega arith
+count_count (cards_in i) q = omega arith
+count_count longest_suit q = omega arith
+count_count (second_suit w) q = omega arith
+count_count shortest_suit q = omega arith
+
 atom_count : {E : Bound} {T : List Token} {a : Amount} → SpellsAtom E T a → atoms_of a ≤ 1
 atom_count a_number = omega arith
-atom_count (measure {m} {q}) = measured_count m q
-atom_count (measure_in {m} {q} {s} i) = suit_measured_count m q s
-atom_count (len i) = omega arith
-atom_count cards = omega arith
-atom_count (cards_in i) = omega arith
-atom_count longest_suit = omega arith
-atom_count (second_suit w) = omega arith
-atom_count shortest_suit = omega arith
+atom_count (count {q} k h) = count_count k q
 
 atom_some : {E : Bound} {T : List Token} {a : Amount} → SpellsAtom E T a → 1 ≤ length T
 atom_some a_number = omega arith
-atom_some measure = omega arith
-atom_some (measure_in i) = omega arith
-atom_some (len i) = omega arith
-atom_some cards = omega arith
-atom_some (cards_in i) = omega arith
-atom_some longest_suit = omega arith
-atom_some (second_suit w) = omega arith
-atom_some shortest_suit = omega arith
+atom_some (count k h) = omega arith
 
 value_count : {E : Bound} {T : List Token} {a : Amount} → SpellsValue E T a → atoms_of a ≤ length T
 value_count (atom h) = omega (arith, atom_count h, atom_some h)
@@ -86,6 +83,13 @@ all_joined_atoms : (n : ℕ) (k : AQuantifier) (t : Form) (ts : List Form) → H
 all_joined_atoms n k t [] h hs = h
 all_joined_atoms n k t (u ∷ us) h hs = all_joined_atoms n k (joined k t u) us (joined_atoms n k t u h hs.0) hs.1
 
+-- a test of a hand has no value
+hand_count : {E : Bound} {c : Token} {R : List Token} {f : Seat → Form} → SpellsHandTest E c R f → (n : ℕ) (q : Seat) → HasAtMostAtoms n (f q)
+hand_count is_balanced n q = tt
+hand_count (has_shape a b c d) n q = shaped_atoms n q (a ∷ b ∷ c ∷ d ∷ [])
+hand_count (has_pattern a b c d) n q = patterned_atoms n q (a ∷ b ∷ c ∷ d ∷ [])
+hand_count (has_stopper w i) n q = tt
+
 mutual
   cond_count : {E : Bound} {T : List Token} {t : Form} → SpellsCond E T t → HasAtMostAtoms (length T) t
   cond_count (both h) = both_count h
@@ -106,12 +110,9 @@ mutual
   unit_count (test (in_range {L} {m = m} {n = n} l)) = omega (arith, value_count l, length-append L (In ∷ Number m ∷ Dash ∷ Number n ∷ []))
   unit_count (test (comparison {L} {R} {o = o} l r)) =
       (omega (arith, value_count l, length-append L (Relation o ∷ R)), omega (arith, value_count r, length-append L (Relation o ∷ R)))
-  unit_count (test is_balanced) = tt
-  unit_count (test (has_shape {q} a b c d)) = shaped_atoms (length (Shape ∷ four q a b c d)) q (a ∷ b ∷ c ∷ d ∷ [])
-  unit_count (test (has_pattern {q} a b c d)) = patterned_atoms (length (Pattern ∷ four q a b c d)) q (a ∷ b ∷ c ∷ d ∷ [])
-  unit_count (test (has_stopper w i)) = tt
+  unit_count (test (of_hand {c} {Q} {R} {q} k h)) = hand_count k (length (c ∷ Open ∷ Q ++ R)) q
 
-  each_count : {E : Bound} {c : AClass} {ss : List Suit} {T : List Token} {ts : List Form} → SpellsEach E c ss T ts → AllByRecursion (HasAtMostAtoms (length T)) ts
+  each_count : {E : Bound} {c : AClass} {ss : List Choice} {T : List Token} {ts : List Form} → SpellsEach E c ss T ts → AllByRecursion (HasAtMostAtoms (length T)) ts
   each_count none = tt
   each_count (one_more h hs) = (cond_count h, each_count hs)
 

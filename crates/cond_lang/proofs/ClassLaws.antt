@@ -4,35 +4,40 @@ use Rattle.std.specs.Prelude.{◌↔◌, fold}
 use Rattle.std.specs.List.{list_any, list_all}
 use Rattle.std.proofs.lemmas.List.{append_cancel_right}
 use Rattle.cards.specs.declared.seat.Seat.{Seat as ASeat}
-use Rattle.cards.specs.declared.suit.Suit.{Suit as ASuit}
-use Rattle.cards.specs.declared.suit.Suit.TheVariants.{Spades, Hearts}
+use Rattle.cards.specs.declared.seat.Seat.TheVariants.{North, East, South, West}
+use Rattle.cards.specs.declared.suit.Suit.TheVariants.{Spades, Hearts, Diamonds}
 use Rattle.cond_lang.specs.declared.classes.Bound.{Bound}
+use Rattle.cond_lang.specs.declared.classes.Choice.{Choice}
 use Rattle.cond_lang.specs.declared.classes.Class.{Class as AClass}
-use Rattle.cond_lang.specs.declared.classes.Class.TheVariants.{Major}
+use Rattle.cond_lang.specs.declared.classes.Class.TheVariants.{Major, NorthSouth}
+use Rattle.cond_lang.specs.declared.classes.Neighbour.TheVariants.{Partner}
 use Rattle.cond_lang.specs.declared.classes.Quantifier.{Quantifier as AQuantifier}
 use Rattle.cond_lang.specs.declared.classes.Quantifier.TheVariants.{Any, Every}
 use Rattle.cond_lang.specs.declared.scanner.Token.{Token}
 use Rattle.cond_lang.specs.declared.scanner.Token.TheVariants.{Not, Quantifier, Class, Open, Close, Plus, Relation, In, Number, Dash}
 use Rattle.conditions.specs.Form.{Amount, Form, any_of, all_of, negation}
 use Rattle.conditions.specs.Meaning.{holds}
-use Rattle.cond_lang.specs.Classes.{bind, can_bind}
-use Rattle.cond_lang.specs.Grammar.{SpellsAtom, SpellsValue, atom, plus, a_number, measure, measure_in, len, cards, cards_in, longest_suit, second_suit, shortest_suit, SpellsCond, both, unit, SpellsUnit, not as negated, brackets, quantified, test, SpellsEach, none, one_more, joined, SpellsTest, comparison, in_range, is_balanced, has_shape, has_pattern, has_stopper}
+use Rattle.cond_lang.specs.Classes.{bind, can_bind, choice, members, seat_beside}
+use Rattle.cond_lang.specs.Grammar.{SpellsCount, SpellsAtom, SpellsValue, atom, plus, a_number, count, measure, measure_in, len, cards, cards_in, longest_suit, second_suit, shortest_suit, SpellsCond, both, unit, SpellsUnit, not as negated, brackets, quantified, test, SpellsEach, none, one_more, joined, SpellsTest, comparison, in_range, of_hand, is_balanced, has_shape, has_pattern, has_stopper}
 use Rattle.cond_lang.specs.internal.Reading.{front}
 use Rattle.cond_lang.proofs.Quantified.{AreEach}
 
 -- ---- what it spells
 
 -- a value doesn't begin with a quantifier
+count_front : {E : Bound} {c : Token} {R : List Token} {f : ASeat → Amount} → SpellsCount E c R f → (k : AQuantifier) → Some c ≢ Some (Quantifier k)
+count_front measure k = λ e. cc
+count_front (measure_in i) k = λ e. cc
+count_front (len i) k = λ e. cc
+count_front cards k = λ e. cc
+count_front (cards_in i) k = λ e. cc
+count_front longest_suit k = λ e. cc
+count_front (second_suit w) k = λ e. cc
+count_front shortest_suit k = λ e. cc
+
 atom_front : {E : Bound} {L : List Token} {a : Amount} → SpellsAtom E L a → (X : List Token) (k : AQuantifier) → front (L ++ X) ≢ Some (Quantifier k)
 atom_front a_number X k = λ e. cc
-atom_front measure X k = λ e. cc
-atom_front (measure_in i) X k = λ e. cc
-atom_front (len i) X k = λ e. cc
-atom_front cards X k = λ e. cc
-atom_front (cards_in i) X k = λ e. cc
-atom_front longest_suit X k = λ e. cc
-atom_front (second_suit w) X k = λ e. cc
-atom_front shortest_suit X k = λ e. cc
+atom_front (count h s) X k = count_front h k
 
 value_front : {E : Bound} {L : List Token} {a : Amount} → SpellsValue E L a → (X : List Token) (k : AQuantifier) → front (L ++ X) ≢ Some (Quantifier k)
 value_front (atom h) X k = atom_front h X k
@@ -41,10 +46,10 @@ value_front (plus {L} {R} l r) X k = rw (append_assoc L (Plus ∷ R) X) (value_f
 test_front : {E : Bound} {T : List Token} {t : Form} → SpellsTest E T t → (k : AQuantifier) → front T ≢ Some (Quantifier k)
 test_front (comparison {L} {R} {o} l r) k = value_front l (Relation o ∷ R) k
 test_front (in_range {L} {m} {n} l) k = value_front l (In ∷ Number m ∷ Dash ∷ Number n ∷ []) k
-test_front is_balanced k = λ e. cc
-test_front (has_shape a b c d) k = λ e. cc
-test_front (has_pattern a b c d) k = λ e. cc
-test_front (has_stopper w i) k = λ e. cc
+test_front (of_hand is_balanced s) k = λ e. cc
+test_front (of_hand (has_shape a b c d) s) k = λ e. cc
+test_front (of_hand (has_pattern a b c d) s) k = λ e. cc
+test_front (of_hand (has_stopper w i) s) k = λ e. cc
 
 -- a class can be bound there, and the tokens spell a tree with each of its suits
 abbrev pub IsQuantified : Bound → AQuantifier → AClass → List Token → Form → Type 0
@@ -73,21 +78,42 @@ pub quantified_is :
     → IsQuantified E k c T t
 quantified_is E k c T t h = quantifies h k c T refl
 
--- `any major (c)` is c with spades or c with hearts
-abbrev pub InMajors : Bound → List Token → Form → Type 0
-InMajors E T t =
-    (can_bind E Major ≡ true)
-    × ((a : Form) × (b : Form) × SpellsCond (bind E Major Spades) T a × SpellsCond (bind E Major Hearts) T b × (t ≡ any_of a b))
+-- `any` of a class with two members is c with one or c with the other
+abbrev pub WithOneOf : AClass → Choice → Choice → Bound → List Token → Form → Type 0
+WithOneOf c x y E T t =
+    (can_bind E c ≡ true)
+    × ((a : Form) × (b : Form) × SpellsCond (bind E c x) T a × SpellsCond (bind E c y) T b × (t ≡ any_of a b))
 
-two_each : (E : Bound) (T : List Token) (t u : Form) (us : List Form) → SpellsEach E Major (Spades ∷ Hearts ∷ []) T (u ∷ us) → t ≡ fold (joined Any) u us
-    → (a : Form) × (b : Form) × SpellsCond (bind E Major Spades) T a × SpellsCond (bind E Major Hearts) T b × (t ≡ any_of a b)
-two_each E T t u us (one_more {t = a} h (one_more {t = b} g none)) e = (a, b, h, g, e)
+two_each : (E : Bound) (c : AClass) (x y : Choice) (T : List Token) (t u : Form) (us : List Form) → SpellsEach E c (x ∷ y ∷ []) T (u ∷ us) → t ≡ fold (joined Any) u us
+    → (a : Form) × (b : Form) × SpellsCond (bind E c x) T a × SpellsCond (bind E c y) T b × (t ≡ any_of a b)
+two_each E c x y T t u us (one_more {t = a} h (one_more {t = b} g none)) e = (a, b, h, g, e)
 
-pub majors : (E : Bound) (T : List Token) (t : Form) → SpellsUnit E (Quantifier Any ∷ Class Major ∷ Open ∷ T ++ Close ∷ []) t ↔ InMajors E T t
-majors E T t = (
-  λ h. let q = quantified_is E Any Major T t h in (q.0, two_each E T t q.1.0 q.1.1 q.1.2 q.1.3),
-  λ m. subst (λ t. SpellsUnit E (Quantifier Any ∷ Class Major ∷ Open ∷ T ++ Close ∷ []) t) (sym m.1.4) (quantified tt m.0 (one_more m.1.2 (one_more m.1.3 none))),
+any_of_two :
+    (c : AClass) (x y : Choice) (E : Bound) → members E c ≡ x ∷ y ∷ [] → (T : List Token) (t : Form)
+    → SpellsUnit E (Quantifier Any ∷ Class c ∷ Open ∷ T ++ Close ∷ []) t ↔ WithOneOf c x y E T t
+any_of_two c x y E e T t = (
+  λ h. let q = quantified_is E Any c T t h in
+      (q.0, two_each E c x y T t q.1.0 q.1.1 (subst (λ ss. SpellsEach E c ss T (q.1.0 ∷ q.1.1)) e q.1.2) q.1.3),
+  λ m. subst (λ t. SpellsUnit E (Quantifier Any ∷ Class c ∷ Open ∷ T ++ Close ∷ []) t) (sym m.1.4)
+      (quantified tt m.0 (subst (λ ss. SpellsEach E c ss T (m.1.0 ∷ m.1.1 ∷ [])) (sym e) (one_more m.1.2 (one_more m.1.3 none)))),
 )
+
+pub majors :
+    (E : Bound) (T : List Token) (t : Form)
+    → SpellsUnit E (Quantifier Any ∷ Class Major ∷ Open ∷ T ++ Close ∷ []) t ↔ WithOneOf Major (choice Spades North) (choice Hearts East) E T t
+majors E T t = any_of_two Major (choice Spades North) (choice Hearts East) E refl T t
+
+pub north_or_south :
+    (E : Bound) (T : List Token) (t : Form)
+    → SpellsUnit E (Quantifier Any ∷ Class NorthSouth ∷ Open ∷ T ++ Close ∷ []) t ↔ WithOneOf NorthSouth (choice Spades North) (choice Diamonds South) E T t
+north_or_south E T t = any_of_two NorthSouth (choice Spades North) (choice Diamonds South) E refl T t
+
+-- the partner of a seat's partner is the seat
+pub across_twice : (q : ASeat) → seat_beside Partner (seat_beside Partner q) ≡ q
+across_twice North = refl
+across_twice East = refl
+across_twice South = refl
+across_twice West = refl
 
 -- ---- what it means
 
@@ -133,7 +159,7 @@ none_fails t u [] deal e = not_not (holds t deal) ∙ ap not (sym e)
 none_fails t u (x ∷ xs) deal e = none_fails (all_of t x) (any_of u (negation x)) xs deal (not_both (holds t deal) (holds x deal) (holds u deal) e)
 
 negated_each :
-    {E : Bound} {c : AClass} {ss : List ASuit} {T : List Token} {ts : List Form} → SpellsEach E c ss T ts
+    {E : Bound} {c : AClass} {ss : List Choice} {T : List Token} {ts : List Form} → SpellsEach E c ss T ts
     → SpellsEach E c ss (Not ∷ Open ∷ T ++ Close ∷ []) (map negation ts)
 negated_each none = none
 negated_each (one_more h hs) = one_more (both (unit (negated (brackets h)))) (negated_each hs)

@@ -4,7 +4,8 @@ use Rattle.std.proofs.lemmas.Grind.{common_steps}
 use Rattle.std.proofs.lemmas.Option.{slice_get-map}
 use Rattle.cards.specs.Measures.{measures, measure_number, measure_listed}
 use Rattle.cards.specs.declared.hand.Measure.{Measure}
-use Rattle.cond_lang.specs.declared.classes.Class.TheVariants.{Suit, Major, Minor, Other}
+use Rattle.cond_lang.specs.declared.classes.Class.TheVariants.{Suit, Major, Minor, Other, Seat, NorthSouth, EastWest}
+use Rattle.cond_lang.specs.declared.classes.Neighbour.TheVariants.{Partner, Left, Right}
 use Rattle.cond_lang.specs.declared.classes.Quantifier.TheVariants.{Any, Every}
 use Rattle.cond_lang.specs.declared.words.Kind.{Kind}
 use Rattle.cond_lang.specs.declared.words.Kind.TheVariants as kind
@@ -65,6 +66,12 @@ kind_listed (kind.Class Suit) = refl
 kind_listed (kind.Class Major) = refl
 kind_listed (kind.Class Minor) = refl
 kind_listed (kind.Class Other) = refl
+kind_listed (kind.Class Seat) = refl
+kind_listed (kind.Class NorthSouth) = refl
+kind_listed (kind.Class EastWest) = refl
+kind_listed (kind.Neighbour Partner) = refl
+kind_listed (kind.Neighbour Left) = refl
+kind_listed (kind.Neighbour Right) = refl
 kind_listed kind.Ranks = refl
 kind_listed kind.Close = refl
 kind_listed kind.And = refl

@@ -10,13 +10,13 @@ use Rattle.conditions.specs.declared.tree.Op.TheVariants.{Equal}
 use Rattle.cards.specs.declared.suit.Suit.TheVariants.{Spades}
 use Rattle.cond_lang.specs.declared.classes.Bound.{Bound}
 use Rattle.cond_lang.specs.declared.scanner.Token.{Token}
-use Rattle.cond_lang.specs.declared.scanner.Token.TheVariants.{Or, And, Not, Shape, Pattern, Measure, Cards, Len, Longest, Second, Shortest, Seat, Suit, Number, Open, Close, Comma, Plus, Relation}
-use Rattle.conditions.specs.Form.{Amount, number, suit_points, suit_length, Form, any_of, all_of, negation, compare}
+use Rattle.cond_lang.specs.declared.scanner.Token.TheVariants.{Or, And, Not, Balanced, Shape, Pattern, Measure, Cards, Len, Longest, Second, Shortest, Seat, Suit, Number, Open, Close, Comma, Plus, Relation}
+use Rattle.conditions.specs.Form.{Amount, number, points, suit_points, suit_length, Form, any_of, all_of, negation, compare}
 use Rattle.cond_lang.specs.Classes.{unbound, by_suit, by_class}
-use Rattle.cond_lang.specs.Grammar.{Forms, FormsAt, SpellsAtom, a_number, measure, measure_in, len, cards, cards_in, longest_suit, second_suit, shortest_suit, SpellsValue, atom, plus, item_token, four, SpellsCond, both, or, BothOf, SpellsBoth, unit, and, UnitOf, SpellsUnit, not, brackets, quantified, test, SpellsTest, comparison, in_range, is_balanced, has_shape, has_pattern, has_stopper, Spells}
+use Rattle.cond_lang.specs.Grammar.{Forms, FormsAt, SpellsSeat, by_word, by_bound, beside, SpellsCount, SpellsAtom, a_number, count, measure, measure_in, len, cards, cards_in, longest_suit, second_suit, shortest_suit, SpellsValue, atom, plus, item_token, four, SpellsCond, both, or, BothOf, SpellsBoth, unit, and, UnitOf, SpellsUnit, not, brackets, quantified, test, SpellsTest, comparison, in_range, of_hand, is_balanced, has_shape, has_pattern, has_stopper, Spells}
 use Rattle.cond_lang.specs.Faults.{IsViableIn, IsFirstFaultIn, IsViable, IsFirstFault}
 use Rattle.cond_lang.specs.SmallerGrammars as small
-use Rattle.cond_lang.specs.SmallerGrammars.{SpellsFirstAtom, four_numbers, FirstTestOf, SpellsInFirstGrammar, IsOldest, IsViableFirst}
+use Rattle.cond_lang.specs.SmallerGrammars.{no_additions, SpellsFirstAtom, four_numbers, FirstTestOf, SpellsInFirstGrammar, IsOldest, IsViableFirst}
 use Rattle.cond_lang.proofs.SmallerGrammars.{after_first, same_in_first_grammar, spelled_again}
 
 -- ---- lists that are alike up to a newer token
@@ -61,22 +61,35 @@ itself N T x h = (T, x, h, keeps_all T)
 zero_for : (c : Token) (T : List Token) → (IsOldest c → ⊥) → Kept SpellsFirstAtom (c ∷ T)
 zero_for c T n = (Number 0 ∷ [], number 0, small.a_number, newer n)
 
+-- a seat's own word, or none of the oldest tokens
+keeps_seat : {E : Bound} {T : List Token} {q : ASeat} → SpellsSeat E T q → {R S : List Token} → Keeps R S → Keeps (T ++ R) (Seat q ∷ S)
+keeps_seat by_word k = same k
+keeps_seat (by_bound w e) k = newer (λ i. i)
+keeps_seat (beside w h) k = newer (λ i. i)
+
+keep_count :
+    {E : Bound} {c : Token} {R : List Token} {f : ASeat → Amount} → SpellsCount E c R f → {T : List Token} {q : ASeat} → SpellsSeat E T q
+    → Kept SpellsFirstAtom (c ∷ Open ∷ T ++ R)
+keep_count (measure {m = Hcp}) {q} h = (Measure Hcp ∷ Open ∷ Seat q ∷ Close ∷ [], points q, small.hcp, same (same (keeps_seat h (keeps_all _))))
+keep_count (measure {m}) h = zero_for (Measure m) _ (λ i. i)
+keep_count (measure_in {m = Hcp} (by_suit {s})) {q} h =
+    (Measure Hcp ∷ Open ∷ Seat q ∷ Comma ∷ Suit s ∷ Close ∷ [], suit_points q s, small.hcp_in, same (same (keeps_seat h (keeps_all _))))
+keep_count (measure_in {m = Hcp} (by_class e)) {q} h =
+    (Measure Hcp ∷ Open ∷ Seat q ∷ Comma ∷ Suit Spades ∷ Close ∷ [], suit_points q Spades, small.hcp_in, same (same (keeps_seat h (same (newer (λ i. i))))))
+keep_count (measure_in {m} i) h = zero_for (Measure m) _ (λ i. i)
+keep_count (len (by_suit {s})) {q} h =
+    (Len ∷ Open ∷ Seat q ∷ Comma ∷ Suit s ∷ Close ∷ [], suit_length q s, small.len, same (same (keeps_seat h (keeps_all _))))
+keep_count (len (by_class e)) {q} h =
+    (Len ∷ Open ∷ Seat q ∷ Comma ∷ Suit Spades ∷ Close ∷ [], suit_length q Spades, small.len, same (same (keeps_seat h (same (newer (λ i. i))))))
+keep_count cards h = zero_for Cards _ (λ i. i)
+keep_count (cards_in i) h = zero_for Cards _ (λ i. i)
+keep_count longest_suit h = zero_for Longest _ (λ i. i)
+keep_count (second_suit w) h = zero_for Second _ (λ i. i)
+keep_count shortest_suit h = zero_for Shortest _ (λ i. i)
+
 keep_atom : {E : Bound} {T : List Token} {a : Amount} → SpellsAtom E T a → Kept SpellsFirstAtom T
 keep_atom {T} a_number = itself SpellsFirstAtom T _ small.a_number
-keep_atom {T} (measure {m = Hcp}) = itself SpellsFirstAtom T _ small.hcp
-keep_atom (measure {m}) = zero_for (Measure m) _ (λ i. i)
-keep_atom {T} (measure_in {m = Hcp} by_suit) = itself SpellsFirstAtom T _ small.hcp_in
-keep_atom (measure_in {m = Hcp} {q} (by_class e)) =
-    (Measure Hcp ∷ Open ∷ Seat q ∷ Comma ∷ Suit Spades ∷ Close ∷ [], suit_points q Spades, small.hcp_in, same (same (same (same (newer (λ i. i))))))
-keep_atom (measure_in {m} i) = zero_for (Measure m) _ (λ i. i)
-keep_atom {T} (len by_suit) = itself SpellsFirstAtom T _ small.len
-keep_atom (len {q} (by_class e)) =
-    (Len ∷ Open ∷ Seat q ∷ Comma ∷ Suit Spades ∷ Close ∷ [], suit_length q Spades, small.len, same (same (same (same (newer (λ i. i))))))
-keep_atom cards = zero_for Cards _ (λ i. i)
-keep_atom (cards_in i) = zero_for Cards _ (λ i. i)
-keep_atom longest_suit = zero_for Longest _ (λ i. i)
-keep_atom (second_suit w) = zero_for Second _ (λ i. i)
-keep_atom shortest_suit = zero_for Shortest _ (λ i. i)
+keep_atom (count k h) = keep_count k h
 
 keep_value : {E : Bound} {T : List Token} {a : Amount} → SpellsValue E T a → Kept SpellsFirstAtom T
 keep_value (atom h) = keep_atom h
@@ -92,9 +105,11 @@ unfolding length_of
 keeps_item (Length n) h = same h
 keeps_item Any h = newer (λ i. i)
 
-keeps_four : (q : ASeat) (a b c d : Item) → Keeps (four q a b c d) (four_numbers q (length_of a) (length_of b) (length_of c) (length_of d))
-keeps_four q a b c d =
-    same (same (same (keeps_item a (same (keeps_item b (same (keeps_item c (same (keeps_item d (keeps_all (Close ∷ [])))))))))))
+keeps_four :
+    {E : Bound} {T : List Token} {q : ASeat} → SpellsSeat E T q → (a b c d : Item)
+    → Keeps (Open ∷ T ++ four a b c d) (four_numbers q (length_of a) (length_of b) (length_of c) (length_of d))
+keeps_four h a b c d =
+    same (keeps_seat h (same (keeps_item a (same (keeps_item b (same (keeps_item c (same (keeps_item d (keeps_all (Close ∷ [])))))))))))
 
 -- in place of a list that begins with a newer token
 zero_equals : List Token
@@ -112,12 +127,13 @@ keep_test (comparison {L} {R} {a} {b} {o} l r) =
 keep_test (in_range l) =
     let k = keep_value l in
     (k.0 ++ Relation Equal ∷ Number 0 ∷ [], compare k.1 Equal (number 0), small.comparison k.2 small.a_number, keeps_both k.3 (newer (λ i. i)))
-keep_test {T} is_balanced = itself (FirstTestOf SpellsFirstAtom) T _ small.is_balanced
-keep_test (has_shape {q} a b c d) =
-    (Shape ∷ four_numbers q (length_of a) (length_of b) (length_of c) (length_of d), _, small.has_shape, same (keeps_four q a b c d))
-keep_test (has_pattern {q} a b c d) =
-    (Pattern ∷ four_numbers q (length_of a) (length_of b) (length_of c) (length_of d), _, small.has_pattern, same (keeps_four q a b c d))
-keep_test (has_stopper w i) = (zero_equals, compare (number 0) Equal (number 0), zero_test, newer (λ i. i))
+keep_test (of_hand {q} is_balanced h) =
+    (Balanced ∷ Open ∷ Seat q ∷ Close ∷ [], _, small.is_balanced, same (same (keeps_seat h (keeps_all _))))
+keep_test (of_hand {q} (has_shape a b c d) h) =
+    (Shape ∷ four_numbers q (length_of a) (length_of b) (length_of c) (length_of d), _, small.has_shape, same (keeps_four h a b c d))
+keep_test (of_hand {q} (has_pattern a b c d) h) =
+    (Pattern ∷ four_numbers q (length_of a) (length_of b) (length_of c) (length_of d), _, small.has_pattern, same (keeps_four h a b c d))
+keep_test (of_hand (has_stopper w i) h) = (zero_equals, compare (number 0) Equal (number 0), zero_test, newer (λ i. i))
 
 -- the first tests, whichever classes are bound
 abbrev FirstTests : FormsAt
@@ -131,14 +147,14 @@ mutual
       let j = keep_both r in
       (k.0 ++ Or ∷ j.0, any_of k.1 j.1, or k.2 j.2, keeps_both k.3 (same j.3))
 
-  keep_both : {E : Bound} {T : List Token} {t : Form} → SpellsBoth E T t → Kept (BothOf ⊥ FirstTests unbound) T
+  keep_both : {E : Bound} {T : List Token} {t : Form} → SpellsBoth E T t → Kept (BothOf no_additions FirstTests unbound) T
   keep_both (unit h) = let k = keep_unit h in (k.0, k.1, unit k.2, k.3)
   keep_both (and l r) =
       let k = keep_both l in
       let j = keep_unit r in
       (k.0 ++ And ∷ j.0, all_of k.1 j.1, and k.2 j.2, keeps_both k.3 (same j.3))
 
-  keep_unit : {E : Bound} {T : List Token} {t : Form} → SpellsUnit E T t → Kept (UnitOf ⊥ FirstTests unbound) T
+  keep_unit : {E : Bound} {T : List Token} {t : Form} → SpellsUnit E T t → Kept (UnitOf no_additions FirstTests unbound) T
   keep_unit (not h) = let k = keep_unit h in (Not ∷ k.0, negation k.1, not k.2, same k.3)
   keep_unit (brackets h) =
       let k = keep_cond h in

@@ -1,53 +1,52 @@
--- A condition that is read once for each suit of a class: it passes the same tokens each time, and
--- so each suit gives its tree.
+-- A condition that is read once for each suit or seat of a class: it passes the same tokens each
+-- time, and so each of them gives its tree.
 use Rattle.std.proofs.Common.{◌≡◌, List, [], ◌∷◌, ◌++◌, None, refl, sym, ap, ◌∙◌, subst}
 use Rattle.std.specs.Prelude.{fold}
 use Rattle.std.proofs.lemmas.List.{append_cancel_right}
-use Rattle.cards.specs.declared.suit.Suit.{Suit as ASuit}
-use Rattle.cards.specs.declared.suit.Suit.TheVariants.{Spades}
 use Rattle.cond_lang.specs.declared.classes.Bound.{Bound}
+use Rattle.cond_lang.specs.declared.classes.Choice.{Choice}
 use Rattle.cond_lang.specs.declared.classes.Class.{Class as AClass}
 use Rattle.cond_lang.specs.declared.classes.Quantifier.{Quantifier as AQuantifier}
 use Rattle.cond_lang.specs.declared.scanner.Token.{Token}
 use Rattle.conditions.specs.Form.{Form}
-use Rattle.cond_lang.specs.Classes.{bind, all_suits, members}
+use Rattle.cond_lang.specs.Classes.{bind, all_choices, members}
 use Rattle.cond_lang.specs.Grammar.{joined, SpellsCond, SpellsEach, none, one_more}
 use Rattle.cond_lang.specs.internal.Reading.{Outcome, got, stuck, Reader, front, Readers, a_cond, each_by}
 use Rattle.cond_lang.proofs.Sequences.{Reads}
-use Rattle.cond_lang.proofs.Scopes.{SameScope, bind_same, same_scope, members_some}
+use Rattle.cond_lang.proofs.Scopes.{SameScope, first, bind_same, same_scope, members_some}
 use Rattle.cond_lang.proofs.Members.{ReadsEach, each_got, each_stuck}
 use Rattle.cond_lang.proofs.Shapes.{shape, shape_got, shape_stuck}
 use Rattle.cond_lang.proofs.Alike.{some_each, spelled_with}
 
--- the tokens spell a tree with each suit of the class, and t joins these
+-- the tokens spell a tree with each member of the class, and t joins these
 abbrev pub AreEach : Bound → AQuantifier → AClass → List Token → Form → Type 0
-AreEach E k c P t = (first : Form) × (more : List Form) × SpellsEach E c (members E c) P (first ∷ more) × (t ≡ fold (joined k) first more)
+AreEach E k c P t = (u : Form) × (more : List Form) × SpellsEach E c (members E c) P (u ∷ more) × (t ≡ fold (joined k) u more)
 
--- what is spelled with one suit of the class is spelled with each
-pub each_spelled : (E : Bound) (k : AQuantifier) (c : AClass) (s : ASuit) (T : List Token) (t : Form) → SpellsCond (bind E c s) T t → (u : Form) × AreEach E k c T u
+-- what is spelled with one member of the class is spelled with each
+pub each_spelled : (E : Bound) (k : AQuantifier) (c : AClass) (s : Choice) (T : List Token) (t : Form) → SpellsCond (bind E c s) T t → (u : Form) × AreEach E k c T u
 each_spelled E k c s T t h =
     let each = some_each E c T (λ u. spelled_with (bind_same (same_scope E) c s u) h) in
     (fold (joined k) each.0 each.1, (each.0, each.1, each.2, refl))
 
--- the reader of the condition with each suit
+-- the reader of the condition with each member
 abbrev pub each_reader : Readers → Bound → AQuantifier → AClass → Reader Form
-each_reader r E k c S = each_by r E k c S all_suits None S
+each_reader r E k c S = each_by r E k c S all_choices None S
 
 module _ (r : Readers) (reads : (E : Bound) (S : List Token) → Reads (SpellsCond E) (r E a_cond) S (r E a_cond S))
     (alike : (E F : Bound) → SameScope E F → (S : List Token) → shape (r E a_cond S) ≡ shape (r F a_cond S))
     (E : Bound) (k : AQuantifier) (c : AClass) where
-  -- as with spades
-  as_spades : (s : ASuit) (S : List Token) → shape (r (bind E c s) a_cond S) ≡ shape (r (bind E c Spades) a_cond S)
-  as_spades s S = alike (bind E c s) (bind E c Spades) (bind_same (same_scope E) c s Spades) S
+  -- as with the first
+  as_first : (s : Choice) (S : List Token) → shape (r (bind E c s) a_cond S) ≡ shape (r (bind E c first) a_cond S)
+  as_first s S = alike (bind E c s) (bind E c first) (bind_same (same_scope E) c s first) S
 
-  stuck_with_each : (S R : List Token) → r (bind E c Spades) a_cond S ≡ stuck R → each_reader r E k c S ≡ stuck R
-  stuck_with_each S R e = each_stuck r E k c S R (λ s. shape_stuck (r (bind E c s) a_cond S) R (as_spades s S ∙ ap shape e))
+  stuck_with_each : (S R : List Token) → r (bind E c first) a_cond S ≡ stuck R → each_reader r E k c S ≡ stuck R
+  stuck_with_each S R e = each_stuck r E k c S R (λ s. shape_stuck (r (bind E c s) a_cond S) R (as_first s S ∙ ap shape e))
 
-  reads_stuck : (S R : List Token) → Reads (SpellsCond (bind E c Spades)) (r (bind E c Spades) a_cond) S (stuck R) → r (bind E c Spades) a_cond S ≡ stuck R
+  reads_stuck : (S R : List Token) → Reads (SpellsCond (bind E c first)) (r (bind E c first) a_cond) S (stuck R) → r (bind E c first) a_cond S ≡ stuck R
       → Reads (AreEach E k c) (each_reader r E k c) S (each_reader r E k c S)
   reads_stuck S R h e =
       let m = h.right in
-      let u = each_spelled E k c Spades (h.done ++ m.0) m.1 m.2 in
+      let u = each_spelled E k c first (h.done ++ m.0) m.1 m.2 in
       subst (λ o. Reads (AreEach E k c) (each_reader r E k c) S o) (sym (stuck_with_each S R e))
       (record {
         done = h.done;
@@ -56,15 +55,15 @@ module _ (r : Readers) (reads : (E : Bound) (S : List Token) → Reads (SpellsCo
         right = (m.0, u.0, u.1);
       })
 
-  -- the tree with one suit, which is read from the tokens D, whatever follows with R's front
-  record TreeOf (D R : List Token) (s : ASuit) : Type 0 where
+  -- the tree with one choice, which is read from the tokens D, whatever follows with R's front
+  record TreeOf (D R : List Token) (s : Choice) : Type 0 where
     tree : Form
     spelled : SpellsCond (bind E c s) D tree
     read : (X : List Token) → front X ≡ front R → r (bind E c s) a_cond (D ++ X) ≡ got tree X
 
-  tree_of : (D R : List Token) → shape (r (bind E c Spades) a_cond (D ++ R)) ≡ got tt R → (s : ASuit) → TreeOf D R s
+  tree_of : (D R : List Token) → shape (r (bind E c first) a_cond (D ++ R)) ≡ got tt R → (s : Choice) → TreeOf D R s
   tree_of D R e s =
-      let t = shape_got (r (bind E c s) a_cond (D ++ R)) R (as_spades s (D ++ R) ∙ e) in
+      let t = shape_got (r (bind E c s) a_cond (D ++ R)) R (as_first s (D ++ R) ∙ e) in
       let h : Reads (SpellsCond (bind E c s)) (r (bind E c s) a_cond) (D ++ R) (got t.0 R) =
       subst (λ o. Reads (SpellsCond (bind E c s)) (r (bind E c s) a_cond) (D ++ R) o) t.1 (reads (bind E c s) (D ++ R)) in
       let same : D ≡ h.done = append_cancel_right D h.done R h.cut in
@@ -75,7 +74,7 @@ module _ (r : Readers) (reads : (E : Bound) (S : List Token) → Reads (SpellsCo
       }
 
   trees_of :
-      (D R : List Token) → ((s : ASuit) → TreeOf D R s) → (ss : List ASuit)
+      (D R : List Token) → ((s : Choice) → TreeOf D R s) → (ss : List Choice)
       → (ts : List Form) × SpellsEach E c ss D ts × ((X : List Token) → front X ≡ front R → ReadsEach r E c (D ++ X) X ss ts)
   trees_of D R f [] = ([], none, λ X i. tt)
   trees_of D R f (s ∷ ss) =
@@ -83,7 +82,7 @@ module _ (r : Readers) (reads : (E : Bound) (S : List Token) → Reads (SpellsCo
       let ts = trees_of D R f ss in
       (t.tree ∷ ts.0, one_more t.spelled ts.1, λ X i. (t.read X i, ts.2 X i))
 
-  reads_got : (D R : List Token) → shape (r (bind E c Spades) a_cond (D ++ R)) ≡ got tt R
+  reads_got : (D R : List Token) → shape (r (bind E c first) a_cond (D ++ R)) ≡ got tt R
       → Reads (AreEach E k c) (each_reader r E k c) (D ++ R) (each_reader r E k c (D ++ R))
   reads_got D R e =
       let m = members_some E c in
@@ -99,13 +98,13 @@ module _ (r : Readers) (reads : (E : Bound) (S : List Token) → Reads (SpellsCo
       (record { done = D; cut = refl; same = is; right = (t.tree, ts.0, each, refl) })
 
   by_outcome :
-      (S : List Token) (o : Outcome Form) → r (bind E c Spades) a_cond S ≡ o
-      → Reads (SpellsCond (bind E c Spades)) (r (bind E c Spades) a_cond) S o
+      (S : List Token) (o : Outcome Form) → r (bind E c first) a_cond S ≡ o
+      → Reads (SpellsCond (bind E c first)) (r (bind E c first) a_cond) S o
       → Reads (AreEach E k c) (each_reader r E k c) S (each_reader r E k c S)
   by_outcome S (stuck R) e h = reads_stuck S R h e
   by_outcome S (got a R) e h =
       subst (λ S. Reads (AreEach E k c) (each_reader r E k c) S (each_reader r E k c S)) (sym h.cut)
-      (reads_got h.done R (ap (λ S. shape (r (bind E c Spades) a_cond S)) (sym h.cut) ∙ ap shape e))
+      (reads_got h.done R (ap (λ S. shape (r (bind E c first) a_cond S)) (sym h.cut) ∙ ap shape e))
 
   pub reads_each : (S : List Token) → Reads (AreEach E k c) (each_reader r E k c) S (each_reader r E k c S)
-  reads_each S = by_outcome S (r (bind E c Spades) a_cond S) refl (reads (bind E c Spades) S)
+  reads_each S = by_outcome S (r (bind E c first) a_cond S) refl (reads (bind E c first) S)

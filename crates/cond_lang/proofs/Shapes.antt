@@ -1,19 +1,19 @@
--- Reading goes on and stops at the same tokens, whichever suits the bound classes stand for.
+-- Reading goes on and stops at the same tokens, whatever the bound classes stand for.
 use Rattle.std.proofs.Common.{◌≡◌, ℕ, zero, suc, cond, List, [], ◌∷◌, Option, Some, None, refl, sym, ap, ◌∙◌}
 use Rattle.std.specs.Prelude.{is_some}
 use Rattle.cards.specs.declared.hand.Measure.{Measure as AMeasure}
 use Rattle.cards.specs.declared.seat.Seat.{Seat as ASeat}
 use Rattle.cards.specs.declared.suit.Suit.{Suit as ASuit}
-use Rattle.cards.specs.declared.suit.Suit.TheVariants.{Spades}
 use Rattle.cond_lang.specs.declared.classes.Bound.{Bound}
+use Rattle.cond_lang.specs.declared.classes.Choice.{Choice}
 use Rattle.cond_lang.specs.declared.classes.Class.{Class as AClass}
 use Rattle.cond_lang.specs.declared.classes.Quantifier.{Quantifier as AQuantifier}
 use Rattle.cond_lang.specs.declared.scanner.Token.{Token}
-use Rattle.cond_lang.specs.declared.scanner.Token.TheVariants.{Or, And, Not, Balanced, Shape, Pattern, Quantifier, Stops, Measure, Cards, Len, Longest, Second, Shortest, In, Suit, Class, Number, Open, Comma, Plus}
-use Rattle.conditions.specs.Form.{Amount, measured, suit_measured, cards_held, Form}
-use Rattle.cond_lang.specs.Classes.{bound_to, bind, all_suits, members}
-use Rattle.cond_lang.specs.internal.Reading.{Outcome, got, stuck, Reader, after, opened, comma, open_seat, open_seat_comma, comma_ranks_close, ranks_close, relation, range, class_suit, suit, quantifier, class, closing, closed, comma_suit_close, rest_of_measure, suit_and_ranks, rest_of_cards, seat_and_suit, atom_of, Goal, a_cond, a_both, a_unit, ors, ands, a_value, sums, Readers, compared_by, related_by, comparing_by, sums_by, each_by, bracketed_by, quantified_by, unit_by, ors_by, ands_by, step, steps}
-use Rattle.cond_lang.proofs.Scopes.{SameScope, same_scope, bind_same, can_bind_same, can_quantify_same, members_some}
+use Rattle.cond_lang.specs.declared.scanner.Token.TheVariants.{Or, And, Not, Balanced, Shape, Pattern, Quantifier, Stops, Measure, Cards, Len, Longest, Second, Shortest, In, Seat, Suit, Class, Neighbour, Number, Open, Comma, Plus}
+use Rattle.conditions.specs.Form.{Amount, measured, suit_measured, cards_held, Form, balanced}
+use Rattle.cond_lang.specs.Classes.{bound_to, seat_bound_to, seat_beside, bind, all_choices, members}
+use Rattle.cond_lang.specs.internal.Reading.{Outcome, got, stuck, Reader, after, opened, comma, class_seat, seat, open_seat, open_seat_comma, seat_in_brackets, seat_and_items, items, comma_ranks_close, ranks_close, relation, range, class_suit, suit, quantifier, class, closing, closed, comma_suit_close, rest_of_measure, suit_and_ranks, rest_of_cards, seat_and_suit, atom_of, Goal, a_cond, a_both, a_unit, ors, ands, a_value, sums, Readers, compared_by, related_by, comparing_by, sums_by, each_by, bracketed_by, quantified_by, unit_by, ors_by, ands_by, step, steps}
+use Rattle.cond_lang.proofs.Scopes.{SameScope, suits_alike, seats_alike, first, same_scope, bind_same, can_bind_same, can_quantify_same, members_some}
 use Rattle.cond_lang.proofs.Members.{ReadsEach, each_got, each_stuck}
 
 -- the outcome without the value
@@ -40,6 +40,12 @@ class_suit_alike None (Some s) c S e = absurd (cc)
 class_suit_alike (Some s) None c S e = absurd (cc)
 class_suit_alike (Some s) (Some t) c S e = refl
 
+class_seat_alike : (o p : Option ASeat) (c : AClass) (S : List Token) → is_some o ≡ is_some p → shape (class_seat o c S) ≡ shape (class_seat p c S)
+class_seat_alike None None c S e = refl
+class_seat_alike None (Some s) c S e = absurd (cc)
+class_seat_alike (Some s) None c S e = absurd (cc)
+class_seat_alike (Some s) (Some t) c S e = refl
+
 class_alike : {E F : Bound} → SameScope E F → (S : List Token) → class E S ≡ class F S
 class_alike f [] = refl
 class_alike f (Class c ∷ S) = ap (λ b. cond b (got c S) (stuck (Class c ∷ S))) (can_bind_same f c)
@@ -51,10 +57,37 @@ quantifier_alike f (Quantifier k ∷ S) = ap (λ b. cond b (got k S) (stuck (Qua
 quantifier_alike f (x ∷ S) = refl
 
 module _ {E F : Bound} (f : SameScope E F) where
+  seat_alike : (S : List Token) → shape (seat E S) ≡ shape (seat F S)
+  seat_alike [] = refl
+  seat_alike (Seat q ∷ S) = refl
+  seat_alike (Class c ∷ S) = class_seat_alike (seat_bound_to E c) (seat_bound_to F c) c S (seats_alike f c)
+  seat_alike (Neighbour n ∷ Open ∷ S) =
+      after_alike (seat E S) (seat F S) _ _ (seat_alike S) (λ q p R. closing_alike (seat_beside n q) (seat_beside n p) R)
+  seat_alike (Neighbour n ∷ []) = refl
+  seat_alike (Neighbour n ∷ x ∷ S) = refl
+  seat_alike (x ∷ S) = refl
+
+  open_seat_alike : (S : List Token) → shape (open_seat E S) ≡ shape (open_seat F S)
+  open_seat_alike S = after_alike (opened S) (opened S) _ _ refl (λ _ _ R. seat_alike R)
+
+  open_seat_comma_alike : (S : List Token) → shape (open_seat_comma E S) ≡ shape (open_seat_comma F S)
+  open_seat_comma_alike S =
+      after_alike (open_seat E S) (open_seat F S) _ _ (open_seat_alike S) (λ q p R. after_alike (comma R) (comma R) _ _ refl (λ _ _ R. refl))
+
+  seat_in_brackets_alike : (S : List Token) → shape (seat_in_brackets E S) ≡ shape (seat_in_brackets F S)
+  seat_in_brackets_alike S = after_alike (open_seat E S) (open_seat F S) _ _ (open_seat_alike S) (λ q p R. closing_alike q p R)
+
+  seat_and_items_alike : (S : List Token) → shape (seat_and_items E S) ≡ shape (seat_and_items F S)
+  unfolding seat_and_items
+  seat_and_items_alike S =
+      after_alike (open_seat E S) (open_seat F S) _ _ (open_seat_alike S) (λ q p R.
+      after_alike (comma R) (comma R) _ _ refl (λ _ _ R.
+      after_alike (items R) (items R) _ _ refl (λ n m R. closing_alike (q, n) (p, m) R)))
+
   suit_alike : (S : List Token) → shape (suit E S) ≡ shape (suit F S)
   suit_alike [] = refl
   suit_alike (Suit s ∷ S) = refl
-  suit_alike (Class c ∷ S) = class_suit_alike (bound_to E c) (bound_to F c) c S (f c)
+  suit_alike (Class c ∷ S) = class_suit_alike (bound_to E c) (bound_to F c) c S (suits_alike f c)
   suit_alike (x ∷ S) = refl
 
   comma_suit_close_alike : (S : List Token) → shape (comma_suit_close E S) ≡ shape (comma_suit_close F S)
@@ -64,7 +97,7 @@ module _ {E F : Bound} (f : SameScope E F) where
 
   seat_and_suit_alike : (S : List Token) → shape (seat_and_suit E S) ≡ shape (seat_and_suit F S)
   seat_and_suit_alike S =
-      after_alike (open_seat S) (open_seat S) _ _ refl (λ q p R.
+      after_alike (open_seat E S) (open_seat F S) _ _ (open_seat_alike S) (λ q p R.
       after_alike (comma_suit_close E R) (comma_suit_close F R) _ _ (comma_suit_close_alike R) (λ s t R. refl))
 
   rest_of_measure_alike : (m : AMeasure) (q p : ASeat) (S : List Token) → shape (rest_of_measure E m q S) ≡ shape (rest_of_measure F m p S)
@@ -90,12 +123,12 @@ module _ {E F : Bound} (f : SameScope E F) where
   unfolding atom_of
   atom_alike [] = refl
   atom_alike (Number n ∷ S) = refl
-  atom_alike (Measure m ∷ S) = after_alike (open_seat S) (open_seat S) _ _ refl (λ q p R. rest_of_measure_alike m q p R)
+  atom_alike (Measure m ∷ S) = after_alike (open_seat E S) (open_seat F S) _ _ (open_seat_alike S) (λ q p R. rest_of_measure_alike m q p R)
   atom_alike (Len ∷ S) = after_alike (seat_and_suit E S) (seat_and_suit F S) _ _ (seat_and_suit_alike S) (λ p q R. refl)
-  atom_alike (Cards ∷ S) = after_alike (open_seat_comma S) (open_seat_comma S) _ _ refl (λ q p R. rest_of_cards_alike q p R)
-  atom_alike (Longest ∷ S) = refl
-  atom_alike (Second ∷ S) = refl
-  atom_alike (Shortest ∷ S) = refl
+  atom_alike (Cards ∷ S) = after_alike (open_seat_comma E S) (open_seat_comma F S) _ _ (open_seat_comma_alike S) (λ q p R. rest_of_cards_alike q p R)
+  atom_alike (Longest ∷ S) = after_alike (seat_in_brackets E S) (seat_in_brackets F S) _ _ (seat_in_brackets_alike S) (λ q p R. refl)
+  atom_alike (Second ∷ S) = after_alike (seat_in_brackets E S) (seat_in_brackets F S) _ _ (seat_in_brackets_alike S) (λ q p R. refl)
+  atom_alike (Shortest ∷ S) = after_alike (seat_in_brackets E S) (seat_in_brackets F S) _ _ (seat_in_brackets_alike S) (λ q p R. refl)
   atom_alike (x ∷ S) = refl
 
 -- ---- readers that lead back to a condition
@@ -122,13 +155,13 @@ pub shape_stuck : {A : Type 0} (o : Outcome A) (R : List Token) → shape o ≡ 
 shape_stuck (got x S) R e = absurd (cc)
 shape_stuck (stuck S) R e = let i : S ≡ R = cc in ap stuck i
 
--- with each suit of a class the same happens as with spades
+-- with each member of a class the same happens as with the first
 abbrev pub SameWithEach : Readers → Bound → AClass → List Token → Type 0
-SameWithEach r E c S = (s : ASuit) → shape (r (bind E c s) a_cond S) ≡ shape (r (bind E c Spades) a_cond S)
+SameWithEach r E c S = (s : Choice) → shape (r (bind E c s) a_cond S) ≡ shape (r (bind E c first) a_cond S)
 
 pub all_got :
-    (r : Readers) (E : Bound) (c : AClass) (S R : List Token) → ((s : ASuit) → shape (r (bind E c s) a_cond S) ≡ got tt R)
-    → (ss : List ASuit) → (ts : List Form) × ReadsEach r E c S R ss ts
+    (r : Readers) (E : Bound) (c : AClass) (S R : List Token) → ((s : Choice) → shape (r (bind E c s) a_cond S) ≡ got tt R)
+    → (ss : List Choice) → (ts : List Form) × ReadsEach r E c S R ss ts
 all_got r E c S R h [] = ([], tt)
 all_got r E c S R h (s ∷ ss) =
     let t = shape_got (r (bind E c s) a_cond S) R (h s) in
@@ -137,11 +170,11 @@ all_got r E c S R h (s ∷ ss) =
 
 each_shape_from :
     (r : Readers) (E : Bound) (k : AQuantifier) (c : AClass) (S : List Token) (o : Outcome Form)
-    → ((s : ASuit) → shape (r (bind E c s) a_cond S) ≡ shape o) → shape (each_by r E k c S all_suits None S) ≡ shape o
+    → ((s : Choice) → shape (r (bind E c s) a_cond S) ≡ shape o) → shape (each_by r E k c S all_choices None S) ≡ shape o
 each_shape_from r E k c S (stuck R) h = ap shape (each_stuck r E k c S R (λ s. shape_stuck (r (bind E c s) a_cond S) R (h s)))
 each_shape_from r E k c S (got x R) h = of_all (members E c) refl
   where
-    of_all : (ss : List ASuit) → members E c ≡ ss → shape (each_by r E k c S all_suits None S) ≡ got tt R
+    of_all : (ss : List Choice) → members E c ≡ ss → shape (each_by r E k c S all_choices None S) ≡ got tt R
     of_all [] e = let m = members_some E c in let n = m.2 in absurd (cc (e, n))
     of_all (s ∷ ss) e =
         let t = shape_got (r (bind E c s) a_cond S) R (h s) in
@@ -150,8 +183,8 @@ each_shape_from r E k c S (got x R) h = of_all (members E c) refl
 
 pub each_shape :
     (r : Readers) (E : Bound) (k : AQuantifier) (c : AClass) (S : List Token) → SameWithEach r E c S
-    → shape (each_by r E k c S all_suits None S) ≡ shape (r (bind E c Spades) a_cond S)
-each_shape r E k c S h = each_shape_from r E k c S (r (bind E c Spades) a_cond S) h
+    → shape (each_by r E k c S all_choices None S) ≡ shape (r (bind E c first) a_cond S)
+each_shape r E k c S h = each_shape_from r E k c S (r (bind E c first) a_cond S) h
 
 module _ (r : Readers) (k : AreAlike r) (E F : Bound) (f : SameScope E F) where
   compared_alike : (a b : Amount) (S : List Token) → shape (compared_by r E a S) ≡ shape (compared_by r F b S)
@@ -167,16 +200,16 @@ module _ (r : Readers) (k : AreAlike r) (E F : Bound) (f : SameScope E F) where
   compares_alike : (S : List Token) → shape (comparing_by r E S) ≡ shape (comparing_by r F S)
   compares_alike S = after_alike (r E a_value S) (r F a_value S) _ _ (k E F f a_value a_value values S) (λ a b R. related_alike a b R)
 
-  each_alike : (j l : AQuantifier) (c : AClass) (S : List Token) → shape (each_by r E j c S all_suits None S) ≡ shape (each_by r F l c S all_suits None S)
+  each_alike : (j l : AQuantifier) (c : AClass) (S : List Token) → shape (each_by r E j c S all_choices None S) ≡ shape (each_by r F l c S all_choices None S)
   each_alike j l c S =
-      each_shape r E j c S (λ s. k (bind E c s) (bind E c Spades) (bind_same (same_scope E) c s Spades) a_cond a_cond conds S)
-      ∙ k (bind E c Spades) (bind F c Spades) (bind_same f c Spades Spades) a_cond a_cond conds S
-      ∙ sym (each_shape r F l c S (λ s. k (bind F c s) (bind F c Spades) (bind_same (same_scope F) c s Spades) a_cond a_cond conds S))
+      each_shape r E j c S (λ s. k (bind E c s) (bind E c first) (bind_same (same_scope E) c s first) a_cond a_cond conds S)
+      ∙ k (bind E c first) (bind F c first) (bind_same f c first first) a_cond a_cond conds S
+      ∙ sym (each_shape r F l c S (λ s. k (bind F c s) (bind F c first) (bind_same (same_scope F) c s first) a_cond a_cond conds S))
 
   bracketed_alike : (j l : AQuantifier) (c : AClass) (S : List Token) → shape (bracketed_by r E j c S) ≡ shape (bracketed_by r F l c S)
   bracketed_alike j l c S =
       after_alike (opened S) (opened S) _ _ refl (λ _ _ R.
-      after_alike (each_by r E j c R all_suits None R) (each_by r F l c R all_suits None R) _ _ (each_alike j l c R) (λ a b R. closing_alike a b R))
+      after_alike (each_by r E j c R all_choices None R) (each_by r F l c R all_choices None R) _ _ (each_alike j l c R) (λ a b R. closing_alike a b R))
 
   brackets_alike : (j : AQuantifier) (o : Outcome AClass) → shape (after o (λ c S. bracketed_by r E j c S)) ≡ shape (after o (λ c S. bracketed_by r F j c S))
   brackets_alike j (stuck R) = refl
@@ -196,9 +229,9 @@ module _ (r : Readers) (k : AreAlike r) (E F : Bound) (f : SameScope E F) where
   unit_alike (Not ∷ S) = after_alike (r E a_unit S) (r F a_unit S) _ _ (k E F f a_unit a_unit units S) (λ a b R. refl)
   unit_alike (Open ∷ S) = after_alike (r E a_cond S) (r F a_cond S) _ _ (k E F f a_cond a_cond conds S) (λ a b R. closing_alike a b R)
   unit_alike (Quantifier j ∷ S) = quantified_alike (Quantifier j ∷ S)
-  unit_alike (Balanced ∷ S) = refl
-  unit_alike (Shape ∷ S) = refl
-  unit_alike (Pattern ∷ S) = refl
+  unit_alike (Balanced ∷ S) = after_alike (open_seat E S) (open_seat F S) _ _ (open_seat_alike f S) (λ q p R. closing_alike (balanced q) (balanced p) R)
+  unit_alike (Shape ∷ S) = after_alike (seat_and_items E S) (seat_and_items F S) _ _ (seat_and_items_alike f S) (λ p q R. refl)
+  unit_alike (Pattern ∷ S) = after_alike (seat_and_items E S) (seat_and_items F S) _ _ (seat_and_items_alike f S) (λ p q R. refl)
   unit_alike (Stops ∷ S) = after_alike (seat_and_suit E S) (seat_and_suit F S) _ _ (seat_and_suit_alike f S) (λ p q R. refl)
   unit_alike [] = compares_alike []
   unit_alike (x ∷ S) = compares_alike (x ∷ S)
@@ -232,6 +265,6 @@ unfolding steps
 steps_alike zero E F f g h i S = refl
 steps_alike (suc n) E F f g h i S = step_alike (steps n) (λ E F f g h i S. steps_alike n E F f g h i S) E F f i S
 
--- what the steps read of a condition doesn't depend on the suits
+-- what the steps read of a condition doesn't depend on the suits and seats
 pub conds_alike : (n : ℕ) (E F : Bound) → SameScope E F → (S : List Token) → shape (steps n E a_cond S) ≡ shape (steps n F a_cond S)
 conds_alike n E F f S = steps_alike n E F f a_cond a_cond conds S

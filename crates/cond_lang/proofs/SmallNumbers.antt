@@ -11,6 +11,7 @@ use Rattle.cards.specs.declared.hand.Measure.TheVariants.{Hcp}
 use Rattle.cards.specs.declared.seat.Seat.{Seat}
 use Rattle.cards.specs.declared.suit.Suit.{Suit}
 use Rattle.cond_lang.specs.declared.classes.Bound.{Bound}
+use Rattle.cond_lang.specs.declared.classes.Choice.{Choice}
 use Rattle.cond_lang.specs.declared.classes.Class.{Class as AClass}
 use Rattle.cond_lang.specs.declared.classes.Quantifier.{Quantifier as AQuantifier}
 use Rattle.cond_lang.specs.declared.classes.Quantifier.TheVariants.{Any as OneOf, Every}
@@ -24,7 +25,7 @@ use Rattle.conditions.specs.Form.{Amount, Form, measured, suit_measured, shape, 
 use Rattle.conditions.specs.declared.tree.Item.{Item}
 use Rattle.conditions.specs.declared.tree.Item.TheVariants.{Length, Any}
 use Rattle.cond_lang.specs.Classes.{unbound}
-use Rattle.cond_lang.specs.Grammar.{SpellsAtom, SpellsValue, atom, plus, a_number, measure, measure_in, len, cards, cards_in, longest_suit, second_suit, shortest_suit, item_token, SpellsCond, both, or, SpellsBoth, unit, and, SpellsUnit, not, brackets, quantified, SpellsEach, none, one_more, joined, test, comparison, in_range, is_balanced, has_shape, has_pattern, has_stopper, Spells}
+use Rattle.cond_lang.specs.Grammar.{SpellsCount, SpellsHandTest, SpellsAtom, SpellsValue, atom, plus, a_number, count, measure, measure_in, len, cards, cards_in, longest_suit, second_suit, shortest_suit, item_token, SpellsCond, both, or, SpellsBoth, unit, and, SpellsUnit, not, brackets, quantified, SpellsEach, none, one_more, joined, test, comparison, in_range, of_hand, is_balanced, has_shape, has_pattern, has_stopper, Spells}
 use Rattle.conditions.specs.Limits.{AddsNumbersUpTo, HasNumbersUpTo}
 use Rattle.cond_lang.specs.Text.{kinds}
 use Rattle.cond_lang.proofs.Tables.{Table, EachEntry, at_entry}
@@ -127,16 +128,19 @@ small_suit_measured : (m : Measure) (q : Seat) (s : Suit) → AddsNumbersUpTo 99
 small_suit_measured Hcp q s = tt
 small_suit_measured m q s = tt
 
+small_count : {E : Bound} {c : Token} {R : List Token} {f : Seat → Amount} → SpellsCount E c R f → (q : Seat) → AddsNumbersUpTo 9999 (f q)
+small_count (measure {m}) q = small_measured m q
+small_count (measure_in {m} {s = u} i) q = small_suit_measured m q u
+small_count (len i) q = tt
+small_count cards q = tt
+small_count (cards_in i) q = tt
+small_count longest_suit q = tt
+small_count (second_suit w) q = tt
+small_count shortest_suit q = tt
+
 small_atom : {E : Bound} {T : List Token} {a : Amount} → SpellsAtom E T a → AreSmall T → AddsNumbersUpTo 9999 a
 small_atom a_number s = s.0
-small_atom (measure {m} {q}) s = small_measured m q
-small_atom (measure_in {m} {q} {s = u} i) s = small_suit_measured m q u
-small_atom (len i) s = tt
-small_atom cards s = tt
-small_atom (cards_in i) s = tt
-small_atom longest_suit s = tt
-small_atom (second_suit w) s = tt
-small_atom shortest_suit s = tt
+small_atom (count {q} k h) s = small_count k q
 
 small_value : {E : Bound} {T : List Token} {a : Amount} → SpellsValue E T a → AreSmall T → AddsNumbersUpTo 9999 a
 small_value (atom h) s = small_atom h s
@@ -171,6 +175,18 @@ all_joined_small : (k : AQuantifier) (t : Form) (ts : List Form) → HasNumbersU
 all_joined_small k t [] h hs = h
 all_joined_small k t (u ∷ us) h hs = all_joined_small k (joined k t u) us (small_joined k t u h hs.0) hs.1
 
+small_hand : {E : Bound} {c : Token} {R : List Token} {f : Seat → Form} → SpellsHandTest E c R f → (q : Seat) → AreSmall R → HasNumbersUpTo 9999 (f q)
+small_hand is_balanced q s = tt
+small_hand (has_shape a b c d) q s =
+    small_shape q (a ∷ b ∷ c ∷ d ∷ [])
+    (small_items a b c d s.1.0 s.1.1.1.0 s.1.1.1.1.1.0 s.1.1.1.1.1.1.1.0)
+    (small_four a b c d s.1.0 s.1.1.1.0 s.1.1.1.1.1.0 s.1.1.1.1.1.1.1.0)
+small_hand (has_pattern a b c d) q s =
+    small_pattern q (a ∷ b ∷ c ∷ d ∷ [])
+    (small_items a b c d s.1.0 s.1.1.1.0 s.1.1.1.1.1.0 s.1.1.1.1.1.1.1.0)
+    (small_four a b c d s.1.0 s.1.1.1.0 s.1.1.1.1.1.0 s.1.1.1.1.1.1.1.0)
+small_hand (has_stopper w i) q s = tt
+
 mutual
   small_cond : {E : Bound} {T : List Token} {t : Form} → SpellsCond E T t → AreSmall T → HasNumbersUpTo 9999 t
   small_cond (both h) s = small_both h s
@@ -191,18 +207,9 @@ mutual
       (small_value l (left_small L (In ∷ Number m ∷ Dash ∷ Number n ∷ []) s), behind.0, behind.1.1.0)
   small_unit (test (comparison {L} {R} {o = o} l r)) s =
       (small_value l (left_small L (Relation o ∷ R) s), small_value r (behind_small L (Relation o) R s))
-  small_unit (test is_balanced) s = tt
-  small_unit (test (has_shape {q} a b c d)) s =
-      small_shape q (a ∷ b ∷ c ∷ d ∷ [])
-      (small_items a b c d s.1.1.1.1.0 s.1.1.1.1.1.1.0 s.1.1.1.1.1.1.1.1.0 s.1.1.1.1.1.1.1.1.1.1.0)
-      (small_four a b c d s.1.1.1.1.0 s.1.1.1.1.1.1.0 s.1.1.1.1.1.1.1.1.0 s.1.1.1.1.1.1.1.1.1.1.0)
-  small_unit (test (has_pattern {q} a b c d)) s =
-      small_pattern q (a ∷ b ∷ c ∷ d ∷ [])
-      (small_items a b c d s.1.1.1.1.0 s.1.1.1.1.1.1.0 s.1.1.1.1.1.1.1.1.0 s.1.1.1.1.1.1.1.1.1.1.0)
-      (small_four a b c d s.1.1.1.1.0 s.1.1.1.1.1.1.0 s.1.1.1.1.1.1.1.1.0 s.1.1.1.1.1.1.1.1.1.1.0)
-  small_unit (test (has_stopper w i)) s = tt
+  small_unit (test (of_hand {Q} {R} {q} k h)) s = small_hand k q (right_small Q R s.1.1)
 
-  small_each : {E : Bound} {c : AClass} {ss : List Suit} {T : List Token} {ts : List Form} → SpellsEach E c ss T ts → AreSmall T → AllByRecursion (HasNumbersUpTo 9999) ts
+  small_each : {E : Bound} {c : AClass} {ss : List Choice} {T : List Token} {ts : List Form} → SpellsEach E c ss T ts → AreSmall T → AllByRecursion (HasNumbersUpTo 9999) ts
   small_each none s = tt
   small_each (one_more h hs) s = (small_cond h s, small_each hs s)
 

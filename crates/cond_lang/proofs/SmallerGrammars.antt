@@ -1,23 +1,23 @@
 -- A list without certain tokens spells the same trees in the whole grammar and in a smaller one.
-use Rattle.std.proofs.Common.{◌≡◌, ◌≢◌, suc, List, [], ◌∷◌, ◌++◌, refl, subst, arith}
+use Rattle.std.proofs.Common.{◌≡◌, ◌≢◌, suc, List, [], ◌∷◌, ◌++◌, Some, refl, sym, subst, arith}
 use Rattle.std.specs.Prelude.{Contains, ◌↔◌}
 use Rattle.std.proofs.lemmas.List.Elements.{Contains-append_left, Contains-append_right}
 use Rattle.cards.specs.declared.hand.Measure.{Measure as AMeasure}
 use Rattle.cards.specs.declared.hand.Measure.TheVariants.{Hcp}
-use Rattle.cards.specs.declared.suit.Suit.{Suit as ASuit}
 use Rattle.cond_lang.specs.declared.classes.Bound.{Bound}
+use Rattle.cond_lang.specs.declared.classes.Choice.{Choice}
 use Rattle.cond_lang.specs.declared.classes.Class.{Class as AClass}
-use Rattle.cond_lang.specs.declared.classes.Quantifier.{Quantifier as AQuantifier}
+use Rattle.cond_lang.specs.declared.classes.Class.TheVariants.{Seat as AnySeat, NorthSouth, EastWest}
 use Rattle.cond_lang.specs.declared.scanner.Token.{Token}
-use Rattle.cond_lang.specs.declared.scanner.Token.TheVariants.{Or, And, Not, Shape, Pattern, Quantifier, Stops, Measure, Cards, Longest, Second, Shortest, In, X, Class, Number, Dash, Open, Close, Plus, Relation}
+use Rattle.cond_lang.specs.declared.scanner.Token.TheVariants.{Or, And, Not, Shape, Pattern, Quantifier, Stops, Measure, Cards, Longest, Second, Shortest, In, X, Seat, Class, Neighbour, Number, Dash, Open, Close, Plus, Relation}
 use Rattle.cards.specs.declared.seat.Seat.{Seat as ASeat}
 use Rattle.conditions.specs.declared.tree.Item.{Item}
 use Rattle.conditions.specs.declared.tree.Item.TheVariants.{Length, Any}
 use Rattle.conditions.specs.Form.{Amount, Form, shaped, patterned}
 use Rattle.cond_lang.specs.Classes.{by_suit, by_class}
-use Rattle.cond_lang.specs.Grammar.{Amounts, FormsAt, AtomOf, SpellsAtom, a_number, measure, measure_in, len, cards, cards_in, longest_suit, second_suit, shortest_suit, ValueOf, atom, plus, four, CondOf, both, or, BothOf, unit, and, UnitOf, not, brackets, quantified, test, EachOf, none, one_more, TestOf, SpellsTest, comparison, in_range, is_balanced, has_shape, has_pattern, has_stopper, SpellsValue, Spells}
+use Rattle.cond_lang.specs.Grammar.{Addition, quantifiers, seats, addition_of, everything, SeatOf, SpellsSeat, by_word, by_bound, beside, CountOf, SpellsCount, HandTestOf, SpellsHandTest, Amounts, FormsAt, AtomOf, SpellsAtom, a_number, count, measure, measure_in, len, cards, cards_in, longest_suit, second_suit, shortest_suit, ValueOf, atom, plus, four, CondOf, both, or, BothOf, unit, and, UnitOf, not, brackets, quantified, test, EachOf, none, one_more, TestOf, SpellsTest, comparison, in_range, of_hand, is_balanced, has_shape, has_pattern, has_stopper, SpellsValue, Spells}
 use Rattle.cond_lang.specs.SmallerGrammars as small
-use Rattle.cond_lang.specs.SmallerGrammars.{SpellsEarlier, IsEarlier, SpellsWithoutSums, SpellsHcpAtom, SpellsWithHcpAlone, SpellsFirstAtom, FirstTestOf, SpellsInFirstWords, IsFirst, SpellsInFirstGrammar, IsOldest}
+use Rattle.cond_lang.specs.SmallerGrammars.{SpellsWith, brought_by, no_seats, SpellsWithoutSeats, IsBeforeSeats, no_additions, SpellsEarlier, IsEarlier, HcpCount, SpellsWithoutSums, SpellsHcpAtom, SpellsWithHcpAlone, SpellsFirstAtom, FirstTestOf, SpellsInFirstWords, IsFirst, SpellsInFirstGrammar, IsOldest}
 
 -- the list has no token of this kind
 abbrev HasNone : (Token → Type 0) → List Token → Type 0
@@ -40,27 +40,58 @@ Turns B V W = (T : List Token) (a : Amount) → V T a → HasNone B T → W T a
 abbrev TurnsTests : (Token → Type 0) → FormsAt → FormsAt → Type 0
 TurnsTests B U W = (E : Bound) (T : List Token) (t : Form) → U E T t → HasNone B T → W E T t
 
--- where this word may stand, a grammar that has the words that came last leads to another such
-abbrev TurnsWord : (Token → Type 0) → Token → Type 0 → Type 0 → Type 0
-TurnsWord B c V W = (B c → ⊥) → V → W
+-- which additions a grammar has
+abbrev Words : Type 1
+Words = Addition → Type 0
+
+-- where a word that came later may stand, a grammar that has its addition leads to another such
+abbrev TurnsWords : (Token → Type 0) → Words → Words → Type 0
+TurnsWords B P Q = (c : Token) (a : Addition) → brought_by c ≡ Some a → (B c → ⊥) → P a → Q a
+
+keeps_words : (B : Token → Type 0) (P : Words) → TurnsWords B P P
+keeps_words B P c a e b w = w
+
+-- the list's first token
+none_first : (B : Token → Type 0) (c : Token) (T : List Token) → HasNone B (c ∷ T) → B c → ⊥
+none_first B c T n b = n c b (0, omega arith, refl)
 
 turn_value : (B : Token → Type 0) (V W : Amounts) → Turns B V W → Turns B (ValueOf V) (ValueOf W)
 turn_value B V W f T a (atom h) n = atom (f T a h n)
 turn_value B V W f T a (plus {L} {R} {a = x} {b = y} l r) n =
     plus (turn_value B V W f L x l (left_of B L Plus R n)) (f R y r (right_of B L Plus R n))
 
-turn_test :
-    (B : Token → Type 0) (P Q : Type 0) → TurnsWord B Stops P Q → (E : Bound) (V W : Amounts) → Turns B V W
-    → (T : List Token) (t : Form) → TestOf P E V T t → HasNone B T → TestOf Q E W T t
-turn_test B P Q s E V W f T t (comparison {L} {R} {a} {b} {o} l r) n =
-    comparison (f L a l (left_of B L (Relation o) R n)) (f R b r (right_of B L (Relation o) R n))
-turn_test B P Q s E V W f T t (in_range {L} {a} {m} {n = k} l) n = in_range (f L a l (left_of B L In (Number m ∷ Dash ∷ Number k ∷ []) n))
-turn_test B P Q s E V W f T t is_balanced n = is_balanced
-turn_test B P Q s E V W f T t (has_shape a b c d) n = has_shape a b c d
-turn_test B P Q s E V W f T t (has_pattern a b c d) n = has_pattern a b c d
-turn_test B P Q s E V W f T t (has_stopper w i) n = has_stopper (s (λ b. n Stops b (0, omega arith, refl)) w) i
+turn_seat : (B : Token → Type 0) (P Q : Words) → TurnsWords B P Q → {E : Bound} {T : List Token} {q : ASeat} → SeatOf P E T q → HasNone B T → SeatOf Q E T q
+turn_seat B P Q w by_word n = by_word
+turn_seat B P Q w (by_bound {c = AnySeat} p e) n = by_bound (w (Class AnySeat) seats refl (none_first B (Class AnySeat) [] n) p) e
+turn_seat B P Q w (by_bound {c = NorthSouth} p e) n = by_bound (w (Class NorthSouth) seats refl (none_first B (Class NorthSouth) [] n) p) e
+turn_seat B P Q w (by_bound {c = EastWest} p e) n = by_bound (w (Class EastWest) seats refl (none_first B (Class EastWest) [] n) p) e
+turn_seat B P Q w (by_bound {c} p e) n = absurd (cc)
+turn_seat B P Q w (beside {n = k} {Q = T} p h) n =
+    beside (w (Neighbour k) seats refl (none_first B (Neighbour k) (Open ∷ T ++ Close ∷ []) n) p)
+    (turn_seat B P Q w h (left_of B T Close [] (right_of B (Neighbour k ∷ []) Open (T ++ Close ∷ []) n)))
 
-module _ (B : Token → Type 0) (P Q : Type 0) (w : (k : AQuantifier) → TurnsWord B (Quantifier k) P Q) (U W : FormsAt) (f : TurnsTests B U W) where
+-- the seat after a word and a bracket
+seat_of : (B : Token → Type 0) (P Q : Words) → TurnsWords B P Q → {E : Bound} (c : Token) (T R : List Token) (q : ASeat) → SeatOf P E T q → HasNone B (c ∷ Open ∷ T ++ R) → SeatOf Q E T q
+seat_of B P Q w c T R q h n = turn_seat B P Q w h (λ x b i. n x b (after_first c x (Open ∷ T ++ R) (after_first Open x (T ++ R) (Contains-append_left T R x i))))
+
+turn_hand :
+    (B : Token → Type 0) (P Q : Words) → TurnsWords B P Q → {E : Bound} {c : Token} {R : List Token} {f : ASeat → Form}
+    → HandTestOf P E c R f → (B c → ⊥) → HandTestOf Q E c R f
+turn_hand B P Q w is_balanced n = is_balanced
+turn_hand B P Q w (has_shape a b c d) n = has_shape a b c d
+turn_hand B P Q w (has_pattern a b c d) n = has_pattern a b c d
+turn_hand B P Q w (has_stopper p i) n = has_stopper (w Stops quantifiers refl n p) i
+
+turn_test :
+    (B : Token → Type 0) (P Q : Words) → TurnsWords B P Q → (E : Bound) (V W : Amounts) → Turns B V W
+    → (T : List Token) (t : Form) → TestOf P E V T t → HasNone B T → TestOf Q E W T t
+turn_test B P Q w E V W f T t (comparison {L} {R} {a} {b} {o} l r) n =
+    comparison (f L a l (left_of B L (Relation o) R n)) (f R b r (right_of B L (Relation o) R n))
+turn_test B P Q w E V W f T t (in_range {L} {a} {m} {n = k} l) n = in_range (f L a l (left_of B L In (Number m ∷ Dash ∷ Number k ∷ []) n))
+turn_test B P Q w E V W f T t (of_hand {c} {Q = S} {R} {q} k h) n =
+    of_hand (turn_hand B P Q w k (none_first B c (Open ∷ S ++ R) n)) (seat_of B P Q w c S R q h n)
+
+module _ (B : Token → Type 0) (P Q : Words) (w : TurnsWords B P Q) (U W : FormsAt) (f : TurnsTests B U W) where
   mutual
     turn_cond : {E : Bound} {T : List Token} {t : Form} → CondOf P U E T t → HasNone B T → CondOf Q W E T t
     turn_cond (both h) n = both (turn_both h n)
@@ -74,11 +105,11 @@ module _ (B : Token → Type 0) (P Q : Type 0) (w : (k : AQuantifier) → TurnsW
     turn_unit (not {T} h) n = not (turn_unit h (right_of B [] Not T n))
     turn_unit (brackets {T} h) n = brackets (turn_cond h (left_of B T Close [] (right_of B [] Open (T ++ Close ∷ []) n)))
     turn_unit (quantified {k} {c} {T} p b each) n =
-        quantified (w k (λ x. n (Quantifier k) x (0, omega arith, refl)) p) b
+        quantified (w (Class c) (addition_of c) refl (λ x. n (Class c) x (1, omega arith, refl)) p) b
         (turn_each each (left_of B T Close [] (right_of B (Quantifier k ∷ Class c ∷ []) Open (T ++ Close ∷ []) n)))
     turn_unit (test {E} {T} {t} h) n = test (f E T t h n)
 
-    turn_each : {E : Bound} {c : AClass} {ss : List ASuit} {T : List Token} {ts : List Form} → EachOf P U E c ss T ts → HasNone B T → EachOf Q W E c ss T ts
+    turn_each : {E : Bound} {c : AClass} {ss : List Choice} {T : List Token} {ts : List Form} → EachOf P U E c ss T ts → HasNone B T → EachOf Q W E c ss T ts
     turn_each none n = none
     turn_each (one_more h hs) n = one_more (turn_cond h n) (turn_each hs n)
 
@@ -86,36 +117,59 @@ module _ (B : Token → Type 0) (P Q : Type 0) (w : (k : AQuantifier) → TurnsW
 abbrev IsNone : Token → Type 0
 IsNone c = ⊥
 
--- ---- without the words that came last
+turn_count :
+    (B : Token → Type 0) (P Q : Words) → TurnsWords B P Q → {E : Bound} {c : Token} {R : List Token} {f : ASeat → Amount}
+    → CountOf P E c R f → (B c → ⊥) → CountOf Q E c R f
+turn_count B P Q w measure n = measure
+turn_count B P Q w (measure_in i) n = measure_in i
+turn_count B P Q w (len i) n = len i
+turn_count B P Q w cards n = cards
+turn_count B P Q w (cards_in i) n = cards_in i
+turn_count B P Q w longest_suit n = longest_suit
+turn_count B P Q w (second_suit p) n = second_suit (w Second quantifiers refl n p)
+turn_count B P Q w shortest_suit n = shortest_suit
+
+turn_atom : (B : Token → Type 0) (P Q : Words) → TurnsWords B P Q → (E : Bound) → Turns B (AtomOf P E) (AtomOf Q E)
+turn_atom B P Q w E T a a_number n = a_number
+turn_atom B P Q w E T a (count {c} {Q = S} {R} {q} k h) n =
+    count (turn_count B P Q w k (none_first B c (Open ∷ S ++ R) n)) (seat_of B P Q w c S R q h n)
+
+-- the tests of the grammar with some additions
+abbrev TestsWith : Words → FormsAt
+TestsWith P E = TestOf P E (ValueOf (AtomOf P E))
+
+turn_words : (B : Token → Type 0) (P Q : Words) → TurnsWords B P Q → TurnsTests B (TestsWith P) (TestsWith Q)
+turn_words B P Q w E T t h n =
+    turn_test B P Q w E (ValueOf (AtomOf P E)) (ValueOf (AtomOf Q E)) (turn_value B (AtomOf P E) (AtomOf Q E) (turn_atom B P Q w E)) T t h n
+
+-- from a grammar with some additions to one with others
+turn_all : (B : Token → Type 0) (P Q : Words) → TurnsWords B P Q → {T : List Token} {t : Form} → SpellsWith P T t → HasNone B T → SpellsWith Q T t
+turn_all B P Q w h n = turn_cond B P Q w (TestsWith P) (TestsWith Q) (turn_words B P Q w) h n
+
+-- what a smaller grammar spells, the whole one spells too
+to_all : (P : Words) {T : List Token} {t : Form} → SpellsWith P T t → Spells T t
+to_all P h = turn_all IsNone P everything (λ c a e b w. tt) h (λ c b. absurd b)
+
+-- ---- without the words of seats
+abbrev IsOfSeats : Token → Type 0
+IsOfSeats c = IsBeforeSeats c → ⊥
+
+leaves_seats : TurnsWords IsOfSeats everything no_seats
+leaves_seats c quantifiers e b w = tt
+leaves_seats c seats e b w = b (λ n. n e)
+
+pub same_before_seats : (T : List Token) (t : Form) → ((c : Token) → Contains T c → IsBeforeSeats c) → Spells T t ↔ SpellsWithoutSeats T t
+same_before_seats T t n = (λ h. turn_all IsOfSeats everything no_seats leaves_seats h (λ c b i. b (n c i)), λ h. to_all no_seats h)
+
+-- ---- without those of quantifiers too
 abbrev IsLast : Token → Type 0
 IsLast c = IsEarlier c → ⊥
 
-turn_atom : (B : Token → Type 0) (P Q : Type 0) → TurnsWord B Second P Q → (E : Bound) → Turns B (AtomOf P E) (AtomOf Q E)
-turn_atom B P Q s E T a a_number n = a_number
-turn_atom B P Q s E T a measure n = measure
-turn_atom B P Q s E T a (measure_in i) n = measure_in i
-turn_atom B P Q s E T a (len i) n = len i
-turn_atom B P Q s E T a cards n = cards
-turn_atom B P Q s E T a (cards_in i) n = cards_in i
-turn_atom B P Q s E T a longest_suit n = longest_suit
-turn_atom B P Q s E T a (second_suit w) n = second_suit (s (λ b. n Second b (0, omega arith, refl)) w)
-turn_atom B P Q s E T a shortest_suit n = shortest_suit
-
--- the tests of the grammar with these words or without them
-abbrev TestsWith : Type 0 → FormsAt
-TestsWith P E = TestOf P E (ValueOf (AtomOf P E))
-
-turn_words : (B : Token → Type 0) (P Q : Type 0) → TurnsWord B Second P Q → TurnsWord B Stops P Q → TurnsTests B (TestsWith P) (TestsWith Q)
-turn_words B P Q s u E T t h n =
-    turn_test B P Q u E (ValueOf (AtomOf P E)) (ValueOf (AtomOf Q E)) (turn_value B (AtomOf P E) (AtomOf Q E) (turn_atom B P Q s E)) T t h n
+leaves_last : TurnsWords IsLast everything no_additions
+leaves_last c a e b w = b (λ n. cc)
 
 pub same_earlier : (T : List Token) (t : Form) → ((c : Token) → Contains T c → IsEarlier c) → Spells T t ↔ SpellsEarlier T t
-same_earlier T t n = (
-  λ h. turn_cond IsLast (Unit {0}) ⊥ (λ k b w. b (λ i. i)) (TestsWith (Unit {0})) (TestsWith ⊥)
-      (turn_words IsLast (Unit {0}) ⊥ (λ b w. b (λ i. i)) (λ b w. b (λ i. i))) h (λ c b i. b (n c i)),
-  λ h. turn_cond IsNone ⊥ (Unit {0}) (λ k b w. tt) (TestsWith ⊥) (TestsWith (Unit {0}))
-      (turn_words IsNone ⊥ (Unit {0}) (λ b w. tt) (λ b w. tt)) h (λ c b. absurd b),
-)
+same_earlier T t n = (λ h. turn_all IsLast everything no_additions leaves_last h (λ c b i. b (n c i)), λ h. to_all no_additions h)
 
 -- ---- without sums
 abbrev IsPlus : Token → Type 0
@@ -126,90 +180,129 @@ one_atom A T a (atom h) n = h
 one_atom A T a (plus {L} {R} l r) n = absurd (n Plus refl (Contains-append_right L (Plus ∷ R) Plus (0, omega arith, refl)))
 
 abbrev TestsWithoutSums : FormsAt
-TestsWithoutSums E = TestOf (Unit {0}) E (SpellsAtom E)
+TestsWithoutSums E = TestOf everything E (SpellsAtom E)
 
 pub same_without_sums : (T : List Token) (t : Form) → (Contains T Plus → ⊥) → Spells T t ↔ SpellsWithoutSums T t
 same_without_sums T t n = (
-  λ h. turn_cond IsPlus (Unit {0}) (Unit {0}) (λ k b w. w) SpellsTest TestsWithoutSums
-      (λ E. turn_test IsPlus (Unit {0}) (Unit {0}) (λ b w. w) E (SpellsValue E) (SpellsAtom E) (one_atom (SpellsAtom E))) h (λ c e. rw e n),
-  λ h. turn_cond IsNone (Unit {0}) (Unit {0}) (λ k b w. w) TestsWithoutSums SpellsTest
-      (λ E. turn_test IsNone (Unit {0}) (Unit {0}) (λ b w. w) E (SpellsAtom E) (SpellsValue E) (λ T a v n. atom v)) h (λ c b. absurd b),
+  λ h. turn_cond IsPlus everything everything (keeps_words IsPlus everything) SpellsTest TestsWithoutSums
+      (λ E. turn_test IsPlus everything everything (keeps_words IsPlus everything) E (SpellsValue E) (SpellsAtom E) (one_atom (SpellsAtom E))) h (λ c e. rw e n),
+  λ h. turn_cond IsNone everything everything (keeps_words IsNone everything) TestsWithoutSums SpellsTest
+      (λ E. turn_test IsNone everything everything (keeps_words IsNone everything) E (SpellsAtom E) (SpellsValue E) (λ T a v n. atom v)) h (λ c b. absurd b),
 )
 
 -- ---- with hcp alone
 abbrev IsOtherMeasure : Token → Type 0
 IsOtherMeasure c = (m : AMeasure) × (m ≢ Hcp) × (c ≡ Measure m)
 
+hcp_count : {E : Bound} {c : Token} {R : List Token} {f : ASeat → Amount} → SpellsCount E c R f → (IsOtherMeasure c → ⊥) → HcpCount E c R f
+hcp_count (measure {m = Hcp}) n = small.hcp
+hcp_count (measure {m}) n = absurd (n (m, (λ e. cc), refl))
+hcp_count (measure_in {m = Hcp} i) n = small.hcp_in i
+hcp_count (measure_in {m} i) n = absurd (n (m, (λ e. cc), refl))
+hcp_count (len i) n = small.len i
+hcp_count cards n = small.cards
+hcp_count (cards_in i) n = small.cards_in i
+hcp_count longest_suit n = small.longest_suit
+hcp_count (second_suit w) n = small.second_suit
+hcp_count shortest_suit n = small.shortest_suit
+
 hcp_atom : (E : Bound) → Turns IsOtherMeasure (SpellsAtom E) (SpellsHcpAtom E)
 hcp_atom E T a a_number n = small.a_number
-hcp_atom E T a (measure {m = Hcp}) n = small.hcp
-hcp_atom E T a (measure {m}) n = absurd (n (Measure m) (m, (λ e. cc), refl) (0, omega arith, refl))
-hcp_atom E T a (measure_in {m = Hcp} i) n = small.hcp_in i
-hcp_atom E T a (measure_in {m} i) n = absurd (n (Measure m) (m, (λ e. cc), refl) (0, omega arith, refl))
-hcp_atom E T a (len i) n = small.len i
-hcp_atom E T a cards n = small.cards
-hcp_atom E T a (cards_in i) n = small.cards_in i
-hcp_atom E T a longest_suit n = small.longest_suit
-hcp_atom E T a (second_suit w) n = small.second_suit
-hcp_atom E T a shortest_suit n = small.shortest_suit
+hcp_atom E T a (count {c} {Q} {R} k h) n = small.count (hcp_count k (none_first IsOtherMeasure c (Open ∷ Q ++ R) n)) h
+
+count_again : {E : Bound} {c : Token} {R : List Token} {f : ASeat → Amount} → HcpCount E c R f → SpellsCount E c R f
+count_again small.hcp = measure
+count_again (small.hcp_in i) = measure_in i
+count_again (small.len i) = len i
+count_again small.cards = cards
+count_again (small.cards_in i) = cards_in i
+count_again small.longest_suit = longest_suit
+count_again small.second_suit = second_suit tt
+count_again small.shortest_suit = shortest_suit
 
 atom_again : (E : Bound) → Turns IsNone (SpellsHcpAtom E) (SpellsAtom E)
 atom_again E T a small.a_number n = a_number
-atom_again E T a small.hcp n = measure
-atom_again E T a (small.hcp_in i) n = measure_in i
-atom_again E T a (small.len i) n = len i
-atom_again E T a small.cards n = cards
-atom_again E T a (small.cards_in i) n = cards_in i
-atom_again E T a small.longest_suit n = longest_suit
-atom_again E T a small.second_suit n = second_suit tt
-atom_again E T a small.shortest_suit n = shortest_suit
+atom_again E T a (small.count k h) n = count (count_again k) h
 
 abbrev HcpTests : FormsAt
-HcpTests E = TestOf (Unit {0}) E (ValueOf (SpellsHcpAtom E))
+HcpTests E = TestOf everything E (ValueOf (SpellsHcpAtom E))
 
 pub same_with_hcp_alone : (T : List Token) (t : Form) → ((m : AMeasure) → m ≢ Hcp → Contains T (Measure m) → ⊥) → Spells T t ↔ SpellsWithHcpAlone T t
 same_with_hcp_alone T t n = (
-  λ h. turn_cond IsOtherMeasure (Unit {0}) (Unit {0}) (λ k b w. w) SpellsTest HcpTests
-      (λ E. turn_test IsOtherMeasure (Unit {0}) (Unit {0}) (λ b w. w) E (SpellsValue E) (ValueOf (SpellsHcpAtom E)) (turn_value IsOtherMeasure (SpellsAtom E) (SpellsHcpAtom E) (hcp_atom E))) h (λ c b. rw b.2 (n b.0 b.1)),
-  λ h. turn_cond IsNone (Unit {0}) (Unit {0}) (λ k b w. w) HcpTests SpellsTest
-      (λ E. turn_test IsNone (Unit {0}) (Unit {0}) (λ b w. w) E (ValueOf (SpellsHcpAtom E)) (SpellsValue E) (turn_value IsNone (SpellsHcpAtom E) (SpellsAtom E) (atom_again E))) h (λ c b. absurd b),
+  λ h. turn_cond IsOtherMeasure everything everything (keeps_words IsOtherMeasure everything) SpellsTest HcpTests
+      (λ E. turn_test IsOtherMeasure everything everything (keeps_words IsOtherMeasure everything) E (SpellsValue E) (ValueOf (SpellsHcpAtom E)) (turn_value IsOtherMeasure (SpellsAtom E) (SpellsHcpAtom E) (hcp_atom E))) h (λ c b. rw b.2 (n b.0 b.1)),
+  λ h. turn_cond IsNone everything everything (keeps_words IsNone everything) HcpTests SpellsTest
+      (λ E. turn_test IsNone everything everything (keeps_words IsNone everything) E (ValueOf (SpellsHcpAtom E)) (SpellsValue E) (turn_value IsNone (SpellsHcpAtom E) (SpellsAtom E) (atom_again E))) h (λ c b. absurd b),
 )
 
 -- ---- in the first words
 abbrev IsLater : Token → Type 0
 IsLater c = IsFirst c → ⊥
 
+brought_later : (c : Token) (a : Addition) → brought_by c ≡ Some a → IsLater c
+brought_later (Quantifier k) a e = λ h. h
+brought_later Stops a e = λ h. h
+brought_later Second a e = λ h. h
+brought_later (Class c) a e = λ h. h
+brought_later (Neighbour n) a e = λ h. h
+brought_later c a e = absurd (cc)
+
+leaves_later : TurnsWords IsLater everything no_additions
+leaves_later c a e b w = b (brought_later c a e)
+
+-- a seat in the first words is one token
+first_seat : {E : Bound} {T : List Token} {q : ASeat} → SpellsSeat E T q → (c : Token) (R : List Token) → HasNone IsLater (c ∷ Open ∷ T ++ R) → T ≡ Seat q ∷ []
+first_seat by_word c R n = refl
+first_seat (by_bound {c = d} w e) c R n = absurd (n (Class d) (λ h. h) (2, omega arith, refl))
+first_seat (beside {n = k} w h) c R n = absurd (n (Neighbour k) (λ h. h) (2, omega arith, refl))
+
+-- a word of a later count
+first_count :
+    {E : Bound} {c : Token} {R : List Token} {f : ASeat → Amount} → SpellsCount E c R f → (q : ASeat) → HasNone IsLater (c ∷ Open ∷ Seat q ∷ R)
+    → SpellsFirstAtom (c ∷ Open ∷ Seat q ∷ R) (f q)
+first_count (measure {m = Hcp}) q n = small.hcp
+first_count (measure {m}) q n = absurd (n (Measure m) (λ h. h) (0, omega arith, refl))
+first_count (measure_in {m = Hcp} by_suit) q n = small.hcp_in
+first_count (measure_in {m = Hcp} (by_class {c} e)) q n = absurd (n (Class c) (λ h. h) (4, omega arith, refl))
+first_count (measure_in {m} i) q n = absurd (n (Measure m) (λ h. h) (0, omega arith, refl))
+first_count (len by_suit) q n = small.len
+first_count (len (by_class {c} e)) q n = absurd (n (Class c) (λ h. h) (4, omega arith, refl))
+first_count cards q n = absurd (n Cards (λ h. h) (0, omega arith, refl))
+first_count (cards_in i) q n = absurd (n Cards (λ h. h) (0, omega arith, refl))
+first_count longest_suit q n = absurd (n Longest (λ h. h) (0, omega arith, refl))
+first_count (second_suit w) q n = absurd (n Second (λ h. h) (0, omega arith, refl))
+first_count shortest_suit q n = absurd (n Shortest (λ h. h) (0, omega arith, refl))
+
 first_atom : (E : Bound) → Turns IsLater (SpellsAtom E) SpellsFirstAtom
 first_atom E T a a_number n = small.a_number
-first_atom E T a (measure {m = Hcp}) n = small.hcp
-first_atom E T a (measure {m}) n = absurd (n (Measure m) (λ h. h) (0, omega arith, refl))
-first_atom E T a (measure_in {m = Hcp} by_suit) n = small.hcp_in
-first_atom E T a (measure_in {m = Hcp} (by_class {c} e)) n = absurd (n (Class c) (λ h. h) (4, omega arith, refl))
-first_atom E T a (measure_in {m} i) n = absurd (n (Measure m) (λ h. h) (0, omega arith, refl))
-first_atom E T a (len by_suit) n = small.len
-first_atom E T a (len (by_class {c} e)) n = absurd (n (Class c) (λ h. h) (4, omega arith, refl))
-first_atom E T a cards n = absurd (n Cards (λ h. h) (0, omega arith, refl))
-first_atom E T a (cards_in i) n = absurd (n Cards (λ h. h) (0, omega arith, refl))
-first_atom E T a longest_suit n = absurd (n Longest (λ h. h) (0, omega arith, refl))
-first_atom E T a (second_suit w) n = absurd (n Second (λ h. h) (0, omega arith, refl))
-first_atom E T a shortest_suit n = absurd (n Shortest (λ h. h) (0, omega arith, refl))
+first_atom E T a (count {c} {Q} {R} {q} {f} k h) n =
+    let e = first_seat h c R n in
+    subst (λ Q. SpellsFirstAtom (c ∷ Open ∷ Q ++ R) (f q)) (sym e) (first_count k q (subst (λ Q. HasNone IsLater (c ∷ Open ∷ Q ++ R)) e n))
 
 first_value : (E : Bound) → Turns IsLater (SpellsValue E) (ValueOf SpellsFirstAtom)
 first_value E = turn_value IsLater (SpellsAtom E) SpellsFirstAtom (first_atom E)
 
-first_shape : (q : ASeat) (a b c d : Item) → HasNone IsLater (Shape ∷ four q a b c d) → FirstTestOf (ValueOf SpellsFirstAtom) (Shape ∷ four q a b c d) (shaped q (a ∷ b ∷ c ∷ d ∷ []))
+first_shape : (q : ASeat) (a b c d : Item) → HasNone IsLater (Shape ∷ Open ∷ Seat q ∷ four a b c d) → FirstTestOf (ValueOf SpellsFirstAtom) (Shape ∷ Open ∷ Seat q ∷ four a b c d) (shaped q (a ∷ b ∷ c ∷ d ∷ []))
 first_shape q (Length a) (Length b) (Length c) (Length d) n = small.has_shape
 first_shape q Any b c d n = absurd (n X (λ h. h) (4, omega arith, refl))
 first_shape q a Any c d n = absurd (n X (λ h. h) (6, omega arith, refl))
 first_shape q a b Any d n = absurd (n X (λ h. h) (8, omega arith, refl))
 first_shape q a b c Any n = absurd (n X (λ h. h) (10, omega arith, refl))
 
-first_pattern : (q : ASeat) (a b c d : Item) → HasNone IsLater (Pattern ∷ four q a b c d) → FirstTestOf (ValueOf SpellsFirstAtom) (Pattern ∷ four q a b c d) (patterned q (a ∷ b ∷ c ∷ d ∷ []))
+first_pattern : (q : ASeat) (a b c d : Item) → HasNone IsLater (Pattern ∷ Open ∷ Seat q ∷ four a b c d) → FirstTestOf (ValueOf SpellsFirstAtom) (Pattern ∷ Open ∷ Seat q ∷ four a b c d) (patterned q (a ∷ b ∷ c ∷ d ∷ []))
 first_pattern q (Length a) (Length b) (Length c) (Length d) n = small.has_pattern
 first_pattern q Any b c d n = absurd (n X (λ h. h) (4, omega arith, refl))
 first_pattern q a Any c d n = absurd (n X (λ h. h) (6, omega arith, refl))
 first_pattern q a b Any d n = absurd (n X (λ h. h) (8, omega arith, refl))
 first_pattern q a b c Any n = absurd (n X (λ h. h) (10, omega arith, refl))
+
+first_hand :
+    {E : Bound} {c : Token} {R : List Token} {f : ASeat → Form} → SpellsHandTest E c R f → (q : ASeat) → HasNone IsLater (c ∷ Open ∷ Seat q ∷ R)
+    → FirstTestOf (ValueOf SpellsFirstAtom) (c ∷ Open ∷ Seat q ∷ R) (f q)
+first_hand is_balanced q n = small.is_balanced
+first_hand (has_shape a b c d) q n = first_shape q a b c d n
+first_hand (has_pattern a b c d) q n = first_pattern q a b c d n
+first_hand (has_stopper w i) q n = absurd (n Stops (λ h. h) (0, omega arith, refl))
 
 -- the first tests, of values that V spells
 abbrev FirstTests : Amounts → FormsAt
@@ -219,16 +312,16 @@ first_test : TurnsTests IsLater SpellsTest (FirstTests (ValueOf SpellsFirstAtom)
 first_test E T t (comparison {L} {R} {a} {b} {o} l r) n =
     small.comparison (first_value E L a l (left_of IsLater L (Relation o) R n)) (first_value E R b r (right_of IsLater L (Relation o) R n))
 first_test E T t (in_range {L} {m} {n = k} l) n = absurd (n In (λ h. h) (Contains-append_right L (In ∷ Number m ∷ Dash ∷ Number k ∷ []) In (0, omega arith, refl)))
-first_test E T t is_balanced n = small.is_balanced
-first_test E T t (has_shape {q} a b c d) n = first_shape q a b c d n
-first_test E T t (has_pattern {q} a b c d) n = first_pattern q a b c d n
-first_test E T t (has_stopper w i) n = absurd (n Stops (λ h. h) (0, omega arith, refl))
+first_test E T t (of_hand {c} {Q} {R} {q} {f} k h) n =
+    let e = first_seat h c R n in
+    subst (λ Q. FirstTestOf (ValueOf SpellsFirstAtom) (c ∷ Open ∷ Q ++ R) (f q)) (sym e)
+    (first_hand k q (subst (λ Q. HasNone IsLater (c ∷ Open ∷ Q ++ R)) e n))
 
 first_atom_again : {E : Bound} {T : List Token} {a : Amount} → SpellsFirstAtom T a → SpellsAtom E T a
 first_atom_again small.a_number = a_number
-first_atom_again small.hcp = measure
-first_atom_again small.hcp_in = measure_in by_suit
-first_atom_again small.len = len by_suit
+first_atom_again small.hcp = count measure by_word
+first_atom_again small.hcp_in = count (measure_in by_suit) by_word
+first_atom_again small.len = count (len by_suit) by_word
 
 first_value_again : {E : Bound} {T : List Token} {a : Amount} → ValueOf SpellsFirstAtom T a → SpellsValue E T a
 first_value_again (atom h) = atom (first_atom_again h)
@@ -236,14 +329,14 @@ first_value_again (plus l r) = plus (first_value_again l) (first_atom_again r)
 
 first_test_again : TurnsTests IsNone (FirstTests (ValueOf SpellsFirstAtom)) SpellsTest
 first_test_again E T t (small.comparison l r) n = comparison (first_value_again l) (first_value_again r)
-first_test_again E T t small.is_balanced n = is_balanced
-first_test_again E T t (small.has_shape {q} {a} {b} {c} {d}) n = has_shape {q = q} (Length a) (Length b) (Length c) (Length d)
-first_test_again E T t (small.has_pattern {q} {a} {b} {c} {d}) n = has_pattern {q = q} (Length a) (Length b) (Length c) (Length d)
+first_test_again E T t small.is_balanced n = of_hand is_balanced by_word
+first_test_again E T t (small.has_shape {a} {b} {c} {d}) n = of_hand (has_shape (Length a) (Length b) (Length c) (Length d)) by_word
+first_test_again E T t (small.has_pattern {a} {b} {c} {d}) n = of_hand (has_pattern (Length a) (Length b) (Length c) (Length d)) by_word
 
 pub same_in_first_words : (T : List Token) (t : Form) → ((c : Token) → Contains T c → IsFirst c) → Spells T t ↔ SpellsInFirstWords T t
 same_in_first_words T t n = (
-  λ h. turn_cond IsLater (Unit {0}) ⊥ (λ k b w. b (λ i. i)) SpellsTest (FirstTests (ValueOf SpellsFirstAtom)) first_test h (λ c b i. b (n c i)),
-  λ h. turn_cond IsNone ⊥ (Unit {0}) (λ k b w. tt) (FirstTests (ValueOf SpellsFirstAtom)) SpellsTest first_test_again h (λ c b. absurd b),
+  λ h. turn_cond IsLater everything no_additions leaves_later SpellsTest (FirstTests (ValueOf SpellsFirstAtom)) first_test h (λ c b i. b (n c i)),
+  λ h. turn_cond IsNone no_additions everything (λ c a e b w. tt) (FirstTests (ValueOf SpellsFirstAtom)) SpellsTest first_test_again h (λ c b. absurd b),
 )
 
 -- ---- in the first grammar
@@ -260,17 +353,17 @@ turn_first_test B V W f E T t small.has_pattern n = small.has_pattern
 
 first_words_again : {T : List Token} {t : Form} → SpellsInFirstGrammar T t → SpellsInFirstWords T t
 first_words_again h =
-    turn_cond IsNone ⊥ ⊥ (λ k b w. w) (FirstTests SpellsFirstAtom) (FirstTests (ValueOf SpellsFirstAtom))
+    turn_cond IsNone no_additions no_additions (keeps_words IsNone no_additions) (FirstTests SpellsFirstAtom) (FirstTests (ValueOf SpellsFirstAtom))
     (turn_first_test IsNone SpellsFirstAtom (ValueOf SpellsFirstAtom) (λ T a v n. atom v)) h (λ c b. absurd b)
 
 -- What the first grammar spells, the whole grammar spells too.
 pub spelled_again : {T : List Token} {t : Form} → SpellsInFirstGrammar T t → Spells T t
 spelled_again h =
-    turn_cond IsNone ⊥ (Unit {0}) (λ k b w. tt) (FirstTests (ValueOf SpellsFirstAtom)) SpellsTest first_test_again (first_words_again h) (λ c b. absurd b)
+    turn_cond IsNone no_additions everything (λ c a e b w. tt) (FirstTests (ValueOf SpellsFirstAtom)) SpellsTest first_test_again (first_words_again h) (λ c b. absurd b)
 
 pub same_in_first_grammar : (T : List Token) (t : Form) → ((c : Token) → Contains T c → IsOldest c) → Spells T t ↔ SpellsInFirstGrammar T t
 same_in_first_grammar T t n = (
-  λ h. turn_cond IsPlus ⊥ ⊥ (λ k b w. w) (FirstTests (ValueOf SpellsFirstAtom)) (FirstTests SpellsFirstAtom)
+  λ h. turn_cond IsPlus no_additions no_additions (keeps_words IsPlus no_additions) (FirstTests (ValueOf SpellsFirstAtom)) (FirstTests SpellsFirstAtom)
       (turn_first_test IsPlus (ValueOf SpellsFirstAtom) SpellsFirstAtom (one_atom SpellsFirstAtom))
       ((same_in_first_words T t (λ c i. oldest_first c (n c i))).0 h) (λ c e i. no_plus (subst IsOldest e (n c i))),
   spelled_again,

@@ -6,14 +6,15 @@ use Rattle.conditions.specs.declared.tree.Item.{Item}
 use Rattle.conditions.specs.declared.tree.Item.TheVariants.{Length, Any}
 use Rattle.conditions.specs.declared.tree.Op.{Op}
 use Rattle.cond_lang.specs.declared.classes.Bound.{Bound}
+use Rattle.cond_lang.specs.declared.classes.Choice.{Choice}
 use Rattle.cond_lang.specs.declared.classes.Class.{Class as AClass}
 use Rattle.cond_lang.specs.declared.classes.Quantifier.{Quantifier as AQuantifier}
 use Rattle.cond_lang.specs.declared.scanner.Token.{Token}
-use Rattle.cond_lang.specs.declared.scanner.Token.TheVariants.{Or, And, Not, Balanced, Shape, Pattern, Quantifier, Stops, In, Dash, Number, Seat, Class, Open, Close, Comma, Plus, Relation}
-use Rattle.conditions.specs.Form.{Amount, sum, Form, any_of, all_of, negation, compare, within, shaped, patterned, stops}
-use Rattle.cond_lang.specs.Classes.{unbound, bind, can_bind, Names, by_suit, by_class}
-use Rattle.cond_lang.specs.Grammar.{SpellsAtom, SpellsValue, atom, plus, a_number, measure, measure_in, len, cards, cards_in, longest_suit, second_suit, shortest_suit, item_token, four, SpellsCond, both, or, SpellsBoth, unit, and, SpellsUnit, not, brackets, quantified, SpellsEach, none, one_more, test, comparison, in_range, is_balanced, has_shape, has_pattern, has_stopper, Spells}
-use Rattle.cond_lang.specs.internal.Reading.{got, stuck, after, front, class_suit, suit, closing, item, items, seat_and_items, seat_and_suit, atom_of, related_by, comparing_by, a_value, sums, a_cond, a_both, a_unit, ors, ands, bracketed_by, unit_by, class, reading}
+use Rattle.cond_lang.specs.declared.scanner.Token.TheVariants.{Or, And, Not, Quantifier, In, Dash, Number, Class, Open, Close, Plus, Relation}
+use Rattle.conditions.specs.Form.{Amount, sum, Form, any_of, all_of, negation, compare, within, shaped, patterned}
+use Rattle.cond_lang.specs.Classes.{unbound, bind, can_bind, Names, by_suit, by_class, seat_beside}
+use Rattle.cond_lang.specs.Grammar.{SpellsSeat, by_word, by_bound, beside, SpellsCount, SpellsHandTest, SpellsAtom, SpellsValue, atom, plus, a_number, count, measure, measure_in, len, cards, cards_in, longest_suit, second_suit, shortest_suit, item_token, four, SpellsCond, both, or, SpellsBoth, unit, and, SpellsUnit, not, brackets, quantified, SpellsEach, none, one_more, test, comparison, in_range, of_hand, is_balanced, has_shape, has_pattern, has_stopper, Spells}
+use Rattle.cond_lang.specs.internal.Reading.{got, stuck, after, front, class_seat, seat, class_suit, suit, closing, item, items, seat_and_items, atom_of, related_by, comparing_by, a_value, sums, a_cond, a_both, a_unit, ors, ands, bracketed_by, unit_by, class, reading}
 use Rattle.cond_lang.proofs.Scopes.{bindable_quantifies}
 use Rattle.cond_lang.proofs.Members.{ReadsEach, each_got}
 use Rattle.cond_lang.proofs.Enough.{reads}
@@ -23,18 +24,33 @@ named_reads : {E : Bound} {c : Token} {s : ASuit} → Names E c s → (B : List 
 named_reads by_suit B = refl
 named_reads (by_class {c} {s} e) B = ap (λ o. class_suit o c B) e
 
+-- tokens that name a seat are read as the seat
+seat_reads : {E : Bound} {Q : List Token} {q : ASeat} → SpellsSeat E Q q → (B : List Token) → seat E (Q ++ B) ≡ got q B
+seat_reads by_word B = refl
+seat_reads (by_bound {c} w e) B = ap (λ o. class_seat o c B) e
+seat_reads {E} (beside {n} {Q} {q} w h) B =
+    ap (λ L. after (seat E L) (λ q R. closing (seat_beside n q) R)) (append_assoc Q (Close ∷ []) B)
+    ∙ ap (λ o. after o (λ q R. closing (seat_beside n q) R)) (seat_reads h (Close ∷ B))
+
+count_reads :
+    {E : Bound} {c : Token} {R : List Token} {f : ASeat → Amount} → SpellsCount E c R f → (Q : List Token) (q : ASeat) (B : List Token)
+    → seat E (Q ++ (R ++ B)) ≡ got q (R ++ B) → atom_of E (c ∷ Open ∷ (Q ++ (R ++ B))) ≡ got (f q) B
+unfolding atom_of
+count_reads measure Q q B h = rw h refl
+count_reads (measure_in i) Q q B h = rw (h, named_reads i (Close ∷ B)) refl
+count_reads (len i) Q q B h = rw (h, named_reads i (Close ∷ B)) refl
+count_reads cards Q q B h = rw h refl
+count_reads (cards_in by_suit) Q q B h = rw h refl
+count_reads (cards_in (by_class e)) Q q B h = rw (h, e) refl
+count_reads longest_suit Q q B h = rw h refl
+count_reads (second_suit w) Q q B h = rw h refl
+count_reads shortest_suit Q q B h = rw h refl
+
 atom_reads : {E : Bound} {A : List Token} {a : Amount} → SpellsAtom E A a → (B : List Token) → atom_of E (A ++ B) ≡ got a B
 unfolding atom_of
 atom_reads a_number B = refl
-atom_reads measure B = refl
-atom_reads (measure_in i) B = rw (named_reads i (Close ∷ B)) refl
-atom_reads (len i) B = rw (named_reads i (Close ∷ B)) refl
-atom_reads cards B = refl
-atom_reads (cards_in by_suit) B = refl
-atom_reads {E} (cards_in {h} (by_class {c} e)) B = rw e refl
-atom_reads longest_suit B = refl
-atom_reads (second_suit w) B = refl
-atom_reads shortest_suit B = refl
+atom_reads {E} (count {c} {Q} {R} {q} k h) B =
+    ap (λ L. atom_of E (c ∷ Open ∷ L)) (append_assoc Q R B) ∙ count_reads k Q q B (seat_reads h (R ++ B))
 
 pub value_reads : {E : Bound} {A : List Token} {a : Amount} → SpellsValue E A a → (B : List Token) → reading E a_value (A ++ B) ≡ reading E (sums a) B
 value_reads {E} (atom {T} {a} h) B = reads E a_value (T ++ B) ∙ ap (λ o. after o (λ a R. reading E (sums a) R)) (atom_reads h B)
@@ -67,16 +83,19 @@ ranges {E} {L} {a} m n l B =
     ap (λ v. after v (λ a S. related_by reading E a S))
     (value_reads l (In ∷ Number m ∷ Dash ∷ Number n ∷ B) ∙ sums_stop E a (In ∷ Number m ∷ Dash ∷ Number n ∷ B) (λ e. cc))
 
+count_compares : {E : Bound} {c : Token} {R : List Token} {f : ASeat → Amount} → SpellsCount E c R f → (X : List Token) → unit_by reading E (c ∷ X) ≡ comparing_by reading E (c ∷ X)
+count_compares measure X = refl
+count_compares (measure_in i) X = refl
+count_compares (len i) X = refl
+count_compares cards X = refl
+count_compares (cards_in i) X = refl
+count_compares longest_suit X = refl
+count_compares (second_suit w) X = refl
+count_compares shortest_suit X = refl
+
 atom_compares : {E : Bound} {L : List Token} {a : Amount} → SpellsAtom E L a → (X : List Token) → unit_by reading E (L ++ X) ≡ comparing_by reading E (L ++ X)
 atom_compares a_number X = refl
-atom_compares measure X = refl
-atom_compares (measure_in i) X = refl
-atom_compares (len i) X = refl
-atom_compares cards X = refl
-atom_compares (cards_in i) X = refl
-atom_compares longest_suit X = refl
-atom_compares (second_suit w) X = refl
-atom_compares shortest_suit X = refl
+atom_compares (count {Q} {R} k h) X = count_compares k (Open ∷ ((Q ++ R) ++ X))
 
 pub unit_compares : {E : Bound} {L : List Token} {a : Amount} → SpellsValue E L a → (X : List Token) → unit_by reading E (L ++ X) ≡ comparing_by reading E (L ++ X)
 unit_compares (atom h) X = atom_compares h X
@@ -86,19 +105,27 @@ item_reads : (i : Item) (B : List Token) → item (item_token i ∷ B) ≡ got i
 item_reads (Length n) B = refl
 item_reads Any B = refl
 
-four_reads : (q : ASeat) (a b c d : Item) (B : List Token) → seat_and_items (four q a b c d ++ B) ≡ got (q, (a ∷ b ∷ c ∷ d ∷ [])) B
+four_reads :
+    (E : Bound) (Q : List Token) (q : ASeat) (a b c d : Item) (B : List Token) → seat E (Q ++ (four a b c d ++ B)) ≡ got q (four a b c d ++ B)
+    → seat_and_items E (Open ∷ (Q ++ (four a b c d ++ B))) ≡ got (q, (a ∷ b ∷ c ∷ d ∷ [])) B
 unfolding seat_and_items items
-four_reads q a b c d B =
+four_reads E Q q a b c d B h =
     rw (
+      h,
       item_reads a (Dash ∷ item_token b ∷ Dash ∷ item_token c ∷ Dash ∷ item_token d ∷ Close ∷ B),
       item_reads b (Dash ∷ item_token c ∷ Dash ∷ item_token d ∷ Close ∷ B),
       item_reads c (Dash ∷ item_token d ∷ Close ∷ B),
       item_reads d (Close ∷ B),
     ) refl
 
-seat_and_suit_reads : {E : Bound} {c : Token} {s : ASuit} → Names E c s → (q : ASeat) (B : List Token) → seat_and_suit E (Open ∷ Seat q ∷ Comma ∷ c ∷ Close ∷ B) ≡ got (q, s) B
-seat_and_suit_reads by_suit q B = refl
-seat_and_suit_reads (by_class e) q B = rw e refl
+-- a test of a hand, after its seat is read
+hand_reads :
+    {E : Bound} {c : Token} {R : List Token} {f : ASeat → Form} → SpellsHandTest E c R f → (Q : List Token) (q : ASeat) (B : List Token)
+    → seat E (Q ++ (R ++ B)) ≡ got q (R ++ B) → unit_by reading E (c ∷ Open ∷ (Q ++ (R ++ B))) ≡ got (f q) B
+hand_reads is_balanced Q q B h = rw h refl
+hand_reads {E} (has_shape a b c d) Q q B h = ap (λ o. after o (λ p R. got (shaped p.0 p.1) R)) (four_reads E Q q a b c d B h)
+hand_reads {E} (has_pattern a b c d) Q q B h = ap (λ o. after o (λ p R. got (patterned p.0 p.1) R)) (four_reads E Q q a b c d B h)
+hand_reads (has_stopper w i) Q q B h = rw (h, named_reads i (Close ∷ B)) refl
 
 class_reads : (E : Bound) (c : AClass) (S : List Token) → can_bind E c ≡ true → class E (Class c ∷ S) ≡ got c S
 class_reads E c S b = ap (λ b. cond b (got c S) (stuck (Class c ∷ S))) b
@@ -132,12 +159,10 @@ mutual
       ∙ reads E a_unit (L ++ (Relation o ∷ (R ++ B)))
       ∙ unit_compares l (Relation o ∷ (R ++ B))
       ∙ compares o l r B n
-  spelled_unit {E} (test (is_balanced {q})) B n = reads E a_unit (Balanced ∷ Open ∷ Seat q ∷ Close ∷ B)
-  spelled_unit {E} (test (has_shape {q} a b c d)) B n = reads E a_unit (Shape ∷ four q a b c d ++ B) ∙ ap (λ o. after o (λ p R. got (shaped p.0 p.1) R)) (four_reads q a b c d B)
-  spelled_unit {E} (test (has_pattern {q} a b c d)) B n = reads E a_unit (Pattern ∷ four q a b c d ++ B) ∙ ap (λ o. after o (λ p R. got (patterned p.0 p.1) R)) (four_reads q a b c d B)
-  spelled_unit {E} (test (has_stopper {q} {c} {s} w i)) B n =
-      reads E a_unit (Stops ∷ Open ∷ Seat q ∷ Comma ∷ c ∷ Close ∷ B)
-      ∙ ap (λ o. after o (λ p R. got (stops p.0 p.1) R)) (seat_and_suit_reads i q B)
+  spelled_unit {E} (test (of_hand {c} {Q} {R} {q} k h)) B n =
+      ap (λ L. reading E a_unit (c ∷ Open ∷ L)) (append_assoc Q R B)
+      ∙ reads E a_unit (c ∷ Open ∷ (Q ++ (R ++ B)))
+      ∙ hand_reads k Q q B (seat_reads h (R ++ B))
 
   pub spelled_both : {E : Bound} {A : List Token} {t : Form} → SpellsBoth E A t → (B : List Token) → front B ≢ Some Plus → reading E a_both (A ++ B) ≡ reading E (ands t) B
   spelled_both {E} (unit {T} {t} h) B n = reads E a_both (T ++ B) ∙ ap (λ o. after o (λ a R. reading E (ands a) R)) (spelled_unit h B n)
@@ -156,7 +181,7 @@ mutual
       ∙ reads E (ors a) (Or ∷ (R ++ B))
       ∙ ap (λ o. after o (λ b R. reading E (ors (any_of a b)) R)) (spelled_both r B m ∙ ands_stop E b B n)
 
-  spelled_each : {E : Bound} {c : AClass} {ss : List ASuit} {T : List Token} {ts : List Form} → SpellsEach E c ss T ts → (B : List Token) → ReadsEach reading E c (T ++ Close ∷ B) (Close ∷ B) ss ts
+  spelled_each : {E : Bound} {c : AClass} {ss : List Choice} {T : List Token} {ts : List Form} → SpellsEach E c ss T ts → (B : List Token) → ReadsEach reading E c (T ++ Close ∷ B) (Close ∷ B) ss ts
   spelled_each none B = tt
   spelled_each {E} {c} (one_more {s} {t} h hs) B =
       (spelled_cond h (Close ∷ B) (λ e. cc) (λ e. cc) ∙ reads (bind E c s) (ors t) (Close ∷ B), spelled_each hs B)

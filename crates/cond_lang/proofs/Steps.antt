@@ -2,21 +2,20 @@
 use Rattle.std.proofs.Common.{◌≡◌, ℕ, zero, suc, Bool, true, false, cond, List, [], ◌∷◌, ◌++◌, refl, sym, ap, subst, append_assoc, append-nil}
 use Rattle.cards.specs.declared.seat.Seat.{Seat as ASeat}
 use Rattle.cards.specs.declared.suit.Suit.{Suit as ASuit}
-use Rattle.cards.specs.declared.suit.Suit.TheVariants.{Spades}
 use Rattle.conditions.specs.declared.tree.Item.{Item}
 use Rattle.conditions.specs.declared.tree.Op.TheVariants.{Equal}
 use Rattle.cond_lang.specs.declared.classes.Bound.{Bound}
 use Rattle.cond_lang.specs.declared.classes.Class.{Class as AClass}
 use Rattle.cond_lang.specs.declared.classes.Quantifier.{Quantifier as AQuantifier}
 use Rattle.cond_lang.specs.declared.scanner.Token.{Token}
-use Rattle.cond_lang.specs.declared.scanner.Token.TheVariants.{Or, And, Not, Balanced, Shape, Pattern, Quantifier, Stops, In, Seat, Class, Number, Dash, Open, Close, Plus, Relation}
+use Rattle.cond_lang.specs.declared.scanner.Token.TheVariants.{Or, And, Not, Balanced, Shape, Pattern, Quantifier, Stops, In, Class, Number, Dash, Open, Close, Plus, Relation}
 use Rattle.conditions.specs.Form.{Amount, sum, number, Form, any_of, all_of, negation, compare, within, balanced, shaped, patterned, stops}
 use Rattle.cond_lang.specs.Classes.{bind, can_bind}
-use Rattle.cond_lang.specs.Grammar.{SpellsAtom, SpellsValue, atom, plus, a_number, SpellsCond, both, or, SpellsBoth, unit, and, SpellsUnit, not, brackets, quantified, test, comparison, in_range, is_balanced, has_shape, has_pattern, has_stopper}
+use Rattle.cond_lang.specs.Grammar.{SpellsAtom, SpellsValue, atom, plus, a_number, SpellsCond, both, or, SpellsBoth, unit, and, SpellsUnit, not, brackets, quantified, test, comparison, in_range, of_hand, is_balanced, has_shape, has_pattern, has_stopper}
 use Rattle.cond_lang.specs.internal.Reading.{got, stuck, after, opened, closing, can_quantify, class, open_seat, seat_and_items, seat_and_suit, relation, range, atom_of, compared_by, related_by, comparing_by, sums_by, a_value, sums, Of, Readers, Goal, a_cond, a_both, a_unit, ors, ands, bracketed_by, unit_by, ors_by, ands_by, step, steps}
-use Rattle.cond_lang.proofs.Scopes.{SameScope, some_bindable}
+use Rattle.cond_lang.proofs.Scopes.{SameScope, first, some_bindable}
 use Rattle.cond_lang.proofs.Sequences.{Reads, HasSome, reads_after, reads_token, gets_at, gets_at_end, stops_at, reads_like, like_at, like_at_end}
-use Rattle.cond_lang.proofs.Terminals.{gets, reads_then, reads_closing, reads_opened, reads_open_seat, AreSeatAndItems, reads_seat_and_items, AreSeatAndSuit, reads_seat_and_suit, IsBindable, reads_class, reads_relation, reads_range, reads_atom}
+use Rattle.cond_lang.proofs.Terminals.{gets, reads_then, reads_closing, reads_opened, reads_behind_seat, AreSeatAndItems, reads_seat_and_items, AreSeatAndSuit, reads_seat_and_suit, IsBindable, reads_class, reads_relation, reads_range, reads_atom}
 use Rattle.cond_lang.proofs.Shapes.{shape, conds_alike}
 use Rattle.cond_lang.proofs.Quantified.{AreEach, each_spelled, each_reader, reads_each}
 
@@ -58,14 +57,14 @@ has_some E (ands a) = ([], a, ends_both E a)
 has_some E a_value = (Number 0 ∷ [], number 0, atom a_number)
 has_some E (sums a) = ([], a, ends_value E a)
 
-joined_shape : (E : Bound) (P Q : List Token) (p : ASeat × List Item) (t : Form) → AreSeatAndItems P p → (Q ≡ []) × (t ≡ shaped p.0 p.1) → SpellsUnit E (Shape ∷ P ++ Q) t
-joined_shape E P Q p t (a, b, c, d, e, i) m = rw (m.0, m.1, append-nil P, i, e) (test (has_shape a b c d))
+joined_shape : (E : Bound) (P Q : List Token) (p : ASeat × List Item) (t : Form) → AreSeatAndItems E P p → (Q ≡ []) × (t ≡ shaped p.0 p.1) → SpellsUnit E (Shape ∷ P ++ Q) t
+joined_shape E P Q p t (a, b, c, d, e, L, h, i) m = rw (m.0, m.1, append-nil P, i, e) (test (of_hand (has_shape a b c d) h))
 
-joined_pattern : (E : Bound) (P Q : List Token) (p : ASeat × List Item) (t : Form) → AreSeatAndItems P p → (Q ≡ []) × (t ≡ patterned p.0 p.1) → SpellsUnit E (Pattern ∷ P ++ Q) t
-joined_pattern E P Q p t (a, b, c, d, e, i) m = rw (m.0, m.1, append-nil P, i, e) (test (has_pattern a b c d))
+joined_pattern : (E : Bound) (P Q : List Token) (p : ASeat × List Item) (t : Form) → AreSeatAndItems E P p → (Q ≡ []) × (t ≡ patterned p.0 p.1) → SpellsUnit E (Pattern ∷ P ++ Q) t
+joined_pattern E P Q p t (a, b, c, d, e, L, h, i) m = rw (m.0, m.1, append-nil P, i, e) (test (of_hand (has_pattern a b c d) h))
 
 joined_stops : (E : Bound) (P Q : List Token) (p : ASeat × ASuit) (t : Form) → AreSeatAndSuit E P p → (Q ≡ []) × (t ≡ stops p.0 p.1) → SpellsUnit E (Stops ∷ P ++ Q) t
-joined_stops E P Q p t h m = rw (m.0, m.1, h.2) (test (has_stopper tt h.1))
+joined_stops E P Q p t h m = rw (m.0, m.1, append-nil P, h.4) (test (of_hand (has_stopper tt h.3) h.1))
 
 -- what a value is compared with: tokens after those that spell it
 abbrev Relates : Bound → Amount → List Token → Form → Type 0
@@ -117,7 +116,7 @@ module _ (r : Readers) (k : (E : Bound) (g : Goal) (S : List Token) → Reads (M
 
   brackets_read : (j : AQuantifier) (c : AClass) (S : List Token) → Reads (Brackets j c) (bracketed_by r E j c) S (bracketed_by r E j c S)
   brackets_read j c S =
-      let some = each_spelled E j c Spades sample sampled (both (unit (sample_unit (bind E c Spades)))) in
+      let some = each_spelled E j c first sample sampled (both (unit (sample_unit (bind E c first)))) in
       reads_then (λ _. Open ∷ []) (Brackets j c) opened (λ _ S. after (each_reader r E j c S) closing) S (opened S)
       (λ _. (sample ++ Close ∷ [], some.0, joined_each j c sample (Close ∷ []) some.0 some.0 some.1 (refl, refl))) (reads_opened S)
       (λ _ S. reads_after (AreEach E j c) (λ t Q u. (Q ≡ Close ∷ []) × (u ≡ t)) (λ Q. Brackets j c (Open ∷ Q)) (each_reader r E j c) closing S (each_reader r E j c S)
@@ -133,7 +132,7 @@ module _ (r : Readers) (k : (E : Bound) (g : Goal) (S : List Token) → Reads (M
       reads_after (IsBindable E) (Brackets j) (Quantifies j) (class E) (bracketed_by r E j) S (class E S)
       (λ P Q c t h m. subst (λ P. SpellsUnit E (Quantifier j ∷ P ++ Q) t) (sym h.0) (m h.1))
       (λ c.
-      let some = each_spelled E j c Spades sample sampled (both (unit (sample_unit (bind E c Spades)))) in
+      let some = each_spelled E j c first sample sampled (both (unit (sample_unit (bind E c first)))) in
       (Open ∷ sample ++ Close ∷ [], some.0, joined_each j c sample (Close ∷ []) some.0 some.0 some.1 (refl, refl)))
       (reads_class E (some_bindable E e) S) (λ c R. brackets_read j c R)
 
@@ -157,17 +156,17 @@ module _ (r : Readers) (k : (E : Bound) (g : Goal) (S : List Token) → Reads (M
       (reads_after (SpellsCond E) (λ a P t. (P ≡ Close ∷ []) × (t ≡ a)) (λ P. SpellsUnit E (Open ∷ P)) (r E a_cond) closing S (r E a_cond S)
       (λ P Q a t h m. rw (m.0, m.1) (brackets h)) (λ a. (Close ∷ [], a, (refl, refl))) (k E a_cond S) (λ a R. reads_closing _ a R (refl, refl)))
   unit_reads (Balanced ∷ S) =
-      reads_token (λ P. SpellsUnit E (Balanced ∷ P)) (SpellsUnit E) Balanced (λ S. after (open_seat S) (λ q R. closing (balanced q) R)) (unit_by r E) S _ (λ P x m. m) (λ X. refl)
-      (reads_then (λ q. Open ∷ Seat q ∷ []) (λ P. SpellsUnit E (Balanced ∷ P)) open_seat (λ q R. closing (balanced q) R) S (open_seat S)
-      (λ q. (Close ∷ [], balanced q, test is_balanced)) (reads_open_seat S) (λ q R. reads_closing _ (balanced q) R (test is_balanced)))
+      reads_token (λ P. SpellsUnit E (Balanced ∷ P)) (SpellsUnit E) Balanced (λ S. after (open_seat E S) (λ q R. closing (balanced q) R)) (unit_by r E) S _ (λ P x m. m) (λ X. refl)
+      (reads_behind_seat E (λ P. SpellsUnit E (Balanced ∷ P)) (λ q R. closing (balanced q) R) S
+      (λ q. (Close ∷ [], balanced q, λ L h. test (of_hand is_balanced h))) (λ q R. reads_closing _ (balanced q) R (λ L h. test (of_hand is_balanced h))))
   unit_reads (Shape ∷ S) =
-      reads_token (λ P. SpellsUnit E (Shape ∷ P)) (SpellsUnit E) Shape (λ S. after (seat_and_items S) (λ p R. got (shaped p.0 p.1) R)) (unit_by r E) S _ (λ P x m. m) (λ X. refl)
-      (reads_after AreSeatAndItems (λ p Q t. (Q ≡ []) × (t ≡ shaped p.0 p.1)) (λ P. SpellsUnit E (Shape ∷ P)) seat_and_items (λ p R. got (shaped p.0 p.1) R) S (seat_and_items S)
-      (joined_shape E) (λ p. ([], shaped p.0 p.1, (refl, refl))) (reads_seat_and_items S) (λ p R. gets _ (shaped p.0 p.1) R (refl, refl)))
+      reads_token (λ P. SpellsUnit E (Shape ∷ P)) (SpellsUnit E) Shape (λ S. after (seat_and_items E S) (λ p R. got (shaped p.0 p.1) R)) (unit_by r E) S _ (λ P x m. m) (λ X. refl)
+      (reads_after (AreSeatAndItems E) (λ p Q t. (Q ≡ []) × (t ≡ shaped p.0 p.1)) (λ P. SpellsUnit E (Shape ∷ P)) (seat_and_items E) (λ p R. got (shaped p.0 p.1) R) S (seat_and_items E S)
+      (joined_shape E) (λ p. ([], shaped p.0 p.1, (refl, refl))) (reads_seat_and_items E S) (λ p R. gets _ (shaped p.0 p.1) R (refl, refl)))
   unit_reads (Pattern ∷ S) =
-      reads_token (λ P. SpellsUnit E (Pattern ∷ P)) (SpellsUnit E) Pattern (λ S. after (seat_and_items S) (λ p R. got (patterned p.0 p.1) R)) (unit_by r E) S _ (λ P x m. m) (λ X. refl)
-      (reads_after AreSeatAndItems (λ p Q t. (Q ≡ []) × (t ≡ patterned p.0 p.1)) (λ P. SpellsUnit E (Pattern ∷ P)) seat_and_items (λ p R. got (patterned p.0 p.1) R) S (seat_and_items S)
-      (joined_pattern E) (λ p. ([], patterned p.0 p.1, (refl, refl))) (reads_seat_and_items S) (λ p R. gets _ (patterned p.0 p.1) R (refl, refl)))
+      reads_token (λ P. SpellsUnit E (Pattern ∷ P)) (SpellsUnit E) Pattern (λ S. after (seat_and_items E S) (λ p R. got (patterned p.0 p.1) R)) (unit_by r E) S _ (λ P x m. m) (λ X. refl)
+      (reads_after (AreSeatAndItems E) (λ p Q t. (Q ≡ []) × (t ≡ patterned p.0 p.1)) (λ P. SpellsUnit E (Pattern ∷ P)) (seat_and_items E) (λ p R. got (patterned p.0 p.1) R) S (seat_and_items E S)
+      (joined_pattern E) (λ p. ([], patterned p.0 p.1, (refl, refl))) (reads_seat_and_items E S) (λ p R. gets _ (patterned p.0 p.1) R (refl, refl)))
   unit_reads (Quantifier j ∷ S) = quantified_reads j S (can_quantify E) refl
   unit_reads (Stops ∷ S) =
       reads_token (λ P. SpellsUnit E (Stops ∷ P)) (SpellsUnit E) Stops (λ S. after (seat_and_suit E S) (λ p R. got (stops p.0 p.1) R)) (unit_by r E) S _ (λ P x m. m) (λ X. refl)

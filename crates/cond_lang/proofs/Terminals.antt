@@ -1,5 +1,5 @@
 -- The readers that don't lead back to a condition.
-use Rattle.std.proofs.Common.{◌≡◌, Bool, true, false, cond, List, [], ◌∷◌, ◌++◌, Option, Some, None, refl, sym, ap, ◌∙◌, subst}
+use Rattle.std.proofs.Common.{◌≡◌, Bool, true, false, cond, List, [], ◌∷◌, ◌++◌, Option, Some, None, refl, sym, ap, ◌∙◌, subst, append_assoc, append-nil}
 use Rattle.cards.specs.declared.honours.Honours.{Honours}
 use Rattle.cards.specs.declared.hand.Measure.{Measure as AMeasure}
 use Rattle.cards.specs.declared.seat.Seat.{Seat as ASeat}
@@ -8,15 +8,16 @@ use Rattle.cards.specs.declared.suit.Suit.{Suit as ASuit}
 use Rattle.cards.specs.declared.suit.Suit.TheVariants.{Spades}
 use Rattle.cond_lang.specs.declared.classes.Bound.{Bound}
 use Rattle.cond_lang.specs.declared.classes.Class.{Class as AClass}
+use Rattle.cond_lang.specs.declared.classes.Neighbour.{Neighbour as ANeighbour}
 use Rattle.conditions.specs.declared.tree.Item.{Item}
 use Rattle.conditions.specs.declared.tree.Item.TheVariants.{Length, Any}
 use Rattle.conditions.specs.declared.tree.Op.TheVariants.{Equal}
 use Rattle.cond_lang.specs.declared.scanner.Token.{Token}
-use Rattle.cond_lang.specs.declared.scanner.Token.TheVariants.{Measure, Cards, Len, Longest, Second, Shortest, X, Seat, Suit, Class, Ranks, Number, Open, Close, Comma, Dash, Relation}
+use Rattle.cond_lang.specs.declared.scanner.Token.TheVariants.{Measure, Cards, Len, Longest, Second, Shortest, X, Seat, Suit, Class, Neighbour, Ranks, Number, Open, Close, Comma, Dash, Relation}
 use Rattle.conditions.specs.Form.{Amount, number, measured, suit_measured, cards_held, suit_cards_held, suit_length, longest, second, shortest}
-use Rattle.cond_lang.specs.Classes.{bound_to, can_bind, Names, by_suit, by_class}
-use Rattle.cond_lang.specs.Grammar.{SpellsAtom, a_number, measure, measure_in, len, cards, cards_in, longest_suit, second_suit, shortest_suit, item_token, four}
-use Rattle.cond_lang.specs.internal.Reading.{Outcome, got, stuck, Reader, after, opened, closed, comma, dash, seat, suit, class_suit, class, digits, ranks, item, relation, closing, comma_suit_close, rest_of_measure, ranks_close, comma_ranks_close, suit_and_ranks, rest_of_cards, open_seat, seat_in_brackets, seat_and_suit, open_seat_comma, range, atom_of, items, seat_and_items}
+use Rattle.cond_lang.specs.Classes.{bound_to, seat_bound_to, can_bind, Names, by_suit, by_class, seat_beside}
+use Rattle.cond_lang.specs.Grammar.{SpellsSeat, by_word, by_bound, beside, SpellsAtom, a_number, count, measure, measure_in, len, cards, cards_in, longest_suit, second_suit, shortest_suit, item_token, four}
+use Rattle.cond_lang.specs.internal.Reading.{Outcome, got, stuck, Reader, after, opened, closed, comma, dash, seat, class_seat, suit, class_suit, class, digits, ranks, item, relation, closing, comma_suit_close, rest_of_measure, ranks_close, comma_ranks_close, suit_and_ranks, rest_of_cards, open_seat, seat_in_brackets, seat_and_suit, open_seat_comma, range, atom_of, items, seat_and_items}
 use Rattle.cond_lang.proofs.Sequences.{Reads, HasSome, reads_after, reads_as, reads_token, reads_like, like_at, like_at_end, gets_token, stops_at, stops_at_end}
 
 -- nothing more
@@ -52,11 +53,6 @@ pub reads_dash : (S : List Token) → Reads (λ P _. P ≡ Dash ∷ []) dash S (
 reads_dash [] = stops_at_end _ dash (Dash ∷ [], tt, refl) refl
 reads_dash (Dash ∷ S) = gets_token _ Dash dash S tt refl (λ X. refl)
 reads_dash (c ∷ S) = stops_at _ c dash S (Dash ∷ [], tt, refl) (λ X. refl)
-
-pub reads_seat : (S : List Token) → Reads (λ P q. P ≡ Seat q ∷ []) seat S (seat S)
-reads_seat [] = stops_at_end _ seat (Seat North ∷ [], North, refl) refl
-reads_seat (Seat q ∷ S) = gets_token _ (Seat q) seat S q refl (λ X. refl)
-reads_seat (c ∷ S) = stops_at _ c seat S (Seat North ∷ [], North, refl) (λ X. refl)
 
 -- one token that names the suit
 abbrev pub IsNamed : Bound → List Token → ASuit → Type 0
@@ -126,19 +122,82 @@ pub reads_closing : {A : Type 0} (K : List Token → A → Type 0) (x : A) (S : 
 reads_closing K x S m =
     reads_then (λ _. Close ∷ []) K closed (λ _ R. got x R) S (closed S) (λ _. ([], x, m)) (reads_closed S) (λ _ R. gets _ x R m)
 
-pub reads_open_seat : (S : List Token) → Reads (λ P q. P ≡ Open ∷ Seat q ∷ []) open_seat S (open_seat S)
-reads_open_seat S =
-    reads_then (λ _. Open ∷ []) (λ P q. P ≡ Open ∷ Seat q ∷ []) opened (λ _ R. seat R) S (opened S) (λ _. (Seat North ∷ [], North, refl)) (reads_opened S)
-    (λ _ R. reads_as (λ P q. P ≡ Seat q ∷ []) _ seat seat R (seat R) (λ P q e. ap (λ L. Open ∷ L) e) (λ X. refl) (reads_seat R))
+-- ---- seats
 
-pub reads_rest_of_measure : (E : Bound) (m : AMeasure) (q : ASeat) (S : List Token) → Reads (λ Q. SpellsAtom E (Measure m ∷ Open ∷ Seat q ∷ Q)) (rest_of_measure E m q) S (rest_of_measure E m q S)
-reads_rest_of_measure E m q [] = stops_at_end _ (rest_of_measure E m q) (Close ∷ [], measured m q, measure) refl
-reads_rest_of_measure E m q (Close ∷ S) = gets_token _ Close (rest_of_measure E m q) S (measured m q) measure (λ X. refl)
+some_seat : (E : Bound) → HasSome (SpellsSeat E)
+some_seat E = (Seat North ∷ [], North, by_word)
+
+reads_class_seat : (E : Bound) (c : AClass) (S : List Token) (o : Option ASeat) → seat_bound_to E c ≡ o → Reads (SpellsSeat E) (seat E) (Class c ∷ S) (class_seat o c S)
+reads_class_seat E c S None e = stops_at _ (Class c) (seat E) S (some_seat E) (λ X. ap (λ o. class_seat o c X) e)
+reads_class_seat E c S (Some q) e = gets_token _ (Class c) (seat E) S q (by_bound tt e) (λ X. ap (λ o. class_seat o c X) e)
+
+-- after a neighbour's word and its bracket
+abbrev IsBeside : Bound → ANeighbour → List Token → ASeat → Type 0
+IsBeside E n P r = SpellsSeat E (Neighbour n ∷ Open ∷ P) r
+
+joined_beside : (E : Bound) (n : ANeighbour) (P Q : List Token) (q r : ASeat) → SpellsSeat E P q → (Q ≡ Close ∷ []) × (r ≡ seat_beside n q) → IsBeside E n (P ++ Q) r
+joined_beside E n P Q q r h m = rw (m.0, m.1) (beside tt h)
+
+-- what stands after a neighbour's word, if it isn't a bracket
+some_beside : (E : Bound) (n : ANeighbour) → HasSome (λ P. SpellsSeat E (Neighbour n ∷ P))
+some_beside E n = (Open ∷ Seat North ∷ Close ∷ [], seat_beside n North, beside {Q = Seat North ∷ []} tt by_word)
+
+abbrev behind_neighbour : Bound → ANeighbour → Reader ASeat
+behind_neighbour E n S = seat E (Neighbour n ∷ S)
+
+reads_unopened :
+    (E : Bound) (n : ANeighbour) (S : List Token) → Reads (λ P. SpellsSeat E (Neighbour n ∷ P)) (behind_neighbour E n) S (stuck S)
+    → Reads (SpellsSeat E) (seat E) (Neighbour n ∷ S) (stuck S)
+reads_unopened E n S h = reads_token _ (SpellsSeat E) (Neighbour n) (behind_neighbour E n) (seat E) S _ (λ P x m. m) (λ X. refl) h
+
+pub reads_seat : (E : Bound) (S : List Token) → Reads (SpellsSeat E) (seat E) S (seat E S)
+reads_seat E [] = stops_at_end _ (seat E) (some_seat E) refl
+reads_seat E (Seat q ∷ S) = gets_token _ (Seat q) (seat E) S q by_word (λ X. refl)
+reads_seat E (Class c ∷ S) = reads_class_seat E c S (seat_bound_to E c) refl
+reads_seat E (Neighbour n ∷ Open ∷ S) =
+    reads_token (λ P. SpellsSeat E (Neighbour n ∷ P)) (SpellsSeat E) (Neighbour n) (behind_neighbour E n) (seat E) (Open ∷ S) _ (λ P x m. m) (λ X. refl)
+    (reads_token (IsBeside E n) _ Open (λ S. after (seat E S) (λ q R. closing (seat_beside n q) R)) (behind_neighbour E n) S _ (λ P x m. m) (λ X. refl)
+    (reads_after (SpellsSeat E) (λ q Q r. (Q ≡ Close ∷ []) × (r ≡ seat_beside n q)) (IsBeside E n) (seat E) (λ q R. closing (seat_beside n q) R) S (seat E S)
+    (joined_beside E n) (λ q. (Close ∷ [], seat_beside n q, (refl, refl))) (reads_seat E S) (λ q R. reads_closing _ (seat_beside n q) R (refl, refl))))
+reads_seat E (Neighbour n ∷ []) = reads_unopened E n [] (stops_at_end _ (behind_neighbour E n) (some_beside E n) refl)
+reads_seat E (Neighbour n ∷ c ∷ S) = reads_unopened E n (c ∷ S) (stops_at _ c (behind_neighbour E n) S (some_beside E n) (λ X. refl))
+reads_seat E (c ∷ S) = stops_at _ c (seat E) S (some_seat E) (λ X. refl)
+
+-- what K means after `( seat`, whatever tokens name the seat
+abbrev pub BehindSeat : {A : Type 0} → Bound → (List Token → A → Type 0) → ASeat → List Token → A → Type 0
+BehindSeat {A} E K q Q y = (L : List Token) → SpellsSeat E L q → K (Open ∷ L ++ Q) y
+
+-- `( seat`
+abbrev IsOpenSeat : Bound → List Token → ASeat → Type 0
+IsOpenSeat E P q = (L : List Token) × SpellsSeat E L q × (P ≡ Open ∷ L)
+
+reads_open_seat : (E : Bound) (S : List Token) → Reads (IsOpenSeat E) (open_seat E) S (open_seat E S)
+reads_open_seat E S =
+    reads_then (λ _. Open ∷ []) (IsOpenSeat E) opened (λ _ R. seat E R) S (opened S) (λ _. (Seat North ∷ [], North, (Seat North ∷ [], by_word, refl))) (reads_opened S)
+    (λ _ R. reads_as (SpellsSeat E) _ (seat E) (seat E) R (seat E R) (λ P q h. (P, h, refl)) (λ X. refl) (reads_seat E R))
+
+-- `( seat`, and then a reader
+pub reads_behind_seat :
+    {A : Type 0} (E : Bound) (K : List Token → A → Type 0) (f : ASeat → Reader A) (S : List Token)
+    → ((q : ASeat) → HasSome (BehindSeat E K q))
+    → ((q : ASeat) (R : List Token) → Reads (BehindSeat E K q) (f q) R (f q R))
+    → Reads K (λ S. after (open_seat E S) f) S (after (open_seat E S) f)
+reads_behind_seat E K f S some k =
+    reads_after (IsOpenSeat E) (BehindSeat E K) K (open_seat E) f S (open_seat E S)
+    (λ P Q q y h m. subst (λ P. K (P ++ Q) y) (sym h.2) (m h.0 h.1)) some (reads_open_seat E S) k
+
+-- an atom that begins with the word
+abbrev Counts : Bound → Token → ASeat → List Token → Amount → Type 0
+Counts E c q = BehindSeat E (λ Q. SpellsAtom E (c ∷ Q)) q
+
+pub reads_rest_of_measure : (E : Bound) (m : AMeasure) (q : ASeat) (S : List Token) → Reads (Counts E (Measure m) q) (rest_of_measure E m q) S (rest_of_measure E m q S)
+reads_rest_of_measure E m q [] = stops_at_end _ (rest_of_measure E m q) (Close ∷ [], measured m q, λ L h. count measure h) refl
+reads_rest_of_measure E m q (Close ∷ S) = gets_token _ Close (rest_of_measure E m q) S (measured m q) (λ L h. count measure h) (λ X. refl)
 reads_rest_of_measure E m q (Comma ∷ S) =
     reads_token _ _ Comma (λ S. after (suit E S) (λ s R. closing (suit_measured m q s) R)) (rest_of_measure E m q) S _ (λ P x h. h) (λ X. refl)
-    (reads_named E (λ Q. SpellsAtom E (Measure m ∷ Open ∷ Seat q ∷ Comma ∷ Q)) (λ s R. closing (suit_measured m q s) R) S
-    (λ s. (Close ∷ [], suit_measured m q s, λ c n. measure_in n)) (λ s R. reads_closing _ (suit_measured m q s) R (λ c n. measure_in n)))
-reads_rest_of_measure E m q (c ∷ S) = stops_at _ c (rest_of_measure E m q) S (Close ∷ [], measured m q, measure) (λ X. refl)
+    (reads_named E (λ Q. Counts E (Measure m) q (Comma ∷ Q)) (λ s R. closing (suit_measured m q s) R) S
+    (λ s. (Close ∷ [], suit_measured m q s, λ c n L h. count (measure_in n) h)) (λ s R. reads_closing _ (suit_measured m q s) R (λ c n L h. count (measure_in n) h)))
+reads_rest_of_measure E m q (c ∷ S) = stops_at _ c (rest_of_measure E m q) S (Close ∷ [], measured m q, λ L h. count measure h) (λ X. refl)
 
 -- , suit )
 abbrev pub IsNamedLast : Bound → List Token → ASuit → Type 0
@@ -153,29 +212,33 @@ reads_comma_suit_close E S =
 
 -- ( seat , suit )
 abbrev pub AreSeatAndSuit : Bound → List Token → ASeat × ASuit → Type 0
-AreSeatAndSuit E P p = (c : Token) × Names E c p.1 × (P ≡ Open ∷ Seat p.0 ∷ Comma ∷ c ∷ Close ∷ [])
+AreSeatAndSuit E P p = (L : List Token) × SpellsSeat E L p.0 × (c : Token) × Names E c p.1 × (P ≡ Open ∷ L ++ Comma ∷ c ∷ Close ∷ [])
+
+named_pair :
+    (E : Bound) (q : ASeat) (P Q : List Token) (s : ASuit) (p : ASeat × ASuit) → IsNamedLast E P s → (Q ≡ []) × (p ≡ (q, s))
+    → BehindSeat E (AreSeatAndSuit E) q (P ++ Q) p
+named_pair E q P Q s p h m = λ L l. rw (m.0, m.1, h.2) (L, l, h.0, h.1, refl)
 
 pub reads_seat_and_suit : (E : Bound) (S : List Token) → Reads (AreSeatAndSuit E) (seat_and_suit E) S (seat_and_suit E S)
 reads_seat_and_suit E S =
-    reads_then (λ q. Open ∷ Seat q ∷ []) (AreSeatAndSuit E) open_seat (λ q S. after (comma_suit_close E S) (λ s R. got (q, s) R)) S (open_seat S)
-    (λ q. (Comma ∷ Suit Spades ∷ Close ∷ [], (q, Spades), (Suit Spades, by_suit, refl))) (reads_open_seat S)
-    (λ q R. reads_after (IsNamedLast E) (λ s Q p. (Q ≡ []) × (p ≡ (q, s))) (λ P. AreSeatAndSuit E (Open ∷ Seat q ∷ P)) (comma_suit_close E) (λ s R. got (q, s) R) R (comma_suit_close E R)
-    (λ P Q s p h m. named_pair q P Q s p h m) (λ s. ([], (q, s), (refl, refl))) (reads_comma_suit_close E R) (λ s R. gets _ (q, s) R (refl, refl)))
-  where
-    named_pair : (q : ASeat) (P Q : List Token) (s : ASuit) (p : ASeat × ASuit) → IsNamedLast E P s → (Q ≡ []) × (p ≡ (q, s)) → AreSeatAndSuit E (Open ∷ Seat q ∷ P ++ Q) p
-    named_pair q P Q s p h m = rw (m.0, m.1, h.2) (h.0, h.1, refl)
+    reads_behind_seat E (AreSeatAndSuit E) (λ q S. after (comma_suit_close E S) (λ s R. got (q, s) R)) S
+    (λ q. (Comma ∷ Suit Spades ∷ Close ∷ [], (q, Spades), λ L h. (L, h, Suit Spades, by_suit, refl)))
+    (λ q R. reads_after (IsNamedLast E) (λ s Q p. (Q ≡ []) × (p ≡ (q, s))) (BehindSeat E (AreSeatAndSuit E) q) (comma_suit_close E) (λ s R. got (q, s) R) R (comma_suit_close E R)
+    (named_pair E q) (λ s. ([], (q, s), (refl, refl))) (reads_comma_suit_close E R) (λ s R. gets _ (q, s) R (refl, refl)))
 
-pub reads_seat_in_brackets : (S : List Token) → Reads (λ P q. P ≡ Open ∷ Seat q ∷ Close ∷ []) seat_in_brackets S (seat_in_brackets S)
-reads_seat_in_brackets S =
-    reads_then (λ q. Open ∷ Seat q ∷ []) (λ P q. P ≡ Open ∷ Seat q ∷ Close ∷ []) open_seat closing S (open_seat S)
-    (λ q. (Close ∷ [], q, refl)) (reads_open_seat S) (λ q R. reads_closing _ q R refl)
+-- ( seat and this token
+abbrev pub IsSeatAnd : Token → Bound → List Token → ASeat → Type 0
+IsSeatAnd c E P q = (L : List Token) × SpellsSeat E L q × (P ≡ Open ∷ L ++ c ∷ [])
 
-pub reads_open_seat_comma : (S : List Token) → Reads (λ P q. P ≡ Open ∷ Seat q ∷ Comma ∷ []) open_seat_comma S (open_seat_comma S)
-reads_open_seat_comma S =
-    reads_then (λ q. Open ∷ Seat q ∷ []) (λ P q. P ≡ Open ∷ Seat q ∷ Comma ∷ []) open_seat (λ q S. after (comma S) (λ _ R. got q R)) S (open_seat S)
-    (λ q. (Comma ∷ [], q, refl)) (reads_open_seat S)
-    (λ q R. reads_then (λ _. Comma ∷ []) (λ P p. Open ∷ Seat q ∷ P ≡ Open ∷ Seat p ∷ Comma ∷ []) comma (λ _ R. got q R) R (comma R)
-    (λ _. ([], q, refl)) (reads_comma R) (λ _ R. gets _ q R refl))
+pub reads_seat_in_brackets : (E : Bound) (S : List Token) → Reads (IsSeatAnd Close E) (seat_in_brackets E) S (seat_in_brackets E S)
+reads_seat_in_brackets E S =
+    reads_behind_seat E (IsSeatAnd Close E) closing S (λ q. (Close ∷ [], q, λ L h. (L, h, refl))) (λ q R. reads_closing _ q R (λ L h. (L, h, refl)))
+
+pub reads_open_seat_comma : (E : Bound) (S : List Token) → Reads (IsSeatAnd Comma E) (open_seat_comma E) S (open_seat_comma E S)
+reads_open_seat_comma E S =
+    reads_behind_seat E (IsSeatAnd Comma E) (λ q S. after (comma S) (λ _ R. got q R)) S (λ q. (Comma ∷ [], q, λ L h. (L, h, refl)))
+    (λ q R. reads_then (λ _. Comma ∷ []) (BehindSeat E (IsSeatAnd Comma E) q) comma (λ _ R. got q R) R (comma R)
+    (λ _. ([], q, λ L h. (L, h, refl))) (reads_comma R) (λ _ R. gets _ q R (λ L h. (L, h, refl))))
 
 pub reads_ranks_close : (S : List Token) → Reads (λ P h. P ≡ Ranks h ∷ Close ∷ []) ranks_close S (ranks_close S)
 reads_ranks_close S =
@@ -192,20 +255,24 @@ reads_comma_ranks_close S =
 ranks_of_cards : ASeat → Reader Amount
 ranks_of_cards q S = after (ranks_close S) (λ h R. got (cards_held q h) R)
 
-reads_ranks_of_cards : (E : Bound) (q : ASeat) (S : List Token) → Reads (λ Q. SpellsAtom E (Cards ∷ Open ∷ Seat q ∷ Comma ∷ Q)) (ranks_of_cards q) S (ranks_of_cards q S)
+-- what counts cards after `cards ( seat ,`
+abbrev CountsCards : Bound → ASeat → List Token → Amount → Type 0
+CountsCards E q Q y = Counts E Cards q (Comma ∷ Q) y
+
+reads_ranks_of_cards : (E : Bound) (q : ASeat) (S : List Token) → Reads (CountsCards E q) (ranks_of_cards q) S (ranks_of_cards q S)
 unfolding ranks_of_cards
 reads_ranks_of_cards E q S =
-    reads_then (λ h. Ranks h ∷ Close ∷ []) (λ Q. SpellsAtom E (Cards ∷ Open ∷ Seat q ∷ Comma ∷ Q)) ranks_close (λ h R. got (cards_held q h) R) S (ranks_close S)
-    (λ h. ([], cards_held q h, cards)) (reads_ranks_close S) (λ h R. gets _ (cards_held q h) R cards)
+    reads_then (λ h. Ranks h ∷ Close ∷ []) (CountsCards E q) ranks_close (λ h R. got (cards_held q h) R) S (ranks_close S)
+    (λ h. ([], cards_held q h, λ L l. count cards l)) (reads_ranks_close S) (λ h R. gets _ (cards_held q h) R (λ L l. count cards l))
 
-pub reads_suit_and_ranks : (E : Bound) (q : ASeat) (S : List Token) → Reads (λ Q. SpellsAtom E (Cards ∷ Open ∷ Seat q ∷ Comma ∷ Q)) (suit_and_ranks E q) S (suit_and_ranks E q S)
+pub reads_suit_and_ranks : (E : Bound) (q : ASeat) (S : List Token) → Reads (CountsCards E q) (suit_and_ranks E q) S (suit_and_ranks E q S)
 reads_suit_and_ranks E q S =
-    reads_named E (λ Q. SpellsAtom E (Cards ∷ Open ∷ Seat q ∷ Comma ∷ Q)) (λ s S. after (comma_ranks_close S) (λ h R. got (suit_cards_held q s h) R)) S
-    (λ s. (Comma ∷ Ranks some_ranks ∷ Close ∷ [], suit_cards_held q s some_ranks, λ c n. cards_in n))
-    (λ s R. reads_then (λ h. Comma ∷ Ranks h ∷ Close ∷ []) (λ Q y. (c : Token) → Names E c s → SpellsAtom E (Cards ∷ Open ∷ Seat q ∷ Comma ∷ c ∷ Q) y) comma_ranks_close (λ h R. got (suit_cards_held q s h) R) R (comma_ranks_close R)
-    (λ h. ([], suit_cards_held q s h, λ c n. cards_in n)) (reads_comma_ranks_close R) (λ h R. gets _ (suit_cards_held q s h) R (λ c n. cards_in n)))
+    reads_named E (CountsCards E q) (λ s S. after (comma_ranks_close S) (λ h R. got (suit_cards_held q s h) R)) S
+    (λ s. (Comma ∷ Ranks some_ranks ∷ Close ∷ [], suit_cards_held q s some_ranks, λ c n L l. count (cards_in n) l))
+    (λ s R. reads_then (λ h. Comma ∷ Ranks h ∷ Close ∷ []) (λ Q y. (c : Token) → Names E c s → CountsCards E q (c ∷ Q) y) comma_ranks_close (λ h R. got (suit_cards_held q s h) R) R (comma_ranks_close R)
+    (λ h. ([], suit_cards_held q s h, λ c n L l. count (cards_in n) l)) (reads_comma_ranks_close R) (λ h R. gets _ (suit_cards_held q s h) R (λ c n L l. count (cards_in n) l)))
 
-pub reads_rest_of_cards : (E : Bound) (q : ASeat) (S : List Token) → Reads (λ Q. SpellsAtom E (Cards ∷ Open ∷ Seat q ∷ Comma ∷ Q)) (rest_of_cards E q) S (rest_of_cards E q S)
+pub reads_rest_of_cards : (E : Bound) (q : ASeat) (S : List Token) → Reads (CountsCards E q) (rest_of_cards E q) S (rest_of_cards E q S)
 unfolding ranks_of_cards
 reads_rest_of_cards E q [] = reads_like _ (ranks_of_cards q) (rest_of_cards E q) [] _ (like_at_end (ranks_of_cards q) (rest_of_cards E q) refl) (reads_ranks_of_cards E q [])
 reads_rest_of_cards E q (Suit s ∷ S) = reads_like _ (suit_and_ranks E q) (rest_of_cards E q) (Suit s ∷ S) _ (like_at (suit_and_ranks E q) (rest_of_cards E q) (Suit s) S (λ X. refl)) (reads_suit_and_ranks E q (Suit s ∷ S))
@@ -225,36 +292,52 @@ some_atom : (E : Bound) → HasSome (SpellsAtom E)
 some_atom E = (Number 0 ∷ [], number 0, a_number)
 
 joined_len : (E : Bound) (P Q : List Token) (p : ASeat × ASuit) (a : Amount) → AreSeatAndSuit E P p → (Q ≡ []) × (a ≡ suit_length p.0 p.1) → SpellsAtom E (Len ∷ P ++ Q) a
-joined_len E P Q p a h m = rw (m.0, m.1, h.2) (len h.1)
+joined_len E P Q p a h m = rw (m.0, m.1, append-nil P, h.4) (count (len h.3) h.1)
+
+-- tokens after `cards ( seat ,`
+joined_cards : (E : Bound) (P Q : List Token) (q : ASeat) (a : Amount) → IsSeatAnd Comma E P q → CountsCards E q Q a → SpellsAtom E (Cards ∷ P ++ Q) a
+joined_cards E P Q q a h m =
+    subst (λ P. SpellsAtom E (Cards ∷ P ++ Q) a) (sym h.2)
+    (subst (λ L. SpellsAtom E (Cards ∷ Open ∷ L) a) (sym (append_assoc h.0 (Comma ∷ []) Q)) (m h.0 h.1))
+
+-- a word that counts by `( seat )`
+joined_seat :
+    (E : Bound) (c : Token) (f : ASeat → Amount) → ((L : List Token) (q : ASeat) → SpellsSeat E L q → SpellsAtom E (c ∷ Open ∷ L ++ Close ∷ []) (f q))
+    → (P Q : List Token) (q : ASeat) (a : Amount) → IsSeatAnd Close E P q → (Q ≡ []) × (a ≡ f q) → SpellsAtom E (c ∷ P ++ Q) a
+joined_seat E c f of P Q q a h m = rw (m.0, m.1, append-nil P, h.2) (of h.0 q h.1)
+
+reads_count :
+    (E : Bound) (c : Token) (f : ASeat → Amount) → ((L : List Token) (q : ASeat) → SpellsSeat E L q → SpellsAtom E (c ∷ Open ∷ L ++ Close ∷ []) (f q))
+    → (S : List Token) → Reads (λ P. SpellsAtom E (c ∷ P)) (λ S. after (seat_in_brackets E S) (λ q R. got (f q) R)) S (after (seat_in_brackets E S) (λ q R. got (f q) R))
+reads_count E c f of S =
+    reads_after (IsSeatAnd Close E) (λ q Q a. (Q ≡ []) × (a ≡ f q)) (λ P. SpellsAtom E (c ∷ P)) (seat_in_brackets E) (λ q R. got (f q) R) S (seat_in_brackets E S)
+    (joined_seat E c f of) (λ q. ([], f q, (refl, refl))) (reads_seat_in_brackets E S) (λ q R. gets _ (f q) R (refl, refl))
 
 pub reads_atom : (E : Bound) (S : List Token) → Reads (SpellsAtom E) (atom_of E) S (atom_of E S)
 unfolding atom_of
 reads_atom E [] = stops_at_end _ (atom_of E) (some_atom E) refl
 reads_atom E (Number n ∷ S) = gets_token _ (Number n) (atom_of E) S (number n) a_number (λ X. refl)
 reads_atom E (Measure m ∷ S) =
-    reads_token _ _ (Measure m) (λ S. after (open_seat S) (rest_of_measure E m)) (atom_of E) S _ (λ P x h. h) (λ X. refl)
-    (reads_then (λ q. Open ∷ Seat q ∷ []) (λ Q. SpellsAtom E (Measure m ∷ Q)) open_seat (rest_of_measure E m) S (open_seat S)
-    (λ q. (Close ∷ [], measured m q, measure)) (reads_open_seat S) (reads_rest_of_measure E m))
+    reads_token _ _ (Measure m) (λ S. after (open_seat E S) (rest_of_measure E m)) (atom_of E) S _ (λ P x h. h) (λ X. refl)
+    (reads_behind_seat E (λ Q. SpellsAtom E (Measure m ∷ Q)) (rest_of_measure E m) S
+    (λ q. (Close ∷ [], measured m q, λ L h. count measure h)) (reads_rest_of_measure E m))
 reads_atom E (Len ∷ S) =
     reads_token _ _ Len (λ S. after (seat_and_suit E S) (λ p R. got (suit_length p.0 p.1) R)) (atom_of E) S _ (λ P x m. m) (λ X. refl)
     (reads_after (AreSeatAndSuit E) (λ p Q a. (Q ≡ []) × (a ≡ suit_length p.0 p.1)) (λ P. SpellsAtom E (Len ∷ P)) (seat_and_suit E) (λ p R. got (suit_length p.0 p.1) R) S (seat_and_suit E S)
     (joined_len E) (λ p. ([], suit_length p.0 p.1, (refl, refl))) (reads_seat_and_suit E S) (λ p R. gets _ (suit_length p.0 p.1) R (refl, refl)))
 reads_atom E (Cards ∷ S) =
-    reads_token _ _ Cards (λ S. after (open_seat_comma S) (λ q R. rest_of_cards E q R)) (atom_of E) S _ (λ P x m. m) (λ X. refl)
-    (reads_then (λ q. Open ∷ Seat q ∷ Comma ∷ []) (λ Q. SpellsAtom E (Cards ∷ Q)) open_seat_comma (λ q R. rest_of_cards E q R) S (open_seat_comma S)
-    (λ q. (Ranks some_ranks ∷ Close ∷ [], cards_held q some_ranks, cards)) (reads_open_seat_comma S) (λ q R. reads_rest_of_cards E q R))
+    reads_token _ _ Cards (λ S. after (open_seat_comma E S) (λ q R. rest_of_cards E q R)) (atom_of E) S _ (λ P x m. m) (λ X. refl)
+    (reads_after (IsSeatAnd Comma E) (CountsCards E) (λ Q. SpellsAtom E (Cards ∷ Q)) (open_seat_comma E) (λ q R. rest_of_cards E q R) S (open_seat_comma E S)
+    (joined_cards E) (λ q. (Ranks some_ranks ∷ Close ∷ [], cards_held q some_ranks, λ L h. count cards h)) (reads_open_seat_comma E S) (reads_rest_of_cards E))
 reads_atom E (Longest ∷ S) =
-    reads_token _ _ Longest (λ S. after (seat_in_brackets S) (λ q R. got (longest q) R)) (atom_of E) S _ (λ P x m. m) (λ X. refl)
-    (reads_then (λ q. Open ∷ Seat q ∷ Close ∷ []) (λ Q. SpellsAtom E (Longest ∷ Q)) seat_in_brackets (λ q R. got (longest q) R) S (seat_in_brackets S)
-    (λ q. ([], longest q, longest_suit)) (reads_seat_in_brackets S) (λ q R. gets _ (longest q) R longest_suit))
+    reads_token _ _ Longest (λ S. after (seat_in_brackets E S) (λ q R. got (longest q) R)) (atom_of E) S _ (λ P x m. m) (λ X. refl)
+    (reads_count E Longest longest (λ L q h. count longest_suit h) S)
 reads_atom E (Second ∷ S) =
-    reads_token _ _ Second (λ S. after (seat_in_brackets S) (λ q R. got (second q) R)) (atom_of E) S _ (λ P x m. m) (λ X. refl)
-    (reads_then (λ q. Open ∷ Seat q ∷ Close ∷ []) (λ Q. SpellsAtom E (Second ∷ Q)) seat_in_brackets (λ q R. got (second q) R) S (seat_in_brackets S)
-    (λ q. ([], second q, (second_suit tt))) (reads_seat_in_brackets S) (λ q R. gets _ (second q) R (second_suit tt)))
+    reads_token _ _ Second (λ S. after (seat_in_brackets E S) (λ q R. got (second q) R)) (atom_of E) S _ (λ P x m. m) (λ X. refl)
+    (reads_count E Second second (λ L q h. count (second_suit tt) h) S)
 reads_atom E (Shortest ∷ S) =
-    reads_token _ _ Shortest (λ S. after (seat_in_brackets S) (λ q R. got (shortest q) R)) (atom_of E) S _ (λ P x m. m) (λ X. refl)
-    (reads_then (λ q. Open ∷ Seat q ∷ Close ∷ []) (λ Q. SpellsAtom E (Shortest ∷ Q)) seat_in_brackets (λ q R. got (shortest q) R) S (seat_in_brackets S)
-    (λ q. ([], shortest q, shortest_suit)) (reads_seat_in_brackets S) (λ q R. gets _ (shortest q) R shortest_suit))
+    reads_token _ _ Shortest (λ S. after (seat_in_brackets E S) (λ q R. got (shortest q) R)) (atom_of E) S _ (λ P x m. m) (λ X. refl)
+    (reads_count E Shortest shortest (λ L q h. count shortest_suit h) S)
 reads_atom E (c ∷ S) = stops_at _ c (atom_of E) S (some_atom E) (λ X. refl)
 
 -- four items with dashes between them
@@ -285,21 +368,23 @@ reads_items S =
     (λ d S. gets _ (a ∷ b ∷ c ∷ d ∷ []) S (a, b, c, d, refl, refl))))))))
 
 -- ( seat , a - b - c - d )
-abbrev pub AreSeatAndItems : List Token → ASeat × List Item → Type 0
-AreSeatAndItems P p = (a : Item) × (b : Item) × (c : Item) × (d : Item) × (p.1 ≡ a ∷ b ∷ c ∷ d ∷ []) × (P ≡ four p.0 a b c d)
+abbrev pub AreSeatAndItems : Bound → List Token → ASeat × List Item → Type 0
+AreSeatAndItems E P p =
+    (a : Item) × (b : Item) × (c : Item) × (d : Item) × (p.1 ≡ a ∷ b ∷ c ∷ d ∷ []) × (L : List Token) × SpellsSeat E L p.0 × (P ≡ Open ∷ L ++ four a b c d)
 
 joined :
-    (q : ASeat) (P Q : List Token) (n : List Item) (t : ASeat × List Item) → AreItems P n → (t ≡ (q, n)) × (Q ≡ Close ∷ []) → AreSeatAndItems (Open ∷ Seat q ∷ Comma ∷ P ++ Q) t
-joined q P Q n t (a, b, c, d, e, i) m = (a, b, c, d, ap (λ t. t.1) m.0 ∙ e, rw (m.0, m.1, i) refl)
+    (E : Bound) (q : ASeat) (P Q : List Token) (n : List Item) (t : ASeat × List Item) → AreItems P n → (t ≡ (q, n)) × (Q ≡ Close ∷ [])
+    → BehindSeat E (AreSeatAndItems E) q (Comma ∷ P ++ Q) t
+joined E q P Q n t (a, b, c, d, e, i) m = λ L l. (a, b, c, d, ap (λ t. t.1) m.0 ∙ e, L, rw m.0 l, rw (m.1, i) refl)
 
-pub reads_seat_and_items : (S : List Token) → Reads AreSeatAndItems seat_and_items S (seat_and_items S)
+pub reads_seat_and_items : (E : Bound) (S : List Token) → Reads (AreSeatAndItems E) (seat_and_items E) S (seat_and_items E S)
 unfolding seat_and_items
-reads_seat_and_items S =
-    reads_then (λ q. Open ∷ Seat q ∷ []) AreSeatAndItems open_seat _ S (open_seat S)
-    (λ q. (Comma ∷ Number 0 ∷ Dash ∷ Number 0 ∷ Dash ∷ Number 0 ∷ Dash ∷ Number 0 ∷ Close ∷ [], (q, (o ∷ o ∷ o ∷ o ∷ [])), (o, o, o, o, refl, refl))) (reads_open_seat S)
-    (λ q S. reads_then (λ _. Comma ∷ []) (λ P. AreSeatAndItems (Open ∷ Seat q ∷ P)) comma _ S (comma S)
-    (λ _. (Number 0 ∷ Dash ∷ Number 0 ∷ Dash ∷ Number 0 ∷ Dash ∷ Number 0 ∷ Close ∷ [], (q, (o ∷ o ∷ o ∷ o ∷ [])), (o, o, o, o, refl, refl))) (reads_comma S)
-    (λ _ S. reads_after AreItems (λ n P t. (t ≡ (q, n)) × (P ≡ Close ∷ [])) (λ P. AreSeatAndItems (Open ∷ Seat q ∷ Comma ∷ P)) items (λ n S. closing (q, n) S) S (items S)
-    (λ P Q n t h m. joined q P Q n t h m)
+reads_seat_and_items E S =
+    reads_behind_seat E (AreSeatAndItems E) _ S
+    (λ q. (Comma ∷ Number 0 ∷ Dash ∷ Number 0 ∷ Dash ∷ Number 0 ∷ Dash ∷ Number 0 ∷ Close ∷ [], (q, (o ∷ o ∷ o ∷ o ∷ [])), λ L l. (o, o, o, o, refl, L, l, refl)))
+    (λ q S. reads_then (λ _. Comma ∷ []) (BehindSeat E (AreSeatAndItems E) q) comma _ S (comma S)
+    (λ _. (Number 0 ∷ Dash ∷ Number 0 ∷ Dash ∷ Number 0 ∷ Dash ∷ Number 0 ∷ Close ∷ [], (q, (o ∷ o ∷ o ∷ o ∷ [])), λ L l. (o, o, o, o, refl, L, l, refl))) (reads_comma S)
+    (λ _ S. reads_after AreItems (λ n P t. (t ≡ (q, n)) × (P ≡ Close ∷ [])) (λ P. BehindSeat E (AreSeatAndItems E) q (Comma ∷ P)) items (λ n S. closing (q, n) S) S (items S)
+    (joined E q)
     (λ n. (Close ∷ [], (q, n), (refl, refl))) (reads_items S)
     (λ n S. reads_closing _ (q, n) S (refl, refl))))

@@ -4,7 +4,7 @@ use Rattle.cond_lang.specs.declared.words.Kind.{Kind}
 use Rattle.cond_lang.specs.declared.words.Kind.TheVariants as kind
 use Rattle.cond_lang.specs.declared.scanner.Placed.{Placed}
 use Rattle.cond_lang.specs.declared.scanner.Token.{Token}
-use Rattle.cond_lang.specs.declared.scanner.Token.TheVariants.{Or, And, Not, Balanced, Shape, Pattern, Quantifier, Stops, Measure, Cards, Len, Longest, Second, Shortest, In, X, Seat, Suit, Class, Ranks, Number, Open, Close, Comma, Dash, Plus, Relation}
+use Rattle.cond_lang.specs.declared.scanner.Token.TheVariants.{Or, And, Not, Balanced, Shape, Pattern, Quantifier, Stops, Measure, Cards, Len, Longest, Second, Shortest, In, X, Seat, Suit, Class, Neighbour, Ranks, Number, Open, Close, Comma, Dash, Plus, Relation}
 use Rattle.cond_lang.specs.Cut.{HasTokens}
 use Rattle.cond_lang.specs.Faults.{IsViableIn}
 use Rattle.cond_lang.specs.Grammar.{Spells}
@@ -35,6 +35,7 @@ kind_of Comma = kind.Comma
 kind_of (Seat q) = kind.Seat
 kind_of (Suit s) = kind.Suit
 kind_of (Class c) = kind.Class c
+kind_of (Neighbour n) = kind.Neighbour n
 kind_of (Ranks h) = kind.Ranks
 kind_of Close = kind.Close
 kind_of And = kind.And

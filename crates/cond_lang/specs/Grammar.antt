@@ -2,7 +2,7 @@
 --     cond  = both ( "or" both )*
 --     both  = unit ( "and" unit )*
 --     unit  = "not" unit | "(" cond ")" | ( "any" | "every" ) class "(" cond ")" | test
---     class = "suit" | "major" | "minor" | "other"
+--     class = "suit" | "major" | "minor" | "other" | "seat" | "ns" | "ew"
 --     test  = value op value | value "in" number "-" number | "balanced" "(" seat ")"
 --           | ( "shape" | "pattern" ) "(" seat "," item "-" item "-" item "-" item ")"
 --           | "stops" "(" seat "," suit ")"
@@ -11,13 +11,15 @@
 --     atom  = number | measure "(" seat [ "," suit ] ")"
 --           | "cards" "(" seat [ "," suit ] "," ranks ")" | "len" "(" seat "," suit ")"
 --           | ( "longest" | "second" | "shortest" ) "(" seat ")"
+--     seat  = "north" | "east" | "south" | "west"
+--           | ( "partner" | "left" | "right" ) "(" seat ")"
 -- Chains group to the left, and brackets leave no node. Inside the brackets of a class its word
--- is wherever a suit's does: the tree is that of each suit of the class in the word's place,
--- joined by `or` for `any` and by `and` for `every`.
+-- is wherever a suit's does, or a seat's: the tree is that of each suit or seat of the class in the
+-- word's place, joined by `or` for `any` and by `and` for `every`.
 --
--- The rules of the words that came last, `any`, `every`, `second` and `stops`, want a W: where W is
--- empty the grammar is the one without them. E says which classes are bound, and to which suits.
-use Rattle.std.specs.Prelude.{◌≡◌, ℕ, true, List, [], ◌∷◌, ◌++◌, fold}
+-- The rules of the words that came later want the W of their addition: where that is empty the
+-- grammar is the one without them. E says which classes are bound, and to which suits and seats.
+use Rattle.std.specs.Prelude.{◌≡◌, ℕ, true, List, [], ◌∷◌, ◌++◌, Some, fold}
 use Rattle.cards.specs.declared.honours.Honours.{Honours}
 use Rattle.cards.specs.declared.hand.Measure.{Measure as AMeasure}
 use Rattle.cards.specs.declared.seat.Seat.{Seat as ASeat}
@@ -26,37 +28,64 @@ use Rattle.conditions.specs.declared.tree.Item.{Item}
 use Rattle.conditions.specs.declared.tree.Item.TheVariants.{Length, Any}
 use Rattle.conditions.specs.declared.tree.Op.{Op}
 use Rattle.cond_lang.specs.declared.classes.Bound.{Bound}
+use Rattle.cond_lang.specs.declared.classes.Choice.{Choice}
 use Rattle.cond_lang.specs.declared.classes.Class.{Class as AClass}
+use Rattle.cond_lang.specs.declared.classes.Class.TheVariants.{Seat as AnySeat, NorthSouth, EastWest}
+use Rattle.cond_lang.specs.declared.classes.Neighbour.{Neighbour as ANeighbour}
 use Rattle.cond_lang.specs.declared.classes.Quantifier.{Quantifier as AQuantifier}
 use Rattle.cond_lang.specs.declared.classes.Quantifier.TheVariants.{Any as OneOf, Every}
 use Rattle.cond_lang.specs.declared.scanner.Token.{Token}
-use Rattle.cond_lang.specs.declared.scanner.Token.TheVariants.{Or, And, Not, Balanced, Shape, Pattern, Quantifier, Stops, Measure, Cards, Len, Longest, Second, Shortest, In, X, Seat, Class, Ranks, Number, Open, Close, Comma, Dash, Plus, Relation}
+use Rattle.cond_lang.specs.declared.scanner.Token.TheVariants.{Or, And, Not, Balanced, Shape, Pattern, Quantifier, Stops, Measure, Cards, Len, Longest, Second, Shortest, In, X, Seat, Class, Neighbour, Ranks, Number, Open, Close, Comma, Dash, Plus, Relation}
 use Rattle.conditions.specs.Form.{Amount, sum, number, measured, suit_measured, cards_held, suit_cards_held, suit_length, longest, second, shortest, Form, any_of, all_of, negation, compare, within, balanced, shaped, patterned, stops}
-use Rattle.cond_lang.specs.Classes.{unbound, bind, can_bind, members, Names}
+use Rattle.cond_lang.specs.Classes.{unbound, bind, can_bind, members, Names, seat_bound_to, seat_beside}
 
--- a number, a measure of a hand or of one of its suits, cards of some ranks, or lengths
-pub data AtomOf (W : Type 0) (E : Bound) : List Token → Amount → Type 0 where
-  a_number : {n : ℕ} → AtomOf W E (Number n ∷ []) (number n)
-  measure :
-      {m : AMeasure} {q : ASeat}
-      → AtomOf W E (Measure m ∷ Open ∷ Seat q ∷ Close ∷ []) (measured m q)
+-- what came to the language after its first words: `any`, `every`, `second` and `stops`, and then
+-- the classes of seats, `partner`, `left` and `right`
+pub data Addition : Type 0 where
+  quantifiers : Addition
+  seats : Addition
+
+-- the addition that brought the class
+abbrev pub addition_of : AClass → Addition
+addition_of AnySeat = seats
+addition_of NorthSouth = seats
+addition_of EastWest = seats
+addition_of c = quantifiers
+
+-- tokens that name a seat: its word, that of a bound class, or a neighbour of such a seat
+pub data SeatOf (W : Addition → Type 0) (E : Bound) : List Token → ASeat → Type 0 where
+  by_word : {q : ASeat} → SeatOf W E (Seat q ∷ []) q
+  by_bound :
+      {c : AClass} {q : ASeat} → W seats → seat_bound_to E c ≡ Some q → SeatOf W E (Class c ∷ []) q
+  beside :
+      {n : ANeighbour} {Q : List Token} {q : ASeat} → W seats → SeatOf W E Q q
+      → SeatOf W E (Neighbour n ∷ Open ∷ Q ++ Close ∷ []) (seat_beside n q)
+
+-- What counts in a hand: the word before `( seat`, the tokens behind, and the count of each seat. It
+-- is a measure of the hand or of one of its suits, cards of some ranks, or a length.
+pub data CountOf (W : Addition → Type 0) (E : Bound)
+    : Token → List Token → (ASeat → Amount) → Type 0 where
+  measure : {m : AMeasure} → CountOf W E (Measure m) (Close ∷ []) (λ q. measured m q)
   measure_in :
-      {m : AMeasure} {q : ASeat} {c : Token} {s : ASuit} → Names E c s
-      → AtomOf W E (Measure m ∷ Open ∷ Seat q ∷ Comma ∷ c ∷ Close ∷ []) (suit_measured m q s)
+      {m : AMeasure} {c : Token} {s : ASuit} → Names E c s
+      → CountOf W E (Measure m) (Comma ∷ c ∷ Close ∷ []) (λ q. suit_measured m q s)
   len :
-      {q : ASeat} {c : Token} {s : ASuit} → Names E c s
-      → AtomOf W E (Len ∷ Open ∷ Seat q ∷ Comma ∷ c ∷ Close ∷ []) (suit_length q s)
-  cards :
-      {q : ASeat} {h : Honours}
-      → AtomOf W E (Cards ∷ Open ∷ Seat q ∷ Comma ∷ Ranks h ∷ Close ∷ []) (cards_held q h)
+      {c : Token} {s : ASuit} → Names E c s
+      → CountOf W E Len (Comma ∷ c ∷ Close ∷ []) (λ q. suit_length q s)
+  cards : {h : Honours} → CountOf W E Cards (Comma ∷ Ranks h ∷ Close ∷ []) (λ q. cards_held q h)
   cards_in :
-      {q : ASeat} {c : Token} {s : ASuit} {h : Honours} → Names E c s
-      → AtomOf W E
-      (Cards ∷ Open ∷ Seat q ∷ Comma ∷ c ∷ Comma ∷ Ranks h ∷ Close ∷ [])
-      (suit_cards_held q s h)
-  longest_suit : {q : ASeat} → AtomOf W E (Longest ∷ Open ∷ Seat q ∷ Close ∷ []) (longest q)
-  second_suit : {q : ASeat} → W → AtomOf W E (Second ∷ Open ∷ Seat q ∷ Close ∷ []) (second q)
-  shortest_suit : {q : ASeat} → AtomOf W E (Shortest ∷ Open ∷ Seat q ∷ Close ∷ []) (shortest q)
+      {c : Token} {s : ASuit} {h : Honours} → Names E c s
+      → CountOf W E Cards (Comma ∷ c ∷ Comma ∷ Ranks h ∷ Close ∷ []) (λ q. suit_cards_held q s h)
+  longest_suit : CountOf W E Longest (Close ∷ []) (λ q. longest q)
+  second_suit : W quantifiers → CountOf W E Second (Close ∷ []) (λ q. second q)
+  shortest_suit : CountOf W E Shortest (Close ∷ []) (λ q. shortest q)
+
+-- a number, or what counts in a hand
+pub data AtomOf (W : Addition → Type 0) (E : Bound) : List Token → Amount → Type 0 where
+  a_number : {n : ℕ} → AtomOf W E (Number n ∷ []) (number n)
+  count :
+      {c : Token} {Q R : List Token} {q : ASeat} {f : ASeat → Amount}
+      → CountOf W E c R f → SeatOf W E Q q → AtomOf W E (c ∷ Open ∷ Q ++ R) (f q)
 
 -- what token lists spell which amounts
 abbrev pub Amounts : Type 1
@@ -74,11 +103,10 @@ abbrev pub item_token : Item → Token
 item_token (Length n) = Number n
 item_token Any = X
 
--- ( seat , a - b - c - d )
-abbrev pub four : ASeat → Item → Item → Item → Item → List Token
-four q a b c d =
-    Open ∷ Seat q ∷ Comma
-    ∷ item_token a ∷ Dash ∷ item_token b ∷ Dash ∷ item_token c ∷ Dash ∷ item_token d
+-- , a - b - c - d )
+abbrev pub four : Item → Item → Item → Item → List Token
+four a b c d =
+    Comma ∷ item_token a ∷ Dash ∷ item_token b ∷ Dash ∷ item_token c ∷ Dash ∷ item_token d
     ∷ Close ∷ []
 
 -- what token lists spell which trees
@@ -89,24 +117,31 @@ Forms = List Token → Form → Type 0
 abbrev pub FormsAt : Type 1
 FormsAt = Bound → Forms
 
+-- a test of a hand: the word before `( seat`, the tokens behind, and the tree of each seat
+pub data HandTestOf (W : Addition → Type 0) (E : Bound)
+    : Token → List Token → (ASeat → Form) → Type 0 where
+  is_balanced : HandTestOf W E Balanced (Close ∷ []) (λ q. balanced q)
+  has_shape :
+      (a b c d : Item)
+      → HandTestOf W E Shape (four a b c d) (λ q. shaped q (a ∷ b ∷ c ∷ d ∷ []))
+  has_pattern :
+      (a b c d : Item)
+      → HandTestOf W E Pattern (four a b c d) (λ q. patterned q (a ∷ b ∷ c ∷ d ∷ []))
+  has_stopper :
+      {c : Token} {s : ASuit} → W quantifiers → Names E c s
+      → HandTestOf W E Stops (Comma ∷ c ∷ Close ∷ []) (λ q. stops q s)
+
 -- one test, of values that V spells
-pub data TestOf (W : Type 0) (E : Bound) (V : Amounts) : List Token → Form → Type 0 where
+pub data TestOf (W : Addition → Type 0) (E : Bound) (V : Amounts) : List Token → Form → Type 0 where
   comparison :
       {L R : List Token} {a b : Amount} {o : Op} → V L a → V R b
       → TestOf W E V (L ++ Relation o ∷ R) (compare a o b)
   in_range :
       {L : List Token} {a : Amount} {m n : ℕ} → V L a
       → TestOf W E V (L ++ In ∷ Number m ∷ Dash ∷ Number n ∷ []) (within a m n)
-  is_balanced : {q : ASeat} → TestOf W E V (Balanced ∷ Open ∷ Seat q ∷ Close ∷ []) (balanced q)
-  has_shape :
-      {q : ASeat} (a b c d : Item)
-      → TestOf W E V (Shape ∷ four q a b c d) (shaped q (a ∷ b ∷ c ∷ d ∷ []))
-  has_pattern :
-      {q : ASeat} (a b c d : Item)
-      → TestOf W E V (Pattern ∷ four q a b c d) (patterned q (a ∷ b ∷ c ∷ d ∷ []))
-  has_stopper :
-      {q : ASeat} {c : Token} {s : ASuit} → W → Names E c s
-      → TestOf W E V (Stops ∷ Open ∷ Seat q ∷ Comma ∷ c ∷ Close ∷ []) (stops q s)
+  of_hand :
+      {c : Token} {Q R : List Token} {q : ASeat} {f : ASeat → Form}
+      → HandTestOf W E c R f → SeatOf W E Q q → TestOf W E V (c ∷ Open ∷ Q ++ R) (f q)
 
 -- `any` of two trees is one of them or both, `every` is both
 abbrev pub joined : AQuantifier → Form → Form → Form
@@ -115,19 +150,19 @@ joined Every a b = all_of a b
 
 -- conditions, of tests that U spells
 mutual
-  pub data CondOf (W : Type 0) (U : FormsAt) : Bound → List Token → Form → Type 0 where
+  pub data CondOf (W : Addition → Type 0) (U : FormsAt) : Bound → List Token → Form → Type 0 where
     both : {E : Bound} {T : List Token} {t : Form} → BothOf W U E T t → CondOf W U E T t
     or :
         {E : Bound} {L R : List Token} {a b : Form} → CondOf W U E L a → BothOf W U E R b
         → CondOf W U E (L ++ Or ∷ R) (any_of a b)
 
-  pub data BothOf (W : Type 0) (U : FormsAt) : Bound → List Token → Form → Type 0 where
+  pub data BothOf (W : Addition → Type 0) (U : FormsAt) : Bound → List Token → Form → Type 0 where
     unit : {E : Bound} {T : List Token} {t : Form} → UnitOf W U E T t → BothOf W U E T t
     and :
         {E : Bound} {L R : List Token} {a b : Form} → BothOf W U E L a → UnitOf W U E R b
         → BothOf W U E (L ++ And ∷ R) (all_of a b)
 
-  pub data UnitOf (W : Type 0) (U : FormsAt) : Bound → List Token → Form → Type 0 where
+  pub data UnitOf (W : Addition → Type 0) (U : FormsAt) : Bound → List Token → Form → Type 0 where
     not :
         {E : Bound} {T : List Token} {t : Form} → UnitOf W U E T t
         → UnitOf W U E (Not ∷ T) (negation t)
@@ -136,41 +171,53 @@ mutual
         → UnitOf W U E (Open ∷ T ++ Close ∷ []) t
     quantified :
         {E : Bound} {k : AQuantifier} {c : AClass} {T : List Token} {t : Form} {ts : List Form}
-        → W → can_bind E c ≡ true → EachOf W U E c (members E c) T (t ∷ ts)
+        → W (addition_of c) → can_bind E c ≡ true → EachOf W U E c (members E c) T (t ∷ ts)
         → UnitOf W U E (Quantifier k ∷ Class c ∷ Open ∷ T ++ Close ∷ []) (fold (joined k) t ts)
     test : {E : Bound} {T : List Token} {t : Form} → U E T t → UnitOf W U E T t
 
-  -- with each of the suits in the place of the class's word the tokens spell a tree
-  pub data EachOf (W : Type 0) (U : FormsAt)
-      : Bound → AClass → List ASuit → List Token → List Form → Type 0 where
+  -- with each of the suits or seats in the place of the class's word the tokens spell a tree
+  pub data EachOf (W : Addition → Type 0) (U : FormsAt)
+      : Bound → AClass → List Choice → List Token → List Form → Type 0 where
     none : {E : Bound} {c : AClass} {T : List Token} → EachOf W U E c [] T []
     one_more :
-        {E : Bound} {c : AClass} {s : ASuit} {ss : List ASuit} {T : List Token}
+        {E : Bound} {c : AClass} {s : Choice} {ss : List Choice} {T : List Token}
         {t : Form} {ts : List Form}
         → CondOf W U (bind E c s) T t → EachOf W U E c ss T ts
         → EachOf W U E c (s ∷ ss) T (t ∷ ts)
 
--- the rules of this language
+-- the rules of this language, which has all additions
+abbrev pub everything : Addition → Type 0
+everything a = Unit {0}
+
+abbrev pub SpellsSeat : Bound → List Token → ASeat → Type 0
+SpellsSeat E = SeatOf everything E
+
+abbrev pub SpellsCount : Bound → Token → List Token → (ASeat → Amount) → Type 0
+SpellsCount E = CountOf everything E
+
+abbrev pub SpellsHandTest : Bound → Token → List Token → (ASeat → Form) → Type 0
+SpellsHandTest E = HandTestOf everything E
+
 abbrev pub SpellsAtom : Bound → Amounts
-SpellsAtom E = AtomOf (Unit {0}) E
+SpellsAtom E = AtomOf everything E
 
 abbrev pub SpellsValue : Bound → Amounts
 SpellsValue E = ValueOf (SpellsAtom E)
 
 abbrev pub SpellsTest : FormsAt
-SpellsTest E = TestOf (Unit {0}) E (SpellsValue E)
+SpellsTest E = TestOf everything E (SpellsValue E)
 
 abbrev pub SpellsUnit : FormsAt
-SpellsUnit = UnitOf (Unit {0}) SpellsTest
+SpellsUnit = UnitOf everything SpellsTest
 
 abbrev pub SpellsBoth : FormsAt
-SpellsBoth = BothOf (Unit {0}) SpellsTest
+SpellsBoth = BothOf everything SpellsTest
 
 abbrev pub SpellsCond : FormsAt
-SpellsCond = CondOf (Unit {0}) SpellsTest
+SpellsCond = CondOf everything SpellsTest
 
-abbrev pub SpellsEach : Bound → AClass → List ASuit → List Token → List Form → Type 0
-SpellsEach = EachOf (Unit {0}) SpellsTest
+abbrev pub SpellsEach : Bound → AClass → List Choice → List Token → List Form → Type 0
+SpellsEach = EachOf everything SpellsTest
 
 -- the whole list is one condition
 abbrev pub Spells : List Token → Form → Type 0

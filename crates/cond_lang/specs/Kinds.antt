@@ -1,7 +1,8 @@
 -- All kinds of tokens, and the end.
 use Rattle.std.specs.Prelude.{◌≡◌, ℕ, ◌+◌, List, [], ◌∷◌, ◌++◌, Some, length, map, slice_get}
 use Rattle.cards.specs.Measures.{measure_number, measures}
-use Rattle.cond_lang.specs.declared.classes.Class.TheVariants.{Suit, Major, Minor, Other}
+use Rattle.cond_lang.specs.declared.classes.Class.TheVariants.{Suit, Major, Minor, Other, Seat, NorthSouth, EastWest}
+use Rattle.cond_lang.specs.declared.classes.Neighbour.TheVariants.{Partner, Left, Right}
 use Rattle.cond_lang.specs.declared.classes.Quantifier.TheVariants.{Any, Every}
 use Rattle.cond_lang.specs.declared.words.Kind.{Kind}
 use Rattle.cond_lang.specs.declared.words.Kind.TheVariants as kind
@@ -13,7 +14,9 @@ all_kinds =
     ∷ kind.Quantifier Any ∷ kind.Quantifier Every ∷ kind.Stops ∷ kind.Number
     ∷ map kind.Measure measures
     ++ kind.Cards ∷ kind.Len ∷ kind.Longest ∷ kind.Second ∷ kind.Shortest ∷ kind.Plus
-    ∷ kind.Relation ∷ kind.In ∷ kind.Dash ∷ kind.X ∷ kind.Comma ∷ kind.Seat ∷ kind.Suit
+    ∷ kind.Relation ∷ kind.In ∷ kind.Dash ∷ kind.X ∷ kind.Comma ∷ kind.Seat
+    ∷ kind.Class Seat ∷ kind.Class NorthSouth ∷ kind.Class EastWest
+    ∷ kind.Neighbour Partner ∷ kind.Neighbour Left ∷ kind.Neighbour Right ∷ kind.Suit
     ∷ kind.Class Suit ∷ kind.Class Major ∷ kind.Class Minor ∷ kind.Class Other
     ∷ kind.Ranks ∷ kind.Close ∷ kind.And ∷ kind.Or ∷ kind.End ∷ []
 
@@ -41,16 +44,22 @@ place_of kind.Dash = 17 + length measures
 place_of kind.X = 18 + length measures
 place_of kind.Comma = 19 + length measures
 place_of kind.Seat = 20 + length measures
-place_of kind.Suit = 21 + length measures
-place_of (kind.Class Suit) = 22 + length measures
-place_of (kind.Class Major) = 23 + length measures
-place_of (kind.Class Minor) = 24 + length measures
-place_of (kind.Class Other) = 25 + length measures
-place_of kind.Ranks = 26 + length measures
-place_of kind.Close = 27 + length measures
-place_of kind.And = 28 + length measures
-place_of kind.Or = 29 + length measures
-place_of kind.End = 30 + length measures
+place_of (kind.Class Seat) = 21 + length measures
+place_of (kind.Class NorthSouth) = 22 + length measures
+place_of (kind.Class EastWest) = 23 + length measures
+place_of (kind.Neighbour Partner) = 24 + length measures
+place_of (kind.Neighbour Left) = 25 + length measures
+place_of (kind.Neighbour Right) = 26 + length measures
+place_of kind.Suit = 27 + length measures
+place_of (kind.Class Suit) = 28 + length measures
+place_of (kind.Class Major) = 29 + length measures
+place_of (kind.Class Minor) = 30 + length measures
+place_of (kind.Class Other) = 31 + length measures
+place_of kind.Ranks = 32 + length measures
+place_of kind.Close = 33 + length measures
+place_of kind.And = 34 + length measures
+place_of kind.Or = 35 + length measures
+place_of kind.End = 36 + length measures
 
 -- the kind is in the list of all at its place, and nowhere else
 abbrev pub IsListedOnce : Kind → Type 0

@@ -1,7 +1,8 @@
--- Smaller grammars: one without the words that came last, one whose values are atoms alone, one
--- whose only measure is hcp, one in the words that the language had first, and the first grammar:
--- those words without sums. What they spell, the whole grammar spells too.
-use Rattle.std.specs.Prelude.{ℕ, List, [], ◌∷◌, ◌++◌}
+-- Smaller grammars: one without the words of seats, one without those of quantifiers too, one whose
+-- values are atoms alone, one whose only measure is hcp, one in the words that the language had
+-- first, and the first grammar: those words without sums. What they spell, the whole grammar spells
+-- too.
+use Rattle.std.specs.Prelude.{◌≡◌, ◌≢◌, ℕ, List, [], ◌∷◌, ◌++◌, Option, Some, None}
 use Rattle.cards.specs.declared.honours.Honours.{Honours}
 use Rattle.cards.specs.declared.hand.Measure.TheVariants.{Hcp}
 use Rattle.cards.specs.declared.seat.Seat.{Seat as ASeat}
@@ -9,59 +10,83 @@ use Rattle.cards.specs.declared.suit.Suit.{Suit as ASuit}
 use Rattle.conditions.specs.declared.tree.Op.{Op}
 use Rattle.cond_lang.specs.declared.classes.Bound.{Bound}
 use Rattle.cond_lang.specs.declared.scanner.Token.{Token}
-use Rattle.cond_lang.specs.declared.scanner.Token.TheVariants.{Balanced, Shape, Pattern, Quantifier, Stops, Measure, Cards, Len, Longest, Second, Shortest, In, X, Seat, Suit, Class, Ranks, Number, Open, Close, Comma, Dash, Plus, Relation}
+use Rattle.cond_lang.specs.declared.scanner.Token.TheVariants.{Balanced, Shape, Pattern, Quantifier, Stops, Measure, Cards, Len, Longest, Second, Shortest, In, X, Seat, Suit, Class, Neighbour, Ranks, Number, Open, Close, Comma, Dash, Plus, Relation}
 use Rattle.conditions.specs.Form.{Amount, Form, number, points, suit_points, cards_held, suit_cards_held, suit_length, longest, second, shortest, compare, balanced, shape, pattern}
 use Rattle.cond_lang.specs.Classes.{unbound, Names}
 use Rattle.cond_lang.specs.Faults.{IsViableIn}
-use Rattle.cond_lang.specs.Grammar.{Amounts, SpellsAtom, AtomOf, ValueOf, TestOf, CondOf}
+use Rattle.cond_lang.specs.Grammar.{Addition, quantifiers, seats, addition_of, everything, SpellsSeat, Amounts, SpellsAtom, AtomOf, ValueOf, TestOf, CondOf}
 
--- ---- without the words that came last
+-- the rules with the additions W alone
+abbrev pub SpellsWith : (Addition → Type 0) → List Token → Form → Type 0
+SpellsWith W T t = CondOf W (λ E. TestOf W E (ValueOf (AtomOf W E))) unbound T t
 
--- none of their rules is there, and no class is bound
+-- the addition that brought a word
+abbrev pub brought_by : Token → Option Addition
+brought_by (Quantifier k) = Some quantifiers
+brought_by Stops = Some quantifiers
+brought_by Second = Some quantifiers
+brought_by (Class c) = Some (addition_of c)
+brought_by (Neighbour n) = Some seats
+brought_by t = None
+
+-- ---- without the words of seats
+
+abbrev pub no_seats : Addition → Type 0
+no_seats quantifiers = Unit {0}
+no_seats seats = ⊥
+
+abbrev pub SpellsWithoutSeats : List Token → Form → Type 0
+SpellsWithoutSeats T t = SpellsWith no_seats T t
+
+-- the token is none of `partner`, `left`, `right`, `seat`, `ns` and `ew`
+abbrev pub IsBeforeSeats : Token → Type 0
+IsBeforeSeats t = brought_by t ≢ Some seats
+
+-- ---- without those of quantifiers too
+
+abbrev pub no_additions : Addition → Type 0
+no_additions a = ⊥
+
 abbrev pub SpellsEarlier : List Token → Form → Type 0
-SpellsEarlier T t = CondOf ⊥ (λ E. TestOf ⊥ E (ValueOf (AtomOf ⊥ E))) unbound T t
+SpellsEarlier T t = SpellsWith no_additions T t
 
--- the token is none of `any`, `every`, `second`, `stops` and the words of the classes
+-- nor is it `any`, `every`, `second`, `stops` or a class's word
 abbrev pub IsEarlier : Token → Type 0
-IsEarlier (Quantifier k) = ⊥
-IsEarlier Stops = ⊥
-IsEarlier Second = ⊥
-IsEarlier (Class c) = ⊥
-IsEarlier t = Unit {0}
+IsEarlier t = brought_by t ≡ None
 
 -- ---- without sums
 
 abbrev pub SpellsWithoutSums : List Token → Form → Type 0
-SpellsWithoutSums T t = CondOf (Unit {0}) (λ E. TestOf (Unit {0}) E (SpellsAtom E)) unbound T t
+SpellsWithoutSums T t = CondOf everything (λ E. TestOf everything E (SpellsAtom E)) unbound T t
 
 -- ---- hcp alone
 
--- an atom without another measure
+-- what counts, without another measure
+pub data HcpCount (E : Bound) : Token → List Token → (ASeat → Amount) → Type 0 where
+  hcp : HcpCount E (Measure Hcp) (Close ∷ []) (λ q. points q)
+  hcp_in :
+      {c : Token} {s : ASuit} → Names E c s
+      → HcpCount E (Measure Hcp) (Comma ∷ c ∷ Close ∷ []) (λ q. suit_points q s)
+  len :
+      {c : Token} {s : ASuit} → Names E c s
+      → HcpCount E Len (Comma ∷ c ∷ Close ∷ []) (λ q. suit_length q s)
+  cards : {h : Honours} → HcpCount E Cards (Comma ∷ Ranks h ∷ Close ∷ []) (λ q. cards_held q h)
+  cards_in :
+      {c : Token} {s : ASuit} {h : Honours} → Names E c s
+      → HcpCount E Cards (Comma ∷ c ∷ Comma ∷ Ranks h ∷ Close ∷ []) (λ q. suit_cards_held q s h)
+  longest_suit : HcpCount E Longest (Close ∷ []) (λ q. longest q)
+  second_suit : HcpCount E Second (Close ∷ []) (λ q. second q)
+  shortest_suit : HcpCount E Shortest (Close ∷ []) (λ q. shortest q)
+
 pub data SpellsHcpAtom (E : Bound) : List Token → Amount → Type 0 where
   a_number : {n : ℕ} → SpellsHcpAtom E (Number n ∷ []) (number n)
-  hcp : {q : ASeat} → SpellsHcpAtom E (Measure Hcp ∷ Open ∷ Seat q ∷ Close ∷ []) (points q)
-  hcp_in :
-      {q : ASeat} {c : Token} {s : ASuit} → Names E c s
-      → SpellsHcpAtom E (Measure Hcp ∷ Open ∷ Seat q ∷ Comma ∷ c ∷ Close ∷ []) (suit_points q s)
-  len :
-      {q : ASeat} {c : Token} {s : ASuit} → Names E c s
-      → SpellsHcpAtom E (Len ∷ Open ∷ Seat q ∷ Comma ∷ c ∷ Close ∷ []) (suit_length q s)
-  cards :
-      {q : ASeat} {h : Honours}
-      → SpellsHcpAtom E (Cards ∷ Open ∷ Seat q ∷ Comma ∷ Ranks h ∷ Close ∷ []) (cards_held q h)
-  cards_in :
-      {q : ASeat} {c : Token} {s : ASuit} {h : Honours} → Names E c s
-      → SpellsHcpAtom E
-      (Cards ∷ Open ∷ Seat q ∷ Comma ∷ c ∷ Comma ∷ Ranks h ∷ Close ∷ [])
-      (suit_cards_held q s h)
-  longest_suit : {q : ASeat} → SpellsHcpAtom E (Longest ∷ Open ∷ Seat q ∷ Close ∷ []) (longest q)
-  second_suit : {q : ASeat} → SpellsHcpAtom E (Second ∷ Open ∷ Seat q ∷ Close ∷ []) (second q)
-  shortest_suit :
-      {q : ASeat} → SpellsHcpAtom E (Shortest ∷ Open ∷ Seat q ∷ Close ∷ []) (shortest q)
+  count :
+      {c : Token} {Q R : List Token} {q : ASeat} {f : ASeat → Amount}
+      → HcpCount E c R f → SpellsSeat E Q q → SpellsHcpAtom E (c ∷ Open ∷ Q ++ R) (f q)
 
 abbrev pub SpellsWithHcpAlone : List Token → Form → Type 0
 SpellsWithHcpAlone T t =
-    CondOf (Unit {0}) (λ E. TestOf (Unit {0}) E (ValueOf (SpellsHcpAtom E))) unbound T t
+    CondOf everything (λ E. TestOf everything E (ValueOf (SpellsHcpAtom E))) unbound T t
 
 -- ---- the first words
 
@@ -98,7 +123,7 @@ pub data FirstTestOf (V : Amounts) : List Token → Form → Type 0 where
       → FirstTestOf V (Pattern ∷ four_numbers q a b c d) (pattern q (a ∷ b ∷ c ∷ d ∷ []))
 
 abbrev pub SpellsInFirstWords : List Token → Form → Type 0
-SpellsInFirstWords T t = CondOf ⊥ (λ E. FirstTestOf (ValueOf SpellsFirstAtom)) unbound T t
+SpellsInFirstWords T t = CondOf no_additions (λ E. FirstTestOf (ValueOf SpellsFirstAtom)) unbound T t
 
 -- the token was there first: it isn't a measure but hcp, and none of the later words
 abbrev pub IsFirst : Token → Type 0
@@ -114,13 +139,14 @@ IsFirst (Quantifier k) = ⊥
 IsFirst Stops = ⊥
 IsFirst Second = ⊥
 IsFirst (Class c) = ⊥
+IsFirst (Neighbour n) = ⊥
 IsFirst t = Unit {0}
 
 -- ---- the first grammar
 
 -- the first words, where each value is one atom
 abbrev pub SpellsInFirstGrammar : List Token → Form → Type 0
-SpellsInFirstGrammar T t = CondOf ⊥ (λ E. FirstTestOf SpellsFirstAtom) unbound T t
+SpellsInFirstGrammar T t = CondOf no_additions (λ E. FirstTestOf SpellsFirstAtom) unbound T t
 
 -- the token was in the first grammar: it is a first one, and no plus
 abbrev pub IsOldest : Token → Type 0

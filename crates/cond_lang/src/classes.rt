@@ -1,22 +1,23 @@
-//! Classes of suits, the quantifiers that go through them, and the suits that they mean.
+//! Classes of suits and of seats, the quantifiers that go through them, and what they mean.
 
 ghost use Rattle.std.specs.Prelude.{◌≡◌};
 ghost use Rattle.cond_lang.specs.Classes.{bind, bound_to, can_bind, is_bound, is_major, is_member};
-ghost use Rattle.cond_lang.specs.Classes.{is_taken, is_this, unbound};
+ghost use Rattle.cond_lang.specs.Classes.{is_north_or_south, is_taken, is_this, seat_beside};
+ghost use Rattle.cond_lang.specs.Classes.{seat_bound_to, unbound};
 ghost use Rattle.cond_lang.specs.internal.Reading.{can_quantify};
 
-use cards::Suit;
+use cards::{Seat, Suit};
 
-/// Whether a condition is asked of some suit of a class, or of each.
+/// Whether a condition is asked of some suit or seat of a class, or of each.
 #[derive(Clone, Copy)]
 pub enum Quantifier {
-    /// It holds with some suit of the class.
+    /// It holds with some suit or seat of the class.
     Any,
     /// It holds with each.
     Every,
 }
 
-/// A class of suits.
+/// A class of suits, or of seats.
 #[derive(Clone, Copy)]
 pub enum Class {
     /// All four suits.
@@ -27,15 +28,77 @@ pub enum Class {
     Minor,
     /// The suits that no enclosing class means.
     Other,
+    /// All four seats.
+    Seat,
+    /// North and South.
+    NorthSouth,
+    /// East and West.
+    EastWest,
 }
 
-/// The suit that each class means, where the class is bound.
+/// A seat as another sees it.
+#[derive(Clone, Copy)]
+pub enum Neighbour {
+    /// The seat across.
+    Partner,
+    /// The next seat clockwise: East is to the left of North.
+    Left,
+    /// The seat before.
+    Right,
+}
+
+impl Neighbour {
+    /// The seat that is this neighbour of the given one.
+    pub(crate) fn of(self, seat: Seat) -> Seat
+        ensures { result ≡ seat_beside self seat }
+    {
+        match self {
+            Neighbour::Partner => seat.next().next(),
+            Neighbour::Left => seat.next(),
+            Neighbour::Right => seat.next().next().next(),
+        }
+    }
+}
+
+/// A suit and a seat with the same place: a class means one or the other.
+#[derive(Clone, Copy)]
+pub(crate) struct Choice {
+    suit: Suit,
+    seat: Seat,
+}
+
+impl Choice {
+    pub(crate) const FIRST: Choice = Choice {
+        suit: Suit::Spades,
+        seat: Seat::North,
+    };
+
+    pub(crate) const SECOND: Choice = Choice {
+        suit: Suit::Hearts,
+        seat: Seat::East,
+    };
+
+    pub(crate) const THIRD: Choice = Choice {
+        suit: Suit::Diamonds,
+        seat: Seat::South,
+    };
+
+    pub(crate) const FOURTH: Choice = Choice {
+        suit: Suit::Clubs,
+        seat: Seat::West,
+    };
+}
+
+/// The suit or the seat that each class means, where the class is bound.
 #[derive(Clone, Copy)]
 pub(crate) struct Bound {
     suit: Option<Suit>,
     major: Option<Suit>,
     minor: Option<Suit>,
     other: Option<Suit>,
+    seat: Option<Seat>,
+    north_south: Option<Seat>,
+    east_west: Option<Seat>,
 }
 
 impl Bound {
@@ -48,10 +111,13 @@ impl Bound {
             major: None,
             minor: None,
             other: None,
+            seat: None,
+            north_south: None,
+            east_west: None,
         }
     }
 
-    /// The suit that the class means.
+    /// The suit that the class means, if it is one of suits.
     pub(crate) fn suit_of(self, class: Class) -> Option<Suit>
         ensures { result ≡ bound_to self class }
     {
@@ -60,19 +126,35 @@ impl Bound {
             Class::Major => self.major,
             Class::Minor => self.minor,
             Class::Other => self.other,
+            Class::Seat | Class::NorthSouth | Class::EastWest => None,
         }
     }
 
-    /// The same with the class bound to the suit.
-    pub(crate) fn with(self, class: Class, suit: Suit) -> Bound
-        ensures { result ≡ bind self class suit }
+    /// The seat that the class means, if it is one of seats.
+    pub(crate) fn seat_of(self, class: Class) -> Option<Seat>
+        ensures { result ≡ seat_bound_to self class }
+    {
+        match class {
+            Class::Seat => self.seat,
+            Class::NorthSouth => self.north_south,
+            Class::EastWest => self.east_west,
+            Class::Suit | Class::Major | Class::Minor | Class::Other => None,
+        }
+    }
+
+    /// The same with the class bound to the suit or to the seat.
+    pub(crate) fn with(self, class: Class, choice: Choice) -> Bound
+        ensures { result ≡ bind self class choice }
     {
         let mut bound = self;
         match class {
-            Class::Suit => bound.suit = Some(suit),
-            Class::Major => bound.major = Some(suit),
-            Class::Minor => bound.minor = Some(suit),
-            Class::Other => bound.other = Some(suit),
+            Class::Suit => bound.suit = Some(choice.suit),
+            Class::Major => bound.major = Some(choice.suit),
+            Class::Minor => bound.minor = Some(choice.suit),
+            Class::Other => bound.other = Some(choice.suit),
+            Class::Seat => bound.seat = Some(choice.seat),
+            Class::NorthSouth => bound.north_south = Some(choice.seat),
+            Class::EastWest => bound.east_west = Some(choice.seat),
         }
         bound
     }
@@ -80,7 +162,12 @@ impl Bound {
     fn is_bound(self, class: Class) -> bool
         ensures { result ≡ is_bound self class }
     {
-        self.suit_of(class).is_some()
+        match class {
+            Class::Suit | Class::Major | Class::Minor | Class::Other => {
+                self.suit_of(class).is_some()
+            }
+            Class::Seat | Class::NorthSouth | Class::EastWest => self.seat_of(class).is_some(),
+        }
     }
 
     /// Whether the class can be bound here.
@@ -108,17 +195,22 @@ impl Bound {
             || self.can_bind(Class::Major)
             || self.can_bind(Class::Minor)
             || self.can_bind(Class::Other)
+            || self.can_bind(Class::Seat)
+            || self.can_bind(Class::NorthSouth)
+            || self.can_bind(Class::EastWest)
     }
 
-    /// Whether the suit is one of the class.
-    pub(crate) fn is_member(self, class: Class, suit: Suit) -> bool
-        ensures { result ≡ is_member self class suit }
+    /// Whether the suit or the seat is one of the class.
+    pub(crate) fn is_member(self, class: Class, choice: Choice) -> bool
+        ensures { result ≡ is_member self class choice }
     {
         match class {
-            Class::Suit => true,
-            Class::Major => is_major(suit),
-            Class::Minor => !is_major(suit),
-            Class::Other => !self.is_taken(suit),
+            Class::Suit | Class::Seat => true,
+            Class::Major => is_major(choice.suit),
+            Class::Minor => !is_major(choice.suit),
+            Class::Other => !self.is_taken(choice.suit),
+            Class::NorthSouth => is_north_or_south(choice.seat),
+            Class::EastWest => !is_north_or_south(choice.seat),
         }
     }
 
@@ -134,6 +226,12 @@ fn is_major(suit: Suit) -> bool
     ensures { result ≡ is_major suit }
 {
     matches!(suit, Suit::Spades | Suit::Hearts)
+}
+
+fn is_north_or_south(seat: Seat) -> bool
+    ensures { result ≡ is_north_or_south seat }
+{
+    matches!(seat, Seat::North | Seat::South)
 }
 
 fn is_this(bound: Option<Suit>, suit: Suit) -> bool

@@ -28,7 +28,8 @@ const BEHIND_MEASURES: &str =
   pattern(north,5-3-3-2)      these lengths, whichever suit is which
   shape(north,5-x-x-3)        x is any length, in a pattern too
 
-Seats:        north, east, south, west
+Seats:        north, east, south, west; partner(north) is South, left(north) the
+              next clockwise, East, right(north) West
 Suits:        spades, hearts, diamonds, clubs
 Comparisons:  ==  !=  <  <=  >  >=
 Sums:         hcp(north)+hcp(south)>=25
@@ -39,6 +40,8 @@ Some suit:    any suit (len(north,suit)>=6) is true with some suit in the place
               of the word suit, every suit (..) with each of the four; major is
               spades or hearts, minor diamonds or clubs, and inside the brackets
               any other (..) goes through all suits but that one
+Some seat:    any seat (hcp(seat)>=20) likewise with some seat, every seat (..)
+              with each of the four; ns is north or south, ew east or west
 
 Everything is written in small letters. Spaces and new lines don't matter, and a
 comment goes from # to the end of its line. A condition has at most 1024 bytes,

@@ -18,7 +18,7 @@ mod scanner;
 mod words;
 
 pub use beginning::Beginning;
-pub use classes::{Class, Quantifier};
+pub use classes::{Class, Neighbour, Quantifier};
 pub use condition::parse;
 pub use conditions::{Cond, CondError, Item, Op, Question, Tree, Value};
 pub use language::LANGUAGE;

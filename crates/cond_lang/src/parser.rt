@@ -11,14 +11,14 @@ ghost use Rattle.cond_lang.specs.internal.Reading.{Gives, front, rest_of_measure
 ghost use Rattle.cond_lang.specs.internal.Reading.{suit_and_ranks, suit_count};
 ghost use Rattle.cond_lang.specs.internal.Reading.{atom_of, reading, a_value, comparing_by};
 ghost use Rattle.cond_lang.specs.internal.Reading.{test_by, a_unit, a_both, a_cond};
-ghost use Rattle.cond_lang.specs.internal.Reading.{whole, behind, with_suit_by, quantified_by};
+ghost use Rattle.cond_lang.specs.internal.Reading.{whole, behind, with_choice_by, quantified_by};
 
 mod lists;
 mod terminals;
 
-use crate::classes::{Bound, Class, Quantifier};
+use crate::classes::{Bound, Choice, Class, Quantifier};
 use crate::scanner::{Placed, Token};
-use cards::{Measure, Seat, Suit};
+use cards::{Measure, Seat};
 use conditions::{Tree, Value};
 pub(crate) use lists::{parse_tokens, read_as_far, read_value};
 use std::alloc::{AllocFailed, Global};
@@ -107,7 +107,7 @@ impl<'a> Parser<'a> {
             }
             Some(Token::Measure(measure)) => {
                 self.advance();
-                let seat = self.open_seat()?;
+                let seat = self.open_seat(bound)?;
                 self.rest_of_measure(bound, measure, seat)
             }
             Some(Token::Len) => {
@@ -117,30 +117,30 @@ impl<'a> Parser<'a> {
             }
             Some(Token::Cards) => {
                 self.advance();
-                let seat = self.open_seat_comma()?;
+                let seat = self.open_seat_comma(bound)?;
                 self.rest_of_cards(bound, seat)
             }
-            _ => self.suit_count(),
+            _ => self.suit_count(bound),
         }
     }
 
     /// The length of a hand's longest, second longest or shortest suit.
-    fn suit_count(&mut self) -> Result<Value, Refusal>
-        ensures gives { Gives amount_of result self.new (suit_count self.old) }
+    fn suit_count(&mut self, bound: Bound) -> Result<Value, Refusal>
+        ensures gives { Gives amount_of result self.new (suit_count bound self.old) }
         ensures shorter { length self.new ≤ length self.old }
     {
         match self.peek() {
             Some(Token::Longest) => {
                 self.advance();
-                Ok(Value::Longest(self.seat_in_brackets()?))
+                Ok(Value::Longest(self.seat_in_brackets(bound)?))
             }
             Some(Token::Second) => {
                 self.advance();
-                Ok(Value::Second(self.seat_in_brackets()?))
+                Ok(Value::Second(self.seat_in_brackets(bound)?))
             }
             Some(Token::Shortest) => {
                 self.advance();
-                Ok(Value::Shortest(self.seat_in_brackets()?))
+                Ok(Value::Shortest(self.seat_in_brackets(bound)?))
             }
             _ => Err(Refusal::Syntax),
         }
@@ -235,16 +235,18 @@ impl<'a> Parser<'a> {
         match self.peek() {
             Some(Token::Balanced) => {
                 self.advance();
-                Ok(Tree::Balanced(self.seat_in_brackets()?))
+                let seat = self.open_seat(bound)?;
+                self.close()?;
+                Ok(Tree::Balanced(seat))
             }
             Some(Token::Shape) => {
                 self.advance();
-                let (seat, items) = self.seat_and_items()?;
+                let (seat, items) = self.seat_and_items(bound)?;
                 Ok(Tree::shape(seat, items))
             }
             Some(Token::Pattern) => {
                 self.advance();
-                let (seat, items) = self.seat_and_items()?;
+                let (seat, items) = self.seat_and_items(bound)?;
                 Ok(Tree::pattern(seat, items))
             }
             Some(Token::Stops) => {
@@ -378,8 +380,8 @@ impl<'a> Parser<'a> {
         Ok(left)
     }
 
-    /// `any` or `every`, and `class ( cond )`: the condition is read once for each suit of the
-    /// class, from the same token on. At most four quantifiers enclose each other.
+    /// `any` or `every`, and `class ( cond )`: the condition is read once for each suit or
+    /// seat of the class, from the same token on. At most seven quantifiers enclose each other.
     #[cycle(conditions)]
     #[inline(never)]
     fn quantified(&mut self, bound: Bound) -> Result<Box<Tree>, Refusal>
@@ -391,10 +393,10 @@ impl<'a> Parser<'a> {
         let class = self.class(bound)?;
         self.open()?;
         let start = self.rest;
-        let first = self.with_suit(start, bound, quantifier, class, Suit::Spades, None)?;
-        let second = self.with_suit(start, bound, quantifier, class, Suit::Hearts, first)?;
-        let third = self.with_suit(start, bound, quantifier, class, Suit::Diamonds, second)?;
-        let last = self.with_suit(start, bound, quantifier, class, Suit::Clubs, third)?;
+        let first = self.with_choice(start, bound, quantifier, class, Choice::FIRST, None)?;
+        let second = self.with_choice(start, bound, quantifier, class, Choice::SECOND, first)?;
+        let third = self.with_choice(start, bound, quantifier, class, Choice::THIRD, second)?;
+        let last = self.with_choice(start, bound, quantifier, class, Choice::FOURTH, third)?;
         let Some(tree) = last else {
             return Err(Refusal::Syntax);
         };
@@ -402,30 +404,30 @@ impl<'a> Parser<'a> {
         Ok(tree)
     }
 
-    /// The tree of the condition that begins at `start`, with the suit in the place of the class's
-    /// word, after the tree of the suits before it. A suit that isn't of the class adds nothing.
+    /// The tree of the condition that begins at `start`, with the suit or the seat in the place of the
+    /// class's word, after the tree of those before it. One that isn't of the class adds nothing.
     #[cycle(conditions)]
     #[inline(never)]
-    fn with_suit(
+    fn with_choice(
         &mut self,
         start: &'a [Placed],
         bound: Bound,
         quantifier: Quantifier,
         class: Class,
-        suit: Suit,
+        choice: Choice,
         left: Option<Box<Tree>>,
     ) -> Result<Option<Box<Tree>>, Refusal>
         requires { length self.old ≤ length start.now }
         ensures gives { Gives (option_map (λ b. form_of b.value)) result self.new
-            (with_suit_by reading bound quantifier class (kinds start.entry.now) suit
+            (with_choice_by reading bound quantifier class (kinds start.entry.now) choice
             (option_map (λ b. form_of b.value) left) self.old) }
         ensures shorter { length self.new ≤ length start.entry.now }
     {
-        if !bound.is_member(class, suit) {
+        if !bound.is_member(class, choice) {
             return Ok(left);
         }
         self.rest = start;
-        let tree = self.cond(bound.with(class, suit))?;
+        let tree = self.cond(bound.with(class, choice))?;
         Ok(Some(self.behind(quantifier, left, tree)?))
     }
 

@@ -11,7 +11,7 @@ ghost use Rattle.cond_lang.specs.Runs.{run};
 ghost use Rattle.cond_lang.specs.internal.Scanning.{token_of, begins_with, symbol_at, word_piece};
 ghost use Rattle.cond_lang.specs.internal.Scanning.{ranks_piece, number_piece, piece_at};
 
-use crate::classes::{Class, Quantifier};
+use crate::classes::{Class, Neighbour, Quantifier};
 use crate::words::WORDS;
 use arrayvec::ArrayVec;
 use cards::{Honours, Measure, Seat, Suit};
@@ -40,6 +40,7 @@ pub enum Token {
     Seat(Seat),
     Suit(Suit),
     Class(Class),
+    Neighbour(Neighbour),
     Ranks(Honours),
     Number(u16),
     Open,

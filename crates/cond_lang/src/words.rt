@@ -5,13 +5,13 @@ ghost use Rattle.cond_lang.specs.Continuations.{kind_of};
 ghost use Rattle.cond_lang.specs.Cut.{measure_word};
 ghost use Rattle.cond_lang.specs.Kinds.{all_kinds, place_of};
 
-use crate::classes::{Class, Quantifier};
+use crate::classes::{Class, Neighbour, Quantifier};
 use crate::scanner::Token;
 use cards::{Honours, Measure, Seat, Suit};
 use conditions::Op;
 
 /// The words of the language, each with its token: the table `words` of the definition.
-pub const WORDS: [(&str, Token); 28 + Measure::COUNT] = [
+pub const WORDS: [(&str, Token); 34 + Measure::COUNT] = [
     ("or", Token::Or),
     ("and", Token::And),
     ("not", Token::Not),
@@ -35,6 +35,12 @@ pub const WORDS: [(&str, Token); 28 + Measure::COUNT] = [
     ("east", Token::Seat(Seat::East)),
     ("south", Token::Seat(Seat::South)),
     ("west", Token::Seat(Seat::West)),
+    ("seat", Token::Class(Class::Seat)),
+    ("ns", Token::Class(Class::NorthSouth)),
+    ("ew", Token::Class(Class::EastWest)),
+    ("partner", Token::Neighbour(Neighbour::Partner)),
+    ("left", Token::Neighbour(Neighbour::Left)),
+    ("right", Token::Neighbour(Neighbour::Right)),
     ("spades", Token::Suit(Suit::Spades)),
     ("hearts", Token::Suit(Suit::Hearts)),
     ("diamonds", Token::Suit(Suit::Diamonds)),
@@ -94,6 +100,7 @@ pub enum Kind {
     Seat,
     Suit,
     Class(Class),
+    Neighbour(Neighbour),
     Ranks,
     Close,
     And,
@@ -112,7 +119,7 @@ const ACE: Honours = Honours {
 
 impl Kind {
     /// How many kinds there are.
-    pub const COUNT: usize = 31 + Measure::COUNT;
+    pub const COUNT: usize = 37 + Measure::COUNT;
 
     /// All kinds, in the order in which a person is told them.
     pub const ALL: [Kind; Kind::COUNT] = [
@@ -140,6 +147,12 @@ impl Kind {
         Kind::X,
         Kind::Comma,
         Kind::Seat,
+        Kind::Class(Class::Seat),
+        Kind::Class(Class::NorthSouth),
+        Kind::Class(Class::EastWest),
+        Kind::Neighbour(Neighbour::Partner),
+        Kind::Neighbour(Neighbour::Left),
+        Kind::Neighbour(Neighbour::Right),
         Kind::Suit,
         Kind::Class(Class::Suit),
         Kind::Class(Class::Major),
@@ -182,16 +195,22 @@ impl Kind {
             Kind::X => 18 + Measure::COUNT,
             Kind::Comma => 19 + Measure::COUNT,
             Kind::Seat => 20 + Measure::COUNT,
-            Kind::Suit => 21 + Measure::COUNT,
-            Kind::Class(Class::Suit) => 22 + Measure::COUNT,
-            Kind::Class(Class::Major) => 23 + Measure::COUNT,
-            Kind::Class(Class::Minor) => 24 + Measure::COUNT,
-            Kind::Class(Class::Other) => 25 + Measure::COUNT,
-            Kind::Ranks => 26 + Measure::COUNT,
-            Kind::Close => 27 + Measure::COUNT,
-            Kind::And => 28 + Measure::COUNT,
-            Kind::Or => 29 + Measure::COUNT,
-            Kind::End => 30 + Measure::COUNT,
+            Kind::Class(Class::Seat) => 21 + Measure::COUNT,
+            Kind::Class(Class::NorthSouth) => 22 + Measure::COUNT,
+            Kind::Class(Class::EastWest) => 23 + Measure::COUNT,
+            Kind::Neighbour(Neighbour::Partner) => 24 + Measure::COUNT,
+            Kind::Neighbour(Neighbour::Left) => 25 + Measure::COUNT,
+            Kind::Neighbour(Neighbour::Right) => 26 + Measure::COUNT,
+            Kind::Suit => 27 + Measure::COUNT,
+            Kind::Class(Class::Suit) => 28 + Measure::COUNT,
+            Kind::Class(Class::Major) => 29 + Measure::COUNT,
+            Kind::Class(Class::Minor) => 30 + Measure::COUNT,
+            Kind::Class(Class::Other) => 31 + Measure::COUNT,
+            Kind::Ranks => 32 + Measure::COUNT,
+            Kind::Close => 33 + Measure::COUNT,
+            Kind::And => 34 + Measure::COUNT,
+            Kind::Or => 35 + Measure::COUNT,
+            Kind::End => 36 + Measure::COUNT,
         }
     }
 
@@ -225,6 +244,7 @@ impl Kind {
             Kind::Seat => Token::Seat(Seat::North),
             Kind::Suit => Token::Suit(Suit::Spades),
             Kind::Class(class) => Token::Class(class),
+            Kind::Neighbour(neighbour) => Token::Neighbour(neighbour),
             Kind::Ranks => Token::Ranks(ACE),
             Kind::Close => Token::Close,
             Kind::And => Token::And,

@@ -3,7 +3,7 @@
 use crate::filling::joined;
 use crate::hint::Said;
 use crate::parts::Parts;
-use crate::words::{is, is_call, is_seat, is_suit};
+use crate::words::{is, is_call, is_one_of, is_seat, is_suit};
 use cond_lang::WORDS;
 use std::alloc::{AllocError, Global};
 use strsim::jaro;
@@ -50,10 +50,13 @@ fn is_at_home(parts: &Parts, word: &[u8]) -> bool {
     let is_first = is(parts.at(parts.fault.saturating_sub(1)), "(");
     if is_call(parts.call()) {
         return if is_first {
-            is_seat(word)
+            is_seat(word) || is_one_of(word, "partner left right")
         } else {
             is_suit(word)
         };
+    }
+    if is_one_of(word, "seat ns ew partner left right") {
+        return is_one_of(parts.at(parts.fault.saturating_sub(1)), "any every");
     }
     !is(parts.at(parts.fault.saturating_add(1)), "(") || is_call(word)
 }

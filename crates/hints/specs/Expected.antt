@@ -4,7 +4,8 @@ use Rattle.std.specs.Prelude.{codes, length, map, if◌then◌else◌}
 use Rattle.std.specs.List.{filter, list_all}
 use Rattle.cond_lang.specs.Cut.{measure_word}
 use Rattle.cond_lang.specs.Kinds.{all_kinds}
-use Rattle.cond_lang.specs.declared.classes.Class.TheVariants.{Suit, Major, Minor, Other}
+use Rattle.cond_lang.specs.declared.classes.Class.TheVariants.{Suit, Major, Minor, Other, Seat, NorthSouth, EastWest}
+use Rattle.cond_lang.specs.declared.classes.Neighbour.TheVariants.{Partner, Left, Right}
 use Rattle.cond_lang.specs.declared.classes.Quantifier.TheVariants.{Any, Every}
 use Rattle.cond_lang.specs.declared.words.Kind.{Kind}
 use Rattle.cond_lang.specs.declared.words.Kind.TheVariants as kind
@@ -92,6 +93,12 @@ kind_name kind.Dash = codes "-"
 kind_name kind.X = codes "x"
 kind_name kind.Comma = codes ","
 kind_name kind.Seat = codes "a seat"
+kind_name (kind.Class Seat) = codes "seat"
+kind_name (kind.Class NorthSouth) = codes "ns"
+kind_name (kind.Class EastWest) = codes "ew"
+kind_name (kind.Neighbour Partner) = codes "partner"
+kind_name (kind.Neighbour Left) = codes "left"
+kind_name (kind.Neighbour Right) = codes "right"
 kind_name kind.Suit = codes "a suit"
 kind_name (kind.Class Suit) = codes "suit"
 kind_name (kind.Class Major) = codes "major"

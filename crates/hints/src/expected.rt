@@ -7,7 +7,7 @@ ghost use Rattle.hints.specs.Expected.{separator, term_text, terms};
 ghost use Rattle.hints.specs.internal.Kinds.{in_set};
 
 use crate::kinds::KindSet;
-use cond_lang::{Class, Kind, Quantifier, measure_word};
+use cond_lang::{Class, Kind, Neighbour, Quantifier, measure_word};
 use std::alloc::{AllocError, Global};
 
 /// What a person is told may come there: a kind, or all kinds that begin a value or a condition.
@@ -205,6 +205,12 @@ fn kind_name(kind: Kind) -> &'static str
         Kind::X => "x",
         Kind::Comma => ",",
         Kind::Seat => "a seat",
+        Kind::Class(Class::Seat) => "seat",
+        Kind::Class(Class::NorthSouth) => "ns",
+        Kind::Class(Class::EastWest) => "ew",
+        Kind::Neighbour(Neighbour::Partner) => "partner",
+        Kind::Neighbour(Neighbour::Left) => "left",
+        Kind::Neighbour(Neighbour::Right) => "right",
         Kind::Suit => "a suit",
         Kind::Class(Class::Suit) => "suit",
         Kind::Class(Class::Major) => "major",

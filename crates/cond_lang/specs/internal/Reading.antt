@@ -9,15 +9,16 @@ use Rattle.conditions.specs.declared.tree.Item.{Item}
 use Rattle.conditions.specs.declared.tree.Item.TheVariants.{Length, Any}
 use Rattle.conditions.specs.declared.tree.Op.{Op}
 use Rattle.cond_lang.specs.declared.classes.Bound.{Bound}
+use Rattle.cond_lang.specs.declared.classes.Choice.{Choice}
 use Rattle.cond_lang.specs.declared.classes.Class.{Class as AClass}
-use Rattle.cond_lang.specs.declared.classes.Class.TheVariants.{Suit as AnySuit, Major, Minor, Other}
+use Rattle.cond_lang.specs.declared.classes.Class.TheVariants.{Suit as AnySuit, Major, Minor, Other, Seat as AnySeat, NorthSouth, EastWest}
 use Rattle.cond_lang.specs.declared.classes.Quantifier.{Quantifier as AQuantifier}
 use Rattle.cond_lang.specs.declared.scanner.Token.{Token}
-use Rattle.cond_lang.specs.declared.scanner.Token.TheVariants.{Or, And, Not, Balanced, Shape, Pattern, Quantifier, Stops, Measure, Cards, Len, Longest, Second, Shortest, In, X, Seat, Suit, Class, Ranks, Number, Open, Close, Comma, Dash, Plus, Relation}
+use Rattle.cond_lang.specs.declared.scanner.Token.TheVariants.{Or, And, Not, Balanced, Shape, Pattern, Quantifier, Stops, Measure, Cards, Len, Longest, Second, Shortest, In, X, Seat, Suit, Class, Neighbour, Ranks, Number, Open, Close, Comma, Dash, Plus, Relation}
 use Rattle.cond_lang.specs.declared.parser.Refusal.{Refusal}
 use Rattle.cond_lang.specs.declared.parser.Refusal.TheVariants.{Syntax, Memory}
 use Rattle.conditions.specs.Form.{Amount, sum, number, measured, suit_measured, cards_held, suit_cards_held, suit_length, longest, second, shortest, Form, any_of, all_of, negation, compare, within, balanced, shaped, patterned, stops}
-use Rattle.cond_lang.specs.Classes.{unbound, bound_to, bind, can_bind, is_member, all_suits}
+use Rattle.cond_lang.specs.Classes.{unbound, bound_to, bind, can_bind, is_member, all_choices, seat_bound_to, seat_beside}
 use Rattle.cond_lang.specs.Grammar.{joined}
 
 -- what was read and what is left, or where it stopped
@@ -48,9 +49,22 @@ abbrev pub dash : Reader (Unit {0})
 dash (Dash ∷ S) = got tt S
 dash S = stuck S
 
-abbrev pub seat : Reader ASeat
-seat (Seat q ∷ S) = got q S
-seat S = stuck S
+-- what is read, and then a closing bracket
+abbrev pub closing : {A : Type 0} → A → Reader A
+closing x S = after (closed S) (λ _ R. got x R)
+
+-- the seat that a class's word means
+abbrev pub class_seat : Option ASeat → AClass → Reader ASeat
+class_seat None c S = stuck (Class c ∷ S)
+class_seat (Some q) c S = got q S
+
+-- a seat, or a neighbour of one
+abbrev pub seat : Bound → Reader ASeat
+seat E (Seat q ∷ S) = got q S
+seat E (Class c ∷ S) = class_seat (seat_bound_to E c) c S
+seat E (Neighbour n ∷ Open ∷ S) = after (seat E S) (λ q R. closing (seat_beside n q) R)
+seat E (Neighbour n ∷ S) = stuck S
+seat E S = stuck S
 
 -- the suit that a class's word means
 abbrev pub class_suit : Option ASuit → AClass → Reader ASuit
@@ -65,7 +79,8 @@ suit E S = stuck S
 -- whether some class can be bound
 abbrev pub can_quantify : Bound → Bool
 can_quantify E =
-    can_bind E AnySuit || (can_bind E Major || (can_bind E Minor || can_bind E Other))
+    can_bind E AnySuit || (can_bind E Major || (can_bind E Minor || (can_bind E Other
+    || (can_bind E AnySeat || (can_bind E NorthSouth || can_bind E EastWest)))))
 
 -- a quantifier, where some class can be bound
 abbrev pub quantifier : Bound → Reader AQuantifier
@@ -93,10 +108,6 @@ item S = stuck S
 abbrev pub relation : Reader Op
 relation (Relation o ∷ S) = got o S
 relation S = stuck S
-
--- what is read, and then a closing bracket
-abbrev pub closing : {A : Type 0} → A → Reader A
-closing x S = after (closed S) (λ _ R. got x R)
 
 -- , suit )
 abbrev pub comma_suit_close : Bound → Reader ASuit
@@ -127,21 +138,21 @@ rest_of_cards E q (Class c ∷ S) = suit_and_ranks E q (Class c ∷ S)
 rest_of_cards E q S = after (ranks_close S) (λ h R. got (cards_held q h) R)
 
 -- ( seat
-abbrev pub open_seat : Reader ASeat
-open_seat S = after (opened S) (λ _ R. seat R)
+abbrev pub open_seat : Bound → Reader ASeat
+open_seat E S = after (opened S) (λ _ R. seat E R)
 
 -- ( seat )
-abbrev pub seat_in_brackets : Reader ASeat
-seat_in_brackets S = after (open_seat S) closing
+abbrev pub seat_in_brackets : Bound → Reader ASeat
+seat_in_brackets E S = after (open_seat E S) closing
 
 -- ( seat , suit )
 abbrev pub seat_and_suit : Bound → Reader (ASeat × ASuit)
 seat_and_suit E S =
-    after (open_seat S) (λ q S. after (comma_suit_close E S) (λ s R. got (q, s) R))
+    after (open_seat E S) (λ q S. after (comma_suit_close E S) (λ s R. got (q, s) R))
 
 -- ( seat ,
-abbrev pub open_seat_comma : Reader ASeat
-open_seat_comma S = after (open_seat S) (λ q S. after (comma S) (λ _ R. got q R))
+abbrev pub open_seat_comma : Bound → Reader ASeat
+open_seat_comma E S = after (open_seat E S) (λ q S. after (comma S) (λ _ R. got q R))
 
 -- number - number
 abbrev pub range : Reader (ℕ × ℕ)
@@ -149,18 +160,18 @@ range S =
     after (digits S) (λ m S. after (dash S) (λ _ S. after (digits S) (λ n S. got (m, n) S)))
 
 -- how long one of a hand's suits is, by its place among them
-abbrev pub suit_count : Reader Amount
-suit_count (Longest ∷ S) = after (seat_in_brackets S) (λ q R. got (longest q) R)
-suit_count (Second ∷ S) = after (seat_in_brackets S) (λ q R. got (second q) R)
-suit_count (Shortest ∷ S) = after (seat_in_brackets S) (λ q R. got (shortest q) R)
-suit_count S = stuck S
+abbrev pub suit_count : Bound → Reader Amount
+suit_count E (Longest ∷ S) = after (seat_in_brackets E S) (λ q R. got (longest q) R)
+suit_count E (Second ∷ S) = after (seat_in_brackets E S) (λ q R. got (second q) R)
+suit_count E (Shortest ∷ S) = after (seat_in_brackets E S) (λ q R. got (shortest q) R)
+suit_count E S = stuck S
 
 unfoldable pub atom_of : Bound → Reader Amount
 atom_of E (Number n ∷ S) = got (number n) S
-atom_of E (Measure m ∷ S) = after (open_seat S) (rest_of_measure E m)
+atom_of E (Measure m ∷ S) = after (open_seat E S) (rest_of_measure E m)
 atom_of E (Len ∷ S) = after (seat_and_suit E S) (λ p R. got (suit_length p.0 p.1) R)
-atom_of E (Cards ∷ S) = after (open_seat_comma S) (λ q R. rest_of_cards E q R)
-atom_of E S = suit_count S
+atom_of E (Cards ∷ S) = after (open_seat_comma E S) (λ q R. rest_of_cards E q R)
+atom_of E S = suit_count E S
 
 unfoldable pub items : Reader (List Item)
 items S =
@@ -170,9 +181,9 @@ items S =
     after (item S) (λ d S. got (a ∷ b ∷ c ∷ d ∷ []) S)))))))
 
 -- ( seat , a - b - c - d )
-unfoldable pub seat_and_items : Reader (ASeat × List Item)
-seat_and_items S =
-    after (open_seat S) (λ q S. after (comma S) (λ _ S.
+unfoldable pub seat_and_items : Bound → Reader (ASeat × List Item)
+seat_and_items E S =
+    after (open_seat E S) (λ q S. after (comma S) (λ _ S.
     after (items S) (λ n S. closing (q, n) S)))
 
 -- what is to be read: a rule of the grammar, or the rest of a chain after its first part
@@ -217,42 +228,42 @@ sums_by r E a S = got a S
 
 -- a test with no `not`, no bracket and no quantifier before it
 abbrev pub test_by : Readers → Bound → Reader Form
-test_by r E (Balanced ∷ S) = after (open_seat S) (λ q R. closing (balanced q) R)
-test_by r E (Shape ∷ S) = after (seat_and_items S) (λ p R. got (shaped p.0 p.1) R)
-test_by r E (Pattern ∷ S) = after (seat_and_items S) (λ p R. got (patterned p.0 p.1) R)
+test_by r E (Balanced ∷ S) = after (open_seat E S) (λ q R. closing (balanced q) R)
+test_by r E (Shape ∷ S) = after (seat_and_items E S) (λ p R. got (shaped p.0 p.1) R)
+test_by r E (Pattern ∷ S) = after (seat_and_items E S) (λ p R. got (patterned p.0 p.1) R)
 test_by r E (Stops ∷ S) = after (seat_and_suit E S) (λ p R. got (stops p.0 p.1) R)
 test_by r E S = comparing_by r E S
 
--- a tree after those of the suits before it
+-- a tree after those of the choices before it
 abbrev pub behind : AQuantifier → Option Form → Form → Form
 behind k None b = b
 behind k (Some a) b = joined k a b
 
--- the condition S with the suit in the class's place, if the suit is one of the class
-abbrev pub with_suit_by :
-    Readers → Bound → AQuantifier → AClass → List Token → ASuit → Option Form
+-- the condition S with the suit or the seat in the class's place, if it is one of the class
+abbrev pub with_choice_by :
+    Readers → Bound → AQuantifier → AClass → List Token → Choice → Option Form
     → Reader (Option Form)
-with_suit_by r E k c S s left R =
+with_choice_by r E k c S s left R =
     if is_member E c s
     then after (r (bind E c s) a_cond S) (λ b Q. got (Some (behind k left b)) Q)
     else got left R
 
--- no class is without a suit
+-- no class is without a member
 abbrev pub some_tree : Option Form → Reader Form
 some_tree None R = stuck R
 some_tree (Some t) R = got t R
 
--- the condition S with each of the suits, one after the other
+-- the condition S with each of the choices, one after the other
 abbrev pub each_by :
-    Readers → Bound → AQuantifier → AClass → List Token → List ASuit → Option Form → Reader Form
+    Readers → Bound → AQuantifier → AClass → List Token → List Choice → Option Form → Reader Form
 each_by r E k c S [] left R = some_tree left R
 each_by r E k c S (s ∷ ss) left R =
-    after (with_suit_by r E k c S s left R) (λ left Q. each_by r E k c S ss left Q)
+    after (with_choice_by r E k c S s left R) (λ left Q. each_by r E k c S ss left Q)
 
--- ( cond ) with each suit of the class in its place
+-- ( cond ) with each suit or seat of the class in its place
 abbrev pub bracketed_by : Readers → Bound → AQuantifier → AClass → Reader Form
 bracketed_by r E k c S =
-    after (opened S) (λ _ S. after (each_by r E k c S all_suits None S) closing)
+    after (opened S) (λ _ S. after (each_by r E k c S all_choices None S) closing)
 
 -- quantifier class ( cond )
 abbrev pub quantified_by : Readers → Bound → Reader Form

@@ -59,11 +59,25 @@ impl<'a> Parser<'a> {
         Ok(())
     }
 
-    pub(super) fn seat(&mut self) -> Result<Seat, Refusal>
-        ensures gives { Gives (λ q. q) result self.new (seat self.old) }
+    /// A seat, a bound class, which is the seat that it means, or a neighbour of such a seat.
+    #[cycle(seats)]
+    pub(super) fn seat(&mut self, bound: Bound) -> Result<Seat, Refusal>
+        ensures gives { Gives (λ q. q) result self.new (seat bound self.old) }
         ensures shorter { length self.new ≤ length self.old }
     {
-        let Some(Token::Seat(seat)) = self.peek() else {
+        let named = match self.peek() {
+            Some(Token::Seat(seat)) => Some(seat),
+            Some(Token::Class(class)) => bound.seat_of(class),
+            Some(Token::Neighbour(neighbour)) => {
+                self.advance();
+                self.open()?;
+                let seat = self.seat(bound)?;
+                self.close()?;
+                return Ok(neighbour.of(seat));
+            }
+            _ => None,
+        };
+        let Some(seat) = named else {
             return Err(Refusal::Syntax);
         };
         self.advance();
@@ -166,30 +180,30 @@ impl<'a> Parser<'a> {
     }
 
     /// `( seat`
-    pub(super) fn open_seat(&mut self) -> Result<Seat, Refusal>
-        ensures gives { Gives (λ q. q) result self.new (open_seat self.old) }
+    pub(super) fn open_seat(&mut self, bound: Bound) -> Result<Seat, Refusal>
+        ensures gives { Gives (λ q. q) result self.new (open_seat bound self.old) }
         ensures shorter { length self.new ≤ length self.old }
     {
         self.open()?;
-        self.seat()
+        self.seat(bound)
     }
 
     /// `( seat )`
-    pub(super) fn seat_in_brackets(&mut self) -> Result<Seat, Refusal>
-        ensures gives { Gives (λ q. q) result self.new (seat_in_brackets self.old) }
+    pub(super) fn seat_in_brackets(&mut self, bound: Bound) -> Result<Seat, Refusal>
+        ensures gives { Gives (λ q. q) result self.new (seat_in_brackets bound self.old) }
         ensures shorter { length self.new ≤ length self.old }
     {
-        let seat = self.open_seat()?;
+        let seat = self.open_seat(bound)?;
         self.close()?;
         Ok(seat)
     }
 
     /// `( seat ,`
-    pub(super) fn open_seat_comma(&mut self) -> Result<Seat, Refusal>
-        ensures gives { Gives (λ q. q) result self.new (open_seat_comma self.old) }
+    pub(super) fn open_seat_comma(&mut self, bound: Bound) -> Result<Seat, Refusal>
+        ensures gives { Gives (λ q. q) result self.new (open_seat_comma bound self.old) }
         ensures shorter { length self.new ≤ length self.old }
     {
-        let seat = self.open_seat()?;
+        let seat = self.open_seat(bound)?;
         self.comma()?;
         Ok(seat)
     }
@@ -231,7 +245,7 @@ impl<'a> Parser<'a> {
         ensures gives { Gives (λ p. (p.0, p.1)) result self.new (seat_and_suit bound self.old) }
         ensures shorter { length self.new ≤ length self.old }
     {
-        let seat = self.open_seat()?;
+        let seat = self.open_seat(bound)?;
         let suit = self.comma_suit_close(bound)?;
         Ok((seat, suit))
     }
@@ -254,11 +268,12 @@ impl<'a> Parser<'a> {
 
     /// `( seat , item - item - item - item )`
     #[tactic(auto, unfolding(crate::specs::internal::Reading::seat_and_items))]
-    pub(super) fn seat_and_items(&mut self) -> Result<(Seat, [Item; 4]), Refusal>
-        ensures gives { Gives (λ p. (p.0, p.1)) result self.new (seat_and_items self.old) }
+    pub(super) fn seat_and_items(&mut self, bound: Bound) -> Result<(Seat, [Item; 4]), Refusal>
+        ensures gives { Gives (λ p. (p.0, p.1)) result self.new (seat_and_items bound self.old) }
         ensures shorter { length self.new ≤ length self.old }
     {
-        let seat = self.open_seat_comma()?;
+        let seat = self.open_seat(bound)?;
+        self.comma()?;
         let items = self.items()?;
         self.close()?;
         Ok((seat, items))

@@ -4,15 +4,22 @@ pub(crate) const RULES: &str = "
     Can:SuitClass any|every ^ other => \
         other comes in the brackets of another, as in any suit (len(north,suit)>=5 and any other \
         (len(north,other)>=5))
+    any|every ^ Named:opponent|opponents|opp|opps => \
+        for east and west write \"%b1 ew\", as in %b1 ew (hcp(ew)>=12)
+    any|every ^ Seat => a seat alone is named in a test, as in hcp(%n0)>=12
+    any|every ^ seat|ns|ew => \
+        %n0 stands for a seat here already: begin this test behind the bracket
     any|every ^ Suit => a suit alone is named in a test, as in len(north,%n0)>=5
     any|every ^ suit|major|minor|other => \
         %n0 stands for a suit here already: begin this test behind the bracket
-    Can:SuitClass any|every ^ Except:suits|majors|minors => \
+    Can:SuitClass any|every ^ Except:suits|majors|minors|seats => \
         say of what, as in %b1 suit (len(north,suit)>=5)
     Can:Open Cannot:Not any|every other ^ suit|suits|major|minor => \
         leave \"%n0\" out, and write other for it in the brackets
     Can:Open Cannot:Not any|every suit|major|minor|other ^ => \
         say what in brackets, as in %b2 %b1 (len(north,%b1)>=5)
+    Can:Open Cannot:Not any|every seat|ns|ew ^ => \
+        say what in brackets, as in %b2 %b1 (hcp(%b1)>=12)
     longest|second|shortest ^ suit ( Seat ) => write \"%b1(%n2)\"
     any|every suit|major|minor ( ^ Seat ) => for its length write: %b3 %b2 (len(%n0,%b2)%a2)
     NotInCall ^ suit|major|minor ( Seat ) <|<= => for each %n0 write: every %n0 (len(%n2,%n0)%a4)
@@ -34,6 +41,8 @@ pub(crate) const RULES: &str = "
         for some suit write \"any suit\", as in any suit (len(north,suit)>=5)
     NotInCall ^ all|each|everysuit suit|suits|major|majors|minor|minors => \
         for each suit write \"every suit\", as in every suit (stops(north,suit))
+    ^ seat|seats|ns|ew => \
+        a class stands in the brackets of any or every, as in any seat (hcp(seat)>=20)
     ^ suit|suits|major|majors|minor|minors|other|others|it => \
         a class stands in the brackets of any or every, as in any suit (len(north,suit)>=5)
 ";

@@ -44,8 +44,14 @@ pub(crate) const RULES: &str = "
     InCall ( Seat ^ -|/|&|and|or Seat => name one seat, and join two tests with \"and\" or \"or\"
     InCall ( ^ Named:dealer => \
         name the seat: north, east, south or west; with --rotate the dealer has north's hand
-    InCall ( ^ Named:left|lho|next => name the seat: after north comes east, then south, then west
+    InCall ( ^ Named:left|lho|next => \
+        for the seat after north write left(north), as in %w0(left(north)%e0
+    InCall ( ^ Named:right|rho => \
+        for the seat before north write right(north), as in %w0(right(north)%e0
     InCall ( ^ Named:partner|partners|pard => \
-        name the seat: north and south are partners, and east and west
+        for the seat across from north write partner(north), as in %w0(partner(north)%e0
+    NotInCall ^ partner|left|right => begin with what you ask of the seat, as in hcp(%n0(north))
+    InCall ( ^ seat => \
+        seat stands in the brackets of any or every, as in any seat (hcp(seat)>=20)
     InCall ( ^ Named:PLAYERS => name the seat: north, east, south or west
 ";

@@ -2,7 +2,7 @@
 
 use super::*;
 use cards::Measure;
-use cond_lang::{Beginning, Class, Kind, Quantifier};
+use cond_lang::{Beginning, Class, Kind, Neighbour, Quantifier};
 
 /// Any measure: all of them are in the same places.
 const MEASURE: Kind = Kind::Measure(Measure::Hcp);
@@ -14,6 +14,18 @@ const MAJOR: Kind = Kind::Class(Class::Major);
 const MINOR: Kind = Kind::Class(Class::Minor);
 
 const OTHER: Kind = Kind::Class(Class::Other);
+
+const SEAT: Kind = Kind::Class(Class::Seat);
+
+const NS: Kind = Kind::Class(Class::NorthSouth);
+
+const EW: Kind = Kind::Class(Class::EastWest);
+
+const PARTNER: Kind = Kind::Neighbour(Neighbour::Partner);
+
+const LEFT: Kind = Kind::Neighbour(Neighbour::Left);
+
+const RIGHT: Kind = Kind::Neighbour(Neighbour::Right);
 
 /// All that begins a condition.
 const CONDITION: [Kind; 15] = [
@@ -63,7 +75,7 @@ const VALUE: [Kind; 7] = [
 ];
 
 /// Texts with a syntax fault, or whole ones, and what may come there.
-const EXPECTED: [(&str, &[Kind]); 31] = [
+const EXPECTED: [(&str, &[Kind]); 36] = [
     ("", &CONDITION),
     ("1==1+", &VALUE),
     ("hcp(north)", &[Kind::Plus, Kind::Relation, Kind::In]),
@@ -80,7 +92,7 @@ const EXPECTED: [(&str, &[Kind]); 31] = [
         &[Kind::Plus, Kind::Close, Kind::And, Kind::Or],
     ),
     ("losers", &[Kind::Open]),
-    ("losers(", &[Kind::Seat]),
+    ("losers(", &[Kind::Seat, PARTNER, LEFT, RIGHT]),
     ("losers(south", &[Kind::Comma, Kind::Close]),
     ("losers(south,3)", &[Kind::Suit]),
     ("cards(south,", &[Kind::Suit, Kind::Ranks]),
@@ -92,16 +104,33 @@ const EXPECTED: [(&str, &[Kind]); 31] = [
     ("hcp(east) in 3-4 5", &[Kind::And, Kind::Or, Kind::End]),
     ("(1 in 3-4 5", &[Kind::Close, Kind::And, Kind::Or]),
     ("pattern(east,x-x-x-in", &[Kind::Number, Kind::X]),
-    ("any", &[SUIT, MAJOR, MINOR]),
+    ("any", &[SEAT, NS, EW, SUIT, MAJOR, MINOR]),
     ("any suit", &[Kind::Open]),
-    ("any suit (any suit (0==0))", &[MAJOR, MINOR, OTHER]),
-    ("any suit (any other (any other (0==0)))", &[MAJOR, MINOR]),
+    (
+        "any suit (any suit (0==0))",
+        &[SEAT, NS, EW, MAJOR, MINOR, OTHER],
+    ),
+    (
+        "any suit (any other (any other (0==0)))",
+        &[SEAT, NS, EW, MAJOR, MINOR],
+    ),
     ("any suit (len(north,major)>=2)", &[Kind::Suit, SUIT]),
     ("any major (0==0) and len(north,major)>=2", &[Kind::Suit]),
     (
         "any suit (any major (any minor (any other (any",
+        &[SEAT, NS, EW],
+    ),
+    (
+        "any suit (any major (any minor (any other (any seat (any ns (any ew (any",
         &INSIDE_ALL,
     ),
+    ("hcp(partner", &[Kind::Open]),
+    ("any ns (hcp(left(", &[Kind::Seat, NS, PARTNER, LEFT, RIGHT]),
+    (
+        "any seat (hcp(seat)>1 and any other",
+        &[NS, EW, SUIT, MAJOR, MINOR],
+    ),
+    ("any seat (any suit (any other", &[Kind::Open]),
     (
         "every minor (cards(north,",
         &[Kind::Suit, MINOR, Kind::Ranks],

@@ -4,7 +4,7 @@ use super::spelling::tree_text;
 use super::*;
 
 /// Texts, and their trees.
-const TREES: [(&str, &str); 43] = [
+const TREES: [(&str, &str); 47] = [
     (
         "0==0",
         "Compare { left: Number(0), op: Equal, right: Number(0) }",
@@ -151,6 +151,21 @@ const TREES: [(&str, &str); 43] = [
         Stops(East, Hearts)), Stops(East, Clubs))), \
         AllOf(Stops(West, Clubs), AllOf(AllOf(Stops(East, Spades), \
         Stops(East, Hearts)), Stops(East, Diamonds))))",
+    ),
+    // Each seat of a class, in the place of its word, and neighbours.
+    (
+        "any ns (stops(ns,hearts))",
+        "AnyOf(Stops(North, Hearts), Stops(South, Hearts))",
+    ),
+    (
+        "every ew (any major (stops(ew,major)))",
+        "AllOf(AnyOf(Stops(East, Spades), Stops(East, Hearts)), \
+        AnyOf(Stops(West, Spades), Stops(West, Hearts)))",
+    ),
+    ("stops(left(north),clubs)", "Stops(East, Clubs)"),
+    (
+        "any ns (stops(right(partner(ns)),clubs))",
+        "AnyOf(Stops(East, Clubs), Stops(West, Clubs))",
     ),
     // Comments and ends of lines.
     ("1==1#2==2", ONE_IS_ONE),

@@ -54,26 +54,26 @@ unit-returns-in-Some-Quantifier-clause-gives t c = grind (arith, reads)
 pub unit-returns-in_default-clause-gives : goal.unit-returns-in_default-clause-gives
 unit-returns-in_default-clause-gives t c = grind (arith, reads)
 
-pub quantified-with_suit-requires : goal.quantified-with_suit-requires
-quantified-with_suit-requires t c = grind (arith, common_steps)
+pub quantified-with_choice-requires : goal.quantified-with_choice-requires
+quantified-with_choice-requires t c = grind (arith, common_steps)
 
 pub quantified-returns-in_err-first-clause-shorter : goal.quantified-returns-in_err-first-clause-shorter
 quantified-returns-in_err-first-clause-shorter t c = grind (arith, common_steps)
 
-pub quantified-with_suit-requires-2 : goal.quantified-with_suit-requires-2
-quantified-with_suit-requires-2 t c = grind (arith, common_steps)
+pub quantified-with_choice-requires-2 : goal.quantified-with_choice-requires-2
+quantified-with_choice-requires-2 t c = grind (arith, common_steps)
 
 pub quantified-returns-in_err-second-clause-shorter : goal.quantified-returns-in_err-second-clause-shorter
 quantified-returns-in_err-second-clause-shorter t c = grind (arith, common_steps)
 
-pub quantified-with_suit-requires-3 : goal.quantified-with_suit-requires-3
-quantified-with_suit-requires-3 t c = grind (arith, common_steps)
+pub quantified-with_choice-requires-3 : goal.quantified-with_choice-requires-3
+quantified-with_choice-requires-3 t c = grind (arith, common_steps)
 
 pub quantified-returns-in_err-third-clause-shorter : goal.quantified-returns-in_err-third-clause-shorter
 quantified-returns-in_err-third-clause-shorter t c = grind (arith, common_steps)
 
-pub quantified-with_suit-requires-4 : goal.quantified-with_suit-requires-4
-quantified-with_suit-requires-4 t c = grind (arith, common_steps)
+pub quantified-with_choice-requires-4 : goal.quantified-with_choice-requires-4
+quantified-with_choice-requires-4 t c = grind (arith, common_steps)
 
 pub quantified-returns-in_err-last-clause-shorter : goal.quantified-returns-in_err-last-clause-shorter
 quantified-returns-in_err-last-clause-shorter t c = grind (arith, common_steps)
@@ -87,14 +87,14 @@ quantified-returns-in_err-close-clause-shorter t c = grind (arith, common_steps)
 pub quantified-returns-clause-shorter : goal.quantified-returns-clause-shorter
 quantified-returns-clause-shorter t c = grind (arith, common_steps)
 
-pub with_suit-cond-requires : goal.with_suit-cond-requires
-with_suit-cond-requires t c = grind (arith, common_steps)
+pub with_choice-cond-requires : goal.with_choice-cond-requires
+with_choice-cond-requires t c = grind (arith, common_steps)
 
-pub with_suit-returns-in_err-tree-clause-shorter : goal.with_suit-returns-in_err-tree-clause-shorter
-with_suit-returns-in_err-tree-clause-shorter t c = grind (arith, common_steps)
+pub with_choice-returns-in_err-tree-clause-shorter : goal.with_choice-returns-in_err-tree-clause-shorter
+with_choice-returns-in_err-tree-clause-shorter t c = grind (arith, common_steps)
 
-pub with_suit-returns-in_err-behind-clause-shorter : goal.with_suit-returns-in_err-behind-clause-shorter
-with_suit-returns-in_err-behind-clause-shorter t c = grind (arith, common_steps)
+pub with_choice-returns-in_err-behind-clause-shorter : goal.with_choice-returns-in_err-behind-clause-shorter
+with_choice-returns-in_err-behind-clause-shorter t c = grind (arith, common_steps)
 
-pub with_suit-returns-clause-shorter : goal.with_suit-returns-clause-shorter
-with_suit-returns-clause-shorter t c = grind (arith, common_steps)
+pub with_choice-returns-clause-shorter : goal.with_choice-returns-clause-shorter
+with_choice-returns-clause-shorter t c = grind (arith, common_steps)
