@@ -13,12 +13,16 @@
 //! half a lane's content.
 //!
 //! One loop a lane's end: look at the stop flag, pause, count. It ends with enough, with less once
-//! the other end makes no progress, or without when the flag is up.
+//! the other end makes no progress, or without when the flag is up. A pause is some spins at first,
+//! and then a yield, or a sleep while the machine has so much other work that a yield takes long
+//! (`load.rt`, `bell.rt`).
 
 ghost use Rattle.std.specs.Prelude.{◌≡◌, ◌+◌, ◌<◌, ◌≤◌, ◌↔◌, true, false};
 ghost use Rattle.lanes.specs.declared.wait.Pace.TheVariants.{Spins};
 
+use crate::bell::Bell;
 use crate::ends::{LaneIn, LaneOut};
+use crate::load::{Load, Yields};
 use std::sync::Wait;
 use std::sync::atomic::{AtomicBool, Ordering};
 use std::{hint, thread};
@@ -37,9 +41,20 @@ const SPINS_A_VERDICT: usize = 2;
 /// microsecond or more, as to yield does: an end of a short lane looks again some times instead.
 const PATIENCE: usize = 64;
 
+/// As how many yields one counts after which the other end has nothing left to do, where both have
+/// a core of their own: something else ran for longer than a yield takes. After some of these the
+/// end sleeps once, to see whether the load is high.
+const YIELDS_A_SLICE: u32 = 4096;
+
+/// The same where the ends share a core: the other end ran, and perhaps something else as well.
+const YIELDS_A_TURN: u32 = 256;
+
+/// A ring with fewer slots may be filled or emptied during any yield.
+const SHORT_LANE: usize = 32;
+
 /// A spinning end goes on with a lane's capacity divided by this: with half of it, one end works
 /// while the other does.
-const PARTS_OF_A_LANE: usize = 2;
+pub(crate) const PARTS_OF_A_LANE: usize = 2;
 
 /// How an end of a lane waits for the other one.
 #[derive(Clone, Copy, Drop)]
@@ -82,14 +97,15 @@ impl LaneIn {
         ensures sent { self.new.sent ≡ self.old.sent }
         ensures room { result ≡ true → 0 < self.new.room }
     {
-        let mut pause = Pause::new(self.capacity(), self.pace());
+        let mut pause = self.begin_wait();
         for _ in rt.forever() {
             // A load of the stop flag isn't an event of the core.
             if stop.load(Ordering::SeqCst) {
                 return false;
             }
-            pause.wait();
+            pause.wait(rt, self.bell(), self.load());
             if pause.is_enough(self.count_room()) {
+                self.end_wait(&mut pause);
                 return true;
             }
         }
@@ -122,15 +138,16 @@ impl LaneOut {
         ensures some { result ≡ true → 0 < self.new.known }
         ensures none { result ≡ false → self.new.known ≡ 0 }
     {
-        let mut pause = Pause::new(self.capacity(), self.pace());
+        let mut pause = self.begin_wait();
         for _ in rt.forever() {
             // A load of the stop flag isn't an event of the core.
             if stop.load(Ordering::SeqCst) {
                 // The worker may have sent since the last look.
                 return self.has_verdict();
             }
-            pause.wait();
+            pause.wait(rt, self.bell(), self.load());
             if pause.is_enough(self.count_verdicts()) {
+                self.end_wait(&mut pause);
                 return true;
             }
         }
@@ -138,24 +155,42 @@ impl LaneOut {
     }
 }
 
+/// How far an end that waits has come.
+#[derive(Clone, Copy, Drop)]
+enum Stage {
+    /// It spins between two looks.
+    Spins,
+    /// It yields between two looks.
+    Yields,
+    /// It said that it listens for its bell, and looks once more.
+    Listens,
+    /// It slept.
+    Slept,
+}
+
 /// The pauses of an end that waits. One that spins does so again as long as the other end makes
-/// progress, and yields once that stopped and its patience is used up.
+/// progress, and yields or sleeps once that stopped and its patience is used up.
 #[derive(Drop)]
-struct Pause {
+pub(crate) struct Pause {
+    capacity: usize,
     spins: usize,
     enough: usize,
     seen: usize,
     patience: usize,
+    suspect: u32,
+    yields: Yields,
+    stage: Stage,
 }
 
 impl Pause {
-    /// The pauses at a lane of this capacity.
-    fn new(capacity: usize, pace: Pace) -> Pause {
-        let (enough, patience) = match pace {
-            Pace::Spins => (capacity / PARTS_OF_A_LANE, PATIENCE),
-            Pace::Yields => (1, 0),
+    /// The pauses at a ring of this capacity, of an end that has so many yields left.
+    pub(crate) fn new(capacity: usize, pace: Pace, yields: Yields) -> Pause {
+        let (enough, patience, suspect) = match pace {
+            Pace::Spins => (capacity / PARTS_OF_A_LANE, PATIENCE, suspicion_at(capacity)),
+            Pace::Yields => (1, 0, YIELDS_A_TURN),
         };
         Pause {
+            capacity,
             spins: capacity
                 .saturating_mul(SPINS_A_VERDICT)
                 .max(MIN_SPINS)
@@ -163,21 +198,54 @@ impl Pause {
             enough,
             seen: 0,
             patience,
+            suspect,
+            yields,
+            stage: Stage::Spins,
         }
     }
 
-    /// Waits a little.
-    fn wait(&self) {
-        if self.patience == 0 {
-            thread::yield_now();
+    /// Waits a little, or says that the end listens for its bell. After that a look is due, and
+    /// then the end sleeps.
+    fn wait<R: Wait>(&mut self, rt: &R, bell: &Bell, load: &Load) {
+        if self.patience > 0 {
+            for _ in 0..self.spins {
+                hint::spin_loop();
+            }
             return;
         }
-        for _ in 0..self.spins {
-            hint::spin_loop();
+        self.stage = match self.stage {
+            Stage::Listens => {
+                self.sleep(rt, bell, load);
+                Stage::Slept
+            }
+            Stage::Spins | Stage::Yields | Stage::Slept => self.yield_or_listen(bell, load),
+        };
+    }
+
+    /// Lets other threads run, or says that the end listens for its bell.
+    fn yield_or_listen(&mut self, bell: &Bell, load: &Load) -> Stage {
+        if load.is_high() || !self.yields.take_one() {
+            bell.listen();
+            return Stage::Listens;
+        }
+        thread::yield_now();
+        Stage::Yields
+    }
+
+    /// Sleeps until the bell rings, and notes what that says of the load.
+    fn sleep<R: Wait>(&mut self, rt: &R, bell: &Bell, load: &Load) {
+        if !bell.sleep(rt) {
+            load.note_silence();
+        }
+        if load.is_high() {
+            self.yields.leave_one();
+        } else {
+            self.yields.renew();
         }
     }
 
-    /// Whether to go on with this many verdicts or slots: with enough, or if no more come.
+    /// Whether to go on with this many verdicts or slots: with enough, if no more come, or once the
+    /// end was woken for them.
     fn is_enough(&mut self, count: usize) -> bool
         ensures { result ≡ true → 0 < count }
     {
@@ -186,6 +254,35 @@ impl Pause {
         if stands_still {
             self.patience = self.patience.saturating_sub(self.spins);
         }
-        count > 0 && (stands_still || count >= self.enough)
+        let is_all = stands_still || matches!(self.stage, Stage::Slept);
+        count > 0 && (is_all || count >= self.enough)
     }
+
+    /// Ends the wait of the end that has this bell, and returns how many yields it has left.
+    pub(crate) fn end(&mut self, bell: &Bell, load: &Load) -> Yields {
+        match self.stage {
+            Stage::Spins => {}
+            Stage::Yields => {
+                // Nothing is left to do for the other end: it had more time than a yield takes.
+                if self.seen >= self.capacity {
+                    self.yields.take(self.suspect);
+                }
+            }
+            Stage::Listens => {
+                bell.stop_listening();
+                load.note_sleep();
+            }
+            Stage::Slept => load.note_sleep(),
+        }
+        self.yields
+    }
+}
+
+/// As how many yields one counts after which a lane of this capacity is full or empty, of an end
+/// that has a core of its own.
+fn suspicion_at(capacity: usize) -> u32 {
+    if capacity < SHORT_LANE {
+        return 0;
+    }
+    YIELDS_A_SLICE
 }

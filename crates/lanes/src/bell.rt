@@ -1,0 +1,81 @@
+//! How an end of a lane sleeps, and how the other end wakes it.
+//!
+//! An end says that it listens, looks once more at what it waits for and at the stop flag, and
+//! sleeps only then, until its bell rings. The other end looks at the bell after it has made what is
+//! waited for. All steps are in one order, as each is `SeqCst`: so either the first end sees at its
+//! last look what was made, or the other one sees that it listens.
+//!
+//! No bell rings for each verdict, since to wake a thread takes longer than to judge many
+//! candidates. It rings once there is half a lane's content or more to go on with, when the other
+//! end is about to wait itself, and when that closes the lane.
+
+use std::sync::Wait;
+use std::sync::atomic::{AtomicU64, Ordering};
+use std::time::Duration;
+
+/// The end is awake, and nobody has to ring.
+const AWAKE: u64 = 0;
+
+/// The end listens for its bell: it sleeps, or is about to.
+const LISTENS: u64 = 1;
+
+/// The longest sleep, in milliseconds. An end looks again after it, since little may wait in a lane
+/// whose other end is slow. On a quiet machine the other end rings long before.
+const LONGEST_SLEEP: u64 = 1;
+
+/// What wakes an end of a lane.
+#[derive(Drop)]
+pub(crate) struct Bell {
+    state: AtomicU64,
+}
+
+impl Bell {
+    /// The bell of an end that is awake.
+    pub(crate) fn new() -> Bell {
+        Bell {
+            state: AtomicU64::new(AWAKE),
+        }
+    }
+
+    /// Says that the end listens from now on. It has to look once more before it sleeps.
+    pub(crate) fn listen(&self) {
+        self.state.store(LISTENS, Ordering::SeqCst);
+    }
+
+    /// Says that the end is awake.
+    pub(crate) fn stop_listening(&self) {
+        self.state.store(AWAKE, Ordering::SeqCst);
+    }
+
+    /// Whether the end listens, so that it may have to be woken. On a quiet machine nobody writes
+    /// the bell, and to ask costs nothing.
+    #[inline(always)]
+    pub(crate) fn listens(&self) -> bool {
+        self.state.load(Ordering::SeqCst) == LISTENS
+    }
+
+    /// Sleeps until the bell rings, unless it rang since the end listens, and for a millisecond at
+    /// most. Returns whether it rang.
+    pub(crate) fn sleep<R: Wait>(&self, rt: &R) -> bool {
+        self.state
+            .park_timeout(rt, LISTENS as u32, Duration::from_millis(LONGEST_SLEEP));
+        let has_rung = !self.listens();
+        self.stop_listening();
+        has_rung
+    }
+
+    /// Wakes the end if it listens. Never blocks.
+    #[inline(always)]
+    pub(crate) fn ring(&self) {
+        if self.listens() {
+            self.wake();
+        }
+    }
+
+    /// Wakes the end, which listens. Never blocks.
+    #[inline(never)]
+    pub(crate) fn wake(&self) {
+        self.stop_listening();
+        self.state.wake_one();
+    }
+}
