@@ -6,8 +6,8 @@
 //! last look what was made, or the other one sees that it listens.
 //!
 //! No bell rings for each verdict, since to wake a thread takes longer than to judge many
-//! candidates. It rings once there is half a lane's content or more to go on with, when the other
-//! end is about to wait itself, and when that closes the lane.
+//! candidates. It rings once there is half a lane's content or more to go on with, of a short lane
+//! all of it, when the worker is about to wait itself, and when it closes the lane.
 
 use std::sync::Wait;
 use std::sync::atomic::{AtomicU64, Ordering};
@@ -22,6 +22,17 @@ const LISTENS: u64 = 1;
 /// The longest sleep, in milliseconds. An end looks again after it, since little may wait in a lane
 /// whose other end is slow. On a quiet machine the other end rings long before.
 const LONGEST_SLEEP: u64 = 1;
+
+/// So many verdicts or slots are worth waking an end for: that takes as long as some dozens of
+/// candidates.
+const WORTH_WAKING: usize = 64;
+
+/// How many slots or verdicts a ring of this capacity has left, at most, once the end that listens
+/// is to be woken: half of the ring, or none.
+pub(crate) fn left_by_worth_waking(capacity: usize) -> usize {
+    let worth = (capacity / 2).max(WORTH_WAKING);
+    capacity.saturating_sub(worth)
+}
 
 /// What wakes an end of a lane.
 #[derive(Drop)]

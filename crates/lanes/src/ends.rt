@@ -8,10 +8,10 @@ ghost use Rattle.std.specs.Prelude.{true, false, MatchBool};
 ghost use Rattle.lanes.specs.Slots.{verdict_in, verdicts_in};
 ghost use Rattle.lanes.specs.declared.ends.LaneError.TheVariants.{Capacity, Memory};
 
-use crate::bell::Bell;
+use crate::bell::{Bell, left_by_worth_waking};
 use crate::load::{Load, Signals, Yields};
 use crate::verdict::{Block, MAX_BLOCK, Slot, Verdict};
-use crate::wait::{PARTS_OF_A_LANE, Pace, Pause, Raised};
+use crate::wait::{Pace, Pause, Raised};
 use cards::MAX_CAPACITY;
 use rtrb::{Consumer, Finished, Producer, RingBuffer};
 use std::alloc::Global;
@@ -292,20 +292,19 @@ impl LaneIn {
         // To push n verdicts at once is n of the core's Sends, one after another.
         let is_sent = self.producer.push_entire_slice(verdicts).is_ok();
         if self.signals.writer.listens() {
-            self.wake_for_half();
+            self.wake_if_worth();
         }
         is_sent
     }
 
-    /// Wakes the writer, which listens, once half a lane's verdicts wait for it. Where both have
-    /// the same core, it runs when the worker waits.
+    /// Wakes the writer, which listens, once so many verdicts wait for it that this is worth it.
     #[inline(never)]
-    fn wake_for_half(&mut self)
+    fn wake_if_worth(&mut self)
         ensures ring { self.new.ring ≡ self.old.ring }
         ensures sent { self.new.sent ≡ self.old.sent }
     {
-        let half = self.producer.capacity() / PARTS_OF_A_LANE;
-        if matches!(self.pace, Pace::Spins) && self.producer.slots() <= half {
+        let most = left_by_worth_waking(self.producer.capacity());
+        if self.producer.slots() <= most {
             self.signals.writer.wake();
         }
     }
@@ -436,19 +435,15 @@ impl LaneOut {
         }
         self.block.fill(&mut self.consumer);
         if self.signals.worker.listens() {
-            self.wake_for_half();
+            self.wake_if_worth();
         }
         !self.block.is_empty() || !self.consumer.is_empty()
     }
 
-    /// Wakes the worker, which listens, once half a lane's room waits for it. Where both have the
-    /// same core, all of it.
+    /// Wakes the worker, which listens, once so much room waits for it that this is worth it.
     #[inline(never)]
-    fn wake_for_half(&self) {
-        let most = match self.pace {
-            Pace::Spins => self.consumer.capacity() / PARTS_OF_A_LANE,
-            Pace::Yields => 0,
-        };
+    fn wake_if_worth(&self) {
+        let most = left_by_worth_waking(self.consumer.capacity());
         if self.consumer.cached_slots() <= most {
             self.signals.worker.wake();
         }

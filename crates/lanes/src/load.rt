@@ -55,14 +55,16 @@ impl Load {
         self.sleeps.store(length, Ordering::SeqCst);
     }
 
-    /// Notes that an end waited without a yield, or that the bell rang for one that yields.
+    /// Notes that an end waited without a yield in vain: one wait less to sleep for, or, if it was
+    /// to see whether the bell rings, half as many the next time.
     pub(crate) fn note_sleep(&self) {
         let sleeps = self.sleeps.load(Ordering::SeqCst);
         if sleeps > 0 {
             self.sleeps
                 .store(sleeps.saturating_sub(1), Ordering::SeqCst);
         } else {
-            self.length.store(0, Ordering::SeqCst);
+            let length = self.length.load(Ordering::SeqCst);
+            self.length.store(length / 2, Ordering::SeqCst);
         }
     }
 }

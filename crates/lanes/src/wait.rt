@@ -54,7 +54,7 @@ const SHORT_LANE: usize = 32;
 
 /// A spinning end goes on with a lane's capacity divided by this: with half of it, one end works
 /// while the other does.
-pub(crate) const PARTS_OF_A_LANE: usize = 2;
+const PARTS_OF_A_LANE: usize = 2;
 
 /// How an end of a lane waits for the other one.
 #[derive(Clone, Copy, Drop)]
