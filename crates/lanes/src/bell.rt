@@ -20,8 +20,8 @@ const AWAKE: u64 = 0;
 const LISTENS: u64 = 1;
 
 /// The longest sleep, in milliseconds. An end looks again after it, since little may wait in a lane
-/// whose other end is slow. On a quiet machine the other end rings long before.
-const LONGEST_SLEEP: u64 = 1;
+/// whose other end is slow; and a bell that is lost costs no more.
+const LONGEST_SLEEP: u64 = 4;
 
 /// So many verdicts or slots are worth waking an end for: that takes as long as some dozens of
 /// candidates.
@@ -65,14 +65,12 @@ impl Bell {
         self.state.load(Ordering::SeqCst) == LISTENS
     }
 
-    /// Sleeps until the bell rings, unless it rang since the end listens, and for a millisecond at
-    /// most. Returns whether it rang.
-    pub(crate) fn sleep<R: Wait>(&self, rt: &R) -> bool {
+    /// Sleeps until the bell rings, unless it rang since the end listens. It may also return for no
+    /// reason, and does after some milliseconds.
+    pub(crate) fn sleep<R: Wait>(&self, rt: &R) {
         self.state
             .park_timeout(rt, LISTENS as u32, Duration::from_millis(LONGEST_SLEEP));
-        let has_rung = !self.listens();
         self.stop_listening();
-        has_rung
     }
 
     /// Wakes the end if it listens. Never blocks.

@@ -9,7 +9,7 @@ ghost use Rattle.lanes.specs.Slots.{verdict_in, verdicts_in};
 ghost use Rattle.lanes.specs.declared.ends.LaneError.TheVariants.{Capacity, Memory};
 
 use crate::bell::{Bell, left_by_worth_waking};
-use crate::load::{Load, Signals, Yields};
+use crate::load::{Load, Signals};
 use crate::verdict::{Block, MAX_BLOCK, Slot, Verdict};
 use crate::wait::{Pace, Pause, Raised};
 use cards::MAX_CAPACITY;
@@ -40,7 +40,8 @@ pub struct LaneIn {
     // How many candidates the worker judges before it sends their verdicts.
     ahead: usize,
     pace: Pace,
-    yields: Yields,
+    // How many of its last yields, in turn, looked long.
+    long_yields: u32,
     signals: Arc<Signals, Global>,
 }
 
@@ -92,7 +93,8 @@ pub struct LaneOut {
     block: Block,
     settled: bool,
     pace: Pace,
-    yields: Yields,
+    // How many of its last yields, in turn, looked long.
+    long_yields: u32,
     signals: Arc<Signals, Global>,
 }
 
@@ -189,7 +191,7 @@ fn ends_with_blocks(
         producer,
         ahead: block.max(1),
         pace,
-        yields: Yields::new(),
+        long_yields: 0,
         signals: theirs,
     };
     let taker = LaneOut {
@@ -197,7 +199,7 @@ fn ends_with_blocks(
         block: Block::new(block),
         settled: false,
         pace,
-        yields: Yields::new(),
+        long_yields: 0,
         signals,
     };
     Ok((sender, taker))
@@ -210,7 +212,7 @@ impl Drop for LaneIn {
             producer: _,
             ahead: _,
             pace: _,
-            yields: _,
+            long_yields: _,
             signals: _,
         } = self;
     }
@@ -312,14 +314,14 @@ impl LaneIn {
     /// Begins to wait for room, once the writer is awake.
     pub(crate) fn begin_wait(&self) -> Pause {
         self.signals.writer.ring();
-        Pause::new(self.producer.capacity(), self.pace, self.yields)
+        Pause::new(self.producer.capacity(), self.pace)
     }
 
     /// Ends a wait.
-    pub(crate) fn end_wait(&mut self, pause: &mut Pause)
+    pub(crate) fn end_wait(&mut self, pause: &Pause)
         ensures { self.new ≡ self.old }
     {
-        self.yields = pause.end(&self.signals.worker, &self.signals.load);
+        self.long_yields = pause.end(&self.signals.worker, &self.signals.load, self.long_yields);
     }
 
     /// What wakes it.
@@ -365,7 +367,7 @@ impl LaneIn {
             producer,
             ahead: _,
             pace: _,
-            yields: _,
+            long_yields: _,
             signals,
         } = self;
         // Giving up the producing end is the core's Close.
@@ -386,7 +388,7 @@ impl Drop for LaneOut {
             block: _,
             settled: _,
             pace: _,
-            yields: _,
+            long_yields: _,
             signals: _,
         } = self;
     }
@@ -537,14 +539,14 @@ impl LaneOut {
 
     /// Begins to wait for a verdict.
     pub(crate) fn begin_wait(&self) -> Pause {
-        Pause::new(self.consumer.capacity(), self.pace, self.yields)
+        Pause::new(self.consumer.capacity(), self.pace)
     }
 
     /// Ends a wait.
-    pub(crate) fn end_wait(&mut self, pause: &mut Pause)
+    pub(crate) fn end_wait(&mut self, pause: &Pause)
         ensures { self.new ≡ self.old }
     {
-        self.yields = pause.end(&self.signals.writer, &self.signals.load);
+        self.long_yields = pause.end(&self.signals.writer, &self.signals.load, self.long_yields);
     }
 
     /// What wakes it.

@@ -1,33 +1,35 @@
 //! What the ends of a lane know of the machine's load: whether to yield, which lets other threads
 //! run, gives a whole time slice away.
 //!
-//! Where nothing else wants the core, a yield takes less than a microsecond, or as long as the other
-//! end works if it shares the core. Where other work waits for the core, it takes that work's time
-//! slice, three milliseconds or more. No clock can be read with the handles of a run. But a sleep
-//! ends by itself after a millisecond: if the other end didn't ring until then, it was kept from
-//! running. Then the ends sleep in place of yielding for a number of waits.
+//! Where nothing else wants the core, a yield takes less than a microsecond. Where other work waits
+//! for it, it takes that work's time slice, three milliseconds or more. No clock can be read with
+//! the handles of a run. But the other end works while this one yields: after a long yield it has
+//! filled the whole lane, or emptied it, which takes some microseconds at least. A few yields in
+//! turn after which that is so start a number of waits for which both ends sleep. After them one
+//! yield is tried: if it looks long as well, twice as many waits follow.
 
 use crate::bell::Bell;
 use std::sync::atomic::{AtomicU64, Ordering};
 
-/// For how many waits the ends sleep after the first sleep that no bell ended.
-const FEWEST_SLEEPS: u64 = 64;
+/// How many yields in turn have to look long before the ends sleep.
+const LONG_YIELDS: u32 = 3;
 
-/// The most such waits. The number doubles as long as the load is still high after them, so that
-/// little is lost by the yields between.
+/// For how many waits the ends sleep at first.
+const FEWEST_SLEEPS: u64 = 16;
+
+/// The most such waits. With so many little is lost by the yields between.
 const MOST_SLEEPS: u64 = 16_384;
 
-/// How many yields there are at first before an end sleeps once, to see whether the bell rings.
-const FEWEST_YIELDS: u32 = 1024;
+/// By how much the number of waits is divided after a yield that was short.
+const SHORT_YIELD_PARTS: u64 = 4;
 
-/// The most such yields. The number doubles as long as the bell rings: a sleep takes longer.
-const MOST_YIELDS: u32 = 16_384;
-
-/// How high the load is, as far as it is known. It is shared by both ends of a lane, and written
-/// only by an end that slept.
+/// How high the load is, as far as it is known. It is shared by both ends of a lane, and not
+/// written while yields are short.
 #[derive(Drop)]
 pub(crate) struct Load {
+    // For how many waits the ends sleep from now on.
     sleeps: AtomicU64,
+    // For how many they did the last time.
     length: AtomicU64,
 }
 
@@ -45,68 +47,31 @@ impl Load {
         self.sleeps.load(Ordering::SeqCst) > 0
     }
 
-    /// Notes that nobody rang for an end that slept.
-    pub(crate) fn note_silence(&self) {
-        let mut length = self.length.load(Ordering::SeqCst);
-        if !self.is_high() {
-            length = length.saturating_mul(2).max(FEWEST_SLEEPS).min(MOST_SLEEPS);
-            self.length.store(length, Ordering::SeqCst);
+    /// Notes a yield that looked long, the last of so many in turn.
+    pub(crate) fn note_long(&self, in_turn: u32) {
+        let length = self.length.load(Ordering::SeqCst);
+        if length > 0 || in_turn >= LONG_YIELDS {
+            let more = length.saturating_mul(2).max(FEWEST_SLEEPS).min(MOST_SLEEPS);
+            self.length.store(more, Ordering::SeqCst);
+            self.sleeps.store(more, Ordering::SeqCst);
         }
-        self.sleeps.store(length, Ordering::SeqCst);
     }
 
-    /// Notes that an end waited without a yield in vain: one wait less to sleep for, or, if it was
-    /// to see whether the bell rings, half as many the next time.
+    /// Notes a yield that was short.
+    pub(crate) fn note_short(&self) {
+        let length = self.length.load(Ordering::SeqCst);
+        if length > 0 {
+            self.length
+                .store(length / SHORT_YIELD_PARTS, Ordering::SeqCst);
+        }
+    }
+
+    /// Notes a wait without a yield.
     pub(crate) fn note_sleep(&self) {
         let sleeps = self.sleeps.load(Ordering::SeqCst);
         if sleeps > 0 {
-            self.sleeps
-                .store(sleeps.saturating_sub(1), Ordering::SeqCst);
-        } else {
-            let length = self.length.load(Ordering::SeqCst);
-            self.length.store(length / 2, Ordering::SeqCst);
+            self.sleeps.store(sleeps - 1, Ordering::SeqCst);
         }
-    }
-}
-
-/// How often an end yields before it sleeps once, to see whether the bell rings.
-#[derive(Clone, Copy, Drop)]
-pub(crate) struct Yields {
-    left: u32,
-    most: u32,
-}
-
-impl Yields {
-    /// Those of an end that has not waited yet.
-    pub(crate) fn new() -> Yields {
-        Yields {
-            left: FEWEST_YIELDS,
-            most: FEWEST_YIELDS,
-        }
-    }
-
-    /// Uses one up, if there is one.
-    pub(crate) fn take_one(&mut self) -> bool {
-        let left = self.left;
-        self.left = left.saturating_sub(1);
-        left > 0
-    }
-
-    /// Uses up as many as a yield that looked like a long one counts.
-    pub(crate) fn take(&mut self, weight: u32) {
-        self.left = self.left.saturating_sub(weight);
-    }
-
-    /// Begins anew after a sleep that the bell ended.
-    pub(crate) fn renew(&mut self) {
-        self.most = self.most.saturating_mul(2).min(MOST_YIELDS);
-        self.left = self.most;
-    }
-
-    /// Leaves one yield, for the time when the load is no longer high.
-    pub(crate) fn leave_one(&mut self) {
-        self.most = FEWEST_YIELDS;
-        self.left = 1;
     }
 }
 

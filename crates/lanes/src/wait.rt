@@ -22,7 +22,7 @@ ghost use Rattle.lanes.specs.declared.wait.Pace.TheVariants.{Spins};
 
 use crate::bell::Bell;
 use crate::ends::{LaneIn, LaneOut};
-use crate::load::{Load, Yields};
+use crate::load::Load;
 use std::sync::Wait;
 use std::sync::atomic::{AtomicBool, Ordering};
 use std::{hint, thread};
@@ -41,16 +41,9 @@ const SPINS_A_VERDICT: usize = 2;
 /// microsecond or more, as to yield does: an end of a short lane looks again some times instead.
 const PATIENCE: usize = 64;
 
-/// As how many yields one counts after which the other end has nothing left to do, where both have
-/// a core of their own: something else ran for longer than a yield takes. After some of these the
-/// end sleeps once, to see whether the load is high.
-const YIELDS_A_SLICE: u32 = 4096;
-
-/// The same where the ends share a core: the other end ran, and perhaps something else as well.
-const YIELDS_A_TURN: u32 = 256;
-
-/// A ring with fewer slots may be filled or emptied during any yield.
-const SHORT_LANE: usize = 32;
+/// A ring with fewer slots may be filled or emptied during any yield, so the ends of a shorter lane
+/// don't learn of a load from it.
+const SHORT_RING: usize = 32;
 
 /// A spinning end goes on with a lane's capacity divided by this: with half of it, one end works
 /// while the other does.
@@ -59,22 +52,22 @@ const PARTS_OF_A_LANE: usize = 2;
 /// How an end of a lane waits for the other one.
 #[derive(Clone, Copy, Drop)]
 pub enum Pace {
-    /// It spins for a while before it lets other threads run: the other end has a core of its own.
+    /// It spins for a while before it yields or sleeps: the other end has a core of its own.
     Spins,
-    /// It lets other threads run at once: there are more threads than cores.
-    Yields,
+    /// It sleeps at once: there are more threads than cores.
+    Sleeps,
 }
 
 impl Pace {
-    /// The pace of a run with this many workers on this many cores: its ends yield unless there is
-    /// a core for each worker and one for the writer.
+    /// The pace of a run with this many workers on this many cores: its ends sleep at once unless
+    /// there is a core for each worker and one for the writer.
     pub fn of(workers: u32, cores: usize) -> Pace
         ensures { (result ≡ Spins) ↔ (workers + 1 ≤ cores) }
     {
         if (workers as usize) < cores {
             Pace::Spins
         } else {
-            Pace::Yields
+            Pace::Sleeps
         }
     }
 }
@@ -105,7 +98,7 @@ impl LaneIn {
             }
             pause.wait(rt, self.bell(), self.load());
             if pause.is_enough(self.count_room()) {
-                self.end_wait(&mut pause);
+                self.end_wait(&pause);
                 return true;
             }
         }
@@ -147,7 +140,7 @@ impl LaneOut {
             }
             pause.wait(rt, self.bell(), self.load());
             if pause.is_enough(self.count_verdicts()) {
-                self.end_wait(&mut pause);
+                self.end_wait(&pause);
                 return true;
             }
         }
@@ -173,24 +166,24 @@ enum Stage {
 #[derive(Drop)]
 pub(crate) struct Pause {
     capacity: usize,
+    pace: Pace,
     spins: usize,
     enough: usize,
     seen: usize,
     patience: usize,
-    suspect: u32,
-    yields: Yields,
     stage: Stage,
 }
 
 impl Pause {
-    /// The pauses at a ring of this capacity, of an end that has so many yields left.
-    pub(crate) fn new(capacity: usize, pace: Pace, yields: Yields) -> Pause {
-        let (enough, patience, suspect) = match pace {
-            Pace::Spins => (capacity / PARTS_OF_A_LANE, PATIENCE, suspicion_at(capacity)),
-            Pace::Yields => (1, 0, YIELDS_A_TURN),
+    /// The pauses at a ring of this capacity.
+    pub(crate) fn new(capacity: usize, pace: Pace) -> Pause {
+        let (enough, patience) = match pace {
+            Pace::Spins => (capacity / PARTS_OF_A_LANE, PATIENCE),
+            Pace::Sleeps => (1, 0),
         };
         Pause {
             capacity,
+            pace,
             spins: capacity
                 .saturating_mul(SPINS_A_VERDICT)
                 .max(MIN_SPINS)
@@ -198,8 +191,6 @@ impl Pause {
             enough,
             seen: 0,
             patience,
-            suspect,
-            yields,
             stage: Stage::Spins,
         }
     }
@@ -215,7 +206,7 @@ impl Pause {
         }
         self.stage = match self.stage {
             Stage::Listens => {
-                self.sleep(rt, bell, load);
+                bell.sleep(rt);
                 Stage::Slept
             }
             Stage::Spins | Stage::Yields | Stage::Slept => self.yield_or_listen(bell, load),
@@ -223,25 +214,13 @@ impl Pause {
     }
 
     /// Lets other threads run, or says that the end listens for its bell.
-    fn yield_or_listen(&mut self, bell: &Bell, load: &Load) -> Stage {
-        if load.is_high() || !self.yields.take_one() {
+    fn yield_or_listen(&self, bell: &Bell, load: &Load) -> Stage {
+        if matches!(self.pace, Pace::Sleeps) || load.is_high() {
             bell.listen();
             return Stage::Listens;
         }
         thread::yield_now();
         Stage::Yields
-    }
-
-    /// Sleeps until the bell rings, and notes what that says of the load.
-    fn sleep<R: Wait>(&mut self, rt: &R, bell: &Bell, load: &Load) {
-        if !bell.sleep(rt) {
-            load.note_silence();
-        }
-        if load.is_high() {
-            self.yields.leave_one();
-        } else {
-            self.yields.renew();
-        }
     }
 
     /// Whether to go on with this many verdicts or slots: with enough, if no more come, or once the
@@ -258,31 +237,32 @@ impl Pause {
         count > 0 && (is_all || count >= self.enough)
     }
 
-    /// Ends the wait of the end that has this bell, and returns how many yields it has left.
-    pub(crate) fn end(&mut self, bell: &Bell, load: &Load) -> Yields {
+    /// Ends the wait of the end that has this bell, and whose last yields, as many as this, looked
+    /// long. Returns how many do now.
+    pub(crate) fn end(&self, bell: &Bell, load: &Load, in_turn: u32) -> u32 {
         match self.stage {
-            Stage::Spins => {}
-            Stage::Yields => {
-                // Nothing is left to do for the other end: it had more time than a yield takes.
-                if self.seen >= self.capacity {
-                    self.yields.take(self.suspect);
-                }
-            }
+            Stage::Spins => in_turn,
+            Stage::Yields => self.note_yield(load, in_turn),
             Stage::Listens => {
                 bell.stop_listening();
                 load.note_sleep();
+                0
             }
-            Stage::Slept => load.note_sleep(),
+            Stage::Slept => {
+                load.note_sleep();
+                0
+            }
         }
-        self.yields
     }
-}
 
-/// As how many yields one counts after which a lane of this capacity is full or empty, of an end
-/// that has a core of its own.
-fn suspicion_at(capacity: usize) -> u32 {
-    if capacity < SHORT_LANE {
-        return 0;
+    /// Notes whether the wait's last yield looked long: the other end has nothing left to do.
+    fn note_yield(&self, load: &Load, in_turn: u32) -> u32 {
+        if self.capacity < SHORT_RING || self.seen < self.capacity {
+            load.note_short();
+            return 0;
+        }
+        let more = in_turn.saturating_add(1);
+        load.note_long(more);
+        more
     }
-    YIELDS_A_SLICE
 }
