@@ -4,24 +4,22 @@
 //! Where nothing else wants the core, a yield takes less than a microsecond. Where other work waits
 //! for it, it takes that work's time slice, three milliseconds or more. No clock can be read with
 //! the handles of a run. But the other end works while this one yields: after a long yield it has
-//! filled the whole lane, or emptied it, which takes some microseconds at least. A few yields in
-//! turn after which that is so start a number of waits for which both ends sleep. After them one
-//! yield is tried: if it looks long as well, twice as many waits follow.
+//! filled the whole lane, or emptied it, which takes some microseconds at least. And while the other
+//! end is kept from its core by a long yield, this one yields hundreds of times in vain. A few
+//! yields of the first kind in turn, or one wait of the second, start a number of waits for which
+//! both ends sleep. If there is a long yield again soon after them, twice as many follow.
 
 use crate::bell::Bell;
 use std::sync::atomic::{AtomicU64, Ordering};
 
-/// How many yields in turn have to look long before the ends sleep.
-const LONG_YIELDS: u32 = 3;
-
 /// For how many waits the ends sleep at first.
-const FEWEST_SLEEPS: u64 = 16;
+const FEWEST_SLEEPS: u64 = 512;
 
 /// The most such waits. With so many little is lost by the yields between.
 const MOST_SLEEPS: u64 = 16_384;
 
-/// By how much the number of waits is divided after a yield that was short.
-const SHORT_YIELD_PARTS: u64 = 4;
+/// For how many times as many waits a long yield counts as soon after the last ones.
+const TIMES_SOON: u64 = 4;
 
 /// How high the load is, as far as it is known. It is shared by both ends of a lane, and not
 /// written while yields are short.
@@ -29,8 +27,10 @@ const SHORT_YIELD_PARTS: u64 = 4;
 pub(crate) struct Load {
     // For how many waits the ends sleep from now on.
     sleeps: AtomicU64,
-    // For how many they did the last time.
+    // For how many they did the last time, or 0 once that is long ago.
     length: AtomicU64,
+    // After how many waits more that is so.
+    soon: AtomicU64,
 }
 
 impl Load {
@@ -39,6 +39,7 @@ impl Load {
         Load {
             sleeps: AtomicU64::new(0),
             length: AtomicU64::new(0),
+            soon: AtomicU64::new(0),
         }
     }
 
@@ -47,22 +48,25 @@ impl Load {
         self.sleeps.load(Ordering::SeqCst) > 0
     }
 
-    /// Notes a yield that looked long, the last of so many in turn.
-    pub(crate) fn note_long(&self, in_turn: u32) {
-        let length = self.length.load(Ordering::SeqCst);
-        if length > 0 || in_turn >= LONG_YIELDS {
-            let more = length.saturating_mul(2).max(FEWEST_SLEEPS).min(MOST_SLEEPS);
-            self.length.store(more, Ordering::SeqCst);
-            self.sleeps.store(more, Ordering::SeqCst);
-        }
+    /// Notes that yields are long.
+    pub(crate) fn note_long(&self) {
+        let last = self.length.load(Ordering::SeqCst);
+        let length = last.saturating_mul(2).max(FEWEST_SLEEPS).min(MOST_SLEEPS);
+        self.length.store(length, Ordering::SeqCst);
+        self.soon.store(length * TIMES_SOON, Ordering::SeqCst);
+        self.sleeps.store(length, Ordering::SeqCst);
     }
 
-    /// Notes a yield that was short.
+    /// Notes a wait with yields of which nothing shows that they were long.
     pub(crate) fn note_short(&self) {
-        let length = self.length.load(Ordering::SeqCst);
-        if length > 0 {
-            self.length
-                .store(length / SHORT_YIELD_PARTS, Ordering::SeqCst);
+        if self.length.load(Ordering::SeqCst) == 0 {
+            return;
+        }
+        let soon = self.soon.load(Ordering::SeqCst);
+        if soon > 0 {
+            self.soon.store(soon - 1, Ordering::SeqCst);
+        } else {
+            self.length.store(0, Ordering::SeqCst);
         }
     }
 

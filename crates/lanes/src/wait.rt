@@ -45,6 +45,13 @@ const PATIENCE: usize = 64;
 /// don't learn of a load from it.
 const SHORT_RING: usize = 32;
 
+/// So many yields in turn after which the other end has nothing left to do are long ones.
+const LONG_YIELDS: u32 = 3;
+
+/// After so many yields in one wait the other end was kept from its core. That takes some hundred
+/// microseconds.
+const YIELDS_IN_VAIN: u32 = 512;
+
 /// A spinning end goes on with a lane's capacity divided by this: with half of it, one end works
 /// while the other does.
 const PARTS_OF_A_LANE: usize = 2;
@@ -171,6 +178,7 @@ pub(crate) struct Pause {
     enough: usize,
     seen: usize,
     patience: usize,
+    yields: u32,
     stage: Stage,
 }
 
@@ -191,6 +199,7 @@ impl Pause {
             enough,
             seen: 0,
             patience,
+            yields: 0,
             stage: Stage::Spins,
         }
     }
@@ -214,12 +223,17 @@ impl Pause {
     }
 
     /// Lets other threads run, or says that the end listens for its bell.
-    fn yield_or_listen(&self, bell: &Bell, load: &Load) -> Stage {
+    fn yield_or_listen(&mut self, bell: &Bell, load: &Load) -> Stage {
         if matches!(self.pace, Pace::Sleeps) || load.is_high() {
             bell.listen();
             return Stage::Listens;
         }
         thread::yield_now();
+        self.yields = self.yields.saturating_add(1);
+        if self.yields >= YIELDS_IN_VAIN {
+            self.yields = 0;
+            load.note_long();
+        }
         Stage::Yields
     }
 
@@ -261,8 +275,11 @@ impl Pause {
             load.note_short();
             return 0;
         }
-        let more = in_turn.saturating_add(1);
-        load.note_long(more);
-        more
+        if in_turn < LONG_YIELDS - 1 {
+            load.note_short();
+            return in_turn.saturating_add(1);
+        }
+        load.note_long();
+        0
     }
 }
