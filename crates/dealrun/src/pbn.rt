@@ -31,9 +31,9 @@ use std::thread::Threads;
 /// # Errors
 ///
 /// The first of these that is due. `Memory`: an allocation failed, before any thread started.
-/// `Spawn`: a thread could not be started; those that were are stopped and joined. `Output`: the
-/// sink failed. `Stopped`: a worker ended before it had sent all, since its gate returned false,
-/// and the limit of boards was not met. `Unclosed`: a lane can't say how it ended.
+/// `Spawn`: a thread could not be started; those that were are stopped and joined, which no clause
+/// says. `Output`: the sink failed. `Stopped`: a worker ended before it had sent all, and the limit
+/// of boards was not met. `Unclosed`: a lane can't say how it ended.
 pub fn run<
     R: Threads + Wait + Clone + Send + 'static,
     G: Gate + Drop + Send + Sync + 'static,

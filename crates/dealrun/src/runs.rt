@@ -64,9 +64,9 @@ pub struct RunFault {
 /// # Errors
 ///
 /// The first of these that is due. `Memory`: an allocation failed, before any thread started.
-/// `Spawn`: a thread could not be started; those that were are stopped and joined. `Output`: the
-/// sink failed. `Stopped`: a worker ended before it had sent all, since its gate returned false,
-/// and the limit of boards was not met. `Unclosed`: a lane can't say how it ended.
+/// `Spawn`: a thread could not be started; those that were are stopped and joined, which no clause
+/// says. `Output`: the sink failed. `Stopped`: a worker ended before it had sent all, and the limit
+/// of boards was not met. `Unclosed`: a lane can't say how it ended.
 pub fn run_in<
     R: Threads + Wait + Clone + Send + 'static,
     G: Gate + Drop + Send + Sync + 'static,
@@ -175,6 +175,7 @@ pub(crate) fn start_and_write<
     if !start_all(rt, assignments, &mut handles) {
         // A store to the stop flag is the core's Stop.
         shared.stop.store(true, Ordering::SeqCst);
+        wake_workers(&lanes);
         join_all(rt, handles, &mut lanes);
         return Err(RunFault {
             cause: Cause::Spawn,
@@ -192,6 +193,13 @@ pub(crate) fn out_of_memory(alloc: Global) -> RunFault
         cause: Cause::Memory,
         lanes: Vec::new(alloc),
         boards: 0,
+    }
+}
+
+/// Wakes the workers that wait for room in these lanes, so that they see the stop flag.
+fn wake_workers(lanes: &Vec<LaneOut>) {
+    for lane in lanes.iter() {
+        lane.wake_worker();
     }
 }
 
@@ -226,6 +234,7 @@ fn write_all<R: Threads + Wait, N: Notation, S: Sink>(
         // A store to the stop flag is the core's Stop.
         stop.store(true, Ordering::SeqCst);
     }
+    wake_workers(&writer.lanes);
     let joined = join_all(rt, handles, &mut writer.lanes);
     match cause_of(written, joined) {
         Some(cause) => return Err(fault(cause, writer)),

@@ -1,6 +1,6 @@
 -- What contracts see of the end of a lane into which a worker sends, of a closed end, and of the
 -- turns.
-use Rattle.std.specs.Prelude.{◌≡◌, ℕ, ◌+◌, true, false, List, [], ◌∷◌, ◌++◌}
+use Rattle.std.specs.Prelude.{◌≡◌, ℕ, ◌+◌, true, false, List, [], ◌∷◌, ◌++◌, Bool}
 use Rattle.lanes.specs.declared.verdict.Verdict.{Verdict}
 use Rattle.lanes.specs.Views.{Ring, OutView}
 
@@ -10,10 +10,12 @@ pub record InView : Type 0 where
   pub room : ℕ
   pub ring : Ring
 
--- a closed end: all that was sent
+-- a closed end: all that was sent, and whether a worker closed it short, after the stop flag was
+-- raised
 pub record ClosedView : Type 0 where
   pub sent : List Verdict
   pub ring : Ring
+  pub is_short : Bool
 
 -- whose turn it is
 pub record TurnsView : Type 0 where

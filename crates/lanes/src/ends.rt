@@ -8,12 +8,15 @@ ghost use Rattle.std.specs.Prelude.{true, false, MatchBool};
 ghost use Rattle.lanes.specs.Slots.{verdict_in, verdicts_in};
 ghost use Rattle.lanes.specs.declared.ends.LaneError.TheVariants.{Capacity, Memory};
 
+use crate::bell::{Bell, left_by_worth_waking};
+use crate::load::{Load, Signals};
 use crate::verdict::{Block, MAX_BLOCK, Slot, Verdict};
-use crate::wait::Pace;
+use crate::wait::{Pace, Pause, Raised};
 use cards::MAX_CAPACITY;
 use rtrb::{Consumer, Finished, Producer, RingBuffer};
 use std::alloc::Global;
 use std::marker::Model;
+use std::sync::Arc;
 use thiserror::Error;
 
 /// A block is the capacity divided by this: two blocks and the ring between them share it.
@@ -25,7 +28,7 @@ pub enum LaneError {
     /// The capacity is not 1 to 4,096.
     #[error("a lane holds 1 to 4096 verdicts")]
     Capacity,
-    /// There was no memory for the ring.
+    /// There was no memory for it.
     #[error("out of memory")]
     Memory,
 }
@@ -37,6 +40,9 @@ pub struct LaneIn {
     // How many candidates the worker judges before it sends their verdicts.
     ahead: usize,
     pace: Pace,
+    // How many of its last yields, in turn, looked long.
+    long_yields: u32,
+    signals: Arc<Signals, Global>,
 }
 
 impl Model for LaneIn {
@@ -57,10 +63,12 @@ impl Model for LaneIn {
     ghost invariant = { λ l. (1 ≤ l.ahead) × (l.ahead ≤ 16) };
 }
 
-/// What a closed sending end leaves. Contracts see all that was ever sent, and which ring it is.
+/// What a closed sending end leaves. Contracts see all that was ever sent, which ring it is, and
+/// whether the end was closed short: by a worker that had raised the stop flag.
 #[derive(Drop)]
 pub struct Closed {
     finished: Finished<Slot>,
+    is_short: bool,
 }
 
 impl Model for Closed {
@@ -74,6 +82,7 @@ impl Model for Closed {
     ghost view = { λ c. record {
       sent = verdicts_in (all_sent c.finished);
       ring = ring_of_finished c.finished;
+      is_short = c.is_short;
     } };
 }
 
@@ -84,6 +93,9 @@ pub struct LaneOut {
     block: Block,
     settled: bool,
     pace: Pace,
+    // How many of its last yields, in turn, looked long.
+    long_yields: u32,
+    signals: Arc<Signals, Global>,
 }
 
 impl Model for LaneOut {
@@ -111,7 +123,7 @@ impl Model for LaneOut {
 /// Makes a lane that holds at most `capacity` verdicts, and returns its two ends.
 ///
 /// # Errors
-/// `Capacity` unless that is 1 to 4,096; `Memory` if the allocation of the ring failed.
+/// `Capacity` unless that is 1 to 4,096; `Memory` if an allocation failed.
 pub fn lane(alloc: Global, capacity: u32) -> Result<(LaneIn, LaneOut), LaneError>
     ensures capacity { IsErrOf result Capacity ↔ ((capacity ≡ 0) ⊎ (4096 < capacity)) }
     ensures ring { IfOk result (λ r. r.0.ring ≡ r.1.ring) }
@@ -169,16 +181,26 @@ fn ends_with_blocks(
     let Ok((producer, consumer)) = RingBuffer::new(alloc, slots) else {
         return Err(LaneError::Memory);
     };
+    let Ok(signals) = Arc::new(alloc, Signals::new()) else {
+        return Err(LaneError::Memory);
+    };
+    let Ok(theirs) = Arc::try_clone(&signals) else {
+        return Err(LaneError::Memory);
+    };
     let sender = LaneIn {
         producer,
         ahead: block.max(1),
         pace,
+        long_yields: 0,
+        signals: theirs,
     };
     let taker = LaneOut {
         consumer,
         block: Block::new(block),
         settled: false,
         pace,
+        long_yields: 0,
+        signals,
     };
     Ok((sender, taker))
 }
@@ -190,6 +212,8 @@ impl Drop for LaneIn {
             producer: _,
             ahead: _,
             pace: _,
+            long_yields: _,
+            signals: _,
         } = self;
     }
 }
@@ -255,6 +279,8 @@ impl LaneIn {
     {
         // A push is the core's Send.
         self.producer.push_reserved(verdict);
+        // The worker may now wait at its gate, for longer than the writer is to sleep.
+        self.signals.writer.ring();
     }
 
     /// Sends all these verdicts, as the lane keeps them, or none if too few slots are free. Never
@@ -266,17 +292,46 @@ impl LaneIn {
             (self.new.sent ≡ self.old.sent) }
     {
         // To push n verdicts at once is n of the core's Sends, one after another.
-        self.producer.push_entire_slice(verdicts).is_ok()
+        let is_sent = self.producer.push_entire_slice(verdicts).is_ok();
+        if self.signals.writer.listens() {
+            self.wake_if_worth();
+        }
+        is_sent
     }
 
-    /// How many verdicts the ring holds at most.
-    pub(crate) fn capacity(&self) -> usize {
-        self.producer.capacity()
+    /// Wakes the writer, which listens, once so many verdicts wait for it that this is worth it.
+    #[inline(never)]
+    fn wake_if_worth(&mut self)
+        ensures ring { self.new.ring ≡ self.old.ring }
+        ensures sent { self.new.sent ≡ self.old.sent }
+    {
+        let most = left_by_worth_waking(self.producer.capacity());
+        if self.producer.slots() <= most {
+            self.signals.writer.wake();
+        }
     }
 
-    /// What it does while it waits.
-    pub(crate) fn pace(&self) -> Pace {
-        self.pace
+    /// Begins to wait for room, once the writer is awake.
+    pub(crate) fn begin_wait(&self) -> Pause {
+        self.signals.writer.ring();
+        Pause::new(self.producer.capacity(), self.pace)
+    }
+
+    /// Ends a wait.
+    pub(crate) fn end_wait(&mut self, pause: &Pause)
+        ensures { self.new ≡ self.old }
+    {
+        self.long_yields = pause.end(&self.signals.worker, &self.signals.load, self.long_yields);
+    }
+
+    /// What wakes it.
+    pub(crate) fn bell(&self) -> &Bell {
+        &self.signals.worker
+    }
+
+    /// What is known of the machine's load.
+    pub(crate) fn load(&self) -> &Load {
+        &self.signals.load
     }
 
     /// How many candidates the worker is to judge before it sends their verdicts.
@@ -289,16 +344,39 @@ impl LaneIn {
     /// Closes the lane, and returns what tells all that was sent. It returns `None` if the other
     /// end was let go before, since the ring then can't say how it ended. Never blocks.
     pub fn close(self) -> Option<Closed>
-        ensures { IfSome result (λ c. (c.sent ≡ self.sent) × (c.ring ≡ self.ring)) }
+        ensures sent { IfSome result (λ c. (c.sent ≡ self.sent) × (c.ring ≡ self.ring)) }
+        ensures whole { IfSome result (λ c. c.is_short ≡ false) }
+    {
+        self.finish(false)
+    }
+
+    /// Closes the lane as `close` does, after the stop flag was raised.
+    pub(crate) fn close_short(self, _raised: &Raised) -> Option<Closed>
+        ensures sent { IfSome result (λ c. (c.sent ≡ self.sent) × (c.ring ≡ self.ring)) }
+        ensures short { IfSome result (λ c. c.is_short ≡ true) }
+    {
+        self.finish(true)
+    }
+
+    /// Closes the lane, and wakes the writer.
+    fn finish(self, is_short: bool) -> Option<Closed>
+        ensures sent { IfSome result (λ c. (c.sent ≡ self.sent) × (c.ring ≡ self.ring)) }
+        ensures short { IfSome result (λ c. c.is_short ≡ is_short) }
     {
         let LaneIn {
             producer,
             ahead: _,
             pace: _,
+            long_yields: _,
+            signals,
         } = self;
         // Giving up the producing end is the core's Close.
-        let finished = producer.finish()?;
-        Some(Closed { finished })
+        let finished = producer.finish();
+        signals.writer.ring();
+        Some(Closed {
+            finished: finished?,
+            is_short,
+        })
     }
 }
 
@@ -310,6 +388,8 @@ impl Drop for LaneOut {
             block: _,
             settled: _,
             pace: _,
+            long_yields: _,
+            signals: _,
         } = self;
     }
 }
@@ -356,7 +436,19 @@ impl LaneOut {
             return self.consumer.cached_slots() > 0;
         }
         self.block.fill(&mut self.consumer);
+        if self.signals.worker.listens() {
+            self.wake_if_worth();
+        }
         !self.block.is_empty() || !self.consumer.is_empty()
+    }
+
+    /// Wakes the worker, which listens, once so much room waits for it that this is worth it.
+    #[inline(never)]
+    fn wake_if_worth(&self) {
+        let most = left_by_worth_waking(self.consumer.capacity());
+        if self.consumer.cached_slots() <= most {
+            self.signals.worker.wake();
+        }
     }
 
     /// How many verdicts wait, at present. Never blocks.
@@ -439,13 +531,31 @@ impl LaneOut {
         self.settled
     }
 
-    /// What it does while it waits.
-    pub(crate) fn pace(&self) -> Pace {
-        self.pace
+    /// Wakes the worker if it sleeps: once the stop flag is raised, so that it is seen. Never
+    /// blocks.
+    pub fn wake_worker(&self) {
+        self.signals.worker.ring();
     }
 
-    /// How many verdicts the ring holds at most.
-    pub(crate) fn capacity(&self) -> usize {
-        self.consumer.capacity()
+    /// Begins to wait for a verdict.
+    pub(crate) fn begin_wait(&self) -> Pause {
+        Pause::new(self.consumer.capacity(), self.pace)
+    }
+
+    /// Ends a wait.
+    pub(crate) fn end_wait(&mut self, pause: &Pause)
+        ensures { self.new ≡ self.old }
+    {
+        self.long_yields = pause.end(&self.signals.writer, &self.signals.load, self.long_yields);
+    }
+
+    /// What wakes it.
+    pub(crate) fn bell(&self) -> &Bell {
+        &self.signals.writer
+    }
+
+    /// What is known of the machine's load.
+    pub(crate) fn load(&self) -> &Load {
+        &self.signals.load
     }
 }

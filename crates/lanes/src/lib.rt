@@ -2,9 +2,11 @@
 //! the writer.
 #![tactic(auto)]
 
+mod bell;
 mod ends;
 mod job;
 pub mod laws;
+mod load;
 mod model;
 mod profit;
 mod screening;

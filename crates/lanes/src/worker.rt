@@ -109,12 +109,15 @@ fn ended(lane: LaneIn, sent: Result<(), Raised>) -> WorkEnd
         (λ _. IsProperPrefix lane.sent verdicts)
         → Ends verdicts lane.ring result }
 {
-    let Some(closed) = lane.close() else {
-        return WorkEnd::Unclosed;
-    };
     match sent {
-        Ok(()) => WorkEnd::Done(closed),
-        Err(_) => WorkEnd::Stopped(closed),
+        Ok(()) => match lane.close() {
+            Some(closed) => WorkEnd::Done(closed),
+            None => WorkEnd::Unclosed,
+        },
+        Err(raised) => match lane.close_short(&raised) {
+            Some(closed) => WorkEnd::Stopped(closed),
+            None => WorkEnd::Unclosed,
+        },
     }
 }
 

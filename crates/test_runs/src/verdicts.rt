@@ -234,6 +234,7 @@ fn a_wait_for_a_verdict(rt: HostRuntime) -> Result<(), Fail> {
     holds(&rt, "the first is sent", sends(&mut sender, 3));
     holds(&rt, "it waits", taker.wait_for_verdict(&rt, &stop));
     stop.store(true, Ordering::SeqCst);
+    taker.wake_worker();
     holds(&rt, "it still waits", taker.wait_for_verdict(&rt, &stop));
     holds(&rt, "it is taken", takes(&mut taker, 3));
     holds(&rt, "none waits", !taker.wait_for_verdict(&rt, &stop));
