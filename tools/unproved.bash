@@ -47,8 +47,8 @@ say_own() {
 # Passes on what the program wrote and said, and ends with its status. A closed pipe is what it is for the program.
 pass_on() {
     trap '' PIPE
-    if ! cat "$room/written" 2>/dev/null; then
-        echo "output failed" >&2
+    if ! LC_ALL=C cat "$room/written" 2>"$room/refused"; then
+        grep -q 'Broken pipe$' "$room/refused" || echo "output failed" >&2
         exit 4
     fi
     say_own >&2 2>/dev/null || true

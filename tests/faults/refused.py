@@ -6,7 +6,8 @@ how the runs ended.
 Each kind of call fails alone, and from its N-th on, N from 1 until nothing is refused. A run must end within seconds,
 never by a signal, and leave no memory behind. With status 5 standard error has the line 'out of memory' and standard
 output has nothing; with 6 'thread not started' and nothing; with 4 'output failed', below it the system's reason where
-hints are asked for, and a prefix of the right text; with the status of the undisturbed run, its whole texts.
+hints are asked for, or nothing where the reader of a pipe has gone, and a prefix of the right text; with the status of
+the undisturbed run, its whole texts.
 """
 
 import collections
@@ -97,6 +98,13 @@ def is_said(case, fault, err):
     return err == case.err or (fault.call in ("alloc", "space") and is_short)
 
 
+def lines_of(case, status, fault):
+    """What is said of it: nothing of an output whose reader has gone."""
+    if status == 4 and fault.call == "write" and fault.error == errno.EPIPE:
+        return b""
+    return LINES[status] + reason_of(case, status, fault)
+
+
 def reason_of(case, status, fault):
     """The line of why the output failed, in the system's words or, where nothing was taken, in the library's."""
     if status != 4 or cases.HINTS[0] not in case.words:
@@ -125,7 +133,7 @@ def complaint_of(case, fault, end):
         return None
     if end.status not in may_give(fault, case):
         return f"status {end.status}, {end.err!r}"
-    line = LINES[end.status] + reason_of(case, end.status, fault)
+    line = lines_of(case, end.status, fault)
     if end.err != line and (is_heard or not line.startswith(end.err)):
         return f"status {end.status} with {end.err!r} on standard error"
     if end.status == 4 and not case.out.startswith(end.out):

@@ -11,7 +11,10 @@ import model
 
 
 def failed(words, reason):
-    """What is said of an output that failed: where hints are asked for with the system's reason."""
+    """What is said of an output that failed: nothing where its reader has gone; else a line, and where hints are asked
+    for the system's reason."""
+    if reason == errno.EPIPE:
+        return b""
     more = f"  {os.strerror(reason)} (os error {reason})\n" if HINTS in words else ""
     return f"output failed\n{more}".encode()
 

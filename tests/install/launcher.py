@@ -248,7 +248,7 @@ class Checks:
         settings = {"env": it.environment(), "stdout": writing, "stderr": subprocess.PIPE, "timeout": PATIENCE}
         end = subprocess.run([it.path("deals"), "a"], **settings)
         os.close(writing)
-        right = (end.returncode, end.stderr) == (4, FIRST_LINE + b"output failed\n")
+        right = (end.returncode, end.stderr) == (4, FIRST_LINE)
         yield "a reader that left", right and it.is_clean()
 
     def check_no_answer(self):

@@ -1,11 +1,17 @@
 //! How a run ended, as a person is told.
 
+ghost use Rattle.std.specs.Prelude.{◌≡◌, IfSome};
+ghost use Rattle.jobs.specs.Failures.{status_in};
+
 use crate::streams::Said;
 use deals_cli::{Failure, Report};
 use sinks::put_all;
 use std::io;
-use std::io::{ErrorKind, IsTerminal};
+use std::io::ErrorKind;
 use word_hints::without_far_tips;
+
+/// The status of an output that failed.
+const OUTPUT_FAILED: u8 = 4;
 
 /// How it ended, as a person is told: without tips that lead astray.
 pub fn for_person(
@@ -21,16 +27,19 @@ pub fn for_person(
     }
 }
 
-/// The status, if a person at a terminal closed what reads the output, as `head` does when it has
-/// enough: there is nothing to say of that.
-pub fn cut_off(
-    rt: &HostRuntime,
-    ended: &Result<Option<Report>, Failure>,
-    reason: Option<&io::Error>,
-) -> Option<u8> {
-    let failure = ended.as_ref().err()?;
-    let is_closed = reason?.kind() == ErrorKind::BrokenPipe;
-    (is_closed && rt.stderr().is_terminal()).then_some(failure.status())
+/// The status, if what read the output has gone, as `head` goes when it has enough: nothing is said
+/// of that, since the whole pipe is to end quietly.
+pub fn cut_off(ended: &Result<Option<Report>, Failure>, reason: Option<&io::Error>) -> Option<u8>
+    // Of nothing but a failure of the output.
+    ensures { IfSome result (λ status. (status ≡ status_in ended.now) × (status ≡ 4)) }
+{
+    let Err(failure) = ended else {
+        return None;
+    };
+    if failure.status() != OUTPUT_FAILED || reason?.kind() != ErrorKind::BrokenPipe {
+        return None;
+    }
+    Some(OUTPUT_FAILED)
 }
 
 /// Says it to a person, if there is something to say.

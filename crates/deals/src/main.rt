@@ -103,11 +103,11 @@ fn answer<R: Threads + Wait + Clone + Send + 'static>(
         Ok(task) => perform(threads, rt.alloc(), task, &mut input, out),
         Err(failure) => Err(failure),
     };
+    if let Some(status) = cut_off(&ended, out.reason()) {
+        return status;
+    }
     if !hints {
         return conclude(&ended, err);
-    }
-    if let Some(status) = cut_off(rt, &ended, out.reason()) {
-        return status;
     }
     let reasons = Reasons {
         output: out.reason(),
