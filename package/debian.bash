@@ -46,3 +46,16 @@ make_deb() {
     set_times "$1"
     dpkg-deb --root-owner-group --uniform-compression -Zxz -b "$1" "$2" >/dev/null
 }
+
+# Puts a program in Python into a folder that stands for the root: NAME, and the folder with the program, its package of
+# modules and its man page.
+stage_python() {
+    local name=$1 here=$2 files=$root/usr/share/$1 doc=$root/usr/share/doc/$1 modules
+    modules=${name//-/_}
+    install -d "$root/DEBIAN" "$root/usr/bin" "$root/usr/share/man/man1" "$files/$modules" "$doc"
+    install -m 755 "$here/$name" "$files"
+    (cd "$here" && find "$modules" -type f ! -name '*.pyc' -print0 | xargs -0 -I{} install -D -m 644 {} "$files/{}")
+    ln -s "../share/$name/$name" "$root/usr/bin/$name"
+    sed "s/@VERSION@/$version/" "$here/$name.1" | gzip -9n >"$root/usr/share/man/man1/$name.1.gz"
+    write_copyright >"$doc/copyright"
+}

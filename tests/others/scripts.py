@@ -178,8 +178,64 @@ def spoiled():
         yield f"spoiled, {number}", None if is_told and "Traceback" not in said else f"{status}: {said}"
 
 
+# Scripts whose shares and averages both programs tell, of so many deals each.
+COUNTED = ("1c", "controls", "2nt", "weaktwo", "you_hold", "notrump")
+BY_DEALER, BY_DEALS = 200_000, 1_000_000
+# Standard errors that two shares may differ by.
+ERRORS = 4
+
+
+def share_by_dealer(script):
+    asked = f"{script}\ngenerate {BY_DEALER}\nproduce {BY_DEALER}\naction average 1\n"
+    ended = subprocess.run([DEALER, "-s", "11"], input=asked, capture_output=True, text=True, check=True)
+    return int(re.search(r"Produced (\d+) hands", ended.stdout + ended.stderr)[1])
+
+
+def shares():
+    """Both programs accept the same share of their deals, within what chance allows."""
+    for name in COUNTED:
+        script = without_actions((EXAMPLES / f"Descr.{name}").read_text(encoding="latin-1"))
+        _, commands, _ = translated(script + "\naction printpbn\n")
+        hands = [word for word in commands[0] if re.match(r"--(north|east|south|west)=", word)]
+        words = ["--seed=11", f"--candidates={BY_DEALS}", f"--where={where_of(commands[0])}", "--format=csv", *hands]
+        deals = int(harness.deals("count", *words).stdout.splitlines()[1].partition(b",")[0])
+        one, other = share_by_dealer(script) / BY_DEALER, deals / BY_DEALS
+        share = (one * BY_DEALER + other * BY_DEALS) / (BY_DEALER + BY_DEALS)
+        error = (share * (1 - share) * (1 / BY_DEALER + 1 / BY_DEALS)) ** 0.5
+        yield f"{name}, its share", None if share and abs(one - other) <= ERRORS * error else f"{one} and {other}"
+
+
+def package():
+    """The package's program runs from where it is installed, and its man page has its options."""
+    folder = TRANSLATOR.parent
+    with harness.scratch() as scratch:
+        subprocess.run([folder / "build", scratch], check=True)
+        (made,) = pathlib.Path(scratch).glob("deals-dealer_*_all.deb")
+        subprocess.run(["dpkg-deb", "-x", made, f"{scratch}/root"], check=True)
+        ended = subprocess.run([f"{scratch}/root/usr/bin/deals-dealer"], input="produce 1", capture_output=True, text=True, check=False)
+    yield "package", None if ended.stdout.startswith("deals make --seed=1 --boards=1 ") else ended.stderr
+    told = subprocess.run([TRANSLATOR, "--help"], capture_output=True, text=True, check=True).stdout
+    man = (folder / "deals-dealer.1").read_text().replace("\\-", "-").partition(".SH OPTIONS")[2].partition(".SH ENV")[0]
+    listed = set(re.findall(r"^\.BI? (--[a-z-]+)", man, re.M))
+    yield "man page", None if set(re.findall(r"--[a-z-]+", told)) == listed else f"{listed}"
+
+
+def runs():
+    """With --run the commands are run; a program that is missing, and words that can't be read, end with a line."""
+    script = "produce 2 hcp(north)>14 action printpbn"
+    words = [PYTHON, TRANSLATOR, "--run"]
+    ended = subprocess.run(words, input=script.encode(), capture_output=True, env={"DEALS": str(harness.PROGRAM)}, check=False)
+    wanted = harness.deals(*translated(script)[1][0][1:])
+    yield "run", None if (ended.returncode, ended.stdout) == (0, wanted.stdout) and wanted.stdout else "other"
+    ended = subprocess.run(words, input=script.encode(), capture_output=True, env={"DEALS": "/nowhere"}, check=False)
+    yield "run, no program", None if ended.returncode == 1 and b"isn't installed" in ended.stderr else "other"
+    for given, status in ((["/nowhere"], 1), (["--seed", "x"], 2), (["--seed", "4294967296"], 2), (["a", "b"], 2)):
+        ended = subprocess.run([PYTHON, TRANSLATOR, *given], capture_output=True, text=True, check=False)
+        yield f"words, {given}", None if ended.returncode == status and "Traceback" not in ended.stderr else ended.stderr
+
+
 def scripts():
     packages.need("dealer", DEALER)
     packages.need("python3-lark", "/usr/lib/python3/dist-packages/lark/__init__.py")
-    for part in (table, examples, random_scripts, spoiled):
+    for part in (table, examples, random_scripts, spoiled, shares, package, runs):
         yield from part()
