@@ -1,5 +1,7 @@
 """The page for a club's night."""
 
+from collections.abc import Callable
+
 from flask import Blueprint, Response, abort, jsonify, redirect, request
 from werkzeug.wrappers import Response as AnyResponse
 
@@ -50,16 +52,26 @@ def tonight() -> AnyResponse:
     return kept(shown(night), night)
 
 
-@pages.post("/tonight")
-def update() -> AnyResponse:
-    """Keeps what the form says."""
+def answered(act: Callable[[Night], tuple[AnyResponse, Night]]) -> AnyResponse:
+    """What an act makes of the form's night, and the night after it; the page with the fault, if its words are refused."""
     night = posted()
     try:
         bounded(night)
-        checked(words.check(night), night)
+        response, after = act(night)
     except Refused as refused:
         return kept(shown(night, refused), night)
-    return kept(redirect("/", 303), night)
+    return kept(response, after)
+
+
+@pages.post("/tonight")
+def update() -> AnyResponse:
+    """Keeps what the form says."""
+
+    def keep(night: Night) -> tuple[AnyResponse, Night]:
+        checked(words.check(night), night)
+        return redirect("/", 303), night
+
+    return answered(keep)
 
 
 @pages.post("/tonight/new")
@@ -70,13 +82,13 @@ def anew() -> AnyResponse:
 
 @pages.post("/tonight/more")
 def more() -> AnyResponse:
-    night = posted()
-    try:
-        bounded(night)
+    """Goes on after the night's boards."""
+
+    def go_on(night: Night) -> tuple[AnyResponse, Night]:
         checked(words.check(night), night)
-    except Refused as refused:
-        return kept(shown(night, refused), night)
-    return kept(redirect("/", 303), nights.more(night, drawn()))
+        return redirect("/", 303), nights.more(night, drawn())
+
+    return answered(go_on)
 
 
 @pages.post("/tonight/lines")
@@ -90,11 +102,9 @@ def file(name: str) -> AnyResponse:
     """One file of the night's boards."""
     if name not in files.TONIGHT:
         abort(404)
-    night = posted()
     wanted = files.BY_NAME[name]
-    try:
-        bounded(night)
-        ended = checked(command_of(wanted, night), night)
-    except Refused as refused:
-        return kept(shown(night, refused), night)
-    return kept(written(ended.output, wanted, "night"), night)
+
+    def make(night: Night) -> tuple[AnyResponse, Night]:
+        return written(checked(command_of(wanted, night), night).output, wanted, "night"), night
+
+    return answered(make)
