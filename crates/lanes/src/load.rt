@@ -5,7 +5,7 @@
 //! for it, it takes that work's time slice, three milliseconds or more. No clock can be read with
 //! the handles of a run. But the other end works while this one yields: after a long yield it has
 //! filled the whole lane, or emptied it, which takes some microseconds at least. And while the other
-//! end is kept from its core by a long yield, this one yields hundreds of times in vain. A few
+//! end is kept from its core by a long yield, this one yields thousands of times in vain. A few
 //! yields of the first kind in turn, or one wait of the second, start a number of waits for which
 //! both ends sleep. If there is a long yield again soon after them, twice as many follow.
 
@@ -13,7 +13,7 @@ use crate::bell::Bell;
 use std::sync::atomic::{AtomicU64, Ordering};
 
 /// For how many waits the ends sleep at first.
-const FEWEST_SLEEPS: u64 = 512;
+const FEWEST_SLEEPS: u64 = 128;
 
 /// The most such waits. With so many little is lost by the yields between.
 const MOST_SLEEPS: u64 = 16_384;

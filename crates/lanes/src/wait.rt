@@ -46,11 +46,11 @@ const PATIENCE: usize = 64;
 const SHORT_RING: usize = 32;
 
 /// So many yields in turn after which the other end has nothing left to do are long ones.
-const LONG_YIELDS: u32 = 3;
+const LONG_YIELDS: u32 = 6;
 
-/// After so many yields in one wait the other end was kept from its core. That takes some hundred
-/// microseconds.
-const YIELDS_IN_VAIN: u32 = 512;
+/// After so many yields in one wait the other end was kept from its core. That takes some
+/// milliseconds.
+const YIELDS_IN_VAIN: u32 = 8192;
 
 /// A spinning end goes on with a lane's capacity divided by this: with half of it, one end works
 /// while the other does.
