@@ -184,6 +184,9 @@ deals make --seed $seed --boards 4 --event "Club night" --format sheet --tricks 
 grep -c 'section class="board"' night.html
 grep -c 'class="par"' night.html
 rm night.pbn night.tricks night.html
+sh /usr/share/doc/deals/examples/night 4 "Club night" tonight 2>/dev/null
+grep -c 'class="par"' tonight/night.html
+rm -r tonight
 """
 
 
@@ -230,7 +233,7 @@ def check_clean(folder):
     status, _, err = clean.told("dpkg", "-i", "/deals-tricks.deb")
     yield "clean, the companion", status == 0
     status, out, err = clean.told("sh", "-euc", NIGHT)
-    yield "clean, a club night", (status, out, err) == (0, b"4\n4\n", b"")
+    yield "clean, a club night", (status, out, err) == (0, b"4\n4\n4\n", b"")
     status, _, err = clean.told("dpkg", "--purge", "deals", "deals-tricks")
     after = {path for path in clean.files() if b"/var/lib/dpkg/" not in path and b"/var/cache/" not in path}
     left = sorted(after - before)
