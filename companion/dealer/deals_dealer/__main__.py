@@ -28,9 +28,10 @@ def parser() -> argparse.ArgumentParser:
         description="Prints the commands of deals that do what a script of dealer does, each on a line.",
         epilog="What can't be said in deals is refused with its line and column.",
     )
-    parse.add_argument("script", nargs="?", default="-", metavar="FILE", help="the script; -: from standard input [default: -]")
-    parse.add_argument("--seed", type=seed, metavar="S", help="the seed, 0 to 4294967295 [default: that of the script, else 1]")
-    parse.add_argument("--run", action="store_true", help="runs the commands, in place of printing them")
+    add = parse.add_argument
+    add("script", nargs="?", default="-", metavar="FILE", help="the script; -: from standard input [default: -]")
+    add("--seed", type=seed, metavar="S", help="the seed, 0 to 4294967295 [default: that of the script, else 1]")
+    add("--run", action="store_true", help="runs the commands, in place of printing them")
     return parse
 
 

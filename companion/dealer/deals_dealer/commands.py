@@ -55,7 +55,7 @@ class Translation:
             return []
         text = spelled(formula)
         if len(text) > LONGEST:
-            raise Refusal(self.place(), f"the condition takes {len(text)} bytes, and deals {LONGEST} at most: shorten it")
+            raise Refusal(self.place(), too_long("the condition", text))
         return [f"--where={text}"]
 
     def place(self) -> Place:
@@ -81,7 +81,7 @@ class Translation:
         asked = [f"{option}={text}" for option, text in zip(("--of", "--by"), texts)]
         for text in texts:
             if len(text) > LONGEST:
-                raise Refusal(action.at, f"this takes {len(text)} bytes, and deals {LONGEST} at most: shorten it")
+                raise Refusal(action.at, too_long("this", text))
         note = "all values are shown, and not only those between the bounds" if action.bounds else ""
         return Command(("deals", "count", *self.which(PRODUCE_COUNTED), *asked), (note,) if note else ())
 
@@ -102,6 +102,10 @@ class Translation:
             for command in self.command(action):
                 found[command] = None
         return list(found)
+
+
+def too_long(what: str, text: str) -> str:
+    return f"{what} takes {len(text)} bytes, and deals {LONGEST} at most: shorten it"
 
 
 def pages(seats: tuple[str, ...]) -> list[str]:

@@ -1,8 +1,8 @@
 """What an expression of dealer means, said in the conditions and sums of `deals`.
 
 Dealer has numbers everywhere: a test is 1 or 0, and a number that isn't 0 is true. `deals` has conditions, and compares
-sums of counts. So an expression is turned into sums, one for each case of the tests in it, and a comparison puts what is
-taken away on its other side.
+sums of counts. So an expression is turned into sums, one for each case of the tests in it, and a comparison puts what
+is taken away on its other side.
 """
 
 import dataclasses
@@ -53,6 +53,9 @@ class Sum:
         return not self.counts and not self.divided
 
 
+NOTHING = Sum()
+
+
 class Meaning:
     """What expressions mean, with what this script's words count."""
 
@@ -82,7 +85,8 @@ class Meaning:
             for when, total in self.cases(expression.of):
                 yield when, total.times(-1)
         elif isinstance(expression, Binary) and expression.sign in ARITHMETIC:
-            for (one, left), (two, right) in itertools.product(self.cases(expression.left), self.cases(expression.right)):
+            pairs = itertools.product(self.cases(expression.left), self.cases(expression.right))
+            for (one, left), (two, right) in pairs:
                 yield all_of(one, two), combined(expression, left, right)
         else:
             test = self.truth(expression)
@@ -131,7 +135,7 @@ class Meaning:
         if isinstance(expression, HasCard):
             return has_card(expression)
         cases = self.cases(expression)
-        return any_of(*(all_of(when, compared(expression.at, "!=", total, Sum())) for when, total in cases))
+        return any_of(*(all_of(when, compared(expression.at, "!=", total, NOTHING)) for when, total in cases))
 
     def compared(self, expression: Binary) -> Formula:
         pairs = itertools.product(self.cases(expression.left), self.cases(expression.right))
@@ -160,7 +164,9 @@ def combined(expression: Binary, left: Sum, right: Sum) -> Sum:
     is_simple = not left.divided and left.number >= 0 and all(often > 0 for _, often in left.counts)
     if sign == "/" and is_simple and right.number > 0:
         return Sum(divided=((left, right.number, 1),))
-    raise Refusal(expression.at, "deals has no remainders: say which numbers it may be, as hcp(north)==10 or hcp(north)==12")
+    raise Refusal(
+        expression.at, "deals has no remainders: say which numbers it may be, as hcp(north)==10 or hcp(north)==12"
+    )
 
 
 def weighed(weights: tuple[int, ...], inside: str) -> Sum:

@@ -20,7 +20,8 @@ from .guard import Guard
 from .runs import Runner
 from .words import DEALS
 
-PORT = 8270
+HERE, PORT = "127.0.0.1", 8270
+NAME_HELP = "a name by which browsers may reach it, as deals.example.org; may be given several times"
 # Statuses, as `deals` has them.
 WORDS, UNABLE = 2, 6
 THREADS = 16
@@ -39,18 +40,19 @@ def parser() -> argparse.ArgumentParser:
         description="Bridge deals on a page: serves it on this machine, and opens it in the browser.",
         epilog="End it with Ctrl-C.",
     )
-    parse.add_argument("--port", type=port, default=PORT, metavar="N", help=f"the port, 0 for any that is free [default: {PORT}]")
-    parse.add_argument("--listen", default="127.0.0.1", metavar="ADDRESS", help="the address to listen at [default: 127.0.0.1, this machine alone]")
-    parse.add_argument("--name", action="append", default=[], metavar="HOST", help="a name by which browsers may reach it, as deals.example.org; may be given several times")
-    parse.add_argument("--limits", action="store_true", help="bounds for a club's server: fewer boards, less time")
-    parse.add_argument("--no-browser", action="store_true", help="don't open a browser")
-    parse.add_argument("--version", action="store_true", help="print the version of deals that it runs")
+    add = parse.add_argument
+    add("--port", type=port, default=PORT, metavar="N", help=f"the port, 0 for any that is free [default: {PORT}]")
+    add("--listen", default=HERE, metavar="ADDRESS", help=f"the address to listen at [default: {HERE}, this machine alone]")
+    add("--name", action="append", default=[], metavar="HOST", help=NAME_HELP)
+    add("--limits", action="store_true", help="bounds for a club's server: fewer boards, less time")
+    add("--no-browser", action="store_true", help="don't open a browser")
+    add("--version", action="store_true", help="print the version of deals that it runs")
     return parse
 
 
 def hosts(address: str, number: int, names: Sequence[str]) -> frozenset[str]:
     """What browsers may call this server."""
-    own = ["127.0.0.1", "localhost", "[::1]"] if address in ("127.0.0.1", "::1", "localhost") else [address]
+    own = [HERE, "localhost", "[::1]"] if address in (HERE, "::1", "localhost") else [address]
     return frozenset([*(f"{name}:{number}" for name in [*own, *names]), *names, *(own if number == 80 else [])])
 
 

@@ -16,7 +16,7 @@ from .words import DEALS, Command
 FAULTS: dict[type[Exception], tuple[int, str, str]] = {
     Busy: (503, "Too much at once", "Other pages keep this machine busy. Wait a few seconds, and try again."),
     Missing: (503, "A program is missing", "Install the package of this name, and start deals-desk anew."),
-    TooLong: (504, "This takes longer than a page can wait", "Rare hands are for a long search: give its page the condition."),
+    TooLong: (504, "This takes longer than a page can wait", "Rare hands are for the page of long searches."),
     TooLarge: (413, "This is more than a page can hold", "Ask for fewer boards, or run the command yourself."),
     Left: (503, "Nobody waited", "The browser left before the boards were there."),
 }

@@ -25,7 +25,8 @@ def check(name: str) -> Response:
     text = text_of(name)
     if not text:
         return jsonify(None)
-    command = Command(((DEALS, "count", "--seed=1", "--candidates=1", words.word(TRIED[name], text), "--hints=always"),))
+    asked = words.word(TRIED[name], text)
+    command = Command(((DEALS, "count", "--seed=1", "--candidates=1", asked, "--hints=always"),))
     try:
         checked(command, {name: text, fields.BY_NAME["of"].name: text} if name == "by" else {name: text})
     except Refused as refused:

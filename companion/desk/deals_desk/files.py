@@ -5,8 +5,8 @@ import dataclasses
 
 @dataclasses.dataclass(frozen=True)
 class File:
-    """A text of boards, and what it is for. `look` is its options; one with `tricks` needs a solver. One that is saved is
-    given as a file."""
+    """A text of boards, and what it is for. `look` is its options; one with `tricks` needs a solver. One that is saved
+    is given as a file."""
 
     name: str
     label: str
@@ -18,15 +18,18 @@ class File:
     tricks: bool = False
 
 
-HTML = "text/html; charset=utf-8"
+HTML, PBN, LIN = "text/html; charset=utf-8", "application/x-pbn", "application/x-lin"
+SHEET = ("--format=sheet",)
+WITH_TRICKS = (
+    "Eighteen boards on a page, with the tricks of each side and par: to hang up after play. It takes some seconds."
+)
 FILES = (
     File("boards", "Boards", "All four hands of each board.", ("--format=html",), HTML, "html"),
     File("handout", "Handout", "The dealer's hand alone.", ("--show=dealer", "--format=html"), HTML, "html"),
-    File("sheet", "Sheet", "All hands, eighteen boards on a page, to print from the browser.", ("--format=sheet",), HTML, "html"),
-    File("tricks", "Sheet with tricks", "Eighteen boards on a page, with the tricks of each side and par: to hang up after play. "
-         "It takes some seconds.", ("--format=sheet",), HTML, "html", tricks=True),
-    File("pbn", "PBN", "For dealing machines and bridge programs.", ("--format=pbn",), "application/x-pbn", "pbn", saved=True),
-    File("lin", "LIN", "For Bridge Base Online.", ("--format=lin",), "application/x-lin", "lin", saved=True),
+    File("sheet", "Sheet", "All hands, eighteen boards on a page, to print from the browser.", SHEET, HTML, "html"),
+    File("tricks", "Sheet with tricks", WITH_TRICKS, SHEET, HTML, "html", tricks=True),
+    File("pbn", "PBN", "For dealing machines and bridge programs.", ("--format=pbn",), PBN, "pbn", saved=True),
+    File("lin", "LIN", "For Bridge Base Online.", ("--format=lin",), LIN, "lin", saved=True),
 )
 BY_NAME = {file.name: file for file in FILES}
 

@@ -16,7 +16,7 @@ def asked() -> dict[str, str]:
 
 
 def offered(form: Form) -> list[files.File]:
-    """The files that can be had: with rules on contracts there are no tricks, since they are counted of other boards."""
+    """The files that can be had: with rules on contracts no tricks, since they are counted of other boards."""
     has_tricks = desk().runner.has(TRICKS) and not words.rules(form)
     return [files.BY_NAME[name] for name in files.LESSON if has_tricks or not files.BY_NAME[name].tricks]
 

@@ -50,8 +50,8 @@ class Search:
         return found[-1] if found else ""
 
     def searched(self) -> int:
-        """How many candidates are searched for sure: as the line before the last one told, since the numbers of the last
-        second may still be on their way."""
+        """How many candidates are searched for sure: as the line before the last one told, since the numbers of the
+        last second may still be on their way."""
         told = [int(match[1].replace(",", "")) for match in PROGRESS.finditer(self.lines())]
         return told[-2] if len(told) > 1 else 0
 

@@ -53,7 +53,7 @@ def tonight() -> AnyResponse:
 
 
 def answered(act: Callable[[Night], tuple[AnyResponse, Night]]) -> AnyResponse:
-    """What an act makes of the form's night, and the night after it; the page with the fault, if its words are refused."""
+    """What an act makes of the form's night, and the night after it; the page with the fault, if words are refused."""
     night = posted()
     try:
         bounded(night)
