@@ -61,7 +61,7 @@ def nasty_fields(desk):
         file = f"{folder}/made"
         drawn = random.Random(20261128)
         names = [*fields.BY_NAME, "x"]
-        for number in range(500):
+        for number in range(2000 if report.has("many") else 400):
             values = {name: drawn.choice(NASTY).replace("{file}", file) for name in drawn.sample(names, 4)}
             if drawn.random() < 0.3:
                 values["seed"], values["boards"] = "1", "1"
@@ -76,7 +76,7 @@ def nasty_fields(desk):
 def nasty_bodies(desk):
     """Bodies of any bytes, and of too many."""
     drawn = random.Random(7)
-    for number in range(200):
+    for number in range(2000 if report.has("many") else 200):
         body = drawn.randbytes(drawn.choice([0, 1, 100, 5000]))
         kind = drawn.choice(["application/x-www-form-urlencoded", "multipart/form-data; boundary=x", "text/plain"])
         path = drawn.choice(["/tonight", "/tonight/pbn", "/check/where", "/rarity", "/search", "/tonight/more"])

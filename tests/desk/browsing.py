@@ -251,55 +251,69 @@ def contracts(window, desk):
     yield "its line", "deals-tricks --makes=4S-NS --beaten=3NT-NS" in window.shown_lines()[0]
 
 
-def by_keyboard(window, desk):
-    """From the top of the page to the boards by keys alone."""
+def pressed_by_keys(window, text):
+    """Goes from field to field by the tab key up to a button, and presses it by the return key. Whether it was there."""
     from selenium.webdriver.common.keys import Keys
 
-    window.go(f"{desk.address}/lesson?where=hcp(north)>%3D20&boards=1")
-    for _ in range(60):
+    for _ in range(80):
         window.driver.switch_to.active_element.send_keys(Keys.TAB)
         focused = window.driver.switch_to.active_element
-        if focused.text == "Deal":
-            break
-    yield "the button is reached", focused.text == "Deal"
-    focused.send_keys(Keys.ENTER)
+        if focused.tag_name == "button" and focused.text == text:
+            focused.send_keys(Keys.ENTER)
+            return True
+    return False
+
+
+def by_keyboard(window, desk):
+    """Each page from its top to its result by keys alone."""
+    window.go(desk.address)
+    yield "keys: the night's file", pressed_by_keys(window, "PBN") and b"[Deal " in window.downloaded("night.pbn")
+    window.go(f"{desk.address}/lesson?where=hcp(north)>%3D20&boards=1")
+    yield "keys: deal", pressed_by_keys(window, "Deal")
     window.until(lambda: "Board 1" in window.frame_text(), "the board")
+    window.go(f"{desk.address}/count?of=hcp(north)")
+    yield "keys: count", pressed_by_keys(window, "Count")
+    window.until(lambda: "hcp(north)" in window.frame_text(), "the table")
+    window.go(f"{desk.address}/search?where=hcp(north)>%3D35")
+    yield "keys: search", pressed_by_keys(window, "Search")
+    window.until(lambda: window.button("Stop"), "the search")
+    yield "keys: stop", pressed_by_keys(window, "Stop")
+    window.until(lambda: "Stopped" in window.find("[role=status]").text, "the end")
 
 
 WAYS = (tonight, sheet, lesson, mistake, hands, counted, searched, contracts, by_keyboard)
 
 
-def plain(window, desk):
-    """Without scripts: a night's file, a lesson, a refusal at its field, a search."""
-    window.go(desk.address)
-    window.write("boards", "3")
-    window.press("PBN")
-    yield "plain: PBN", window.downloaded("night.pbn").count(b"[Deal ") == 3
+# The ways that need no scripts; a mistake is told without them too, when the form is sent.
+PLAIN = (tonight, sheet, lesson, hands, counted, searched, contracts, by_keyboard)
+
+
+def plain_mistake(window, desk):
+    """Without scripts a mistake is told at its field when the form is sent."""
     window.go(f"{desk.address}/lesson")
     window.write("where", "hcp(nord)>=15")
+    time.sleep(1)
+    window.driver.implicitly_wait(0)
+    yield "scripts are off", not window.all(".refusal")
+    window.driver.implicitly_wait(5)
     window.press("Deal")
-    yield "plain: a refusal", "nord" in window.find("#where-refusal").text
+    yield "a refusal", "nord" in window.find("#where-refusal").text
+    yield from fits(window, "a refusal")
     window.write("where", "hcp(north)>=15")
     window.press("Deal")
     window.until(lambda: "Board 12" in window.frame_text(), "the boards")
-    window.go(f"{desk.address}/search")
-    window.write("where", "hcp(north)>=31")
-    window.write("boards", "1000")
-    window.press("Search")
-    window.until(lambda: window.find("iframe"), "a board")
-    window.press("Stop")
-    yield "plain: stopped", "Stopped" in window.find("[role=status]").text
 
 
 def gone(ways_to_go, width, desk, has_scripts=True):
     """Ways in a window of this width. What didn't come is told, and the next way tried."""
+    plain = "" if has_scripts else ", no scripts"
     with harness.scratch() as folder, browser(width, folder, has_scripts) as window:
         for way in ways_to_go:
             try:
                 for name, is_right in way(window, desk):
-                    yield f"{width}: {name}", is_right
+                    yield f"{width}{plain}: {name}", is_right
             except Exception as error:
-                yield f"{width}: {way.__name__}: {str(error).splitlines()[0]}", False
+                yield f"{width}{plain}: {way.__name__}: {str(error).splitlines()[0]}", False
 
 
 def ways():
@@ -307,4 +321,4 @@ def ways():
     with serving.desk() as desk:
         for width in WIDTHS:
             yield from report.judged(gone(WAYS, width, desk))
-        yield from report.judged(gone([plain], 1280, desk, has_scripts=False))
+        yield from report.judged(gone([*PLAIN, plain_mistake], 1280, desk, has_scripts=False))
