@@ -110,9 +110,9 @@ def check_fish(_):
     yield "fish, nothing of another command", commands.in_fish("deals stream --w") == []
 
 
-def listed_by_zsh(shell, line):
-    """The words that zsh lists for a line, or the one that it completes."""
-    shown, completed = shell.completed(line)
+def listed_by_zsh(shell, line, tabs=2):
+    """The words that zsh lists for a line, or the one that it completes, by a tab."""
+    shown, completed = shell.completed(line, tabs)
     rows = shown.split("\r\n")[1:-1]
     if len(rows) < 2:
         return {completed.split()[-1]} if completed != line.strip() else set()
@@ -126,7 +126,7 @@ def check_zsh(_):
     for name in names():
         start = "deals " if name is None else f"deals {name} "
         for words, right in right_words(name):
-            found = listed_by_zsh(shell, start + words)
+            found = listed_by_zsh(shell, start + words, min(len(right), 2))
             # zsh lists -h beside --help; where one word is left, it is completed.
             shorts = commands.shorts(name)
             yield f"zsh, {start}{words}", found - shorts == right - shorts
