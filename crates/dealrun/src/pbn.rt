@@ -8,15 +8,13 @@ ghost use Rattle.plans.specs.Reference.{WritesPlainIn};
 ghost use Rattle.sinks.specs.Sinks.{CountsFault};
 ghost use Rattle.plans.specs.Text.{accepted};
 
-use crate::runs::{Report, RunFault, out_of_memory, start_and_write};
-use crate::start::Shared;
+use crate::runs::{Report, RunFault, out_of_memory, run_in};
 use conditions::Cond;
 use lanes::Gate;
 use pbn_text::{Printer, Reference};
 use plans::{PlainFault, Plan, run_plain_in};
 use sinks::Sink;
 use std::alloc::Global;
-use std::sync::atomic::AtomicBool;
 use std::sync::{Arc, Wait};
 use std::thread::Threads;
 
@@ -58,15 +56,10 @@ pub fn run<
     // The sink failed, once, if and only if the cause is Output.
     ensures faults { FailsAtOutput result (S.faults sink.old) (S.faults sink.new) }
 {
-    let Ok(stop) = Arc::new(alloc, AtomicBool::new(false)) else {
-        return Err(out_of_memory(alloc));
-    };
-    let Ok(mut printer) = Printer::new(alloc, plan.heading()) else {
-        return Err(out_of_memory(alloc));
-    };
-    let shared = Shared { gate, stop };
-    let counted = start_and_write(rt, alloc, plan, cond, &mut printer, sink, shared)?;
-    Ok(counted.report)
+    match Printer::new(alloc, plan.heading()) {
+        Ok(mut printer) => run_in(rt, alloc, plan, cond, &mut printer, sink, gate),
+        Err(_) => Err(out_of_memory(alloc)),
+    }
 }
 
 /// Tries the plan's candidates in order, and writes the header and the games of those that meet the

@@ -145,7 +145,7 @@ pub fn run_and_count<
 
 /// Takes the memory of the lanes and the workers, starts the workers, whose flag is down, and
 /// writes.
-pub(crate) fn start_and_write<
+fn start_and_write<
     R: Threads + Wait + Clone + Send + 'static,
     G: Gate + Drop + Send + Sync + 'static,
     N: Notation,

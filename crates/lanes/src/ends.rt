@@ -7,11 +7,13 @@ ghost use Rattle.std.specs.Prelude.{IfNone};
 ghost use Rattle.std.specs.Prelude.{true, false, MatchBool};
 ghost use Rattle.lanes.specs.Slots.{verdict_in, verdicts_in};
 ghost use Rattle.lanes.specs.declared.ends.LaneError.TheVariants.{Capacity, Memory};
+ghost use Rattle.lanes.specs.declared.wait.Pace.TheVariants.{Spins, Sleeps};
 
-use crate::bell::{Bell, left_by_worth_waking};
-use crate::load::{Load, Signals};
+use crate::bell::left_by_worth_waking;
+use crate::pause::{Habit, Pause};
+use crate::signals::{Side, Signals};
 use crate::verdict::{Block, MAX_BLOCK, Slot, Verdict};
-use crate::wait::{Pace, Pause, Raised};
+use crate::wait::{Pace, Raised};
 use cards::MAX_CAPACITY;
 use rtrb::{Consumer, Finished, Producer, RingBuffer};
 use std::alloc::Global;
@@ -21,6 +23,10 @@ use thiserror::Error;
 
 /// A block is the capacity divided by this: two blocks and the ring between them share it.
 const PARTS_WITH_A_BLOCK: usize = 4;
+
+/// The same where the ends sleep at once: each sleep is for nearly a whole ring, and there is no
+/// cache line to be spared.
+const PARTS_OF_SLEEPERS: usize = 8;
 
 /// Why there is no lane.
 #[derive(Debug, Drop, Error)]
@@ -40,8 +46,7 @@ pub struct LaneIn {
     // How many candidates the worker judges before it sends their verdicts.
     ahead: usize,
     pace: Pace,
-    // How many of its last yields, in turn, looked long.
-    long_yields: u32,
+    habit: Habit,
     signals: Arc<Signals, Global>,
 }
 
@@ -93,8 +98,7 @@ pub struct LaneOut {
     block: Block,
     settled: bool,
     pace: Pace,
-    // How many of its last yields, in turn, looked long.
-    long_yields: u32,
+    habit: Habit,
     signals: Arc<Signals, Global>,
 }
 
@@ -137,9 +141,10 @@ pub fn lane(alloc: Global, capacity: u32) -> Result<(LaneIn, LaneOut), LaneError
 /// worker judges a block of candidates before it sends their verdicts, and the writer takes a block
 /// out of the ring at once.
 ///
-/// A block is a quarter of the capacity, at most 16 verdicts, and none below a capacity of 4. The
-/// ring is smaller by the two blocks, so that a worker with blocks is never more than `capacity`
-/// candidates ahead of the writer.
+/// A block is a quarter of the capacity, at most 16 verdicts, and none below a capacity of 4; at a
+/// pace that sleeps an eighth, at most 8 verdicts, and none below 8. The ring is smaller by the two
+/// blocks, so that a worker with blocks is never more than `capacity` candidates ahead of the
+/// writer.
 ///
 /// # Errors
 /// Those of `lane`.
@@ -150,12 +155,19 @@ pub fn lane_in_blocks(
 ) -> Result<(LaneIn, LaneOut), LaneError>
     ensures capacity { IsErrOf result Capacity ↔ ((capacity ≡ 0) ⊎ (4096 < capacity)) }
     ensures ring { IfOk result (λ r. r.0.ring ≡ r.1.ring) }
-    ensures sender { IfOk result (λ r. (r.0.sent ≡ [])
-        × (r.0.room + 2 * min 16 (capacity / 4) ≡ capacity)) }
+    ensures sender { IfOk result (λ r. r.0.sent ≡ []) }
+    ensures spins { pace ≡ Spins → IfOk result (λ r.
+        r.0.room + 2 * min 16 (capacity / 4) ≡ capacity) }
+    ensures sleeps { pace ≡ Sleeps → IfOk result (λ r.
+        r.0.room + 2 * min 8 (capacity / 8) ≡ capacity) }
     ensures taker { IfOk result (λ r. (r.1.taken ≡ []) × (r.1.settled ≡ false)) }
 {
-    let block = capacity as usize / PARTS_WITH_A_BLOCK;
-    ends_with_blocks(alloc, capacity, block.min(MAX_BLOCK), pace)
+    let whole = capacity as usize;
+    let block = match pace {
+        Pace::Spins => (whole / PARTS_WITH_A_BLOCK).min(MAX_BLOCK),
+        Pace::Sleeps => (whole / PARTS_OF_SLEEPERS).min(MAX_BLOCK / 2),
+    };
+    ends_with_blocks(alloc, capacity, block, pace)
 }
 
 /// The two ends of a lane, each with blocks of this many verdicts, and the ring with the rest of
@@ -191,7 +203,7 @@ fn ends_with_blocks(
         producer,
         ahead: block.max(1),
         pace,
-        long_yields: 0,
+        habit: Habit::new(),
         signals: theirs,
     };
     let taker = LaneOut {
@@ -199,7 +211,7 @@ fn ends_with_blocks(
         block: Block::new(block),
         settled: false,
         pace,
-        long_yields: 0,
+        habit: Habit::new(),
         signals,
     };
     Ok((sender, taker))
@@ -212,7 +224,7 @@ impl Drop for LaneIn {
             producer: _,
             ahead: _,
             pace: _,
-            long_yields: _,
+            habit: _,
             signals: _,
         } = self;
     }
@@ -314,24 +326,26 @@ impl LaneIn {
     /// Begins to wait for room, once the writer is awake.
     pub(crate) fn begin_wait(&self) -> Pause {
         self.signals.writer.ring();
-        Pause::new(self.producer.capacity(), self.pace)
+        let capacity = self.producer.capacity();
+        Pause::new(
+            Side::Worker,
+            capacity,
+            self.pace,
+            self.habit,
+            &self.signals.load,
+        )
     }
 
     /// Ends a wait.
     pub(crate) fn end_wait(&mut self, pause: &Pause)
         ensures { self.new ≡ self.old }
     {
-        self.long_yields = pause.end(&self.signals.worker, &self.signals.load, self.long_yields);
+        self.habit = pause.end(&self.signals);
     }
 
-    /// What wakes it.
-    pub(crate) fn bell(&self) -> &Bell {
-        &self.signals.worker
-    }
-
-    /// What is known of the machine's load.
-    pub(crate) fn load(&self) -> &Load {
-        &self.signals.load
+    /// What both ends share beside the ring.
+    pub(crate) fn signals(&self) -> &Signals {
+        &self.signals
     }
 
     /// How many candidates the worker is to judge before it sends their verdicts.
@@ -367,7 +381,7 @@ impl LaneIn {
             producer,
             ahead: _,
             pace: _,
-            long_yields: _,
+            habit: _,
             signals,
         } = self;
         // Giving up the producing end is the core's Close.
@@ -388,7 +402,7 @@ impl Drop for LaneOut {
             block: _,
             settled: _,
             pace: _,
-            long_yields: _,
+            habit: _,
             signals: _,
         } = self;
     }
@@ -539,23 +553,25 @@ impl LaneOut {
 
     /// Begins to wait for a verdict.
     pub(crate) fn begin_wait(&self) -> Pause {
-        Pause::new(self.consumer.capacity(), self.pace)
+        let capacity = self.consumer.capacity();
+        Pause::new(
+            Side::Writer,
+            capacity,
+            self.pace,
+            self.habit,
+            &self.signals.load,
+        )
     }
 
     /// Ends a wait.
     pub(crate) fn end_wait(&mut self, pause: &Pause)
         ensures { self.new ≡ self.old }
     {
-        self.long_yields = pause.end(&self.signals.writer, &self.signals.load, self.long_yields);
+        self.habit = pause.end(&self.signals);
     }
 
-    /// What wakes it.
-    pub(crate) fn bell(&self) -> &Bell {
-        &self.signals.writer
-    }
-
-    /// What is known of the machine's load.
-    pub(crate) fn load(&self) -> &Load {
-        &self.signals.load
+    /// What both ends share beside the ring.
+    pub(crate) fn signals(&self) -> &Signals {
+        &self.signals
     }
 }

@@ -1,19 +1,11 @@
-//! What the ends of a lane know of the machine's load: whether to yield, which lets other threads
-//! run, gives a whole time slice away.
-//!
-//! Where nothing else wants the core, a yield takes less than a microsecond. Where other work waits
-//! for it, it takes that work's time slice, three milliseconds or more. No clock can be read with
-//! the handles of a run. But the other end works while this one yields: after a long yield it has
-//! filled the whole lane, or emptied it, which takes some microseconds at least. And while the other
-//! end is kept from its core by a long yield, this one yields thousands of times in vain. A few
-//! yields of the first kind in turn, or one wait of the second, start a number of waits for which
-//! both ends sleep. If there is a long yield again soon after them, twice as many follow.
+//! What the ends of a lane know of the machine's load: whether it is quiet, so that a yield takes
+//! next to no time, or busy. Long yields, which `pause.rt` tells, start a number of waits for which
+//! it counts as busy. If there are long yields again soon after them, twice as many follow.
 
-use crate::bell::Bell;
 use std::sync::atomic::{AtomicU64, Ordering};
 
-/// For how many waits the ends sleep at first.
-const FEWEST_SLEEPS: u64 = 128;
+/// For how many waits with a sleep the machine counts as busy at first.
+const FEWEST_SLEEPS: u64 = 2048;
 
 /// The most such waits. With so many little is lost by the yields between.
 const MOST_SLEEPS: u64 = 16_384;
@@ -25,9 +17,9 @@ const TIMES_SOON: u64 = 4;
 /// written while yields are short.
 #[derive(Drop)]
 pub(crate) struct Load {
-    // For how many waits the ends sleep from now on.
+    // For how many waits with a sleep the machine counts as busy from now on.
     sleeps: AtomicU64,
-    // For how many they did the last time, or 0 once that is long ago.
+    // For how many it did the last time, or 0 once that is long ago.
     length: AtomicU64,
     // After how many waits more that is so.
     soon: AtomicU64,
@@ -35,7 +27,7 @@ pub(crate) struct Load {
 
 impl Load {
     /// That of a machine of which nothing is known.
-    fn new() -> Load {
+    pub(crate) fn new() -> Load {
         Load {
             sleeps: AtomicU64::new(0),
             length: AtomicU64::new(0),
@@ -43,7 +35,7 @@ impl Load {
         }
     }
 
-    /// Whether an end is to sleep in place of yielding.
+    /// Whether the machine counts as busy, so that an end is not to yield.
     pub(crate) fn is_high(&self) -> bool {
         self.sleeps.load(Ordering::SeqCst) > 0
     }
@@ -70,35 +62,11 @@ impl Load {
         }
     }
 
-    /// Notes a wait without a yield.
+    /// Notes a wait with a sleep.
     pub(crate) fn note_sleep(&self) {
         let sleeps = self.sleeps.load(Ordering::SeqCst);
         if sleeps > 0 {
             self.sleeps.store(sleeps - 1, Ordering::SeqCst);
-        }
-    }
-}
-
-/// What the two ends of a lane share beside its ring: their bells and the load.
-#[derive(Drop)]
-pub(crate) struct Signals {
-    // So that no cache line that is written for each verdict is read with the bells.
-    _before: [u64; 8],
-    pub(crate) worker: Bell,
-    pub(crate) writer: Bell,
-    pub(crate) load: Load,
-    _after: [u64; 8],
-}
-
-impl Signals {
-    /// Those of two ends that are awake.
-    pub(crate) fn new() -> Signals {
-        Signals {
-            _before: [0; 8],
-            worker: Bell::new(),
-            writer: Bell::new(),
-            load: Load::new(),
-            _after: [0; 8],
         }
     }
 }

@@ -1,0 +1,209 @@
+//! The pauses of an end of a lane that waits: it spins, and then yields or sleeps.
+//!
+//! A yield lets other threads run. Where nothing else wants the core, it takes less than a
+//! microsecond. Where other work waits for it, it gives a whole time slice away, three milliseconds
+//! or more. No clock can be read with the handles of a run. But the other end soon waits too, and
+//! counts its spins (`signals.rt`): after a long yield it has spun for long.
+//!
+//! Two long yields with few others between them show that the machine is busy (`load.rt`). From then
+//! on an end doesn't yield: it spins, and then sleeps until the other end wakes it. To be woken takes
+//! as long as dozens of candidates even if a core is free. So an end that slept in vain spins half as
+//! long the next time, and one that didn't twice as long.
+
+ghost use Rattle.std.specs.Prelude.{◌≡◌, ◌<◌, true};
+
+use crate::load::Load;
+use crate::signals::{Side, Signals};
+use crate::wait::Pace;
+use std::sync::Wait;
+use std::{hint, thread};
+
+/// The fewest spins between two looks, for a lane of one verdict.
+const MIN_SPINS: usize = 4;
+
+/// The most spins between two looks: some microseconds, so that a flag that goes up is soon seen.
+const MAX_SPINS: usize = 4096;
+
+/// How many spins a verdict of the other end takes, about, so that a pause lasts about half a
+/// lane's content.
+const SPINS_A_VERDICT: usize = 2;
+
+/// A spinning end goes on with a lane's capacity divided by this: with half of it, one end works
+/// while the other does.
+const PARTS_OF_A_LANE: usize = 2;
+
+/// How many spins without progress an end waits before it yields: some dozens of microseconds.
+const PATIENCE: usize = 640;
+
+/// A yield took long if the other end waited meanwhile for so many spins. That is less than its
+/// patience, since it then yields too.
+const LONG_YIELD: u64 = 384;
+
+/// A long yield shows nothing once so many others came after it.
+const YIELDS_BETWEEN: u32 = 64;
+
+/// After so many yields in one wait, which take some milliseconds, its end sleeps.
+const YIELDS_IN_VAIN: u32 = 8192;
+
+/// The fewest spins without progress before an end of a busy machine sleeps.
+const LEAST_PATIENCE: usize = 64;
+
+/// The most: about a millisecond.
+const MOST_PATIENCE: usize = 16_384;
+
+/// What an end of a lane keeps from one wait to the next.
+#[derive(Clone, Copy, Drop)]
+pub(crate) struct Habit {
+    // How many spins without progress it waits before it sleeps, while the machine is busy.
+    patience: usize,
+    // After how many yields more the last long one shows nothing.
+    yields_left: u32,
+}
+
+impl Habit {
+    /// That of an end that never waited.
+    pub(crate) fn new() -> Habit {
+        Habit {
+            patience: MOST_PATIENCE,
+            yields_left: 0,
+        }
+    }
+
+    /// The habit after a wait in which the end slept, or didn't.
+    fn after(self, slept: bool) -> Habit {
+        let patience = if slept {
+            (self.patience / 2).max(LEAST_PATIENCE)
+        } else {
+            self.patience.saturating_mul(2).min(MOST_PATIENCE)
+        };
+        Habit { patience, ..self }
+    }
+}
+
+/// How far an end that waits has come.
+#[derive(Clone, Copy, Drop)]
+enum Stage {
+    /// It spins between two looks.
+    Spins,
+    /// It yields between two looks.
+    Yields,
+    /// It said that it listens for its bell, and looks once more.
+    Listens,
+    /// It slept.
+    Slept,
+}
+
+/// The pauses of an end that waits. One that spins does so again as long as the other end makes
+/// progress, and yields or sleeps once that stopped and its patience is used up.
+#[derive(Drop)]
+pub(crate) struct Pause {
+    side: Side,
+    pace: Pace,
+    spins: usize,
+    enough: usize,
+    seen: usize,
+    patience: usize,
+    yields: u32,
+    stage: Stage,
+    habit: Habit,
+}
+
+impl Pause {
+    /// The pauses at a ring of this capacity, of the end on this side.
+    pub(crate) fn new(side: Side, capacity: usize, pace: Pace, habit: Habit, load: &Load) -> Pause {
+        let (enough, patience) = match pace {
+            Pace::Sleeps => (1, 0),
+            Pace::Spins if load.is_high() => (capacity / PARTS_OF_A_LANE, habit.patience),
+            Pace::Spins => (capacity / PARTS_OF_A_LANE, PATIENCE),
+        };
+        Pause {
+            side,
+            pace,
+            spins: capacity
+                .saturating_mul(SPINS_A_VERDICT)
+                .max(MIN_SPINS)
+                .min(MAX_SPINS),
+            enough,
+            seen: 0,
+            patience,
+            yields: 0,
+            stage: Stage::Spins,
+            habit,
+        }
+    }
+
+    /// Waits a little, or says that the end listens for its bell. After that a look is due, and
+    /// then the end sleeps.
+    pub(crate) fn wait<R: Wait>(&mut self, rt: &R, signals: &Signals) {
+        if self.patience > 0 {
+            for _ in 0..self.spins {
+                hint::spin_loop();
+            }
+            signals.count_spins(self.side, self.spins as u64);
+            return;
+        }
+        self.stage = match self.stage {
+            Stage::Listens => {
+                signals.bell(self.side).sleep(rt);
+                Stage::Slept
+            }
+            Stage::Spins | Stage::Yields | Stage::Slept => self.yield_or_listen(signals),
+        };
+    }
+
+    /// Lets other threads run, or says that the end listens for its bell.
+    fn yield_or_listen(&mut self, signals: &Signals) -> Stage {
+        let sleeps = matches!(self.pace, Pace::Sleeps) || self.yields >= YIELDS_IN_VAIN;
+        if sleeps || signals.load.is_high() {
+            signals.bell(self.side).listen();
+            return Stage::Listens;
+        }
+        let before = signals.spins(self.side.other());
+        thread::yield_now();
+        let meanwhile = signals.spins(self.side.other()).wrapping_sub(before);
+        self.yields = self.yields.saturating_add(1);
+        self.note_yield(&signals.load, meanwhile >= LONG_YIELD);
+        Stage::Yields
+    }
+
+    /// Notes a yield that took long, or not.
+    fn note_yield(&mut self, load: &Load, is_long: bool) {
+        let left = self.habit.yields_left;
+        self.habit.yields_left = match (is_long, left) {
+            (true, 0) => YIELDS_BETWEEN,
+            (true, _) => {
+                load.note_long();
+                0
+            }
+            (false, _) => left.saturating_sub(1),
+        };
+    }
+
+    /// Whether to go on with this many verdicts or slots: with enough, if no more come, or once the
+    /// end was woken for them.
+    pub(crate) fn is_enough(&mut self, count: usize) -> bool
+        ensures { result ≡ true → 0 < count }
+    {
+        let stands_still = count == self.seen;
+        self.seen = count;
+        if stands_still {
+            self.patience = self.patience.saturating_sub(self.spins);
+        }
+        let is_all = stands_still || matches!(self.stage, Stage::Slept);
+        count > 0 && (is_all || count >= self.enough)
+    }
+
+    /// Ends the wait. Returns what its end keeps for the next one.
+    pub(crate) fn end(&self, signals: &Signals) -> Habit {
+        match self.stage {
+            Stage::Spins => {}
+            Stage::Yields => signals.load.note_short(),
+            Stage::Listens => {
+                signals.bell(self.side).stop_listening();
+                signals.load.note_sleep();
+            }
+            Stage::Slept => signals.load.note_sleep(),
+        }
+        self.habit.after(matches!(self.stage, Stage::Slept))
+    }
+}
