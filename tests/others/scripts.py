@@ -180,7 +180,7 @@ def spoiled():
 
 # Scripts whose shares and averages both programs tell, of so many deals each.
 COUNTED = ("1c", "controls", "2nt", "weaktwo", "you_hold", "notrump")
-BY_DEALER, BY_DEALS = 200_000, 1_000_000
+BY_DEALER, BY_DEALS = (1_000_000, 10_000_000) if report.has("many") else (200_000, 1_000_000)
 # Standard errors that two shares may differ by.
 ERRORS = 4
 
@@ -203,6 +203,55 @@ def shares():
         share = (one * BY_DEALER + other * BY_DEALS) / (BY_DEALER + BY_DEALS)
         error = (share * (1 - share) * (1 / BY_DEALER + 1 / BY_DEALS)) ** 0.5
         yield f"{name}, its share", None if share and abs(one - other) <= ERRORS * error else f"{one} and {other}"
+
+
+# What both programs average and count by value, each with a condition that about a third of all deals meets.
+VALUES = (
+    "hcp(north)",
+    "hcp(north) + hcp(south)",
+    "losers(east)",
+    "controls(west)",
+    "spades(south)",
+    "hearts(north) + hearts(south)",
+    "2*aces(south) + kings(south)",
+)
+ON_CONDITION = "condition hcp(north) > 11 and not shape(east, any 4333)"
+
+
+def values_by_dealer(value):
+    """The average that dealer prints, how many deals have each value, and how many there are."""
+    asked = f'{ON_CONDITION}\ngenerate {BY_DEALER}\nproduce {BY_DEALER}\naction average "a" {value}, frequency "f" ({value}, 0, 40)\n'
+    said = subprocess.run([DEALER, "-s", "12"], input=asked, capture_output=True, text=True, check=True)
+    told = said.stdout + said.stderr
+    rows = {int(number): int(deals) for number, deals in re.findall(r"^ +(\d+)\t +(\d+)$", told, re.M)}
+    return float(re.search(r"^a: ([\d.]+)", told, re.M)[1]), rows, int(re.search(r"Produced (\d+) hands", told)[1])
+
+
+def values_by_deals(value):
+    """How many deals have each value, by the command that the translator writes for the average."""
+    script = f'{ON_CONDITION}\ngenerate {BY_DEALS} produce {BY_DEALS}\naction average "a" {value}'
+    status, commands, said = translated(script)
+    if status:
+        raise AssertionError(said)
+    ended = harness.deals(*commands[0][1:], "--format=csv", "--workers=auto")
+    return {int(number): int(deals) for number, deals in (row.split(b",") for row in ended.stdout.splitlines()[1:])}
+
+
+def values():
+    """Both programs have the same averages, and the same share of their deals has each value, within what chance allows."""
+    for value in VALUES:
+        average, theirs, produced = values_by_dealer(value)
+        ours = values_by_deals(value)
+        deals = sum(ours.values())
+        mean = sum(number * count for number, count in ours.items()) / deals
+        spread = sum((number - mean) ** 2 * count for number, count in ours.items()) / deals
+        error = (spread * (1 / produced + 1 / deals)) ** 0.5
+        yield f"{value}, its average", None if abs(average - mean) <= ERRORS * error else f"{average} and {mean}"
+        for number in sorted({*ours, *(row for row, count in theirs.items() if count)}):
+            one, other = theirs.get(number, 0) / produced, ours.get(number, 0) / deals
+            share = (theirs.get(number, 0) + ours.get(number, 0)) / (produced + deals)
+            error = (share * (1 - share) * (1 / produced + 1 / deals)) ** 0.5
+            yield f"{value}, {number}", None if abs(one - other) <= ERRORS * error else f"{one} and {other}"
 
 
 def package():
@@ -237,5 +286,5 @@ def runs():
 def scripts():
     packages.need("dealer", DEALER)
     packages.need("python3-lark", "/usr/lib/python3/dist-packages/lark/__init__.py")
-    for part in (table, examples, random_scripts, spoiled, shares, package, runs):
+    for part in (table, examples, random_scripts, spoiled, shares, values, package, runs):
         yield from part()
