@@ -12,16 +12,17 @@ use Rattle.cond_lang.specs.declared.classes.Class.{Class as AClass}
 use Rattle.cond_lang.specs.declared.classes.Quantifier.{Quantifier as AQuantifier}
 use Rattle.cond_lang.specs.declared.words.Kind.{Kind}
 use Rattle.cond_lang.specs.declared.words.Kind.TheVariants as kind
+use Rattle.conditions.specs.declared.tree.Count.{Count}
 use Rattle.conditions.specs.declared.tree.Item.{Item}
 use Rattle.conditions.specs.declared.tree.Item.TheVariants.{Length, Any}
 use Rattle.conditions.specs.declared.tree.Op.{Op}
 use Rattle.cond_lang.specs.declared.scanner.Token.{Token}
-use Rattle.cond_lang.specs.declared.scanner.Token.TheVariants.{Or, And, Not, Balanced, Shape, Pattern, Quantifier, Stops, Measure, Cards, Len, Longest, Second, Shortest, In, X, Seat, Suit, Class, Neighbour, Ranks, Number, Open, Close, Comma, Dash, Plus, Relation}
+use Rattle.cond_lang.specs.declared.scanner.Token.TheVariants.{Or, And, Not, Balanced, Shape, Pattern, Quantifier, Stops, Measure, Cards, Len, Longest, Second, Shortest, In, X, Seat, Suit, Class, Neighbour, Ranks, Number, Open, Close, Comma, Dash, Plus, Star, Relation}
 use Rattle.cond_lang.specs.Continuations.{kind_of}
 use Rattle.cond_lang.specs.Faults.{IsViable}
-use Rattle.conditions.specs.Form.{Amount, sum, number, measured, suit_measured, cards_held, suit_cards_held, suit_length, longest, second, shortest, Form, any_of, all_of, negation, compare, within, balanced, shaped, patterned, stops}
+use Rattle.conditions.specs.Form.{Amount, sum, number, counted, times, measured, suit_measured, cards_held, suit_cards_held, suit_length, longest, second, shortest, Form, any_of, all_of, negation, compare, within, balanced, shaped, patterned, stops}
 use Rattle.cond_lang.specs.Classes.{unbound, bound_to, seat_bound_to, seat_beside, bind, members, Names, by_suit, by_class}
-use Rattle.cond_lang.specs.Grammar.{SpellsSeat, by_word, by_bound, beside, SpellsCount, SpellsHandTest, SpellsAtom, SpellsValue, atom, plus, a_number, count, measure, measure_in, len, cards, cards_in, longest_suit, second_suit, shortest_suit, item_token, four, SpellsCond, both, or, SpellsBoth, unit, and, SpellsUnit, not, brackets, quantified, test, SpellsTest, comparison, in_range, of_hand, is_balanced, has_shape, has_pattern, has_stopper, joined, SpellsEach, none as no_more, one_more}
+use Rattle.cond_lang.specs.Grammar.{SpellsCounted, a_count, multiple, SpellsSeat, by_word, by_bound, beside, SpellsCount, SpellsHandTest, SpellsAtom, SpellsValue, atom, plus, a_number, count, measure, measure_in, len, cards, cards_in, longest_suit, second_suit, shortest_suit, item_token, four, SpellsCond, both, or, SpellsBoth, unit, and, SpellsUnit, not, brackets, quantified, test, SpellsTest, comparison, in_range, of_hand, is_balanced, has_shape, has_pattern, has_stopper, joined, SpellsEach, none as no_more, one_more}
 use Rattle.cond_lang.proofs.Scopes.{SameScope, same_scope, bind_same, can_bind_same, some_of, members_some, suits_alike, seats_alike}
 
 -- the lists have tokens of the same kinds
@@ -61,6 +62,7 @@ only kind.Longest = Some Longest
 only kind.Second = Some Second
 only kind.Shortest = Some Shortest
 only kind.Plus = Some Plus
+only kind.Star = Some Star
 only kind.In = Some In
 only kind.Dash = Some Dash
 only kind.X = Some X
@@ -94,6 +96,7 @@ only_of Close t e = cc
 only_of Comma t e = cc
 only_of Dash t e = cc
 only_of Plus t e = cc
+only_of Star t e = cc
 only_of (Class c) t e = cc
 only_of (Neighbour n) t e = cc
 only_of (Seat q) t e = absurd (cc)
@@ -232,13 +235,13 @@ SomeAtom E T = (a : Amount) × SpellsAtom E T a
 
 -- what counts, with other suits and ranks
 abbrev SomeCount : Bound → Token → List Token → Type 0
-SomeCount E c R = (f : ASeat → Amount) × SpellsCount E c R f
+SomeCount E c R = (f : ASeat → Count) × SpellsCount E c R f
 
-some_count : {E : Bound} {c d : Token} {R S : List Token} (f : ASeat → Amount) → d ≡ c → S ≡ R → SpellsCount E c R f → SomeCount E d S
+some_count : {E : Bound} {c d : Token} {R S : List Token} (f : ASeat → Count) → d ≡ c → S ≡ R → SpellsCount E c R f → SomeCount E d S
 some_count {E} {c} {d} {R} {S} f e i h = (f, subst (λ c. SpellsCount E c S f) (sym e) (subst (λ R. SpellsCount E c R f) (sym i) h))
 
 keep_count :
-    {E F : Bound} {c d : Token} {R S : List Token} {f : ASeat → Amount} → SameScope E F → SpellsCount E c R f → kind_of c ≡ kind_of d → Alike R S
+    {E F : Bound} {c d : Token} {R S : List Token} {f : ASeat → Count} → SameScope E F → SpellsCount E c R f → kind_of c ≡ kind_of d → Alike R S
     → SomeCount F d S
 keep_count f (measure {m}) e0 (more e1 none) = some_count (λ q. measured m q) (same_measure m e0) (join (same Close refl e1) refl) measure
 keep_count f (measure_in {m} i) e0 (more e1 (more {y = z} e2 (more e3 none))) =
@@ -259,14 +262,24 @@ keep_count f longest_suit e0 (more e1 none) = some_count (λ q. longest q) (same
 keep_count f (second_suit w) e0 (more e1 none) = some_count (λ q. second q) (same Second refl e0) (join (same Close refl e1) refl) (second_suit w)
 keep_count f shortest_suit e0 (more e1 none) = some_count (λ q. shortest q) (same Shortest refl e0) (join (same Close refl e1) refl) shortest_suit
 
-keep_atom : {E F : Bound} {T U : List Token} {a : Amount} → SameScope E F → SpellsAtom E T a → Alike T U → SomeAtom F U
-keep_atom {F} f (a_number {n}) (more {y} e none) =
-    let m = like_number n y e in (number m.0, moved (λ L. SpellsAtom F L (number m.0)) (join m.1 refl) a_number)
-keep_atom {F} f (count {c} {Q} {R} k h) (more {y} e0 (more {U} e1 a)) =
+abbrev SomeCounted : Bound → List Token → Type 0
+SomeCounted E T = (k : Count) × SpellsCounted E T k
+
+keep_counted : {E F : Bound} {T U : List Token} {k : Count} → SameScope E F → SpellsCounted E T k → Alike T U → SomeCounted F U
+keep_counted {F} f (count {c} {Q} {R} k h) (more {y} e0 (more {U} e1 a)) =
     let p = parts Q R U a in
     let r = keep_seat f h p.like_first in
     let g = keep_count f k e0 p.like_second in
-    (g.0 r.0, moved (λ L. SpellsAtom F L (g.0 r.0)) (join refl (join (same Open refl e1) p.is)) (count g.1 r.1))
+    (g.0 r.0, moved (λ L. SpellsCounted F L (g.0 r.0)) (join refl (join (same Open refl e1) p.is)) (count g.1 r.1))
+
+keep_atom : {E F : Bound} {T U : List Token} {a : Amount} → SameScope E F → SpellsAtom E T a → Alike T U → SomeAtom F U
+keep_atom {F} f (a_number {n}) (more {y} e none) =
+    let m = like_number n y e in (number m.0, moved (λ L. SpellsAtom F L (number m.0)) (join m.1 refl) a_number)
+keep_atom f (a_count h) a = let k = keep_counted f h a in (counted k.0, a_count k.1)
+keep_atom {F} f (multiple {n} w h) (more {y} e0 (more e1 a)) =
+    let m = like_number n y e0 in
+    let k = keep_counted f h a in
+    (times m.0 k.0, moved (λ L. SpellsAtom F L (times m.0 k.0)) (join m.1 (join (same Star refl e1) refl)) (multiple w k.1))
 
 -- ---- values
 

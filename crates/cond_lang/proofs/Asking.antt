@@ -36,7 +36,7 @@ use Rattle.cond_lang.proofs.Texts.{one_tokens}
 
 -- What is spelled is read.
 value_read : {T : List Token} {a : Amount} → SpellsValue unbound T a → reading unbound a_value T ≡ got a []
-value_read {T} {a} h = ap (reading unbound a_value) (sym (append-nil T)) ∙ value_reads h [] ∙ sums_stop unbound a [] (λ e. cc)
+value_read {T} {a} h = ap (reading unbound a_value) (sym (append-nil T)) ∙ value_reads h [] (λ e. cc) ∙ sums_stop unbound a [] (λ e. cc)
 
 -- What is read is spelled.
 value_right : (T : List Token) (a : Amount) → reading unbound a_value T ≡ got a [] → SpellsValue unbound T a

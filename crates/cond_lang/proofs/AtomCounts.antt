@@ -10,41 +10,24 @@ use Rattle.cond_lang.specs.declared.classes.Class.{Class as AClass}
 use Rattle.cond_lang.specs.declared.classes.Quantifier.{Quantifier as AQuantifier}
 use Rattle.cond_lang.specs.declared.classes.Quantifier.TheVariants.{Any as OneOf, Every}
 use Rattle.cond_lang.specs.declared.scanner.Token.{Token}
-use Rattle.cond_lang.specs.declared.scanner.Token.TheVariants.{Or, And, In, Number, Dash, Open, Close, Plus, Relation}
+use Rattle.cond_lang.specs.declared.scanner.Token.TheVariants.{Or, And, In, Number, Dash, Open, Close, Plus, Star, Relation}
 use Rattle.conditions.specs.Form.{Amount, measured, suit_measured, Form, any_of, all_of, negation, compare, within, balanced, shape, pattern, loose_shape, loose_pattern, stops, is_any, number_of, shaped, patterned}
 use Rattle.std.specs.Prelude.{fold}
 use Rattle.std.specs.List.{AllByRecursion, list_any}
 use Rattle.conditions.specs.declared.tree.Item.{Item}
 use Rattle.cond_lang.specs.Classes.{unbound}
-use Rattle.cond_lang.specs.Grammar.{SpellsCount, SpellsHandTest, SpellsAtom, SpellsValue, atom, plus, a_number, count, measure, measure_in, len, cards, cards_in, longest_suit, second_suit, shortest_suit, SpellsCond, both, or, SpellsBoth, unit, and, SpellsUnit, not, brackets, quantified, SpellsEach, none, one_more, joined, test, comparison, in_range, of_hand, is_balanced, has_shape, has_pattern, has_stopper, Spells}
+use Rattle.cond_lang.specs.Grammar.{a_count, multiple, SpellsCount, SpellsHandTest, SpellsAtom, SpellsValue, atom, plus, a_number, count, measure, measure_in, len, cards, cards_in, longest_suit, second_suit, shortest_suit, SpellsCond, both, or, SpellsBoth, unit, and, SpellsUnit, not, brackets, quantified, SpellsEach, none, one_more, joined, test, comparison, in_range, of_hand, is_balanced, has_shape, has_pattern, has_stopper, Spells}
 use Rattle.conditions.specs.Limits.{atoms_of, HasAtMostAtoms}
-
--- however the measure is written, it is one atom
-measured_count : (m : Measure) (q : Seat) → atoms_of (measured m q) ≤ 1
-measured_count Hcp q = omega arith
-measured_count m q = omega arith
-
-suit_measured_count : (m : Measure) (q : Seat) (s : Suit) → atoms_of (suit_measured m q s) ≤ 1
-suit_measured_count Hcp q s = omega arith
-suit_measured_count m q s = omega arith
-
-count_count : {E : Bound} {c : Token} {R : List Token} {f : Seat → Amount} → SpellsCount E c R f → (q : Seat) → atoms_of (f q) ≤ 1
-count_count (measure {m}) q = measured_count m q
-count_count (measure_in {m} {s} i) q = suit_measured_count m q s
-count_count (len i) q = omega arith
-count_count cards q = omega arith
-count_count (cards_in i) q = omega arith
-count_count longest_suit q = omega arith
-count_count (second_suit w) q = omega arith
-count_count shortest_suit q = omega arith
 
 atom_count : {E : Bound} {T : List Token} {a : Amount} → SpellsAtom E T a → atoms_of a ≤ 1
 atom_count a_number = omega arith
-atom_count (count {q} k h) = count_count k q
+atom_count (a_count h) = omega arith
+atom_count (multiple w h) = omega arith
 
 atom_some : {E : Bound} {T : List Token} {a : Amount} → SpellsAtom E T a → 1 ≤ length T
 atom_some a_number = omega arith
-atom_some (count k h) = omega arith
+atom_some (a_count (count k h)) = omega arith
+atom_some (multiple w h) = omega arith
 
 value_count : {E : Bound} {T : List Token} {a : Amount} → SpellsValue E T a → atoms_of a ≤ length T
 value_count (atom h) = omega (arith, atom_count h, atom_some h)

@@ -14,18 +14,19 @@ use Rattle.cond_lang.specs.declared.classes.Neighbour.TheVariants.{Partner}
 use Rattle.cond_lang.specs.declared.classes.Quantifier.{Quantifier as AQuantifier}
 use Rattle.cond_lang.specs.declared.classes.Quantifier.TheVariants.{Any, Every}
 use Rattle.cond_lang.specs.declared.scanner.Token.{Token}
-use Rattle.cond_lang.specs.declared.scanner.Token.TheVariants.{Not, Quantifier, Class, Open, Close, Plus, Relation, In, Number, Dash}
+use Rattle.cond_lang.specs.declared.scanner.Token.TheVariants.{Not, Quantifier, Class, Open, Close, Plus, Star, Relation, In, Number, Dash}
+use Rattle.conditions.specs.declared.tree.Count.{Count}
 use Rattle.conditions.specs.Form.{Amount, Form, any_of, all_of, negation}
 use Rattle.conditions.specs.Meaning.{holds}
 use Rattle.cond_lang.specs.Classes.{bind, can_bind, choice, members, seat_beside}
-use Rattle.cond_lang.specs.Grammar.{SpellsCount, SpellsAtom, SpellsValue, atom, plus, a_number, count, measure, measure_in, len, cards, cards_in, longest_suit, second_suit, shortest_suit, SpellsCond, both, unit, SpellsUnit, not as negated, brackets, quantified, test, SpellsEach, none, one_more, joined, SpellsTest, comparison, in_range, of_hand, is_balanced, has_shape, has_pattern, has_stopper}
+use Rattle.cond_lang.specs.Grammar.{a_count, multiple, SpellsCount, SpellsAtom, SpellsValue, atom, plus, a_number, count, measure, measure_in, len, cards, cards_in, longest_suit, second_suit, shortest_suit, SpellsCond, both, unit, SpellsUnit, not as negated, brackets, quantified, test, SpellsEach, none, one_more, joined, SpellsTest, comparison, in_range, of_hand, is_balanced, has_shape, has_pattern, has_stopper}
 use Rattle.cond_lang.specs.internal.Reading.{front}
 use Rattle.cond_lang.proofs.Quantified.{AreEach}
 
 -- ---- what it spells
 
 -- a value doesn't begin with a quantifier
-count_front : {E : Bound} {c : Token} {R : List Token} {f : ASeat → Amount} → SpellsCount E c R f → (k : AQuantifier) → Some c ≢ Some (Quantifier k)
+count_front : {E : Bound} {c : Token} {R : List Token} {f : ASeat → Count} → SpellsCount E c R f → (k : AQuantifier) → Some c ≢ Some (Quantifier k)
 count_front measure k = λ e. cc
 count_front (measure_in i) k = λ e. cc
 count_front (len i) k = λ e. cc
@@ -37,7 +38,8 @@ count_front shortest_suit k = λ e. cc
 
 atom_front : {E : Bound} {L : List Token} {a : Amount} → SpellsAtom E L a → (X : List Token) (k : AQuantifier) → front (L ++ X) ≢ Some (Quantifier k)
 atom_front a_number X k = λ e. cc
-atom_front (count h s) X k = count_front h k
+atom_front (a_count (count h s)) X k = count_front h k
+atom_front (multiple w h) X k = λ e. cc
 
 value_front : {E : Bound} {L : List Token} {a : Amount} → SpellsValue E L a → (X : List Token) (k : AQuantifier) → front (L ++ X) ≢ Some (Quantifier k)
 value_front (atom h) X k = atom_front h X k

@@ -55,6 +55,7 @@ kind_listed kind.Longest = refl
 kind_listed kind.Second = refl
 kind_listed kind.Shortest = refl
 kind_listed kind.Plus = refl
+kind_listed kind.Star = refl
 kind_listed kind.Relation = refl
 kind_listed kind.In = refl
 kind_listed kind.Dash = refl

@@ -4,16 +4,17 @@ use Rattle.std.specs.Prelude.{Contains, ◌↔◌}
 use Rattle.std.proofs.lemmas.List.Elements.{Contains-append_left}
 use Rattle.cards.specs.declared.hand.Measure.TheVariants.{Hcp}
 use Rattle.cards.specs.declared.seat.Seat.{Seat as ASeat}
+use Rattle.conditions.specs.declared.tree.Count.{Count}
 use Rattle.conditions.specs.declared.tree.Item.{Item}
 use Rattle.conditions.specs.declared.tree.Item.TheVariants.{Length, Any}
 use Rattle.conditions.specs.declared.tree.Op.TheVariants.{Equal}
 use Rattle.cards.specs.declared.suit.Suit.TheVariants.{Spades}
 use Rattle.cond_lang.specs.declared.classes.Bound.{Bound}
 use Rattle.cond_lang.specs.declared.scanner.Token.{Token}
-use Rattle.cond_lang.specs.declared.scanner.Token.TheVariants.{Or, And, Not, Balanced, Shape, Pattern, Measure, Cards, Len, Longest, Second, Shortest, Seat, Suit, Number, Open, Close, Comma, Plus, Relation}
-use Rattle.conditions.specs.Form.{Amount, number, points, suit_points, suit_length, Form, any_of, all_of, negation, compare}
+use Rattle.cond_lang.specs.declared.scanner.Token.TheVariants.{Or, And, Not, Balanced, Shape, Pattern, Measure, Cards, Len, Longest, Second, Shortest, Seat, Suit, Number, Open, Close, Comma, Plus, Star, Relation}
+use Rattle.conditions.specs.Form.{Amount, number, counted, points, suit_points, suit_length, Form, any_of, all_of, negation, compare}
 use Rattle.cond_lang.specs.Classes.{unbound, by_suit, by_class}
-use Rattle.cond_lang.specs.Grammar.{Forms, FormsAt, SpellsSeat, by_word, by_bound, beside, SpellsCount, SpellsAtom, a_number, count, measure, measure_in, len, cards, cards_in, longest_suit, second_suit, shortest_suit, SpellsValue, atom, plus, item_token, four, SpellsCond, both, or, BothOf, SpellsBoth, unit, and, UnitOf, SpellsUnit, not, brackets, quantified, test, SpellsTest, comparison, in_range, of_hand, is_balanced, has_shape, has_pattern, has_stopper, Spells}
+use Rattle.cond_lang.specs.Grammar.{a_count, multiple, Forms, FormsAt, SpellsSeat, by_word, by_bound, beside, SpellsCount, SpellsAtom, a_number, count, measure, measure_in, len, cards, cards_in, longest_suit, second_suit, shortest_suit, SpellsValue, atom, plus, item_token, four, SpellsCond, both, or, BothOf, SpellsBoth, unit, and, UnitOf, SpellsUnit, not, brackets, quantified, test, SpellsTest, comparison, in_range, of_hand, is_balanced, has_shape, has_pattern, has_stopper, Spells}
 use Rattle.cond_lang.specs.Faults.{IsViableIn, IsFirstFaultIn, IsViable, IsFirstFault}
 use Rattle.cond_lang.specs.SmallerGrammars as small
 use Rattle.cond_lang.specs.SmallerGrammars.{no_additions, SpellsFirstAtom, four_numbers, FirstTestOf, SpellsInFirstGrammar, IsOldest, IsViableFirst}
@@ -68,19 +69,19 @@ keeps_seat (by_bound w e) k = newer (λ i. i)
 keeps_seat (beside w h) k = newer (λ i. i)
 
 keep_count :
-    {E : Bound} {c : Token} {R : List Token} {f : ASeat → Amount} → SpellsCount E c R f → {T : List Token} {q : ASeat} → SpellsSeat E T q
+    {E : Bound} {c : Token} {R : List Token} {f : ASeat → Count} → SpellsCount E c R f → {T : List Token} {q : ASeat} → SpellsSeat E T q
     → Kept SpellsFirstAtom (c ∷ Open ∷ T ++ R)
-keep_count (measure {m = Hcp}) {q} h = (Measure Hcp ∷ Open ∷ Seat q ∷ Close ∷ [], points q, small.hcp, same (same (keeps_seat h (keeps_all _))))
+keep_count (measure {m = Hcp}) {q} h = (Measure Hcp ∷ Open ∷ Seat q ∷ Close ∷ [], counted (points q), small.hcp, same (same (keeps_seat h (keeps_all _))))
 keep_count (measure {m}) h = zero_for (Measure m) _ (λ i. i)
 keep_count (measure_in {m = Hcp} (by_suit {s})) {q} h =
-    (Measure Hcp ∷ Open ∷ Seat q ∷ Comma ∷ Suit s ∷ Close ∷ [], suit_points q s, small.hcp_in, same (same (keeps_seat h (keeps_all _))))
+    (Measure Hcp ∷ Open ∷ Seat q ∷ Comma ∷ Suit s ∷ Close ∷ [], counted (suit_points q s), small.hcp_in, same (same (keeps_seat h (keeps_all _))))
 keep_count (measure_in {m = Hcp} (by_class e)) {q} h =
-    (Measure Hcp ∷ Open ∷ Seat q ∷ Comma ∷ Suit Spades ∷ Close ∷ [], suit_points q Spades, small.hcp_in, same (same (keeps_seat h (same (newer (λ i. i))))))
+    (Measure Hcp ∷ Open ∷ Seat q ∷ Comma ∷ Suit Spades ∷ Close ∷ [], counted (suit_points q Spades), small.hcp_in, same (same (keeps_seat h (same (newer (λ i. i))))))
 keep_count (measure_in {m} i) h = zero_for (Measure m) _ (λ i. i)
 keep_count (len (by_suit {s})) {q} h =
-    (Len ∷ Open ∷ Seat q ∷ Comma ∷ Suit s ∷ Close ∷ [], suit_length q s, small.len, same (same (keeps_seat h (keeps_all _))))
+    (Len ∷ Open ∷ Seat q ∷ Comma ∷ Suit s ∷ Close ∷ [], counted (suit_length q s), small.len, same (same (keeps_seat h (keeps_all _))))
 keep_count (len (by_class e)) {q} h =
-    (Len ∷ Open ∷ Seat q ∷ Comma ∷ Suit Spades ∷ Close ∷ [], suit_length q Spades, small.len, same (same (keeps_seat h (same (newer (λ i. i))))))
+    (Len ∷ Open ∷ Seat q ∷ Comma ∷ Suit Spades ∷ Close ∷ [], counted (suit_length q Spades), small.len, same (same (keeps_seat h (same (newer (λ i. i))))))
 keep_count cards h = zero_for Cards _ (λ i. i)
 keep_count (cards_in i) h = zero_for Cards _ (λ i. i)
 keep_count longest_suit h = zero_for Longest _ (λ i. i)
@@ -89,7 +90,8 @@ keep_count shortest_suit h = zero_for Shortest _ (λ i. i)
 
 keep_atom : {E : Bound} {T : List Token} {a : Amount} → SpellsAtom E T a → Kept SpellsFirstAtom T
 keep_atom {T} a_number = itself SpellsFirstAtom T _ small.a_number
-keep_atom (count k h) = keep_count k h
+keep_atom (a_count (count k h)) = keep_count k h
+keep_atom (multiple {n} w h) = (Number n ∷ [], number n, small.a_number, same (newer (λ i. i)))
 
 keep_value : {E : Bound} {T : List Token} {a : Amount} → SpellsValue E T a → Kept SpellsFirstAtom T
 keep_value (atom h) = keep_atom h

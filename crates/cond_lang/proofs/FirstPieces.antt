@@ -7,7 +7,7 @@ use Rattle.std.proofs.lemmas.Bool.{cases_Bool, cases_eq, eqb-true, ne_eqb}
 use Rattle.std.proofs.lemmas.Bool.Decides.{nat_tests}
 use Rattle.std.proofs.lemmas.List.Elements.{Contains-append_left, Contains-append_right, recursion_from_All}
 use Rattle.cond_lang.specs.declared.scanner.Token.{Token}
-use Rattle.cond_lang.specs.declared.scanner.Token.TheVariants.{Plus, Ranks, Number}
+use Rattle.cond_lang.specs.declared.scanner.Token.TheVariants.{Plus, Star, Ranks, Number}
 use Rattle.cond_lang.specs.declared.scanner.Piece.{Piece}
 use Rattle.cond_lang.specs.declared.scanner.Piece.TheVariants.{Separator, Token as TokenPiece, StrayByte, UnknownWord, LongNumber}
 use Rattle.cond_lang.specs.Cut.{words, symbols, is_separator, are_ranks, named_by, decimal, IsRun, BeginsWithSymbol, BeginsWithNone, IsPiece, blank, comment, word, ranks, no_word, number, long, symbol, stray, Pieces, IsCut, end, piece}
@@ -69,16 +69,20 @@ word_still =
       ),
     )
 
-abbrev FirstOrPlus : List ℕ → Token → Type 0
-FirstOrPlus p t = Contains first_symbols (p, t) ⊎ ((p ≡ 43 ∷ []) × (t ≡ Plus))
+-- a plus or a star
+abbrev IsLaterSymbol : List ℕ → Token → Type 0
+IsLaterSymbol p t = ((p ≡ 43 ∷ []) × (t ≡ Plus)) ⊎ ((p ≡ 42 ∷ []) × (t ≡ Star))
 
-symbol_kept : (p : List ℕ) (t : Token) → token_of first_symbols p ≡ Some t → FirstOrPlus p t
+abbrev FirstOrLater : List ℕ → Token → Type 0
+FirstOrLater p t = Contains first_symbols (p, t) ⊎ IsLaterSymbol p t
+
+symbol_kept : (p : List ℕ) (t : Token) → token_of first_symbols p ≡ Some t → FirstOrLater p t
 symbol_kept p t e = inl (entry_of first_symbols p t e)
 
--- a symbol is a first one, or it is the plus
-first_or_plus : (p : List ℕ) (t : Token) → Contains symbols (p, t) → FirstOrPlus p t
-first_or_plus =
-    at_entry FirstOrPlus symbols (
+-- a symbol is a first one, or it is a later one
+first_or_later : (p : List ℕ) (t : Token) → Contains symbols (p, t) → FirstOrLater p t
+first_or_later =
+    at_entry FirstOrLater symbols (
       symbol_kept _ _ refl,
       (
         symbol_kept _ _ refl,
@@ -87,19 +91,24 @@ first_or_plus =
           (
             symbol_kept _ _ refl,
             (
-              inr (refl, refl),
-              (symbol_kept _ _ refl, (symbol_kept _ _ refl, (symbol_kept _ _ refl, (symbol_kept _ _ refl, (symbol_kept _ _ refl, (symbol_kept _ _ refl, tt)))))),
+              inr (inl (refl, refl)),
+              (inr (inr (refl, refl)), (symbol_kept _ _ refl, (symbol_kept _ _ refl, (symbol_kept _ _ refl, (symbol_kept _ _ refl, (symbol_kept _ _ refl, (symbol_kept _ _ refl, tt))))))),
             ),
           ),
         ),
       ),
     )
 
-no_plus : IsOldest Plus → ⊥
-no_plus o = o
+not_oldest : {p : List ℕ} {t : Token} → IsLaterSymbol p t → IsOldest t → ⊥
+not_oldest (inl e) o = rw e.1 at o
+not_oldest (inr e) o = rw e.1 at o
+
+one_byte : {p : List ℕ} {t : Token} → IsLaterSymbol p t → length p ≡ 1
+one_byte (inl e) = ap length e.0
+one_byte (inr e) = ap length e.0
 
 first_symbol : (p : List ℕ) (t : Token) → Contains symbols (p, t) → IsOldest t → Contains first_symbols (p, t)
-first_symbol p t m o = elim (first_or_plus p t m) [ inl h ↦ h | inr e ↦ absurd (no_plus (subst IsOldest e.1 o)) ]
+first_symbol p t m o = elim (first_or_later p t m) [ inl h ↦ h | inr e ↦ absurd (not_oldest e o) ]
 
 symbol_still : (p : List ℕ) (t : Token) → Contains first_symbols (p, t) → Contains symbols (p, t) × (0 < length p)
 symbol_still =
@@ -142,17 +151,21 @@ longest_still :
     (p rest : List ℕ) → 0 < length p → ((q : List ℕ) → BeginsWithFirst q (p ++ rest) → length q ≤ length p)
     → (q : List ℕ) → BeginsWithSymbol q (p ++ rest) → length q ≤ length p
 longest_still p rest some l q b =
-    elim (first_or_plus q b.token b.known) [
+    elim (first_or_later q b.token b.known) [
       | inl m ↦ l q (record { token = b.token; more = b.more; known = m; begins = b.begins })
-      | inr e ↦ omega (arith, some, ap length e.0)
+      | inr e ↦ omega (arith, some, one_byte e)
     ]
 
--- where no first symbol begins, none does but the plus
-none_still : (c : ℕ) (rest : List ℕ) → (c ≡ 43 → ⊥) → ((q : List ℕ) → BeginsWithFirst q (c ∷ rest) → ⊥) → BeginsWithNone (c ∷ rest)
-none_still c rest other n q b =
-    elim (first_or_plus q b.token b.known) [
+-- where no first symbol begins, none does but a later one
+begins_no_later : (c : ℕ) (q rest more : List ℕ) {t : Token} → (c ≡ 43 → ⊥) → (c ≡ 42 → ⊥) → c ∷ rest ≡ q ++ more → IsLaterSymbol q t → ⊥
+begins_no_later c q rest more plus star b (inl e) = let i : c ∷ rest ≡ 43 ∷ more = b ∙ ap (λ q. q ++ more) e.0 in plus (cc)
+begins_no_later c q rest more plus star b (inr e) = let i : c ∷ rest ≡ 42 ∷ more = b ∙ ap (λ q. q ++ more) e.0 in star (cc)
+
+none_still : (c : ℕ) (rest : List ℕ) → (c ≡ 43 → ⊥) → (c ≡ 42 → ⊥) → ((q : List ℕ) → BeginsWithFirst q (c ∷ rest) → ⊥) → BeginsWithNone (c ∷ rest)
+none_still c rest plus star n q b =
+    elim (first_or_later q b.token b.known) [
       | inl m ↦ n q (record { token = b.token; more = b.more; known = m; begins = b.begins })
-      | inr e ↦ let i : c ∷ rest ≡ 43 ∷ b.more = b.begins ∙ ap (λ q. q ++ b.more) e.0 in other (cc)
+      | inr e ↦ begins_no_later c q rest b.more plus star b.begins e
     ]
 
 -- ---- bytes
@@ -209,14 +222,21 @@ unknown_still p rest (Some t) e r n =
 plus_now : (rest : List ℕ) → IsPiece (43 ∷ []) rest (TokenPiece Plus)
 plus_now rest = symbol (entry_of symbols (43 ∷ []) Plus refl) (λ q b. fits q (43 ∷ rest) b)
 
+star_now : (rest : List ℕ) → IsPiece (42 ∷ []) rest (TokenPiece Star)
+star_now rest = symbol (entry_of symbols (42 ∷ []) Star refl) (λ q b. fits q (42 ∷ rest) b)
+
 stray_still :
     (c : ℕ) (rest : List ℕ) → is_first_separator c ≡ false → is_ascii_lowercase c ≡ false → is_ascii_digit c ≡ false
     → ((q : List ℕ) → BeginsWithFirst q (c ∷ rest) → ⊥) → HasFirstBytes (c ∷ []) → Still (c ∷ []) rest StrayByte
 stray_still c rest a l d n b =
     elim (cases_eq c 43) [
       | inl e ↦ (TokenPiece Plus, subst (λ c. IsPiece (c ∷ []) rest (TokenPiece Plus)) (sym e) (plus_now rest), λ o. absurd o)
-      | inr other ↦
-          (StrayByte, stray (no_separator_still c a (at_front c 13 [] b.1)) (ne_eqb c 35 (at_front c 35 [] b.0)) l d (none_still c rest other n), λ o. refl)
+      | inr plus ↦
+          elim (cases_eq c 42) [
+            | inl e ↦ (TokenPiece Star, subst (λ c. IsPiece (c ∷ []) rest (TokenPiece Star)) (sym e) (star_now rest), λ o. absurd o)
+            | inr star ↦
+                (StrayByte, stray (no_separator_still c a (at_front c 13 [] b.1)) (ne_eqb c 35 (at_front c 35 [] b.0)) l d (none_still c rest plus star n), λ o. refl)
+          ]
     ]
 
 -- A piece of then is a piece now.

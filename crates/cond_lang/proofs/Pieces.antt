@@ -61,7 +61,7 @@ longer q t text e more b = record { token = t; more = more; known = entry_of sym
 only_symbol : (p : List ℕ) (t : Token) → Contains symbols (p, t) → (rest : List ℕ) → IsLongest p rest → piece_at (p ++ rest) ≡ (TokenPiece t, length p)
 only_symbol =
     at_entry (λ p t. (rest : List ℕ) → IsLongest p rest → piece_at (p ++ rest) ≡ (TokenPiece t, length p)) symbols
-    (λ r l. refl, (λ r l. refl, (λ r l. refl, (λ r l. refl, (λ r l. refl, (λ r l. refl, (λ r l. refl, (less, (λ r l. refl, (more, (λ r l. refl, tt)))))))))))
+    (λ r l. refl, (λ r l. refl, (λ r l. refl, (λ r l. refl, (λ r l. refl, (λ r l. refl, (λ r l. refl, (λ r l. refl, (less, (λ r l. refl, (more, (λ r l. refl, tt))))))))))))
   where
     less : (rest : List ℕ) → IsLongest (60 ∷ []) rest → piece_at (60 ∷ rest) ≡ (TokenPiece (Relation Less), 1)
     less rest l =

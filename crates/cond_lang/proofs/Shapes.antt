@@ -9,10 +9,10 @@ use Rattle.cond_lang.specs.declared.classes.Choice.{Choice}
 use Rattle.cond_lang.specs.declared.classes.Class.{Class as AClass}
 use Rattle.cond_lang.specs.declared.classes.Quantifier.{Quantifier as AQuantifier}
 use Rattle.cond_lang.specs.declared.scanner.Token.{Token}
-use Rattle.cond_lang.specs.declared.scanner.Token.TheVariants.{Or, And, Not, Balanced, Shape, Pattern, Quantifier, Stops, Measure, Cards, Len, Longest, Second, Shortest, In, Seat, Suit, Class, Neighbour, Number, Open, Comma, Plus}
+use Rattle.cond_lang.specs.declared.scanner.Token.TheVariants.{Or, And, Not, Balanced, Shape, Pattern, Quantifier, Stops, Measure, Cards, Len, Longest, Second, Shortest, In, Seat, Suit, Class, Neighbour, Number, Open, Comma, Plus, Star}
 use Rattle.conditions.specs.Form.{Amount, measured, suit_measured, cards_held, Form, balanced}
 use Rattle.cond_lang.specs.Classes.{bound_to, seat_bound_to, seat_beside, bind, all_choices, members}
-use Rattle.cond_lang.specs.internal.Reading.{Outcome, got, stuck, Reader, after, opened, comma, class_seat, seat, open_seat, open_seat_comma, seat_in_brackets, seat_and_items, items, comma_ranks_close, ranks_close, relation, range, class_suit, suit, quantifier, class, closing, closed, comma_suit_close, rest_of_measure, suit_and_ranks, rest_of_cards, seat_and_suit, atom_of, Goal, a_cond, a_both, a_unit, ors, ands, a_value, sums, Readers, compared_by, related_by, comparing_by, sums_by, each_by, bracketed_by, quantified_by, unit_by, ors_by, ands_by, step, steps}
+use Rattle.cond_lang.specs.internal.Reading.{Outcome, got, stuck, Reader, after, opened, comma, class_seat, seat, open_seat, open_seat_comma, seat_in_brackets, seat_and_items, items, comma_ranks_close, ranks_close, relation, range, class_suit, suit, quantifier, class, closing, closed, comma_suit_close, rest_of_measure, suit_and_ranks, rest_of_cards, seat_and_suit, count_of, count_alone, rest_of_number, atom_of, Goal, a_cond, a_both, a_unit, ors, ands, a_value, sums, Readers, compared_by, related_by, comparing_by, sums_by, each_by, bracketed_by, quantified_by, unit_by, ors_by, ands_by, step, steps}
 use Rattle.cond_lang.proofs.Scopes.{SameScope, suits_alike, seats_alike, first, same_scope, bind_same, can_bind_same, can_quantify_same, members_some}
 use Rattle.cond_lang.proofs.Members.{ReadsEach, each_got, each_stuck}
 
@@ -119,17 +119,30 @@ module _ {E F : Bound} (f : SameScope E F) where
   rest_of_cards_alike q p [] = ranks_alike q p []
   rest_of_cards_alike q p (x ∷ S) = ranks_alike q p (x ∷ S)
 
+  count_alike : (S : List Token) → shape (count_of E S) ≡ shape (count_of F S)
+  unfolding count_of
+  count_alike [] = refl
+  count_alike (Measure m ∷ S) = after_alike (open_seat E S) (open_seat F S) _ _ (open_seat_alike S) (λ q p R. rest_of_measure_alike m q p R)
+  count_alike (Len ∷ S) = after_alike (seat_and_suit E S) (seat_and_suit F S) _ _ (seat_and_suit_alike S) (λ p q R. refl)
+  count_alike (Cards ∷ S) = after_alike (open_seat_comma E S) (open_seat_comma F S) _ _ (open_seat_comma_alike S) (λ q p R. rest_of_cards_alike q p R)
+  count_alike (Longest ∷ S) = after_alike (seat_in_brackets E S) (seat_in_brackets F S) _ _ (seat_in_brackets_alike S) (λ q p R. refl)
+  count_alike (Second ∷ S) = after_alike (seat_in_brackets E S) (seat_in_brackets F S) _ _ (seat_in_brackets_alike S) (λ q p R. refl)
+  count_alike (Shortest ∷ S) = after_alike (seat_in_brackets E S) (seat_in_brackets F S) _ _ (seat_in_brackets_alike S) (λ q p R. refl)
+  count_alike (x ∷ S) = refl
+
+  alone_alike : (S : List Token) → shape (count_alone E S) ≡ shape (count_alone F S)
+  alone_alike S = after_alike (count_of E S) (count_of F S) _ _ (count_alike S) (λ k l R. refl)
+
+  rest_of_number_alike : (n : ℕ) (S : List Token) → shape (rest_of_number E n S) ≡ shape (rest_of_number F n S)
+  rest_of_number_alike n (Star ∷ S) = after_alike (count_of E S) (count_of F S) _ _ (count_alike S) (λ k l R. refl)
+  rest_of_number_alike n [] = refl
+  rest_of_number_alike n (x ∷ S) = refl
+
   atom_alike : (S : List Token) → shape (atom_of E S) ≡ shape (atom_of F S)
   unfolding atom_of
-  atom_alike [] = refl
-  atom_alike (Number n ∷ S) = refl
-  atom_alike (Measure m ∷ S) = after_alike (open_seat E S) (open_seat F S) _ _ (open_seat_alike S) (λ q p R. rest_of_measure_alike m q p R)
-  atom_alike (Len ∷ S) = after_alike (seat_and_suit E S) (seat_and_suit F S) _ _ (seat_and_suit_alike S) (λ p q R. refl)
-  atom_alike (Cards ∷ S) = after_alike (open_seat_comma E S) (open_seat_comma F S) _ _ (open_seat_comma_alike S) (λ q p R. rest_of_cards_alike q p R)
-  atom_alike (Longest ∷ S) = after_alike (seat_in_brackets E S) (seat_in_brackets F S) _ _ (seat_in_brackets_alike S) (λ q p R. refl)
-  atom_alike (Second ∷ S) = after_alike (seat_in_brackets E S) (seat_in_brackets F S) _ _ (seat_in_brackets_alike S) (λ q p R. refl)
-  atom_alike (Shortest ∷ S) = after_alike (seat_in_brackets E S) (seat_in_brackets F S) _ _ (seat_in_brackets_alike S) (λ q p R. refl)
-  atom_alike (x ∷ S) = refl
+  atom_alike [] = alone_alike []
+  atom_alike (Number n ∷ S) = rest_of_number_alike n S
+  atom_alike (x ∷ S) = alone_alike (x ∷ S)
 
 -- ---- readers that lead back to a condition
 

@@ -16,7 +16,7 @@ use Rattle.cond_lang.specs.declared.classes.Class.{Class as AClass}
 use Rattle.cond_lang.specs.declared.classes.Quantifier.{Quantifier as AQuantifier}
 use Rattle.cond_lang.specs.declared.classes.Quantifier.TheVariants.{Any as OneOf, Every}
 use Rattle.cond_lang.specs.declared.scanner.Token.{Token}
-use Rattle.cond_lang.specs.declared.scanner.Token.TheVariants.{Or, And, In, Dash, Number, Close, Plus, Relation}
+use Rattle.cond_lang.specs.declared.scanner.Token.TheVariants.{Or, And, In, Dash, Number, Close, Plus, Star, Relation}
 use Rattle.cond_lang.specs.declared.scanner.Placed.{Placed}
 use Rattle.cond_lang.specs.declared.scanner.Piece.{Piece}
 use Rattle.cond_lang.specs.declared.scanner.Piece.TheVariants.{Separator, Token as TokenPiece, StrayByte, UnknownWord, LongNumber}
@@ -25,7 +25,7 @@ use Rattle.conditions.specs.Form.{Amount, Form, measured, suit_measured, shape, 
 use Rattle.conditions.specs.declared.tree.Item.{Item}
 use Rattle.conditions.specs.declared.tree.Item.TheVariants.{Length, Any}
 use Rattle.cond_lang.specs.Classes.{unbound}
-use Rattle.cond_lang.specs.Grammar.{SpellsCount, SpellsHandTest, SpellsAtom, SpellsValue, atom, plus, a_number, count, measure, measure_in, len, cards, cards_in, longest_suit, second_suit, shortest_suit, item_token, SpellsCond, both, or, SpellsBoth, unit, and, SpellsUnit, not, brackets, quantified, SpellsEach, none, one_more, joined, test, comparison, in_range, of_hand, is_balanced, has_shape, has_pattern, has_stopper, Spells}
+use Rattle.cond_lang.specs.Grammar.{a_count, multiple, SpellsCount, SpellsHandTest, SpellsAtom, SpellsValue, atom, plus, a_number, count, measure, measure_in, len, cards, cards_in, longest_suit, second_suit, shortest_suit, item_token, SpellsCond, both, or, SpellsBoth, unit, and, SpellsUnit, not, brackets, quantified, SpellsEach, none, one_more, joined, test, comparison, in_range, of_hand, is_balanced, has_shape, has_pattern, has_stopper, Spells}
 use Rattle.conditions.specs.Limits.{AddsNumbersUpTo, HasNumbersUpTo}
 use Rattle.cond_lang.specs.Text.{kinds}
 use Rattle.cond_lang.proofs.Tables.{Table, EachEntry, at_entry}
@@ -119,28 +119,10 @@ right_small (c ∷ L) R a = right_small L R a.1
 behind_small : (L : List Token) (c : Token) (R : List Token) → AreSmall (L ++ c ∷ R) → AreSmall R
 behind_small L c R a = (right_small L (c ∷ R) a).1
 
--- a measure adds no number
-small_measured : (m : Measure) (q : Seat) → AddsNumbersUpTo 9999 (measured m q)
-small_measured Hcp q = tt
-small_measured m q = tt
-
-small_suit_measured : (m : Measure) (q : Seat) (s : Suit) → AddsNumbersUpTo 9999 (suit_measured m q s)
-small_suit_measured Hcp q s = tt
-small_suit_measured m q s = tt
-
-small_count : {E : Bound} {c : Token} {R : List Token} {f : Seat → Amount} → SpellsCount E c R f → (q : Seat) → AddsNumbersUpTo 9999 (f q)
-small_count (measure {m}) q = small_measured m q
-small_count (measure_in {m} {s = u} i) q = small_suit_measured m q u
-small_count (len i) q = tt
-small_count cards q = tt
-small_count (cards_in i) q = tt
-small_count longest_suit q = tt
-small_count (second_suit w) q = tt
-small_count shortest_suit q = tt
-
 small_atom : {E : Bound} {T : List Token} {a : Amount} → SpellsAtom E T a → AreSmall T → AddsNumbersUpTo 9999 a
 small_atom a_number s = s.0
-small_atom (count {q} k h) s = small_count k q
+small_atom (a_count h) s = tt
+small_atom (multiple w h) s = s.0
 
 small_value : {E : Bound} {T : List Token} {a : Amount} → SpellsValue E T a → AreSmall T → AddsNumbersUpTo 9999 a
 small_value (atom h) s = small_atom h s

@@ -9,15 +9,16 @@ use Rattle.cond_lang.specs.declared.classes.Choice.{Choice}
 use Rattle.cond_lang.specs.declared.classes.Class.{Class as AClass}
 use Rattle.cond_lang.specs.declared.classes.Class.TheVariants.{Seat as AnySeat, NorthSouth, EastWest}
 use Rattle.cond_lang.specs.declared.scanner.Token.{Token}
-use Rattle.cond_lang.specs.declared.scanner.Token.TheVariants.{Or, And, Not, Shape, Pattern, Quantifier, Stops, Measure, Cards, Longest, Second, Shortest, In, X, Seat, Class, Neighbour, Number, Dash, Open, Close, Plus, Relation}
+use Rattle.cond_lang.specs.declared.scanner.Token.TheVariants.{Or, And, Not, Shape, Pattern, Quantifier, Stops, Measure, Cards, Longest, Second, Shortest, In, X, Seat, Class, Neighbour, Number, Dash, Open, Close, Plus, Star, Relation}
 use Rattle.cards.specs.declared.seat.Seat.{Seat as ASeat}
+use Rattle.conditions.specs.declared.tree.Count.{Count}
 use Rattle.conditions.specs.declared.tree.Item.{Item}
 use Rattle.conditions.specs.declared.tree.Item.TheVariants.{Length, Any}
-use Rattle.conditions.specs.Form.{Amount, Form, shaped, patterned}
+use Rattle.conditions.specs.Form.{Amount, counted, Form, shaped, patterned}
 use Rattle.cond_lang.specs.Classes.{by_suit, by_class}
-use Rattle.cond_lang.specs.Grammar.{Addition, quantifiers, seats, addition_of, everything, SeatOf, SpellsSeat, by_word, by_bound, beside, CountOf, SpellsCount, HandTestOf, SpellsHandTest, Amounts, FormsAt, AtomOf, SpellsAtom, a_number, count, measure, measure_in, len, cards, cards_in, longest_suit, second_suit, shortest_suit, ValueOf, atom, plus, four, CondOf, both, or, BothOf, unit, and, UnitOf, not, brackets, quantified, test, EachOf, none, one_more, TestOf, SpellsTest, comparison, in_range, of_hand, is_balanced, has_shape, has_pattern, has_stopper, SpellsValue, Spells}
+use Rattle.cond_lang.specs.Grammar.{Addition, quantifiers, seats, factors, CountedOf, SpellsCounted, a_count, multiple, addition_of, everything, SeatOf, SpellsSeat, by_word, by_bound, beside, CountOf, SpellsCount, HandTestOf, SpellsHandTest, Amounts, FormsAt, AtomOf, SpellsAtom, a_number, count, measure, measure_in, len, cards, cards_in, longest_suit, second_suit, shortest_suit, ValueOf, atom, plus, four, CondOf, both, or, BothOf, unit, and, UnitOf, not, brackets, quantified, test, EachOf, none, one_more, TestOf, SpellsTest, comparison, in_range, of_hand, is_balanced, has_shape, has_pattern, has_stopper, SpellsValue, Spells}
 use Rattle.cond_lang.specs.SmallerGrammars as small
-use Rattle.cond_lang.specs.SmallerGrammars.{SpellsWith, brought_by, no_seats, SpellsWithoutSeats, IsBeforeSeats, no_additions, SpellsEarlier, IsEarlier, HcpCount, SpellsWithoutSums, SpellsHcpAtom, SpellsWithHcpAlone, SpellsFirstAtom, FirstTestOf, SpellsInFirstWords, IsFirst, SpellsInFirstGrammar, IsOldest}
+use Rattle.cond_lang.specs.SmallerGrammars.{SpellsWith, brought_by, no_factors, SpellsWithoutFactors, HcpCounted, no_seats, SpellsWithoutSeats, IsBeforeSeats, no_additions, SpellsEarlier, IsEarlier, HcpCount, SpellsWithoutSums, SpellsHcpAtom, SpellsWithHcpAlone, SpellsFirstAtom, FirstTestOf, SpellsInFirstWords, IsFirst, SpellsInFirstGrammar, IsOldest}
 
 -- the list has no token of this kind
 abbrev HasNone : (Token → Type 0) → List Token → Type 0
@@ -118,7 +119,7 @@ abbrev IsNone : Token → Type 0
 IsNone c = ⊥
 
 turn_count :
-    (B : Token → Type 0) (P Q : Words) → TurnsWords B P Q → {E : Bound} {c : Token} {R : List Token} {f : ASeat → Amount}
+    (B : Token → Type 0) (P Q : Words) → TurnsWords B P Q → {E : Bound} {c : Token} {R : List Token} {f : ASeat → Count}
     → CountOf P E c R f → (B c → ⊥) → CountOf Q E c R f
 turn_count B P Q w measure n = measure
 turn_count B P Q w (measure_in i) n = measure_in i
@@ -129,10 +130,17 @@ turn_count B P Q w longest_suit n = longest_suit
 turn_count B P Q w (second_suit p) n = second_suit (w Second quantifiers refl n p)
 turn_count B P Q w shortest_suit n = shortest_suit
 
+turn_counted :
+    (B : Token → Type 0) (P Q : Words) → TurnsWords B P Q → {E : Bound} {T : List Token} {k : Count}
+    → CountedOf P E T k → HasNone B T → CountedOf Q E T k
+turn_counted B P Q w (count {c} {Q = S} {R} {q} k h) n =
+    count (turn_count B P Q w k (none_first B c (Open ∷ S ++ R) n)) (seat_of B P Q w c S R q h n)
+
 turn_atom : (B : Token → Type 0) (P Q : Words) → TurnsWords B P Q → (E : Bound) → Turns B (AtomOf P E) (AtomOf Q E)
 turn_atom B P Q w E T a a_number n = a_number
-turn_atom B P Q w E T a (count {c} {Q = S} {R} {q} k h) n =
-    count (turn_count B P Q w k (none_first B c (Open ∷ S ++ R) n)) (seat_of B P Q w c S R q h n)
+turn_atom B P Q w E T a (a_count h) n = a_count (turn_counted B P Q w h n)
+turn_atom B P Q w E T a (multiple {n = m} {T = S} p h) n =
+    multiple (w Star factors refl (λ b. n Star b (1, omega arith, refl)) p) (turn_counted B P Q w h (right_of B (Number m ∷ []) Star S n))
 
 -- the tests of the grammar with some additions
 abbrev TestsWith : Words → FormsAt
@@ -150,13 +158,33 @@ turn_all B P Q w h n = turn_cond B P Q w (TestsWith P) (TestsWith Q) (turn_words
 to_all : (P : Words) {T : List Token} {t : Form} → SpellsWith P T t → Spells T t
 to_all P h = turn_all IsNone P everything (λ c a e b w. tt) h (λ c b. absurd b)
 
--- ---- without the words of seats
+-- ---- without factors
+abbrev IsStar : Token → Type 0
+IsStar c = c ≡ Star
+
+brought_star : (c : Token) → brought_by c ≡ Some factors → IsStar c
+brought_star Star e = refl
+brought_star (Class AnySeat) e = absurd (cc)
+brought_star (Class NorthSouth) e = absurd (cc)
+brought_star (Class EastWest) e = absurd (cc)
+brought_star c e = absurd (cc)
+
+leaves_factors : TurnsWords IsStar everything no_factors
+leaves_factors c quantifiers e b w = tt
+leaves_factors c seats e b w = tt
+leaves_factors c factors e b w = b (brought_star c e)
+
+pub same_before_factors : (T : List Token) (t : Form) → (Contains T Star → ⊥) → Spells T t ↔ SpellsWithoutFactors T t
+same_before_factors T t n = (λ h. turn_all IsStar everything no_factors leaves_factors h (λ c e i. n (subst (λ c. Contains T c) e i)), λ h. to_all no_factors h)
+
+-- ---- without the words of seats too
 abbrev IsOfSeats : Token → Type 0
 IsOfSeats c = IsBeforeSeats c → ⊥
 
 leaves_seats : TurnsWords IsOfSeats everything no_seats
 leaves_seats c quantifiers e b w = tt
-leaves_seats c seats e b w = b (λ n. n e)
+leaves_seats c seats e b w = b (λ n. n.0 e)
+leaves_seats c factors e b w = b (λ n. n.1 e)
 
 pub same_before_seats : (T : List Token) (t : Form) → ((c : Token) → Contains T c → IsBeforeSeats c) → Spells T t ↔ SpellsWithoutSeats T t
 same_before_seats T t n = (λ h. turn_all IsOfSeats everything no_seats leaves_seats h (λ c b i. b (n c i)), λ h. to_all no_seats h)
@@ -194,7 +222,7 @@ same_without_sums T t n = (
 abbrev IsOtherMeasure : Token → Type 0
 IsOtherMeasure c = (m : AMeasure) × (m ≢ Hcp) × (c ≡ Measure m)
 
-hcp_count : {E : Bound} {c : Token} {R : List Token} {f : ASeat → Amount} → SpellsCount E c R f → (IsOtherMeasure c → ⊥) → HcpCount E c R f
+hcp_count : {E : Bound} {c : Token} {R : List Token} {f : ASeat → Count} → SpellsCount E c R f → (IsOtherMeasure c → ⊥) → HcpCount E c R f
 hcp_count (measure {m = Hcp}) n = small.hcp
 hcp_count (measure {m}) n = absurd (n (m, (λ e. cc), refl))
 hcp_count (measure_in {m = Hcp} i) n = small.hcp_in i
@@ -206,11 +234,15 @@ hcp_count longest_suit n = small.longest_suit
 hcp_count (second_suit w) n = small.second_suit
 hcp_count shortest_suit n = small.shortest_suit
 
+hcp_counted : {E : Bound} {T : List Token} {k : Count} → SpellsCounted E T k → HasNone IsOtherMeasure T → HcpCounted E T k
+hcp_counted (count {c} {Q} {R} k h) n = small.count (hcp_count k (none_first IsOtherMeasure c (Open ∷ Q ++ R) n)) h
+
 hcp_atom : (E : Bound) → Turns IsOtherMeasure (SpellsAtom E) (SpellsHcpAtom E)
 hcp_atom E T a a_number n = small.a_number
-hcp_atom E T a (count {c} {Q} {R} k h) n = small.count (hcp_count k (none_first IsOtherMeasure c (Open ∷ Q ++ R) n)) h
+hcp_atom E T a (a_count h) n = small.a_count (hcp_counted h n)
+hcp_atom E T a (multiple {n = m} {T = S} w h) n = small.multiple (hcp_counted h (right_of IsOtherMeasure (Number m ∷ []) Star S n))
 
-count_again : {E : Bound} {c : Token} {R : List Token} {f : ASeat → Amount} → HcpCount E c R f → SpellsCount E c R f
+count_again : {E : Bound} {c : Token} {R : List Token} {f : ASeat → Count} → HcpCount E c R f → SpellsCount E c R f
 count_again small.hcp = measure
 count_again (small.hcp_in i) = measure_in i
 count_again (small.len i) = len i
@@ -222,7 +254,8 @@ count_again small.shortest_suit = shortest_suit
 
 atom_again : (E : Bound) → Turns IsNone (SpellsHcpAtom E) (SpellsAtom E)
 atom_again E T a small.a_number n = a_number
-atom_again E T a (small.count k h) n = count (count_again k) h
+atom_again E T a (small.a_count (small.count k h)) n = a_count (count (count_again k) h)
+atom_again E T a (small.multiple (small.count k h)) n = multiple tt (count (count_again k) h)
 
 abbrev HcpTests : FormsAt
 HcpTests E = TestOf everything E (ValueOf (SpellsHcpAtom E))
@@ -245,6 +278,7 @@ brought_later Stops a e = λ h. h
 brought_later Second a e = λ h. h
 brought_later (Class c) a e = λ h. h
 brought_later (Neighbour n) a e = λ h. h
+brought_later Star a e = λ h. h
 brought_later c a e = absurd (cc)
 
 leaves_later : TurnsWords IsLater everything no_additions
@@ -258,8 +292,8 @@ first_seat (beside {n = k} w h) c R n = absurd (n (Neighbour k) (λ h. h) (2, om
 
 -- a word of a later count
 first_count :
-    {E : Bound} {c : Token} {R : List Token} {f : ASeat → Amount} → SpellsCount E c R f → (q : ASeat) → HasNone IsLater (c ∷ Open ∷ Seat q ∷ R)
-    → SpellsFirstAtom (c ∷ Open ∷ Seat q ∷ R) (f q)
+    {E : Bound} {c : Token} {R : List Token} {f : ASeat → Count} → SpellsCount E c R f → (q : ASeat) → HasNone IsLater (c ∷ Open ∷ Seat q ∷ R)
+    → SpellsFirstAtom (c ∷ Open ∷ Seat q ∷ R) (counted (f q))
 first_count (measure {m = Hcp}) q n = small.hcp
 first_count (measure {m}) q n = absurd (n (Measure m) (λ h. h) (0, omega arith, refl))
 first_count (measure_in {m = Hcp} by_suit) q n = small.hcp_in
@@ -275,9 +309,10 @@ first_count shortest_suit q n = absurd (n Shortest (λ h. h) (0, omega arith, re
 
 first_atom : (E : Bound) → Turns IsLater (SpellsAtom E) SpellsFirstAtom
 first_atom E T a a_number n = small.a_number
-first_atom E T a (count {c} {Q} {R} {q} {f} k h) n =
+first_atom E T a (multiple {n = m} w h) n = absurd (n Star (λ h. h) (1, omega arith, refl))
+first_atom E T a (a_count (count {c} {Q} {R} {q} {f} k h)) n =
     let e = first_seat h c R n in
-    subst (λ Q. SpellsFirstAtom (c ∷ Open ∷ Q ++ R) (f q)) (sym e) (first_count k q (subst (λ Q. HasNone IsLater (c ∷ Open ∷ Q ++ R)) e n))
+    subst (λ Q. SpellsFirstAtom (c ∷ Open ∷ Q ++ R) (counted (f q))) (sym e) (first_count k q (subst (λ Q. HasNone IsLater (c ∷ Open ∷ Q ++ R)) e n))
 
 first_value : (E : Bound) → Turns IsLater (SpellsValue E) (ValueOf SpellsFirstAtom)
 first_value E = turn_value IsLater (SpellsAtom E) SpellsFirstAtom (first_atom E)
@@ -319,9 +354,9 @@ first_test E T t (of_hand {c} {Q} {R} {q} {f} k h) n =
 
 first_atom_again : {E : Bound} {T : List Token} {a : Amount} → SpellsFirstAtom T a → SpellsAtom E T a
 first_atom_again small.a_number = a_number
-first_atom_again small.hcp = count measure by_word
-first_atom_again small.hcp_in = count (measure_in by_suit) by_word
-first_atom_again small.len = count (len by_suit) by_word
+first_atom_again small.hcp = a_count (count measure by_word)
+first_atom_again small.hcp_in = a_count (count (measure_in by_suit) by_word)
+first_atom_again small.len = a_count (count (len by_suit) by_word)
 
 first_value_again : {E : Bound} {T : List Token} {a : Amount} → ValueOf SpellsFirstAtom T a → SpellsValue E T a
 first_value_again (atom h) = atom (first_atom_again h)

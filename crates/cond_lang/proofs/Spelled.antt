@@ -2,6 +2,7 @@
 use Rattle.std.proofs.Common.{◌≡◌, ◌≢◌, ℕ, true, cond, List, [], ◌∷◌, ◌++◌, Some, refl, sym, ap, ◌∙◌, append_assoc, append-nil}
 use Rattle.cards.specs.declared.seat.Seat.{Seat as ASeat}
 use Rattle.cards.specs.declared.suit.Suit.{Suit as ASuit}
+use Rattle.conditions.specs.declared.tree.Count.{Count}
 use Rattle.conditions.specs.declared.tree.Item.{Item}
 use Rattle.conditions.specs.declared.tree.Item.TheVariants.{Length, Any}
 use Rattle.conditions.specs.declared.tree.Op.{Op}
@@ -10,11 +11,11 @@ use Rattle.cond_lang.specs.declared.classes.Choice.{Choice}
 use Rattle.cond_lang.specs.declared.classes.Class.{Class as AClass}
 use Rattle.cond_lang.specs.declared.classes.Quantifier.{Quantifier as AQuantifier}
 use Rattle.cond_lang.specs.declared.scanner.Token.{Token}
-use Rattle.cond_lang.specs.declared.scanner.Token.TheVariants.{Or, And, Not, Quantifier, In, Dash, Number, Class, Open, Close, Plus, Relation}
-use Rattle.conditions.specs.Form.{Amount, sum, Form, any_of, all_of, negation, compare, within, shaped, patterned}
+use Rattle.cond_lang.specs.declared.scanner.Token.TheVariants.{Or, And, Not, Quantifier, In, Dash, Number, Class, Open, Close, Plus, Star, Relation}
+use Rattle.conditions.specs.Form.{Amount, sum, number, counted, times, Form, any_of, all_of, negation, compare, within, shaped, patterned}
 use Rattle.cond_lang.specs.Classes.{unbound, bind, can_bind, Names, by_suit, by_class, seat_beside}
-use Rattle.cond_lang.specs.Grammar.{SpellsSeat, by_word, by_bound, beside, SpellsCount, SpellsHandTest, SpellsAtom, SpellsValue, atom, plus, a_number, count, measure, measure_in, len, cards, cards_in, longest_suit, second_suit, shortest_suit, item_token, four, SpellsCond, both, or, SpellsBoth, unit, and, SpellsUnit, not, brackets, quantified, SpellsEach, none, one_more, test, comparison, in_range, of_hand, is_balanced, has_shape, has_pattern, has_stopper, Spells}
-use Rattle.cond_lang.specs.internal.Reading.{got, stuck, after, front, class_seat, seat, class_suit, suit, closing, item, items, seat_and_items, atom_of, related_by, comparing_by, a_value, sums, a_cond, a_both, a_unit, ors, ands, bracketed_by, unit_by, class, reading}
+use Rattle.cond_lang.specs.Grammar.{SpellsCounted, a_count, multiple, SpellsSeat, by_word, by_bound, beside, SpellsCount, SpellsHandTest, SpellsAtom, SpellsValue, atom, plus, a_number, count, measure, measure_in, len, cards, cards_in, longest_suit, second_suit, shortest_suit, item_token, four, SpellsCond, both, or, SpellsBoth, unit, and, SpellsUnit, not, brackets, quantified, SpellsEach, none, one_more, test, comparison, in_range, of_hand, is_balanced, has_shape, has_pattern, has_stopper, Spells}
+use Rattle.cond_lang.specs.internal.Reading.{got, stuck, after, front, class_seat, seat, class_suit, suit, closing, item, items, seat_and_items, count_of, count_alone, rest_of_number, atom_of, related_by, comparing_by, a_value, sums, a_cond, a_both, a_unit, ors, ands, bracketed_by, unit_by, class, reading}
 use Rattle.cond_lang.proofs.Scopes.{bindable_quantifies}
 use Rattle.cond_lang.proofs.Members.{ReadsEach, each_got}
 use Rattle.cond_lang.proofs.Enough.{reads}
@@ -33,9 +34,9 @@ seat_reads {E} (beside {n} {Q} {q} w h) B =
     ∙ ap (λ o. after o (λ q R. closing (seat_beside n q) R)) (seat_reads h (Close ∷ B))
 
 count_reads :
-    {E : Bound} {c : Token} {R : List Token} {f : ASeat → Amount} → SpellsCount E c R f → (Q : List Token) (q : ASeat) (B : List Token)
-    → seat E (Q ++ (R ++ B)) ≡ got q (R ++ B) → atom_of E (c ∷ Open ∷ (Q ++ (R ++ B))) ≡ got (f q) B
-unfolding atom_of
+    {E : Bound} {c : Token} {R : List Token} {f : ASeat → Count} → SpellsCount E c R f → (Q : List Token) (q : ASeat) (B : List Token)
+    → seat E (Q ++ (R ++ B)) ≡ got q (R ++ B) → count_of E (c ∷ Open ∷ (Q ++ (R ++ B))) ≡ got (f q) B
+unfolding count_of
 count_reads measure Q q B h = rw h refl
 count_reads (measure_in i) Q q B h = rw (h, named_reads i (Close ∷ B)) refl
 count_reads (len i) Q q B h = rw (h, named_reads i (Close ∷ B)) refl
@@ -46,19 +47,46 @@ count_reads longest_suit Q q B h = rw h refl
 count_reads (second_suit w) Q q B h = rw h refl
 count_reads shortest_suit Q q B h = rw h refl
 
-atom_reads : {E : Bound} {A : List Token} {a : Amount} → SpellsAtom E A a → (B : List Token) → atom_of E (A ++ B) ≡ got a B
-unfolding atom_of
-atom_reads a_number B = refl
-atom_reads {E} (count {c} {Q} {R} {q} k h) B =
-    ap (λ L. atom_of E (c ∷ Open ∷ L)) (append_assoc Q R B) ∙ count_reads k Q q B (seat_reads h (R ++ B))
+counted_reads : {E : Bound} {A : List Token} {k : Count} → SpellsCounted E A k → (B : List Token) → count_of E (A ++ B) ≡ got k B
+counted_reads {E} (count {c} {Q} {R} {q} k h) B =
+    ap (λ L. count_of E (c ∷ Open ∷ L)) (append_assoc Q R B) ∙ count_reads k Q q B (seat_reads h (R ++ B))
 
-pub value_reads : {E : Bound} {A : List Token} {a : Amount} → SpellsValue E A a → (B : List Token) → reading E a_value (A ++ B) ≡ reading E (sums a) B
-value_reads {E} (atom {T} {a} h) B = reads E a_value (T ++ B) ∙ ap (λ o. after o (λ a R. reading E (sums a) R)) (atom_reads h B)
-value_reads {E} (plus {L} {R} {a} {b} l r) B =
+-- a word that counts begins no number
+as_count : {E : Bound} {c : Token} {R : List Token} {f : ASeat → Count} → SpellsCount E c R f → (X : List Token) → atom_of E (c ∷ X) ≡ count_alone E (c ∷ X)
+unfolding atom_of
+as_count measure X = refl
+as_count (measure_in i) X = refl
+as_count (len i) X = refl
+as_count cards X = refl
+as_count (cards_in i) X = refl
+as_count longest_suit X = refl
+as_count (second_suit w) X = refl
+as_count shortest_suit X = refl
+
+-- a number ends if no `*` follows
+number_ends : (E : Bound) (n : ℕ) (B : List Token) → front B ≢ Some Star → rest_of_number E n B ≡ got (number n) B
+number_ends E n [] h = refl
+number_ends E n (Star ∷ B) h = absurd (h refl)
+number_ends E n (c ∷ B) h = refl
+
+atom_reads : {E : Bound} {A : List Token} {a : Amount} → SpellsAtom E A a → (B : List Token) → front B ≢ Some Star → atom_of E (A ++ B) ≡ got a B
+unfolding atom_of
+atom_reads {E} (a_number {n}) B s = number_ends E n B s
+atom_reads {E} (a_count (count {c} {Q} {R} {q} k h)) B s =
+    as_count k (Open ∷ ((Q ++ R) ++ B)) ∙ ap (λ o. after o (λ k R. got (counted k) R)) (counted_reads (count k h) B)
+atom_reads {E} (multiple {n} w h) B s = ap (λ o. after o (λ k R. got (times n k) R)) (counted_reads h B)
+
+-- neither `+` nor `*` follows
+abbrev pub EndsValue : List Token → Type 0
+EndsValue B = (front B ≢ Some Plus) × (front B ≢ Some Star)
+
+pub value_reads : {E : Bound} {A : List Token} {a : Amount} → SpellsValue E A a → (B : List Token) → front B ≢ Some Star → reading E a_value (A ++ B) ≡ reading E (sums a) B
+value_reads {E} (atom {T} {a} h) B s = reads E a_value (T ++ B) ∙ ap (λ o. after o (λ a R. reading E (sums a) R)) (atom_reads h B s)
+value_reads {E} (plus {L} {R} {a} {b} l r) B s =
     ap (reading E a_value) (append_assoc L (Plus ∷ R) B)
-    ∙ value_reads l (Plus ∷ (R ++ B))
+    ∙ value_reads l (Plus ∷ (R ++ B)) (λ e. cc)
     ∙ reads E (sums a) (Plus ∷ (R ++ B))
-    ∙ ap (λ o. after o (λ b R. reading E (sums (sum a b)) R)) (atom_reads r B)
+    ∙ ap (λ o. after o (λ b R. reading E (sums (sum a b)) R)) (atom_reads r B s)
 
 -- a chain of `+` ends if none follows
 pub sums_stop : (E : Bound) (a : Amount) (B : List Token) → front B ≢ Some Plus → reading E (sums a) B ≡ got a B
@@ -72,18 +100,18 @@ ands_stop E a [] h = reads E (ands a) []
 ands_stop E a (And ∷ B) h = absurd (h refl)
 ands_stop E a (c ∷ B) h = reads E (ands a) (c ∷ B)
 
-compares : {E : Bound} {L R : List Token} {a b : Amount} (o : Op) → SpellsValue E L a → SpellsValue E R b → (B : List Token) → front B ≢ Some Plus → comparing_by reading E (L ++ (Relation o ∷ (R ++ B))) ≡ got (compare a o b) B
+compares : {E : Bound} {L R : List Token} {a b : Amount} (o : Op) → SpellsValue E L a → SpellsValue E R b → (B : List Token) → EndsValue B → comparing_by reading E (L ++ (Relation o ∷ (R ++ B))) ≡ got (compare a o b) B
 compares {E} {L} {R} {a} {b} o l r B n =
     ap (λ v. after v (λ a S. related_by reading E a S))
-    (value_reads l (Relation o ∷ (R ++ B)) ∙ sums_stop E a (Relation o ∷ (R ++ B)) (λ e. cc))
-    ∙ ap (λ v. after v (λ b S. got (compare a o b) S)) (value_reads r B ∙ sums_stop E b B n)
+    (value_reads l (Relation o ∷ (R ++ B)) (λ e. cc) ∙ sums_stop E a (Relation o ∷ (R ++ B)) (λ e. cc))
+    ∙ ap (λ v. after v (λ b S. got (compare a o b) S)) (value_reads r B n.1 ∙ sums_stop E b B n.0)
 
 ranges : {E : Bound} {L : List Token} {a : Amount} (m n : ℕ) → SpellsValue E L a → (B : List Token) → comparing_by reading E (L ++ (In ∷ Number m ∷ Dash ∷ Number n ∷ B)) ≡ got (within a m n) B
 ranges {E} {L} {a} m n l B =
     ap (λ v. after v (λ a S. related_by reading E a S))
-    (value_reads l (In ∷ Number m ∷ Dash ∷ Number n ∷ B) ∙ sums_stop E a (In ∷ Number m ∷ Dash ∷ Number n ∷ B) (λ e. cc))
+    (value_reads l (In ∷ Number m ∷ Dash ∷ Number n ∷ B) (λ e. cc) ∙ sums_stop E a (In ∷ Number m ∷ Dash ∷ Number n ∷ B) (λ e. cc))
 
-count_compares : {E : Bound} {c : Token} {R : List Token} {f : ASeat → Amount} → SpellsCount E c R f → (X : List Token) → unit_by reading E (c ∷ X) ≡ comparing_by reading E (c ∷ X)
+count_compares : {E : Bound} {c : Token} {R : List Token} {f : ASeat → Count} → SpellsCount E c R f → (X : List Token) → unit_by reading E (c ∷ X) ≡ comparing_by reading E (c ∷ X)
 count_compares measure X = refl
 count_compares (measure_in i) X = refl
 count_compares (len i) X = refl
@@ -95,7 +123,8 @@ count_compares shortest_suit X = refl
 
 atom_compares : {E : Bound} {L : List Token} {a : Amount} → SpellsAtom E L a → (X : List Token) → unit_by reading E (L ++ X) ≡ comparing_by reading E (L ++ X)
 atom_compares a_number X = refl
-atom_compares (count {Q} {R} k h) X = count_compares k (Open ∷ ((Q ++ R) ++ X))
+atom_compares (a_count (count {Q} {R} k h)) X = count_compares k (Open ∷ ((Q ++ R) ++ X))
+atom_compares (multiple w h) X = refl
 
 pub unit_compares : {E : Bound} {L : List Token} {a : Amount} → SpellsValue E L a → (X : List Token) → unit_by reading E (L ++ X) ≡ comparing_by reading E (L ++ X)
 unit_compares (atom h) X = atom_compares h X
@@ -137,13 +166,13 @@ quantifier_reads E k c S b =
     ∙ ap (λ o. after o (λ c S. bracketed_by reading E k c S)) (class_reads E c S b)
 
 mutual
-  pub spelled_unit : {E : Bound} {A : List Token} {t : Form} → SpellsUnit E A t → (B : List Token) → front B ≢ Some Plus → reading E a_unit (A ++ B) ≡ got t B
+  pub spelled_unit : {E : Bound} {A : List Token} {t : Form} → SpellsUnit E A t → (B : List Token) → EndsValue B → reading E a_unit (A ++ B) ≡ got t B
   spelled_unit {E} (not {T} {t} h) B n =
       reads E a_unit (Not ∷ T ++ B) ∙ ap (λ o. after o (λ t R. got (negation t) R)) (spelled_unit h B n)
   spelled_unit {E} (brackets {T} {t} h) B n =
       reads E a_unit (Open ∷ (T ++ Close ∷ []) ++ B)
       ∙ ap (λ L. after (reading E a_cond L) closing) (append_assoc T (Close ∷ []) B)
-      ∙ ap (λ o. after o closing) (spelled_cond h (Close ∷ B) (λ e. cc) (λ e. cc) ∙ reads E (ors t) (Close ∷ B))
+      ∙ ap (λ o. after o closing) (spelled_cond h (Close ∷ B) (λ e. cc) (λ e. cc, λ e. cc) ∙ reads E (ors t) (Close ∷ B))
   spelled_unit {E} (quantified {k} {c} {T} {t} {ts} w b each) B n =
       reads E a_unit (Quantifier k ∷ Class c ∷ Open ∷ (T ++ Close ∷ []) ++ B)
       ∙ quantifier_reads E k c (Open ∷ (T ++ Close ∷ []) ++ B) b
@@ -164,31 +193,31 @@ mutual
       ∙ reads E a_unit (c ∷ Open ∷ (Q ++ (R ++ B)))
       ∙ hand_reads k Q q B (seat_reads h (R ++ B))
 
-  pub spelled_both : {E : Bound} {A : List Token} {t : Form} → SpellsBoth E A t → (B : List Token) → front B ≢ Some Plus → reading E a_both (A ++ B) ≡ reading E (ands t) B
+  pub spelled_both : {E : Bound} {A : List Token} {t : Form} → SpellsBoth E A t → (B : List Token) → EndsValue B → reading E a_both (A ++ B) ≡ reading E (ands t) B
   spelled_both {E} (unit {T} {t} h) B n = reads E a_both (T ++ B) ∙ ap (λ o. after o (λ a R. reading E (ands a) R)) (spelled_unit h B n)
   spelled_both {E} (and {L} {R} {a} {b} l r) B n =
       ap (reading E a_both) (append_assoc L (And ∷ R) B)
-      ∙ spelled_both l (And ∷ (R ++ B)) (λ e. cc)
+      ∙ spelled_both l (And ∷ (R ++ B)) (λ e. cc, λ e. cc)
       ∙ reads E (ands a) (And ∷ (R ++ B))
       ∙ ap (λ o. after o (λ b R. reading E (ands (all_of a b)) R)) (spelled_unit r B n)
 
-  pub spelled_cond : {E : Bound} {A : List Token} {t : Form} → SpellsCond E A t → (B : List Token) → front B ≢ Some And → front B ≢ Some Plus → reading E a_cond (A ++ B) ≡ reading E (ors t) B
+  pub spelled_cond : {E : Bound} {A : List Token} {t : Form} → SpellsCond E A t → (B : List Token) → front B ≢ Some And → EndsValue B → reading E a_cond (A ++ B) ≡ reading E (ors t) B
   spelled_cond {E} (both {T} {t} h) B n m =
       reads E a_cond (T ++ B) ∙ ap (λ o. after o (λ a R. reading E (ors a) R)) (spelled_both h B m ∙ ands_stop E t B n)
   spelled_cond {E} (or {L} {R} {a} {b} l r) B n m =
       ap (reading E a_cond) (append_assoc L (Or ∷ R) B)
-      ∙ spelled_cond l (Or ∷ (R ++ B)) (λ e. cc) (λ e. cc)
+      ∙ spelled_cond l (Or ∷ (R ++ B)) (λ e. cc) (λ e. cc, λ e. cc)
       ∙ reads E (ors a) (Or ∷ (R ++ B))
       ∙ ap (λ o. after o (λ b R. reading E (ors (any_of a b)) R)) (spelled_both r B m ∙ ands_stop E b B n)
 
   spelled_each : {E : Bound} {c : AClass} {ss : List Choice} {T : List Token} {ts : List Form} → SpellsEach E c ss T ts → (B : List Token) → ReadsEach reading E c (T ++ Close ∷ B) (Close ∷ B) ss ts
   spelled_each none B = tt
   spelled_each {E} {c} (one_more {s} {t} h hs) B =
-      (spelled_cond h (Close ∷ B) (λ e. cc) (λ e. cc) ∙ reads (bind E c s) (ors t) (Close ∷ B), spelled_each hs B)
+      (spelled_cond h (Close ∷ B) (λ e. cc) (λ e. cc, λ e. cc) ∙ reads (bind E c s) (ors t) (Close ∷ B), spelled_each hs B)
 
 -- the whole list
 pub spelled : {T : List Token} {t : Form} → Spells T t → reading unbound a_cond T ≡ got t []
-spelled {T} {t} h = ap (reading unbound a_cond) (sym (append-nil T)) ∙ spelled_cond h [] (λ e. cc) (λ e. cc) ∙ reads unbound (ors t) []
+spelled {T} {t} h = ap (reading unbound a_cond) (sym (append-nil T)) ∙ spelled_cond h [] (λ e. cc) (λ e. cc, λ e. cc) ∙ reads unbound (ors t) []
 
 -- a list spells at most one tree
 pub one_tree : (T : List Token) (a b : Form) → Spells T a → Spells T b → a ≡ b

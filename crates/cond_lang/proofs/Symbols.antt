@@ -4,7 +4,7 @@ use Rattle.std.specs.Prelude.{Contains}
 use Rattle.std.proofs.lemmas.Bool.{eqb-true, false≢true}
 use Rattle.conditions.specs.declared.tree.Op.TheVariants.{Equal, NotEqual, Less, AtMost, More, AtLeast}
 use Rattle.cond_lang.specs.declared.scanner.Token.{Token}
-use Rattle.cond_lang.specs.declared.scanner.Token.TheVariants.{Open, Close, Comma, Dash, Plus, Relation}
+use Rattle.cond_lang.specs.declared.scanner.Token.TheVariants.{Open, Close, Comma, Dash, Plus, Star, Relation}
 use Rattle.cond_lang.specs.Cut.{symbols, BeginsWithSymbol}
 use Rattle.cond_lang.specs.internal.Scanning.{token_of, begins_with, symbol_after, symbol_at}
 use Rattle.cond_lang.proofs.Tables.{pick, at_entry}
@@ -22,7 +22,7 @@ goes_on d (x ∷ s) h = (s, ap (λ y. y ∷ s) (eqb-true x d h))
 pub longest : (q : List ℕ) (t : Token) → Contains symbols (q, t) → (rest : List ℕ) → IsAtLeast (length q) (symbol_at (q ++ rest)) (q ++ rest)
 longest =
     at_entry (λ q t. (rest : List ℕ) → IsAtLeast (length q) (symbol_at (q ++ rest)) (q ++ rest)) symbols
-    (one, (one, (one, (one, (one, (two, (two, (less, (two, (more, (two, tt)))))))))))
+    (one, (one, (one, (one, (one, (one, (two, (two, (less, (two, (more, (two, tt))))))))))))
   where
     one : (rest : List ℕ) → 1 ≤ 1
     one rest = omega arith
@@ -62,10 +62,11 @@ symbol_is c s =
     pick P (eqb c 44) _ _ (single Comma 44 c s refl) (λ _.
     pick P (eqb c 45) _ _ (single Dash 45 c s refl) (λ _.
     pick P (eqb c 43) _ _ (single Plus 43 c s refl) (λ _.
+    pick P (eqb c 42) _ _ (single Star 42 c s refl) (λ _.
     pick P (eqb c 61) _ _ (λ h. pick P (begins_with 61 s) _ _ (double (Relation Equal) 61 c s refl h) (λ _. tt)) (λ _.
     pick P (eqb c 33) _ _ (λ h. pick P (begins_with 61 s) _ _ (double (Relation NotEqual) 33 c s refl h) (λ _. tt)) (λ _.
     pick P (eqb c 60) _ _ (λ h. pick P (begins_with 61 s) _ _ (double (Relation AtMost) 60 c s refl h) (λ _. single (Relation Less) 60 c s refl h)) (λ _.
-    pick P (eqb c 62) _ _ (λ h. pick P (begins_with 61 s) _ _ (double (Relation AtLeast) 62 c s refl h) (λ _. single (Relation More) 62 c s refl h)) (λ _. tt)))))))))
+    pick P (eqb c 62) _ _ (λ h. pick P (begins_with 61 s) _ _ (double (Relation AtLeast) 62 c s refl h) (λ _. single (Relation More) 62 c s refl h)) (λ _. tt))))))))))
   where
     P : Option (Token × ℕ) → Type 0
     P o = IsSymbolOf o (c ∷ s)

@@ -1,5 +1,5 @@
 -- The readers that don't lead back to a condition.
-use Rattle.std.proofs.Common.{◌≡◌, Bool, true, false, cond, List, [], ◌∷◌, ◌++◌, Option, Some, None, refl, sym, ap, ◌∙◌, subst, append_assoc, append-nil}
+use Rattle.std.proofs.Common.{◌≡◌, ℕ, Bool, true, false, cond, List, [], ◌∷◌, ◌++◌, Option, Some, None, refl, sym, ap, ◌∙◌, subst, append_assoc, append-nil}
 use Rattle.cards.specs.declared.honours.Honours.{Honours}
 use Rattle.cards.specs.declared.hand.Measure.{Measure as AMeasure}
 use Rattle.cards.specs.declared.seat.Seat.{Seat as ASeat}
@@ -9,16 +9,17 @@ use Rattle.cards.specs.declared.suit.Suit.TheVariants.{Spades}
 use Rattle.cond_lang.specs.declared.classes.Bound.{Bound}
 use Rattle.cond_lang.specs.declared.classes.Class.{Class as AClass}
 use Rattle.cond_lang.specs.declared.classes.Neighbour.{Neighbour as ANeighbour}
+use Rattle.conditions.specs.declared.tree.Count.{Count}
 use Rattle.conditions.specs.declared.tree.Item.{Item}
 use Rattle.conditions.specs.declared.tree.Item.TheVariants.{Length, Any}
 use Rattle.conditions.specs.declared.tree.Op.TheVariants.{Equal}
 use Rattle.cond_lang.specs.declared.scanner.Token.{Token}
-use Rattle.cond_lang.specs.declared.scanner.Token.TheVariants.{Measure, Cards, Len, Longest, Second, Shortest, X, Seat, Suit, Class, Neighbour, Ranks, Number, Open, Close, Comma, Dash, Relation}
-use Rattle.conditions.specs.Form.{Amount, number, measured, suit_measured, cards_held, suit_cards_held, suit_length, longest, second, shortest}
+use Rattle.cond_lang.specs.declared.scanner.Token.TheVariants.{Star, Measure, Cards, Len, Longest, Second, Shortest, X, Seat, Suit, Class, Neighbour, Ranks, Number, Open, Close, Comma, Dash, Relation}
+use Rattle.conditions.specs.Form.{Amount, number, counted, times, measured, suit_measured, cards_held, suit_cards_held, suit_length, longest, second, shortest}
 use Rattle.cond_lang.specs.Classes.{bound_to, seat_bound_to, can_bind, Names, by_suit, by_class, seat_beside}
-use Rattle.cond_lang.specs.Grammar.{SpellsSeat, by_word, by_bound, beside, SpellsAtom, a_number, count, measure, measure_in, len, cards, cards_in, longest_suit, second_suit, shortest_suit, item_token, four}
-use Rattle.cond_lang.specs.internal.Reading.{Outcome, got, stuck, Reader, after, opened, closed, comma, dash, seat, class_seat, suit, class_suit, class, digits, ranks, item, relation, closing, comma_suit_close, rest_of_measure, ranks_close, comma_ranks_close, suit_and_ranks, rest_of_cards, open_seat, seat_in_brackets, seat_and_suit, open_seat_comma, range, atom_of, items, seat_and_items}
-use Rattle.cond_lang.proofs.Sequences.{Reads, HasSome, reads_after, reads_as, reads_token, reads_like, like_at, like_at_end, gets_token, stops_at, stops_at_end}
+use Rattle.cond_lang.specs.Grammar.{SpellsCounted, a_count, multiple, SpellsSeat, by_word, by_bound, beside, SpellsAtom, a_number, count, measure, measure_in, len, cards, cards_in, longest_suit, second_suit, shortest_suit, item_token, four}
+use Rattle.cond_lang.specs.internal.Reading.{Outcome, got, stuck, Reader, after, opened, closed, comma, dash, seat, class_seat, suit, class_suit, class, digits, ranks, item, relation, closing, comma_suit_close, rest_of_measure, ranks_close, comma_ranks_close, suit_and_ranks, rest_of_cards, count_of, count_alone, rest_of_number, open_seat, seat_in_brackets, seat_and_suit, open_seat_comma, range, atom_of, items, seat_and_items}
+use Rattle.cond_lang.proofs.Sequences.{Reads, HasSome, reads_after, reads_as, reads_token, reads_like, like_at, like_at_end, gets_token, gets_at, gets_at_end, stops_at, stops_at_end}
 
 -- nothing more
 pub gets : {A : Type 0} (N : List Token → A → Type 0) (x : A) (S : List Token) → N [] x → Reads N (got x) S (got x S)
@@ -186,9 +187,9 @@ reads_behind_seat E K f S some k =
     reads_after (IsOpenSeat E) (BehindSeat E K) K (open_seat E) f S (open_seat E S)
     (λ P Q q y h m. subst (λ P. K (P ++ Q) y) (sym h.2) (m h.0 h.1)) some (reads_open_seat E S) k
 
--- an atom that begins with the word
-abbrev Counts : Bound → Token → ASeat → List Token → Amount → Type 0
-Counts E c q = BehindSeat E (λ Q. SpellsAtom E (c ∷ Q)) q
+-- a count that begins with the word
+abbrev Counts : Bound → Token → ASeat → List Token → Count → Type 0
+Counts E c q = BehindSeat E (λ Q. SpellsCounted E (c ∷ Q)) q
 
 pub reads_rest_of_measure : (E : Bound) (m : AMeasure) (q : ASeat) (S : List Token) → Reads (Counts E (Measure m) q) (rest_of_measure E m q) S (rest_of_measure E m q S)
 reads_rest_of_measure E m q [] = stops_at_end _ (rest_of_measure E m q) (Close ∷ [], measured m q, λ L h. count measure h) refl
@@ -252,11 +253,11 @@ reads_comma_ranks_close S =
     (λ _ R. reads_as (λ P h. P ≡ Ranks h ∷ Close ∷ []) _ ranks_close ranks_close R (ranks_close R) (λ P h e. ap (λ L. Comma ∷ L) e) (λ X. refl) (reads_ranks_close R))
 
 -- ranks after `cards ( seat ,`
-ranks_of_cards : ASeat → Reader Amount
+ranks_of_cards : ASeat → Reader Count
 ranks_of_cards q S = after (ranks_close S) (λ h R. got (cards_held q h) R)
 
 -- what counts cards after `cards ( seat ,`
-abbrev CountsCards : Bound → ASeat → List Token → Amount → Type 0
+abbrev CountsCards : Bound → ASeat → List Token → Count → Type 0
 CountsCards E q Q y = Counts E Cards q (Comma ∷ Q) y
 
 reads_ranks_of_cards : (E : Bound) (q : ASeat) (S : List Token) → Reads (CountsCards E q) (ranks_of_cards q) S (ranks_of_cards q S)
@@ -288,57 +289,78 @@ reads_range S =
     (λ _ S. reads_then (λ n. Number n ∷ []) (λ P p. Number m ∷ Dash ∷ P ≡ Number p.0 ∷ Dash ∷ Number p.1 ∷ []) digits _ S (digits S)
     (λ n. ([], (m, n), refl)) (reads_digits S) (λ n S. gets _ (m, n) S refl)))
 
-some_atom : (E : Bound) → HasSome (SpellsAtom E)
-some_atom E = (Number 0 ∷ [], number 0, a_number)
+some_count : (E : Bound) → HasSome (SpellsCounted E)
+some_count E = (Longest ∷ Open ∷ Seat North ∷ Close ∷ [], longest North, count {Q = Seat North ∷ []} longest_suit by_word)
 
-joined_len : (E : Bound) (P Q : List Token) (p : ASeat × ASuit) (a : Amount) → AreSeatAndSuit E P p → (Q ≡ []) × (a ≡ suit_length p.0 p.1) → SpellsAtom E (Len ∷ P ++ Q) a
+joined_len : (E : Bound) (P Q : List Token) (p : ASeat × ASuit) (a : Count) → AreSeatAndSuit E P p → (Q ≡ []) × (a ≡ suit_length p.0 p.1) → SpellsCounted E (Len ∷ P ++ Q) a
 joined_len E P Q p a h m = rw (m.0, m.1, append-nil P, h.4) (count (len h.3) h.1)
 
 -- tokens after `cards ( seat ,`
-joined_cards : (E : Bound) (P Q : List Token) (q : ASeat) (a : Amount) → IsSeatAnd Comma E P q → CountsCards E q Q a → SpellsAtom E (Cards ∷ P ++ Q) a
+joined_cards : (E : Bound) (P Q : List Token) (q : ASeat) (a : Count) → IsSeatAnd Comma E P q → CountsCards E q Q a → SpellsCounted E (Cards ∷ P ++ Q) a
 joined_cards E P Q q a h m =
-    subst (λ P. SpellsAtom E (Cards ∷ P ++ Q) a) (sym h.2)
-    (subst (λ L. SpellsAtom E (Cards ∷ Open ∷ L) a) (sym (append_assoc h.0 (Comma ∷ []) Q)) (m h.0 h.1))
+    subst (λ P. SpellsCounted E (Cards ∷ P ++ Q) a) (sym h.2)
+    (subst (λ L. SpellsCounted E (Cards ∷ Open ∷ L) a) (sym (append_assoc h.0 (Comma ∷ []) Q)) (m h.0 h.1))
 
 -- a word that counts by `( seat )`
 joined_seat :
-    (E : Bound) (c : Token) (f : ASeat → Amount) → ((L : List Token) (q : ASeat) → SpellsSeat E L q → SpellsAtom E (c ∷ Open ∷ L ++ Close ∷ []) (f q))
-    → (P Q : List Token) (q : ASeat) (a : Amount) → IsSeatAnd Close E P q → (Q ≡ []) × (a ≡ f q) → SpellsAtom E (c ∷ P ++ Q) a
+    (E : Bound) (c : Token) (f : ASeat → Count) → ((L : List Token) (q : ASeat) → SpellsSeat E L q → SpellsCounted E (c ∷ Open ∷ L ++ Close ∷ []) (f q))
+    → (P Q : List Token) (q : ASeat) (a : Count) → IsSeatAnd Close E P q → (Q ≡ []) × (a ≡ f q) → SpellsCounted E (c ∷ P ++ Q) a
 joined_seat E c f of P Q q a h m = rw (m.0, m.1, append-nil P, h.2) (of h.0 q h.1)
 
 reads_count :
-    (E : Bound) (c : Token) (f : ASeat → Amount) → ((L : List Token) (q : ASeat) → SpellsSeat E L q → SpellsAtom E (c ∷ Open ∷ L ++ Close ∷ []) (f q))
-    → (S : List Token) → Reads (λ P. SpellsAtom E (c ∷ P)) (λ S. after (seat_in_brackets E S) (λ q R. got (f q) R)) S (after (seat_in_brackets E S) (λ q R. got (f q) R))
+    (E : Bound) (c : Token) (f : ASeat → Count) → ((L : List Token) (q : ASeat) → SpellsSeat E L q → SpellsCounted E (c ∷ Open ∷ L ++ Close ∷ []) (f q))
+    → (S : List Token) → Reads (λ P. SpellsCounted E (c ∷ P)) (λ S. after (seat_in_brackets E S) (λ q R. got (f q) R)) S (after (seat_in_brackets E S) (λ q R. got (f q) R))
 reads_count E c f of S =
-    reads_after (IsSeatAnd Close E) (λ q Q a. (Q ≡ []) × (a ≡ f q)) (λ P. SpellsAtom E (c ∷ P)) (seat_in_brackets E) (λ q R. got (f q) R) S (seat_in_brackets E S)
+    reads_after (IsSeatAnd Close E) (λ q Q a. (Q ≡ []) × (a ≡ f q)) (λ P. SpellsCounted E (c ∷ P)) (seat_in_brackets E) (λ q R. got (f q) R) S (seat_in_brackets E S)
     (joined_seat E c f of) (λ q. ([], f q, (refl, refl))) (reads_seat_in_brackets E S) (λ q R. gets _ (f q) R (refl, refl))
+
+pub reads_count_of : (E : Bound) (S : List Token) → Reads (SpellsCounted E) (count_of E) S (count_of E S)
+unfolding count_of
+reads_count_of E [] = stops_at_end _ (count_of E) (some_count E) refl
+reads_count_of E (Measure m ∷ S) =
+    reads_token _ _ (Measure m) (λ S. after (open_seat E S) (rest_of_measure E m)) (count_of E) S _ (λ P x h. h) (λ X. refl)
+    (reads_behind_seat E (λ Q. SpellsCounted E (Measure m ∷ Q)) (rest_of_measure E m) S
+    (λ q. (Close ∷ [], measured m q, λ L h. count measure h)) (reads_rest_of_measure E m))
+reads_count_of E (Len ∷ S) =
+    reads_token _ _ Len (λ S. after (seat_and_suit E S) (λ p R. got (suit_length p.0 p.1) R)) (count_of E) S _ (λ P x m. m) (λ X. refl)
+    (reads_after (AreSeatAndSuit E) (λ p Q a. (Q ≡ []) × (a ≡ suit_length p.0 p.1)) (λ P. SpellsCounted E (Len ∷ P)) (seat_and_suit E) (λ p R. got (suit_length p.0 p.1) R) S (seat_and_suit E S)
+    (joined_len E) (λ p. ([], suit_length p.0 p.1, (refl, refl))) (reads_seat_and_suit E S) (λ p R. gets _ (suit_length p.0 p.1) R (refl, refl)))
+reads_count_of E (Cards ∷ S) =
+    reads_token _ _ Cards (λ S. after (open_seat_comma E S) (λ q R. rest_of_cards E q R)) (count_of E) S _ (λ P x m. m) (λ X. refl)
+    (reads_after (IsSeatAnd Comma E) (CountsCards E) (λ Q. SpellsCounted E (Cards ∷ Q)) (open_seat_comma E) (λ q R. rest_of_cards E q R) S (open_seat_comma E S)
+    (joined_cards E) (λ q. (Ranks some_ranks ∷ Close ∷ [], cards_held q some_ranks, λ L h. count cards h)) (reads_open_seat_comma E S) (reads_rest_of_cards E))
+reads_count_of E (Longest ∷ S) =
+    reads_token _ _ Longest (λ S. after (seat_in_brackets E S) (λ q R. got (longest q) R)) (count_of E) S _ (λ P x m. m) (λ X. refl)
+    (reads_count E Longest longest (λ L q h. count longest_suit h) S)
+reads_count_of E (Second ∷ S) =
+    reads_token _ _ Second (λ S. after (seat_in_brackets E S) (λ q R. got (second q) R)) (count_of E) S _ (λ P x m. m) (λ X. refl)
+    (reads_count E Second second (λ L q h. count (second_suit tt) h) S)
+reads_count_of E (Shortest ∷ S) =
+    reads_token _ _ Shortest (λ S. after (seat_in_brackets E S) (λ q R. got (shortest q) R)) (count_of E) S _ (λ P x m. m) (λ X. refl)
+    (reads_count E Shortest shortest (λ L q h. count shortest_suit h) S)
+reads_count_of E (c ∷ S) = stops_at _ c (count_of E) S (some_count E) (λ X. refl)
+
+-- a count alone
+reads_count_alone : (E : Bound) (S : List Token) → Reads (SpellsAtom E) (count_alone E) S (count_alone E S)
+reads_count_alone E S =
+    reads_after (SpellsCounted E) (λ k Q a. (Q ≡ []) × (a ≡ counted k)) (SpellsAtom E) (count_of E) (λ k R. got (counted k) R) S (count_of E S)
+    (λ P Q k a h m. rw (m.0, m.1, append-nil P) (a_count h)) (λ k. ([], counted k, (refl, refl))) (reads_count_of E S) (λ k R. gets _ (counted k) R (refl, refl))
+
+-- nothing, or a factor's count, after a number
+reads_rest_of_number : (E : Bound) (n : ℕ) (S : List Token) → Reads (λ P. SpellsAtom E (Number n ∷ P)) (rest_of_number E n) S (rest_of_number E n S)
+reads_rest_of_number E n [] = gets_at_end _ (rest_of_number E n) (number n) a_number refl
+reads_rest_of_number E n (Star ∷ S) =
+    reads_token (λ P. SpellsAtom E (Number n ∷ Star ∷ P)) _ Star (λ S. after (count_of E S) (λ k R. got (times n k) R)) (rest_of_number E n) S _ (λ P x m. m) (λ X. refl)
+    (reads_after (SpellsCounted E) (λ k Q a. (Q ≡ []) × (a ≡ times n k)) (λ P. SpellsAtom E (Number n ∷ Star ∷ P)) (count_of E) (λ k R. got (times n k) R) S (count_of E S)
+    (λ P Q k a h m. rw (m.0, m.1, append-nil P) (multiple tt h)) (λ k. ([], times n k, (refl, refl))) (reads_count_of E S) (λ k R. gets _ (times n k) R (refl, refl)))
+reads_rest_of_number E n (c ∷ S) = gets_at _ c (rest_of_number E n) S (number n) a_number (λ X. refl)
 
 pub reads_atom : (E : Bound) (S : List Token) → Reads (SpellsAtom E) (atom_of E) S (atom_of E S)
 unfolding atom_of
-reads_atom E [] = stops_at_end _ (atom_of E) (some_atom E) refl
-reads_atom E (Number n ∷ S) = gets_token _ (Number n) (atom_of E) S (number n) a_number (λ X. refl)
-reads_atom E (Measure m ∷ S) =
-    reads_token _ _ (Measure m) (λ S. after (open_seat E S) (rest_of_measure E m)) (atom_of E) S _ (λ P x h. h) (λ X. refl)
-    (reads_behind_seat E (λ Q. SpellsAtom E (Measure m ∷ Q)) (rest_of_measure E m) S
-    (λ q. (Close ∷ [], measured m q, λ L h. count measure h)) (reads_rest_of_measure E m))
-reads_atom E (Len ∷ S) =
-    reads_token _ _ Len (λ S. after (seat_and_suit E S) (λ p R. got (suit_length p.0 p.1) R)) (atom_of E) S _ (λ P x m. m) (λ X. refl)
-    (reads_after (AreSeatAndSuit E) (λ p Q a. (Q ≡ []) × (a ≡ suit_length p.0 p.1)) (λ P. SpellsAtom E (Len ∷ P)) (seat_and_suit E) (λ p R. got (suit_length p.0 p.1) R) S (seat_and_suit E S)
-    (joined_len E) (λ p. ([], suit_length p.0 p.1, (refl, refl))) (reads_seat_and_suit E S) (λ p R. gets _ (suit_length p.0 p.1) R (refl, refl)))
-reads_atom E (Cards ∷ S) =
-    reads_token _ _ Cards (λ S. after (open_seat_comma E S) (λ q R. rest_of_cards E q R)) (atom_of E) S _ (λ P x m. m) (λ X. refl)
-    (reads_after (IsSeatAnd Comma E) (CountsCards E) (λ Q. SpellsAtom E (Cards ∷ Q)) (open_seat_comma E) (λ q R. rest_of_cards E q R) S (open_seat_comma E S)
-    (joined_cards E) (λ q. (Ranks some_ranks ∷ Close ∷ [], cards_held q some_ranks, λ L h. count cards h)) (reads_open_seat_comma E S) (reads_rest_of_cards E))
-reads_atom E (Longest ∷ S) =
-    reads_token _ _ Longest (λ S. after (seat_in_brackets E S) (λ q R. got (longest q) R)) (atom_of E) S _ (λ P x m. m) (λ X. refl)
-    (reads_count E Longest longest (λ L q h. count longest_suit h) S)
-reads_atom E (Second ∷ S) =
-    reads_token _ _ Second (λ S. after (seat_in_brackets E S) (λ q R. got (second q) R)) (atom_of E) S _ (λ P x m. m) (λ X. refl)
-    (reads_count E Second second (λ L q h. count (second_suit tt) h) S)
-reads_atom E (Shortest ∷ S) =
-    reads_token _ _ Shortest (λ S. after (seat_in_brackets E S) (λ q R. got (shortest q) R)) (atom_of E) S _ (λ P x m. m) (λ X. refl)
-    (reads_count E Shortest shortest (λ L q h. count shortest_suit h) S)
-reads_atom E (c ∷ S) = stops_at _ c (atom_of E) S (some_atom E) (λ X. refl)
+reads_atom E [] = reads_like _ (count_alone E) (atom_of E) [] _ (like_at_end (count_alone E) (atom_of E) refl) (reads_count_alone E [])
+reads_atom E (Number n ∷ S) =
+    reads_token (λ P. SpellsAtom E (Number n ∷ P)) (SpellsAtom E) (Number n) (rest_of_number E n) (atom_of E) S _ (λ P x m. m) (λ X. refl) (reads_rest_of_number E n S)
+reads_atom E (c ∷ S) = reads_like _ (count_alone E) (atom_of E) (c ∷ S) _ (like_at (count_alone E) (atom_of E) c S (λ X. refl)) (reads_count_alone E (c ∷ S))
 
 -- four items with dashes between them
 abbrev pub AreItems : List Token → List Item → Type 0

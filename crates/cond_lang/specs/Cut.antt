@@ -14,7 +14,7 @@ use Rattle.cond_lang.specs.declared.classes.Class.TheVariants.{Suit as AnySuit, 
 use Rattle.cond_lang.specs.declared.classes.Neighbour.TheVariants.{Partner, Left, Right}
 use Rattle.cond_lang.specs.declared.classes.Quantifier.TheVariants.{Any, Every}
 use Rattle.cond_lang.specs.declared.scanner.Token.{Token}
-use Rattle.cond_lang.specs.declared.scanner.Token.TheVariants.{Or, And, Not, Balanced, Shape, Pattern, Quantifier, Stops, Measure, Cards, Len, Longest, Second, Shortest, In, X, Seat, Suit, Class, Neighbour, Ranks, Number, Open, Close, Comma, Dash, Plus, Relation}
+use Rattle.cond_lang.specs.declared.scanner.Token.TheVariants.{Or, And, Not, Balanced, Shape, Pattern, Quantifier, Stops, Measure, Cards, Len, Longest, Second, Shortest, In, X, Seat, Suit, Class, Neighbour, Ranks, Number, Open, Close, Comma, Dash, Plus, Star, Relation}
 use Rattle.cond_lang.specs.declared.scanner.Placed.{Placed}
 use Rattle.cond_lang.specs.declared.scanner.Piece.{Piece}
 use Rattle.cond_lang.specs.declared.scanner.Piece.TheVariants.{Separator, Token as TokenPiece, StrayByte, UnknownWord, LongNumber}
@@ -75,6 +75,7 @@ symbols =
     ∷ (codes ",", Comma)
     ∷ (codes "-", Dash)
     ∷ (codes "+", Plus)
+    ∷ (codes "*", Star)
     ∷ (codes "==", Relation Equal)
     ∷ (codes "!=", Relation NotEqual)
     ∷ (codes "<", Relation Less)

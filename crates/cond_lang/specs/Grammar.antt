@@ -8,8 +8,9 @@
 --           | "stops" "(" seat "," suit ")"
 --     item  = number | "x"
 --     value = atom ( "+" atom )*
---     atom  = number | measure "(" seat [ "," suit ] ")"
---           | "cards" "(" seat [ "," suit ] "," ranks ")" | "len" "(" seat "," suit ")"
+--     atom  = number [ "*" count ] | count
+--     count = measure "(" seat [ "," suit ] ")" | "len" "(" seat "," suit ")"
+--           | "cards" "(" seat [ "," suit ] "," ranks ")"
 --           | ( "longest" | "second" | "shortest" ) "(" seat ")"
 --     seat  = "north" | "east" | "south" | "west"
 --           | ( "partner" | "left" | "right" ) "(" seat ")"
@@ -24,6 +25,7 @@ use Rattle.cards.specs.declared.honours.Honours.{Honours}
 use Rattle.cards.specs.declared.hand.Measure.{Measure as AMeasure}
 use Rattle.cards.specs.declared.seat.Seat.{Seat as ASeat}
 use Rattle.cards.specs.declared.suit.Suit.{Suit as ASuit}
+use Rattle.conditions.specs.declared.tree.Count.{Count}
 use Rattle.conditions.specs.declared.tree.Item.{Item}
 use Rattle.conditions.specs.declared.tree.Item.TheVariants.{Length, Any}
 use Rattle.conditions.specs.declared.tree.Op.{Op}
@@ -35,15 +37,16 @@ use Rattle.cond_lang.specs.declared.classes.Neighbour.{Neighbour as ANeighbour}
 use Rattle.cond_lang.specs.declared.classes.Quantifier.{Quantifier as AQuantifier}
 use Rattle.cond_lang.specs.declared.classes.Quantifier.TheVariants.{Any as OneOf, Every}
 use Rattle.cond_lang.specs.declared.scanner.Token.{Token}
-use Rattle.cond_lang.specs.declared.scanner.Token.TheVariants.{Or, And, Not, Balanced, Shape, Pattern, Quantifier, Stops, Measure, Cards, Len, Longest, Second, Shortest, In, X, Seat, Class, Neighbour, Ranks, Number, Open, Close, Comma, Dash, Plus, Relation}
-use Rattle.conditions.specs.Form.{Amount, sum, number, measured, suit_measured, cards_held, suit_cards_held, suit_length, longest, second, shortest, Form, any_of, all_of, negation, compare, within, balanced, shaped, patterned, stops}
+use Rattle.cond_lang.specs.declared.scanner.Token.TheVariants.{Or, And, Not, Balanced, Shape, Pattern, Quantifier, Stops, Measure, Cards, Len, Longest, Second, Shortest, In, X, Seat, Class, Neighbour, Ranks, Number, Open, Close, Comma, Dash, Plus, Star, Relation}
+use Rattle.conditions.specs.Form.{Amount, sum, number, counted, times, measured, suit_measured, cards_held, suit_cards_held, suit_length, longest, second, shortest, Form, any_of, all_of, negation, compare, within, balanced, shaped, patterned, stops}
 use Rattle.cond_lang.specs.Classes.{unbound, bind, can_bind, members, Names, seat_bound_to, seat_beside}
 
--- what came to the language after its first words: `any`, `every`, `second` and `stops`, and then
--- the classes of seats, `partner`, `left` and `right`
+-- what came to the language after its first words: `any`, `every`, `second` and `stops`, then the
+-- classes of seats, `partner`, `left` and `right`, and then `*`
 pub data Addition : Type 0 where
   quantifiers : Addition
   seats : Addition
+  factors : Addition
 
 -- the addition that brought the class
 abbrev pub addition_of : AClass → Addition
@@ -64,7 +67,7 @@ pub data SeatOf (W : Addition → Type 0) (E : Bound) : List Token → ASeat →
 -- What counts in a hand: the word before `( seat`, the tokens behind, and the count of each seat. It
 -- is a measure of the hand or of one of its suits, cards of some ranks, or a length.
 pub data CountOf (W : Addition → Type 0) (E : Bound)
-    : Token → List Token → (ASeat → Amount) → Type 0 where
+    : Token → List Token → (ASeat → Count) → Type 0 where
   measure : {m : AMeasure} → CountOf W E (Measure m) (Close ∷ []) (λ q. measured m q)
   measure_in :
       {m : AMeasure} {c : Token} {s : ASuit} → Names E c s
@@ -80,12 +83,19 @@ pub data CountOf (W : Addition → Type 0) (E : Bound)
   second_suit : W quantifiers → CountOf W E Second (Close ∷ []) (λ q. second q)
   shortest_suit : CountOf W E Shortest (Close ∷ []) (λ q. shortest q)
 
--- a number, or what counts in a hand
+-- what counts in the hand of a seat
+pub data CountedOf (W : Addition → Type 0) (E : Bound) : List Token → Count → Type 0 where
+  count :
+      {c : Token} {Q R : List Token} {q : ASeat} {f : ASeat → Count}
+      → CountOf W E c R f → SeatOf W E Q q → CountedOf W E (c ∷ Open ∷ Q ++ R) (f q)
+
+-- a number, what counts in a hand, or that many times what counts
 pub data AtomOf (W : Addition → Type 0) (E : Bound) : List Token → Amount → Type 0 where
   a_number : {n : ℕ} → AtomOf W E (Number n ∷ []) (number n)
-  count :
-      {c : Token} {Q R : List Token} {q : ASeat} {f : ASeat → Amount}
-      → CountOf W E c R f → SeatOf W E Q q → AtomOf W E (c ∷ Open ∷ Q ++ R) (f q)
+  a_count : {T : List Token} {k : Count} → CountedOf W E T k → AtomOf W E T (counted k)
+  multiple :
+      {n : ℕ} {T : List Token} {k : Count} → W factors → CountedOf W E T k
+      → AtomOf W E (Number n ∷ Star ∷ T) (times n k)
 
 -- what token lists spell which amounts
 abbrev pub Amounts : Type 1
@@ -192,8 +202,11 @@ everything a = Unit {0}
 abbrev pub SpellsSeat : Bound → List Token → ASeat → Type 0
 SpellsSeat E = SeatOf everything E
 
-abbrev pub SpellsCount : Bound → Token → List Token → (ASeat → Amount) → Type 0
+abbrev pub SpellsCount : Bound → Token → List Token → (ASeat → Count) → Type 0
 SpellsCount E = CountOf everything E
+
+abbrev pub SpellsCounted : Bound → List Token → Count → Type 0
+SpellsCounted E = CountedOf everything E
 
 abbrev pub SpellsHandTest : Bound → Token → List Token → (ASeat → Form) → Type 0
 SpellsHandTest E = HandTestOf everything E

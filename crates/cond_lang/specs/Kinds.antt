@@ -14,7 +14,7 @@ all_kinds =
     ∷ kind.Quantifier Any ∷ kind.Quantifier Every ∷ kind.Stops ∷ kind.Number
     ∷ map kind.Measure measures
     ++ kind.Cards ∷ kind.Len ∷ kind.Longest ∷ kind.Second ∷ kind.Shortest ∷ kind.Plus
-    ∷ kind.Relation ∷ kind.In ∷ kind.Dash ∷ kind.X ∷ kind.Comma ∷ kind.Seat
+    ∷ kind.Star ∷ kind.Relation ∷ kind.In ∷ kind.Dash ∷ kind.X ∷ kind.Comma ∷ kind.Seat
     ∷ kind.Class Seat ∷ kind.Class NorthSouth ∷ kind.Class EastWest
     ∷ kind.Neighbour Partner ∷ kind.Neighbour Left ∷ kind.Neighbour Right ∷ kind.Suit
     ∷ kind.Class Suit ∷ kind.Class Major ∷ kind.Class Minor ∷ kind.Class Other
@@ -38,28 +38,29 @@ place_of kind.Longest = 11 + length measures
 place_of kind.Second = 12 + length measures
 place_of kind.Shortest = 13 + length measures
 place_of kind.Plus = 14 + length measures
-place_of kind.Relation = 15 + length measures
-place_of kind.In = 16 + length measures
-place_of kind.Dash = 17 + length measures
-place_of kind.X = 18 + length measures
-place_of kind.Comma = 19 + length measures
-place_of kind.Seat = 20 + length measures
-place_of (kind.Class Seat) = 21 + length measures
-place_of (kind.Class NorthSouth) = 22 + length measures
-place_of (kind.Class EastWest) = 23 + length measures
-place_of (kind.Neighbour Partner) = 24 + length measures
-place_of (kind.Neighbour Left) = 25 + length measures
-place_of (kind.Neighbour Right) = 26 + length measures
-place_of kind.Suit = 27 + length measures
-place_of (kind.Class Suit) = 28 + length measures
-place_of (kind.Class Major) = 29 + length measures
-place_of (kind.Class Minor) = 30 + length measures
-place_of (kind.Class Other) = 31 + length measures
-place_of kind.Ranks = 32 + length measures
-place_of kind.Close = 33 + length measures
-place_of kind.And = 34 + length measures
-place_of kind.Or = 35 + length measures
-place_of kind.End = 36 + length measures
+place_of kind.Star = 15 + length measures
+place_of kind.Relation = 16 + length measures
+place_of kind.In = 17 + length measures
+place_of kind.Dash = 18 + length measures
+place_of kind.X = 19 + length measures
+place_of kind.Comma = 20 + length measures
+place_of kind.Seat = 21 + length measures
+place_of (kind.Class Seat) = 22 + length measures
+place_of (kind.Class NorthSouth) = 23 + length measures
+place_of (kind.Class EastWest) = 24 + length measures
+place_of (kind.Neighbour Partner) = 25 + length measures
+place_of (kind.Neighbour Left) = 26 + length measures
+place_of (kind.Neighbour Right) = 27 + length measures
+place_of kind.Suit = 28 + length measures
+place_of (kind.Class Suit) = 29 + length measures
+place_of (kind.Class Major) = 30 + length measures
+place_of (kind.Class Minor) = 31 + length measures
+place_of (kind.Class Other) = 32 + length measures
+place_of kind.Ranks = 33 + length measures
+place_of kind.Close = 34 + length measures
+place_of kind.And = 35 + length measures
+place_of kind.Or = 36 + length measures
+place_of kind.End = 37 + length measures
 
 -- the kind is in the list of all at its place, and nowhere else
 abbrev pub IsListedOnce : Kind → Type 0

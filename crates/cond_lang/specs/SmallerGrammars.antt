@@ -1,5 +1,5 @@
--- Smaller grammars: one without the words of seats, one without those of quantifiers too, one whose
--- values are atoms alone, one whose only measure is hcp, one in the words that the language had
+-- Smaller grammars: one without factors, one without the words of seats too, one without those of
+-- quantifiers too, one whose values are atoms alone, one whose only measure is hcp, one in the words that the language had
 -- first, and the first grammar: those words without sums. What they spell, the whole grammar spells
 -- too.
 use Rattle.std.specs.Prelude.{◌≡◌, ◌≢◌, ℕ, List, [], ◌∷◌, ◌++◌, Option, Some, None}
@@ -7,14 +7,15 @@ use Rattle.cards.specs.declared.honours.Honours.{Honours}
 use Rattle.cards.specs.declared.hand.Measure.TheVariants.{Hcp}
 use Rattle.cards.specs.declared.seat.Seat.{Seat as ASeat}
 use Rattle.cards.specs.declared.suit.Suit.{Suit as ASuit}
+use Rattle.conditions.specs.declared.tree.Count.{Count}
 use Rattle.conditions.specs.declared.tree.Op.{Op}
 use Rattle.cond_lang.specs.declared.classes.Bound.{Bound}
 use Rattle.cond_lang.specs.declared.scanner.Token.{Token}
-use Rattle.cond_lang.specs.declared.scanner.Token.TheVariants.{Balanced, Shape, Pattern, Quantifier, Stops, Measure, Cards, Len, Longest, Second, Shortest, In, X, Seat, Suit, Class, Neighbour, Ranks, Number, Open, Close, Comma, Dash, Plus, Relation}
-use Rattle.conditions.specs.Form.{Amount, Form, number, points, suit_points, cards_held, suit_cards_held, suit_length, longest, second, shortest, compare, balanced, shape, pattern}
+use Rattle.cond_lang.specs.declared.scanner.Token.TheVariants.{Balanced, Shape, Pattern, Quantifier, Stops, Measure, Cards, Len, Longest, Second, Shortest, In, X, Seat, Suit, Class, Neighbour, Ranks, Number, Open, Close, Comma, Dash, Plus, Star, Relation}
+use Rattle.conditions.specs.Form.{Amount, Form, number, counted, times, points, suit_points, cards_held, suit_cards_held, suit_length, longest, second, shortest, compare, balanced, shape, pattern}
 use Rattle.cond_lang.specs.Classes.{unbound, Names}
 use Rattle.cond_lang.specs.Faults.{IsViableIn}
-use Rattle.cond_lang.specs.Grammar.{Addition, quantifiers, seats, addition_of, everything, SpellsSeat, Amounts, SpellsAtom, AtomOf, ValueOf, TestOf, CondOf}
+use Rattle.cond_lang.specs.Grammar.{Addition, quantifiers, seats, factors, addition_of, everything, SpellsSeat, Amounts, SpellsAtom, AtomOf, ValueOf, TestOf, CondOf}
 
 -- the rules with the additions W alone
 abbrev pub SpellsWith : (Addition → Type 0) → List Token → Form → Type 0
@@ -27,20 +28,32 @@ brought_by Stops = Some quantifiers
 brought_by Second = Some quantifiers
 brought_by (Class c) = Some (addition_of c)
 brought_by (Neighbour n) = Some seats
+brought_by Star = Some factors
 brought_by t = None
 
--- ---- without the words of seats
+-- ---- without factors
+
+abbrev pub no_factors : Addition → Type 0
+no_factors quantifiers = Unit {0}
+no_factors seats = Unit {0}
+no_factors factors = ⊥
+
+abbrev pub SpellsWithoutFactors : List Token → Form → Type 0
+SpellsWithoutFactors T t = SpellsWith no_factors T t
+
+-- ---- without the words of seats too
 
 abbrev pub no_seats : Addition → Type 0
 no_seats quantifiers = Unit {0}
 no_seats seats = ⊥
+no_seats factors = ⊥
 
 abbrev pub SpellsWithoutSeats : List Token → Form → Type 0
 SpellsWithoutSeats T t = SpellsWith no_seats T t
 
--- the token is none of `partner`, `left`, `right`, `seat`, `ns` and `ew`
+-- the token is none of `partner`, `left`, `right`, `seat`, `ns`, `ew` and `*`
 abbrev pub IsBeforeSeats : Token → Type 0
-IsBeforeSeats t = brought_by t ≢ Some seats
+IsBeforeSeats t = (brought_by t ≢ Some seats) × (brought_by t ≢ Some factors)
 
 -- ---- without those of quantifiers too
 
@@ -62,7 +75,7 @@ SpellsWithoutSums T t = CondOf everything (λ E. TestOf everything E (SpellsAtom
 -- ---- hcp alone
 
 -- what counts, without another measure
-pub data HcpCount (E : Bound) : Token → List Token → (ASeat → Amount) → Type 0 where
+pub data HcpCount (E : Bound) : Token → List Token → (ASeat → Count) → Type 0 where
   hcp : HcpCount E (Measure Hcp) (Close ∷ []) (λ q. points q)
   hcp_in :
       {c : Token} {s : ASuit} → Names E c s
@@ -78,11 +91,17 @@ pub data HcpCount (E : Bound) : Token → List Token → (ASeat → Amount) → 
   second_suit : HcpCount E Second (Close ∷ []) (λ q. second q)
   shortest_suit : HcpCount E Shortest (Close ∷ []) (λ q. shortest q)
 
+pub data HcpCounted (E : Bound) : List Token → Count → Type 0 where
+  count :
+      {c : Token} {Q R : List Token} {q : ASeat} {f : ASeat → Count}
+      → HcpCount E c R f → SpellsSeat E Q q → HcpCounted E (c ∷ Open ∷ Q ++ R) (f q)
+
 pub data SpellsHcpAtom (E : Bound) : List Token → Amount → Type 0 where
   a_number : {n : ℕ} → SpellsHcpAtom E (Number n ∷ []) (number n)
-  count :
-      {c : Token} {Q R : List Token} {q : ASeat} {f : ASeat → Amount}
-      → HcpCount E c R f → SpellsSeat E Q q → SpellsHcpAtom E (c ∷ Open ∷ Q ++ R) (f q)
+  a_count : {T : List Token} {k : Count} → HcpCounted E T k → SpellsHcpAtom E T (counted k)
+  multiple :
+      {n : ℕ} {T : List Token} {k : Count} → HcpCounted E T k
+      → SpellsHcpAtom E (Number n ∷ Star ∷ T) (times n k)
 
 abbrev pub SpellsWithHcpAlone : List Token → Form → Type 0
 SpellsWithHcpAlone T t =
@@ -93,14 +112,17 @@ SpellsWithHcpAlone T t =
 -- a number, high card points of a hand or of one of its suits, or a length
 pub data SpellsFirstAtom : List Token → Amount → Type 0 where
   a_number : {n : ℕ} → SpellsFirstAtom (Number n ∷ []) (number n)
-  hcp : {q : ASeat} → SpellsFirstAtom (Measure Hcp ∷ Open ∷ Seat q ∷ Close ∷ []) (points q)
+  hcp :
+      {q : ASeat}
+      → SpellsFirstAtom (Measure Hcp ∷ Open ∷ Seat q ∷ Close ∷ []) (counted (points q))
   hcp_in :
       {q : ASeat} {s : ASuit}
       → SpellsFirstAtom
-      (Measure Hcp ∷ Open ∷ Seat q ∷ Comma ∷ Suit s ∷ Close ∷ []) (suit_points q s)
+      (Measure Hcp ∷ Open ∷ Seat q ∷ Comma ∷ Suit s ∷ Close ∷ []) (counted (suit_points q s))
   len :
       {q : ASeat} {s : ASuit}
-      → SpellsFirstAtom (Len ∷ Open ∷ Seat q ∷ Comma ∷ Suit s ∷ Close ∷ []) (suit_length q s)
+      → SpellsFirstAtom
+      (Len ∷ Open ∷ Seat q ∷ Comma ∷ Suit s ∷ Close ∷ []) (counted (suit_length q s))
 
 -- ( seat , a - b - c - d )
 abbrev pub four_numbers : ASeat → ℕ → ℕ → ℕ → ℕ → List Token
@@ -140,6 +162,7 @@ IsFirst Stops = ⊥
 IsFirst Second = ⊥
 IsFirst (Class c) = ⊥
 IsFirst (Neighbour n) = ⊥
+IsFirst Star = ⊥
 IsFirst t = Unit {0}
 
 -- ---- the first grammar

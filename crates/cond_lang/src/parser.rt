@@ -8,7 +8,7 @@ ghost use Rattle.conditions.specs.Form.{negation, sum};
 ghost use Rattle.cond_lang.specs.Grammar.{joined};
 ghost use Rattle.cond_lang.specs.Text.{kinds};
 ghost use Rattle.cond_lang.specs.internal.Reading.{Gives, front, rest_of_measure, rest_of_cards};
-ghost use Rattle.cond_lang.specs.internal.Reading.{suit_and_ranks, suit_count};
+ghost use Rattle.cond_lang.specs.internal.Reading.{count_of, rest_of_number, suit_and_ranks, suit_count};
 ghost use Rattle.cond_lang.specs.internal.Reading.{atom_of, reading, a_value, comparing_by};
 ghost use Rattle.cond_lang.specs.internal.Reading.{test_by, a_unit, a_both, a_cond};
 ghost use Rattle.cond_lang.specs.internal.Reading.{whole, behind, with_choice_by, quantified_by};
@@ -19,7 +19,7 @@ mod terminals;
 use crate::classes::{Bound, Choice, Class, Quantifier};
 use crate::scanner::{Placed, Token};
 use cards::{Measure, Seat};
-use conditions::{Tree, Value};
+use conditions::{Count, Tree, Value};
 pub(crate) use lists::{parse_tokens, read_as_far, read_value};
 use std::alloc::{AllocFailed, Global};
 use std::marker::Model;
@@ -94,7 +94,7 @@ impl<'a> Parser<'a> {
         self.rest = &self.rest[1..];
     }
 
-    /// A number, a measure of a hand or suit, cards of some ranks, or a length.
+    /// A number, that many times what is counted, or what is counted.
     #[tactic(auto, unfolding(crate::specs::internal::Reading::atom_of))]
     fn atom(&mut self, bound: Bound) -> Result<Value, Refusal>
         ensures gives { Gives amount_of result self.new (atom_of bound self.old) }
@@ -103,8 +103,31 @@ impl<'a> Parser<'a> {
         match self.peek() {
             Some(Token::Number(number)) => {
                 self.advance();
-                Ok(Value::Number(number))
+                self.rest_of_number(bound, number)
             }
+            _ => Ok(Value::Count(self.count(bound)?)),
+        }
+    }
+
+    /// Nothing, or `* counted`, after a number
+    fn rest_of_number(&mut self, bound: Bound, number: u16) -> Result<Value, Refusal>
+        ensures gives { Gives amount_of result self.new (rest_of_number bound number self.old) }
+        ensures shorter { length self.new ≤ length self.old }
+    {
+        if let Some(Token::Star) = self.peek() {
+            self.advance();
+            return Ok(Value::Times(number, self.count(bound)?));
+        }
+        Ok(Value::Number(number))
+    }
+
+    /// A measure of a hand or suit, cards of some ranks, or a length.
+    #[tactic(auto, unfolding(crate::specs::internal::Reading::count_of))]
+    fn count(&mut self, bound: Bound) -> Result<Count, Refusal>
+        ensures gives { Gives (λ k. k) result self.new (count_of bound self.old) }
+        ensures shorter { length self.new ≤ length self.old }
+    {
+        match self.peek() {
             Some(Token::Measure(measure)) => {
                 self.advance();
                 let seat = self.open_seat(bound)?;
@@ -113,7 +136,7 @@ impl<'a> Parser<'a> {
             Some(Token::Len) => {
                 self.advance();
                 let (seat, suit) = self.seat_and_suit(bound)?;
-                Ok(Value::Length(seat, suit))
+                Ok(Count::Length(seat, suit))
             }
             Some(Token::Cards) => {
                 self.advance();
@@ -125,22 +148,22 @@ impl<'a> Parser<'a> {
     }
 
     /// The length of a hand's longest, second longest or shortest suit.
-    fn suit_count(&mut self, bound: Bound) -> Result<Value, Refusal>
-        ensures gives { Gives amount_of result self.new (suit_count bound self.old) }
+    fn suit_count(&mut self, bound: Bound) -> Result<Count, Refusal>
+        ensures gives { Gives (λ k. k) result self.new (suit_count bound self.old) }
         ensures shorter { length self.new ≤ length self.old }
     {
         match self.peek() {
             Some(Token::Longest) => {
                 self.advance();
-                Ok(Value::Longest(self.seat_in_brackets(bound)?))
+                Ok(Count::Longest(self.seat_in_brackets(bound)?))
             }
             Some(Token::Second) => {
                 self.advance();
-                Ok(Value::Second(self.seat_in_brackets(bound)?))
+                Ok(Count::Second(self.seat_in_brackets(bound)?))
             }
             Some(Token::Shortest) => {
                 self.advance();
-                Ok(Value::Shortest(self.seat_in_brackets(bound)?))
+                Ok(Count::Shortest(self.seat_in_brackets(bound)?))
             }
             _ => Err(Refusal::Syntax),
         }
@@ -152,41 +175,40 @@ impl<'a> Parser<'a> {
         bound: Bound,
         measure: Measure,
         seat: Seat,
-    ) -> Result<Value, Refusal>
-        ensures gives { Gives amount_of result self.new
-            (rest_of_measure bound measure seat self.old) }
+    ) -> Result<Count, Refusal>
+        ensures gives { Gives (λ k. k) result self.new (rest_of_measure bound measure seat self.old) }
         ensures shorter { length self.new ≤ length self.old }
     {
         if let Some(Token::Comma) = self.peek() {
             self.advance();
             let suit = self.suit(bound)?;
             self.close()?;
-            return Ok(Value::suit_measured(measure, seat, suit));
+            return Ok(Count::suit_measured(measure, seat, suit));
         }
         self.close()?;
-        Ok(Value::measured(measure, seat))
+        Ok(Count::measured(measure, seat))
     }
 
     /// `ranks )` or `suit , ranks )` after `cards ( seat ,`
-    fn rest_of_cards(&mut self, bound: Bound, seat: Seat) -> Result<Value, Refusal>
-        ensures gives { Gives amount_of result self.new (rest_of_cards bound seat self.old) }
+    fn rest_of_cards(&mut self, bound: Bound, seat: Seat) -> Result<Count, Refusal>
+        ensures gives { Gives (λ k. k) result self.new (rest_of_cards bound seat self.old) }
         ensures shorter { length self.new ≤ length self.old }
     {
         match self.peek() {
             Some(Token::Suit(_)) => self.suit_and_ranks(bound, seat),
             Some(Token::Class(_)) => self.suit_and_ranks(bound, seat),
-            _ => Ok(Value::Cards(seat, self.ranks_close()?)),
+            _ => Ok(Count::Cards(seat, self.ranks_close()?)),
         }
     }
 
     /// `suit , ranks )` after `cards ( seat ,`
-    fn suit_and_ranks(&mut self, bound: Bound, seat: Seat) -> Result<Value, Refusal>
-        ensures gives { Gives amount_of result self.new (suit_and_ranks bound seat self.old) }
+    fn suit_and_ranks(&mut self, bound: Bound, seat: Seat) -> Result<Count, Refusal>
+        ensures gives { Gives (λ k. k) result self.new (suit_and_ranks bound seat self.old) }
         ensures shorter { length self.new ≤ length self.old }
     {
         let suit = self.suit(bound)?;
         self.comma()?;
-        Ok(Value::SuitCards(seat, suit, self.ranks_close()?))
+        Ok(Count::SuitCards(seat, suit, self.ranks_close()?))
     }
 
     /// Atoms with `+` between them.

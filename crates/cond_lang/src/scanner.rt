@@ -48,6 +48,7 @@ pub enum Token {
     Comma,
     Dash,
     Plus,
+    Star,
     Relation(Op),
 }
 
@@ -258,6 +259,7 @@ fn symbol(text: &[u8]) -> Option<(Token, usize)>
         b',' => Some((Token::Comma, 1)),
         b'-' => Some((Token::Dash, 1)),
         b'+' => Some((Token::Plus, 1)),
+        b'*' => Some((Token::Star, 1)),
         b'=' if equals => Some((Token::Relation(Op::Equal), 2)),
         b'!' if equals => Some((Token::Relation(Op::NotEqual), 2)),
         b'<' if equals => Some((Token::Relation(Op::AtMost), 2)),

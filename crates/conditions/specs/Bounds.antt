@@ -5,9 +5,9 @@ use Rattle.std.specs.Prelude.{sum, unwrap_or}
 use Rattle.cards.specs.declared.honours.Honours.{Honours}
 use Rattle.cards.specs.declared.hand.Measure.{Measure}
 use Rattle.cards.specs.Measures.{weights_of}
-use Rattle.conditions.specs.Form.{Amount, cards_held, longest, number, points, second}
-use Rattle.conditions.specs.Form.{shortest, suit_cards_held, suit_length, suit_points, suit_total}
-use Rattle.conditions.specs.Form.{total, sum as plus}
+use Rattle.conditions.specs.declared.tree.Count.{Count}
+use Rattle.conditions.specs.declared.tree.Count.TheVariants as counts
+use Rattle.conditions.specs.Form.{Amount, counted, number, times, sum as plus}
 
 -- how many ranks these are
 abbrev pub rank_count : Honours → ℕ
@@ -28,22 +28,30 @@ most_of m = unwrap_or (option_map (λ w. 4 * sum w - 3 * least_weight w) (weight
 abbrev pub most_in : Measure → ℕ
 most_in m = unwrap_or (option_map sum (weights_of m)) 3
 
+abbrev pub least_count : Count → ℕ
+least_count (counts.Longest q) = 4
+least_count _ = 0
+
+abbrev pub greatest_count : Count → ℕ
+greatest_count (counts.Points q) = 37
+greatest_count (counts.SuitPoints q s) = 10
+greatest_count (counts.Total m q) = most_of m
+greatest_count (counts.SuitTotal m q s) = most_in m
+greatest_count (counts.Cards q h) = min (4 * rank_count h) 13
+greatest_count (counts.SuitCards q s h) = rank_count h
+greatest_count (counts.Length q s) = 13
+greatest_count (counts.Longest q) = 13
+greatest_count (counts.Second q) = 6
+greatest_count (counts.Shortest q) = 3
+
 abbrev pub least_of : Amount → ℕ
 least_of (plus a b) = least_of a + least_of b
 least_of (number n) = n
-least_of (longest q) = 4
-least_of _ = 0
+least_of (counted c) = least_count c
+least_of (times n c) = n * least_count c
 
 abbrev pub greatest_of : Amount → ℕ
 greatest_of (plus a b) = greatest_of a + greatest_of b
 greatest_of (number n) = n
-greatest_of (points q) = 37
-greatest_of (suit_points q s) = 10
-greatest_of (total m q) = most_of m
-greatest_of (suit_total m q s) = most_in m
-greatest_of (cards_held q h) = min (4 * rank_count h) 13
-greatest_of (suit_cards_held q s h) = rank_count h
-greatest_of (suit_length q s) = 13
-greatest_of (longest q) = 13
-greatest_of (second q) = 6
-greatest_of (shortest q) = 3
+greatest_of (counted c) = greatest_count c
+greatest_of (times n c) = n * greatest_count c

@@ -10,35 +10,54 @@ use Rattle.cards.specs.declared.suit.Suit.{Suit}
 use Rattle.conditions.specs.declared.tree.Op.{Op}
 use Rattle.conditions.specs.declared.tree.Item.{Item}
 use Rattle.conditions.specs.declared.tree.Item.TheVariants.{Length as Counted, Any}
+use Rattle.conditions.specs.declared.tree.Count.{Count}
+use Rattle.conditions.specs.declared.tree.Count.TheVariants as counts
 use Rattle.conditions.specs.declared.tree.Value.{Value}
-use Rattle.conditions.specs.declared.tree.Value.TheVariants.{Sum', Number, Points, SuitPoints, Total, SuitTotal, Cards, SuitCards, Length, Longest, Second, Shortest}
+use Rattle.conditions.specs.declared.tree.Value.TheVariants.{Sum', Number, Count as HandCount, Times}
 use Rattle.conditions.specs.declared.tree.Tree.{Tree}
 use Rattle.conditions.specs.declared.tree.Tree.TheVariants.{AnyOf', AllOf', Negation', Compare, Within, Balanced, Shape, Pattern, LooseShape, LoosePattern, Stops}
 
--- a value: the high card points have `points` and `suit_points`, each other measure `total` and
--- `suit_total`
+-- what is counted in a hand
+abbrev pub points : Seat → Count
+points q = counts.Points q
+
+abbrev pub suit_points : Seat → Suit → Count
+suit_points q s = counts.SuitPoints q s
+
+abbrev pub cards_held : Seat → Honours → Count
+cards_held q h = counts.Cards q h
+
+abbrev pub suit_cards_held : Seat → Suit → Honours → Count
+suit_cards_held q s h = counts.SuitCards q s h
+
+abbrev pub suit_length : Seat → Suit → Count
+suit_length q s = counts.Length q s
+
+abbrev pub longest : Seat → Count
+longest q = counts.Longest q
+
+abbrev pub second : Seat → Count
+second q = counts.Second q
+
+abbrev pub shortest : Seat → Count
+shortest q = counts.Shortest q
+
+-- the measure of a hand, and of its cards of one suit: the high card points have counts of their
+-- own, and no form has those of another measure for them
+abbrev pub measured : Measure → Seat → Count
+measured Hcp q = counts.Points q
+measured m q = counts.Total m q
+
+abbrev pub suit_measured : Measure → Seat → Suit → Count
+suit_measured Hcp q s = counts.SuitPoints q s
+suit_measured m q s = counts.SuitTotal m q s
+
+-- a value: a sum, a number, what is counted, or that many times what is counted
 pub data Amount : Type 0 where
   sum : Amount → Amount → Amount
   number : ℕ → Amount
-  points : Seat → Amount
-  suit_points : Seat → Suit → Amount
-  total : Measure → Seat → Amount
-  suit_total : Measure → Seat → Suit → Amount
-  cards_held : Seat → Honours → Amount
-  suit_cards_held : Seat → Suit → Honours → Amount
-  suit_length : Seat → Suit → Amount
-  longest : Seat → Amount
-  second : Seat → Amount
-  shortest : Seat → Amount
-
--- the measure of a hand, and of its cards of one suit: no form has `total Hcp` or `suit_total Hcp`
-abbrev pub measured : Measure → Seat → Amount
-measured Hcp q = points q
-measured m q = total m q
-
-abbrev pub suit_measured : Measure → Seat → Suit → Amount
-suit_measured Hcp q s = suit_points q s
-suit_measured m q s = suit_total m q s
+  counted : Count → Amount
+  times : ℕ → Count → Amount
 
 -- a tree: a shape and a pattern of four numbers have `shape` and `pattern`, those with an `x` among
 -- their items `loose_shape` and `loose_pattern`
@@ -76,16 +95,8 @@ patterned q items =
 abbrev pub amount_of : Value → Amount
 amount_of (Sum' p a q b) = sum (amount_of a) (amount_of b)
 amount_of (Number n) = number n
-amount_of (Points q) = points q
-amount_of (SuitPoints q s) = suit_points q s
-amount_of (Total m q) = total m q
-amount_of (SuitTotal m q s) = suit_total m q s
-amount_of (Cards q h) = cards_held q h
-amount_of (SuitCards q s h) = suit_cards_held q s h
-amount_of (Length q s) = suit_length q s
-amount_of (Longest q) = longest q
-amount_of (Second q) = second q
-amount_of (Shortest q) = shortest q
+amount_of (HandCount c) = counted c
+amount_of (Times n c) = times n c
 
 abbrev pub form_of : Tree → Form
 form_of (AnyOf' p a q b) = any_of (form_of a) (form_of b)

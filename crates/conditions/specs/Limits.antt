@@ -1,21 +1,13 @@
 -- The limits that every condition keeps: how many values a sum adds up, and how large a number is.
 use Rattle.std.specs.Prelude.{ℕ, ◌+◌, ◌≤◌, All}
-use Rattle.conditions.specs.Form.{Amount, sum, number, points, suit_points, total, suit_total, cards_held, suit_cards_held, suit_length, longest, second, shortest, Form, any_of, all_of, negation, compare, within, balanced, shape, pattern, loose_shape, loose_pattern, stops, number_of}
+use Rattle.conditions.specs.Form.{Amount, sum, number, counted, times, Form, any_of, all_of, negation, compare, within, balanced, shape, pattern, loose_shape, loose_pattern, stops, number_of}
 
 -- the atoms of a value: each part that isn't a sum is one
 abbrev pub atoms_of : Amount → ℕ
 atoms_of (sum a b) = atoms_of a + atoms_of b
 atoms_of (number n) = 1
-atoms_of (points q) = 1
-atoms_of (suit_points q s) = 1
-atoms_of (total m q) = 1
-atoms_of (suit_total m q s) = 1
-atoms_of (cards_held q h) = 1
-atoms_of (suit_cards_held q s h) = 1
-atoms_of (suit_length q s) = 1
-atoms_of (longest q) = 1
-atoms_of (second q) = 1
-atoms_of (shortest q) = 1
+atoms_of (counted c) = 1
+atoms_of (times n c) = 1
 
 -- each value in the tree has at most this many atoms
 abbrev pub HasAtMostAtoms : ℕ → Form → Type 0
@@ -31,20 +23,12 @@ HasAtMostAtoms n (loose_shape q items) = Unit {0}
 HasAtMostAtoms n (loose_pattern q items) = Unit {0}
 HasAtMostAtoms n (stops q s) = Unit {0}
 
--- each number that the value adds up is at most m
+-- each number that the value adds up is at most m, and so is each factor
 abbrev pub AddsNumbersUpTo : ℕ → Amount → Type 0
 AddsNumbersUpTo m (sum a b) = AddsNumbersUpTo m a × AddsNumbersUpTo m b
 AddsNumbersUpTo m (number n) = n ≤ m
-AddsNumbersUpTo m (points q) = Unit {0}
-AddsNumbersUpTo m (suit_points q s) = Unit {0}
-AddsNumbersUpTo m (total k q) = Unit {0}
-AddsNumbersUpTo m (suit_total k q s) = Unit {0}
-AddsNumbersUpTo m (cards_held q h) = Unit {0}
-AddsNumbersUpTo m (suit_cards_held q s h) = Unit {0}
-AddsNumbersUpTo m (suit_length q s) = Unit {0}
-AddsNumbersUpTo m (longest q) = Unit {0}
-AddsNumbersUpTo m (second q) = Unit {0}
-AddsNumbersUpTo m (shortest q) = Unit {0}
+AddsNumbersUpTo m (counted c) = Unit {0}
+AddsNumbersUpTo m (times n c) = n ≤ m
 
 -- each number in the tree is at most m: those of its values, ranges, shapes and patterns
 abbrev pub HasNumbersUpTo : ℕ → Form → Type 0

@@ -1,29 +1,36 @@
 -- What a tree means of a deal.
-use Rattle.std.specs.Prelude.{ℕ, ◌+◌, Bool, true, false, not, ◌&&◌, ◌||◌, ◌==◌, nat_lt, nat_le, List, [], ◌∷◌}
+use Rattle.std.specs.Prelude.{ℕ, ◌+◌, ◌*◌, Bool, true, false, not, ◌&&◌, ◌||◌, ◌==◌, nat_lt, nat_le, List, [], ◌∷◌}
 use Rattle.std.specs.List.{list_any}
 use Rattle.cards.specs.declared.seat.Seat.{Seat}
 use Rattle.cards.specs.Hands.{hand_of, points_of, points_in, length_of, shape_of, is_balanced, is_same, is_rearrangement, orders_of}
 use Rattle.cards.specs.Counts.{total_of, total_in, honours_of, honours_in, longest_of, second_of, shortest_of, stops_in}
+use Rattle.conditions.specs.declared.tree.Count.{Count}
+use Rattle.conditions.specs.declared.tree.Count.TheVariants as counts
 use Rattle.conditions.specs.declared.tree.Item.{Item}
 use Rattle.conditions.specs.declared.tree.Item.TheVariants.{Length, Any}
 use Rattle.conditions.specs.declared.tree.Op.{Op}
 use Rattle.conditions.specs.declared.tree.Op.TheVariants.{Equal, NotEqual, Less, AtMost, More, AtLeast}
-use Rattle.conditions.specs.Form.{Amount, sum, number, points, suit_points, total, suit_total, cards_held, suit_cards_held, suit_length, longest, second, shortest, Form, any_of, all_of, negation, compare, within, balanced, shape, pattern, loose_shape, loose_pattern, stops}
+use Rattle.conditions.specs.Form.{Amount, sum, number, counted, times, Form, any_of, all_of, negation, compare, within, balanced, shape, pattern, loose_shape, loose_pattern, stops}
+
+-- how much is counted
+abbrev pub count_in : List Seat → Count → ℕ
+count_in deal (counts.Points q) = points_of (hand_of deal q)
+count_in deal (counts.SuitPoints q s) = points_in (hand_of deal q) s
+count_in deal (counts.Total m q) = total_of m (hand_of deal q)
+count_in deal (counts.SuitTotal m q s) = total_in m (hand_of deal q) s
+count_in deal (counts.Cards q h) = honours_of h (hand_of deal q)
+count_in deal (counts.SuitCards q s h) = honours_in h (hand_of deal q) s
+count_in deal (counts.Length q s) = length_of (hand_of deal q) s
+count_in deal (counts.Longest q) = longest_of (hand_of deal q)
+count_in deal (counts.Second q) = second_of (hand_of deal q)
+count_in deal (counts.Shortest q) = shortest_of (hand_of deal q)
 
 -- the number that a value is
 abbrev pub value_in : List Seat → Amount → ℕ
 value_in deal (sum a b) = value_in deal a + value_in deal b
 value_in deal (number n) = n
-value_in deal (points q) = points_of (hand_of deal q)
-value_in deal (suit_points q s) = points_in (hand_of deal q) s
-value_in deal (total m q) = total_of m (hand_of deal q)
-value_in deal (suit_total m q s) = total_in m (hand_of deal q) s
-value_in deal (cards_held q h) = honours_of h (hand_of deal q)
-value_in deal (suit_cards_held q s h) = honours_in h (hand_of deal q) s
-value_in deal (suit_length q s) = length_of (hand_of deal q) s
-value_in deal (longest q) = longest_of (hand_of deal q)
-value_in deal (second q) = second_of (hand_of deal q)
-value_in deal (shortest q) = shortest_of (hand_of deal q)
+value_in deal (counted c) = count_in deal c
+value_in deal (times n c) = n * count_in deal c
 
 -- whether two numbers are in the relation
 abbrev pub is_related : Op → ℕ → ℕ → Bool

@@ -24,9 +24,10 @@ abbrev pub greatest_answer : Question → ℕ
 greatest_answer (asks_condition tree) = 1
 greatest_answer (asks_value value) = greatest_of value
 
--- no question has a greater answer: a value adds up 1,024 numbers of at most 9,999
+-- no question has a greater answer: a value adds up 1,024 numbers of at most 9,999, or that many
+-- times counts of at most 40
 abbrev pub most_answer : ℕ
-most_answer = 1024 * 9999
+most_answer = 1024 * (9999 * 40)
 
 -- how many rows a table of the answers can have, that of the answer 0 included
 abbrev pub rows_of : Question → ℕ

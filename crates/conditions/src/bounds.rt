@@ -1,12 +1,12 @@
 //! The least and the greatest number that a value of any deal is.
 
 ghost use Rattle.std.specs.Prelude.{◌≡◌, ◌*◌, ◌≤◌, sum};
-ghost use Rattle.conditions.specs.Bounds.{greatest_of, least_of, least_weight, most_in, most_of};
-ghost use Rattle.conditions.specs.Bounds.{rank_count};
+ghost use Rattle.conditions.specs.Bounds.{greatest_count, greatest_of, least_count, least_of};
+ghost use Rattle.conditions.specs.Bounds.{least_weight, most_in, most_of, rank_count};
 ghost use Rattle.conditions.specs.Form.{amount_of};
 ghost use Rattle.conditions.specs.Limits.{atoms_of};
 
-use crate::tree::Value;
+use crate::tree::{Count, Value};
 use cards::{Honours, Measure};
 
 impl Value {
@@ -14,13 +14,13 @@ impl Value {
     pub fn least(&self) -> u32
         requires { atoms_of (amount_of self.now) ≤ 1024 }
         ensures value { result ≡ least_of (amount_of self.now) }
-        ensures most { result ≤ 65535 * atoms_of (amount_of self.now) }
+        ensures most { result ≤ 2621400 * atoms_of (amount_of self.now) }
     {
         match self {
             Value::Sum(left, right) => left.least() + right.least(),
             Value::Number(number) => u32::from(*number),
-            Value::Longest(_) => 4,
-            _ => 0,
+            Value::Count(count) => count.least(),
+            Value::Times(factor, count) => times(*factor, count.least()),
         }
     }
 
@@ -28,22 +28,55 @@ impl Value {
     pub fn greatest(&self) -> u32
         requires { atoms_of (amount_of self.now) ≤ 1024 }
         ensures value { result ≡ greatest_of (amount_of self.now) }
-        ensures most { result ≤ 65535 * atoms_of (amount_of self.now) }
+        ensures most { result ≤ 2621400 * atoms_of (amount_of self.now) }
     {
         match self {
             Value::Sum(left, right) => left.greatest() + right.greatest(),
             Value::Number(number) => u32::from(*number),
-            Value::Points(_) => 37,
-            Value::SuitPoints(..) => 10,
-            Value::Total(measure, _) => most_of(*measure),
-            Value::SuitTotal(measure, _, _) => most_in(*measure),
-            Value::Cards(_, ranks) => (4 * rank_count(*ranks)).min(13),
-            Value::SuitCards(_, _, ranks) => rank_count(*ranks),
-            Value::Length(..) | Value::Longest(_) => 13,
-            Value::Second(_) => 6,
-            Value::Shortest(_) => 3,
+            Value::Count(count) => count.greatest(),
+            Value::Times(factor, count) => times(*factor, count.greatest()),
         }
     }
+}
+
+impl Count {
+    /// The least that is counted in any deal, as far as it is told.
+    pub fn least(self) -> u32
+        ensures value { result ≡ least_count self }
+        ensures few { result ≤ 4 }
+    {
+        match self {
+            Count::Longest(_) => 4,
+            _ => 0,
+        }
+    }
+
+    /// The greatest that is counted in any deal: some counts never reach it.
+    pub fn greatest(self) -> u32
+        ensures value { result ≡ greatest_count self }
+        ensures few { result ≤ 40 }
+    {
+        match self {
+            Count::Points(_) => 37,
+            Count::SuitPoints(..) => 10,
+            Count::Total(measure, _) => most_of(measure),
+            Count::SuitTotal(measure, _, _) => most_in(measure),
+            Count::Cards(_, ranks) => (4 * rank_count(ranks)).min(13),
+            Count::SuitCards(_, _, ranks) => rank_count(ranks),
+            Count::Length(..) | Count::Longest(_) => 13,
+            Count::Second(_) => 6,
+            Count::Shortest(_) => 3,
+        }
+    }
+}
+
+/// That many times a count.
+pub(crate) fn times(factor: u16, count: u32) -> u32
+    requires { count ≤ 40 }
+    ensures value { result ≡ factor * count }
+    ensures most { result ≤ 2621400 }
+{
+    u32::from(factor) * count
 }
 
 /// The most that a hand counts by the measure. Of the sixteen honours it lacks three.

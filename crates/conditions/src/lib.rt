@@ -15,4 +15,4 @@ mod tree;
 pub use condition::Cond;
 pub use error::CondError;
 pub use question::Question;
-pub use tree::{Item, Op, Tree, Value};
+pub use tree::{Count, Item, Op, Tree, Value};

@@ -74,8 +74,7 @@ impl Question {
     }
 
     /// How many rows a table of the answers can have: 1 more than the greatest answer, so at most
-    /// 10,238,977.
-    #[tactic(auto, using(crate::proofs::FewRows::few_rows))]
+    /// 409,559,041.
     pub fn rows(&self) -> u32
         ensures value { result ≡ rows_of self.now }
         ensures few { result ≤ most_answer + 1 }

@@ -1,6 +1,7 @@
 -- A value of a deal is what the cards count at their seats, and what the value is beside.
-use Rattle.std.proofs.Common.{◌≡◌, ◌≤◌, ◌<◌, ◌+◌, ◌&&◌, ◌==◌, ℕ, All, Bool, true, false, cond, List, [], ◌∷◌, Option, Some, None, ap, arith, get_or, option_map, unwrap_or, refl}
+use Rattle.std.proofs.Common.{◌≡◌, ◌≤◌, ◌<◌, ◌+◌, ◌*◌, ◌&&◌, ◌==◌, ℕ, All, Bool, true, false, cond, List, [], ◌∷◌, Option, Some, None, ap, arith, get_or, option_map, unwrap_or, refl}
 use Rattle.std.specs.List.{sum_by, range_with_len}
+use Rattle.std.proofs.Math.Nat.{mul-le-mul_left}
 use Rattle.std.proofs.lemmas.List.{get_or-map}
 use Rattle.std.proofs.lemmas.List.Elements.{All-from_get_or, All-head, All-tail}
 use Rattle.std.proofs.lemmas.List.FromFn.{get_or-range_with_len, length-range_with_len}
@@ -15,14 +16,16 @@ use Rattle.cards.specs.Hands.{hand_of, holds_card, weight_of, weight_in}
 use Rattle.cards.specs.Measures.{weights_of}
 use Rattle.cards.specs.Pack.{is_in_suit, rank_of, seat_number}
 use Rattle.cards.specs.Shuffle.{pack}
-use Rattle.conditions.specs.Bounds.{least_of}
-use Rattle.conditions.specs.Form.{Amount, cards_held, longest, number, points, second, shortest, suit_cards_held, suit_length, suit_points, suit_total, total}
+use Rattle.conditions.specs.declared.tree.Count.{Count}
+use Rattle.conditions.specs.declared.tree.Count.TheVariants as counts
+use Rattle.conditions.specs.Bounds.{greatest_count, least_count, least_of}
+use Rattle.conditions.specs.Form.{Amount, counted, number, times}
 use Rattle.conditions.specs.Form.{sum as plus}
-use Rattle.conditions.specs.Meaning.{value_in}
-use Rattle.screens.specs.internal.Shares.{greatest_beside, is_at, weight_at}
+use Rattle.conditions.specs.Meaning.{count_in, value_in}
+use Rattle.screens.specs.internal.Shares.{card_weight, count_beside, greatest_beside, is_at, is_light, weight_at}
 use Rattle.conditions.proofs.HandBounds.{both}
 use Rattle.conditions.proofs.Measured.{losers_most, suit_losers_most}
-use Rattle.conditions.proofs.ValueBounds.{at_least, at_most}
+use Rattle.conditions.proofs.ValueBounds.{count_at_least, count_at_most}
 
 -- ---- sums over the pack
 
@@ -95,6 +98,55 @@ suit_measured_most : (o : Option (List ℕ)) (deal : List Seat) (q : Seat) (s : 
 suit_measured_most (Some w) deal q s ok = omega (arith, by_card deal q (λ c. get_or w (rank_of c) 0) (λ c b. is_in_suit s c && b) ok)
 suit_measured_most None deal q s ok = omega (arith, suit_losers_most (hand_of deal q) s)
 
+-- ---- counts
+
+-- what all cards count in a count
+abbrev cards_count : List Seat → Count → ℕ
+cards_count deal k = sum_by (λ c. card_weight k c (holder deal c)) pack
+
+cards_least : (deal : List Seat) → IsPartition deal → (k : Count) → least_count k + cards_count deal k ≤ count_in deal k
+cards_least deal ok (counts.Points q) = omega (arith, measured_least (weights_of Hcp) deal q ok)
+cards_least deal ok (counts.SuitPoints q s) = omega (arith, suit_measured_least (weights_of Hcp) deal q s ok)
+cards_least deal ok (counts.Total m q) = omega (arith, measured_least (weights_of m) deal q ok)
+cards_least deal ok (counts.SuitTotal m q s) = omega (arith, suit_measured_least (weights_of m) deal q s ok)
+cards_least deal ok (counts.Cards q h) = omega (arith, by_card deal q (λ c. 1) (λ c b. has_honour h (rank_of c) && b) ok)
+cards_least deal ok (counts.SuitCards q s h) = omega (arith, by_card deal q (λ c. 1) (λ c b. has_honour h (rank_of c) && (is_in_suit s c && b)) ok)
+cards_least deal ok (counts.Length q s) = omega (arith, by_card deal q (λ c. 1) (λ c b. is_in_suit s c && b) ok)
+cards_least deal ok (counts.Longest q) = omega (arith, nothing pack, count_at_least deal ok (counts.Longest q))
+cards_least deal ok (counts.Second q) = omega (arith, nothing pack, count_at_least deal ok (counts.Second q))
+cards_least deal ok (counts.Shortest q) = omega (arith, nothing pack, count_at_least deal ok (counts.Shortest q))
+
+cards_most : (deal : List Seat) → IsPartition deal → (k : Count) → count_in deal k ≤ count_beside k + cards_count deal k
+cards_most deal ok (counts.Points q) = omega (arith, measured_most (weights_of Hcp) deal q ok)
+cards_most deal ok (counts.SuitPoints q s) = omega (arith, suit_measured_most (weights_of Hcp) deal q s ok)
+cards_most deal ok (counts.Total m q) = omega (arith, measured_most (weights_of m) deal q ok)
+cards_most deal ok (counts.SuitTotal m q s) = omega (arith, suit_measured_most (weights_of m) deal q s ok)
+cards_most deal ok (counts.Cards q h) = omega (arith, by_card deal q (λ c. 1) (λ c b. has_honour h (rank_of c) && b) ok)
+cards_most deal ok (counts.SuitCards q s h) = omega (arith, by_card deal q (λ c. 1) (λ c b. has_honour h (rank_of c) && (is_in_suit s c && b)) ok)
+cards_most deal ok (counts.Length q s) = omega (arith, by_card deal q (λ c. 1) (λ c b. is_in_suit s c && b) ok)
+cards_most deal ok (counts.Longest q) = omega (arith, nothing pack, count_at_most deal ok (counts.Longest q))
+cards_most deal ok (counts.Second q) = omega (arith, nothing pack, count_at_most deal ok (counts.Second q))
+cards_most deal ok (counts.Shortest q) = omega (arith, nothing pack, count_at_most deal ok (counts.Shortest q))
+
+-- ---- factors
+
+scaled : (n : ℕ) (f : ℕ → ℕ) (xs : List ℕ) → sum_by (λ c. n * f c) xs ≡ n * sum_by f xs
+scaled n f [] = omega arith
+scaled n f (x ∷ xs) = omega (arith, sum_by-cons (λ c. n * f c) x xs, ap (λ k. n * k) (sum_by-cons f x xs), scaled n f xs)
+
+-- light cards are weighed one by one, and others are taken as a whole
+times_least :
+    (light : Bool) (n : ℕ) (deal : List Seat) → IsPartition deal → (k : Count)
+    → n * least_count k + sum_by (λ c. cond light (n * card_weight k c (holder deal c)) 0) pack ≤ n * count_in deal k
+times_least true n deal ok k = omega (arith, scaled n (λ c. card_weight k c (holder deal c)) pack, mul-le-mul_left n (cards_least deal ok k))
+times_least false n deal ok k = omega (arith, nothing pack, mul-le-mul_left n (count_at_least deal ok k))
+
+times_most :
+    (light : Bool) (n : ℕ) (deal : List Seat) → IsPartition deal → (k : Count)
+    → n * count_in deal k ≤ cond light (n * count_beside k) (n * greatest_count k) + sum_by (λ c. cond light (n * card_weight k c (holder deal c)) 0) pack
+times_most true n deal ok k = omega (arith, scaled n (λ c. card_weight k c (holder deal c)) pack, mul-le-mul_left n (cards_most deal ok k))
+times_most false n deal ok k = omega (arith, nothing pack, mul-le-mul_left n (count_at_most deal ok k))
+
 -- ---- values
 
 counted_sum : (deal : List Seat) (a b : Amount) → counted_in deal (plus a b) ≡ counted_in deal a + counted_in deal b
@@ -103,27 +155,11 @@ counted_sum deal a b = both (λ c. weight_at a c (holder deal c)) (λ c. weight_
 pub counted_least : (deal : List Seat) → IsPartition deal → (a : Amount) → least_of a + counted_in deal a ≤ value_in deal a
 counted_least deal ok (plus a b) = omega (arith, counted_sum deal a b, counted_least deal ok a, counted_least deal ok b)
 counted_least deal ok (number n) = omega (arith, nothing pack)
-counted_least deal ok (points q) = omega (arith, measured_least (weights_of Hcp) deal q ok)
-counted_least deal ok (suit_points q s) = omega (arith, suit_measured_least (weights_of Hcp) deal q s ok)
-counted_least deal ok (total m q) = omega (arith, measured_least (weights_of m) deal q ok)
-counted_least deal ok (suit_total m q s) = omega (arith, suit_measured_least (weights_of m) deal q s ok)
-counted_least deal ok (cards_held q h) = omega (arith, by_card deal q (λ c. 1) (λ c b. has_honour h (rank_of c) && b) ok)
-counted_least deal ok (suit_cards_held q s h) = omega (arith, by_card deal q (λ c. 1) (λ c b. has_honour h (rank_of c) && (is_in_suit s c && b)) ok)
-counted_least deal ok (suit_length q s) = omega (arith, by_card deal q (λ c. 1) (λ c b. is_in_suit s c && b) ok)
-counted_least deal ok (longest q) = omega (arith, nothing pack, at_least deal ok (longest q))
-counted_least deal ok (second q) = omega (arith, nothing pack, at_least deal ok (second q))
-counted_least deal ok (shortest q) = omega (arith, nothing pack, at_least deal ok (shortest q))
+counted_least deal ok (counted k) = cards_least deal ok k
+counted_least deal ok (times n k) = times_least (is_light n) n deal ok k
 
 pub counted_most : (deal : List Seat) → IsPartition deal → (a : Amount) → value_in deal a ≤ greatest_beside a + counted_in deal a
 counted_most deal ok (plus a b) = omega (arith, counted_sum deal a b, counted_most deal ok a, counted_most deal ok b)
 counted_most deal ok (number n) = omega (arith, nothing pack)
-counted_most deal ok (points q) = omega (arith, measured_most (weights_of Hcp) deal q ok)
-counted_most deal ok (suit_points q s) = omega (arith, suit_measured_most (weights_of Hcp) deal q s ok)
-counted_most deal ok (total m q) = omega (arith, measured_most (weights_of m) deal q ok)
-counted_most deal ok (suit_total m q s) = omega (arith, suit_measured_most (weights_of m) deal q s ok)
-counted_most deal ok (cards_held q h) = omega (arith, by_card deal q (λ c. 1) (λ c b. has_honour h (rank_of c) && b) ok)
-counted_most deal ok (suit_cards_held q s h) = omega (arith, by_card deal q (λ c. 1) (λ c b. has_honour h (rank_of c) && (is_in_suit s c && b)) ok)
-counted_most deal ok (suit_length q s) = omega (arith, by_card deal q (λ c. 1) (λ c b. is_in_suit s c && b) ok)
-counted_most deal ok (longest q) = omega (arith, nothing pack, at_most deal ok (longest q))
-counted_most deal ok (second q) = omega (arith, nothing pack, at_most deal ok (second q))
-counted_most deal ok (shortest q) = omega (arith, nothing pack, at_most deal ok (shortest q))
+counted_most deal ok (counted k) = cards_most deal ok k
+counted_most deal ok (times n k) = times_most (is_light n) n deal ok k

@@ -67,7 +67,7 @@ fn open_weights(value: &Value, bound: Bound, stage: Stage, fixed: &Fixed) -> [u3
     requires { atoms_of (amount_of value.now) ≤ 1024 }
     ensures each { (c : ℕ) → c < 52 → slice_index result c
         ≡ open_weight bound stage (amount_of value.now) c (slice_index_or fixed.now c None) }
-    ensures most { (c : ℕ) → c < 52 → slice_index result c ≤ 255 * 1024 }
+    ensures most { (c : ℕ) → c < 52 → slice_index result c ≤ 3825 * 1024 }
 {
     let seats = fixed.as_array();
     let mut weights = [0; 52];
@@ -79,9 +79,9 @@ fn open_weights(value: &Value, bound: Bound, stage: Stage, fixed: &Fixed) -> [u3
 
 /// The weights of all cards together.
 fn total_of(weights: &[u32; 52]) -> u32
-    requires { (c : ℕ) → c < 52 → slice_index weights.now c ≤ 255 * 1024 }
+    requires { (c : ℕ) → c < 52 → slice_index weights.now c ≤ 3825 * 1024 }
     ensures value { result ≡ sum_by (λ c. slice_index weights.now c) pack }
-    ensures most { result ≤ 52 * 255 * 1024 }
+    ensures most { result ≤ 52 * 3825 * 1024 }
 {
     let mut total = 0;
     for card in 0..weights.len() {

@@ -4,46 +4,68 @@
 ghost use Rattle.std.specs.Prelude.{◌≡◌, ◌==◌, ◌+◌, ◌*◌, ◌≤◌, ◌<◌, cond};
 ghost use Rattle.cards.specs.Counts.{has_honour};
 ghost use Rattle.cards.specs.Pack.{is_in_suit, rank_of, seat_number};
-ghost use Rattle.conditions.specs.Form.{amount_of};
+ghost use Rattle.conditions.specs.Form.{amount_of, times};
 ghost use Rattle.conditions.specs.Limits.{atoms_of};
-ghost use Rattle.screens.specs.internal.Shares.{beside, farther, greatest_beside, is_at, rank_weight};
+ghost use Rattle.screens.specs.internal.Shares.{beside, card_weight, count_beside, farther};
+ghost use Rattle.screens.specs.internal.Shares.{greatest_beside, is_at, is_light, rank_weight};
 ghost use Rattle.screens.specs.internal.Shares.{open_weight, third_open, weight_at};
 
 use crate::stage::{Bound, Stage};
 use cards::{Honours, Measure, Seat, Suit};
-use conditions::Value;
+use conditions::{Count, Value};
 
 /// What the card counts in the value if the seat has it.
 pub(crate) fn weight_at(value: &Value, card: usize, seat: Seat) -> u32
     requires { atoms_of (amount_of value.now) ≤ 1024 }
     ensures value { result ≡ weight_at (amount_of value.now) card seat }
-    ensures most { result ≤ 255 * atoms_of (amount_of value.now) }
+    ensures most { result ≤ 3825 * atoms_of (amount_of value.now) }
 {
     match value {
         Value::Sum(left, right) => weight_at(left, card, seat) + weight_at(right, card, seat),
-        Value::Points(holder) => counted(is_at(*holder, seat), rank_weight(Measure::Hcp, card)),
-        Value::SuitPoints(holder, suit) => counted(
-            is_in_suit(*suit, card) && is_at(*holder, seat),
+        Value::Number(_) => 0,
+        Value::Count(count) => card_weight(*count, card, seat),
+        Value::Times(factor, count) => light_weight(*factor, card_weight(*count, card, seat)),
+    }
+}
+
+/// That many times the weight, if it can be weighed.
+fn light_weight(factor: u16, weight: u32) -> u32
+    requires { weight ≤ 255 }
+    ensures value { result ≡ cond (is_light factor) (factor * weight) 0 }
+    ensures most { result ≤ 3825 }
+{
+    if factor <= 15 {
+        u32::from(factor) * weight
+    } else {
+        0
+    }
+}
+
+/// What the card counts if the seat has it.
+fn card_weight(count: Count, card: usize, seat: Seat) -> u32
+    ensures value { result ≡ card_weight count card seat }
+    ensures most { result ≤ 255 }
+{
+    match count {
+        Count::Points(holder) => counted(is_at(holder, seat), rank_weight(Measure::Hcp, card)),
+        Count::SuitPoints(holder, suit) => counted(
+            is_in_suit(suit, card) && is_at(holder, seat),
             rank_weight(Measure::Hcp, card),
         ),
-        Value::Total(measure, holder) => {
-            counted(is_at(*holder, seat), rank_weight(*measure, card))
-        }
-        Value::SuitTotal(measure, holder, suit) => counted(
-            is_in_suit(*suit, card) && is_at(*holder, seat),
-            rank_weight(*measure, card),
+        Count::Total(measure, holder) => counted(is_at(holder, seat), rank_weight(measure, card)),
+        Count::SuitTotal(measure, holder, suit) => counted(
+            is_in_suit(suit, card) && is_at(holder, seat),
+            rank_weight(measure, card),
         ),
-        Value::Cards(holder, ranks) => {
-            counted(has_honour(*ranks, card) && is_at(*holder, seat), 1)
+        Count::Cards(holder, ranks) => {
+            counted(has_honour(ranks, card) && is_at(holder, seat), 1)
         }
-        Value::SuitCards(holder, suit, ranks) => counted(
-            has_honour(*ranks, card) && (is_in_suit(*suit, card) && is_at(*holder, seat)),
+        Count::SuitCards(holder, suit, ranks) => counted(
+            has_honour(ranks, card) && (is_in_suit(suit, card) && is_at(holder, seat)),
             1,
         ),
-        Value::Length(holder, suit) => {
-            counted(is_in_suit(*suit, card) && is_at(*holder, seat), 1)
-        }
-        Value::Number(_) | Value::Longest(_) | Value::Second(_) | Value::Shortest(_) => 0,
+        Count::Length(holder, suit) => counted(is_in_suit(suit, card) && is_at(holder, seat), 1),
+        Count::Longest(_) | Count::Second(_) | Count::Shortest(_) => 0,
     }
 }
 
@@ -51,7 +73,7 @@ pub(crate) fn weight_at(value: &Value, card: usize, seat: Seat) -> u32
 pub(crate) fn beside(value: &Value, bound: Bound) -> u32
     requires { atoms_of (amount_of value.now) ≤ 1024 }
     ensures value { result ≡ beside bound (amount_of value.now) }
-    ensures most { result ≤ 65535 * atoms_of (amount_of value.now) }
+    ensures most { result ≤ 2621400 * atoms_of (amount_of value.now) }
 {
     match bound {
         Bound::Least => value.least(),
@@ -62,16 +84,40 @@ pub(crate) fn beside(value: &Value, bound: Bound) -> u32
 fn greatest_beside(value: &Value) -> u32
     requires { atoms_of (amount_of value.now) ≤ 1024 }
     ensures value { result ≡ greatest_beside (amount_of value.now) }
-    ensures most { result ≤ 65535 * atoms_of (amount_of value.now) }
+    ensures most { result ≤ 2621400 * atoms_of (amount_of value.now) }
 {
     match value {
         Value::Sum(left, right) => greatest_beside(left) + greatest_beside(right),
         Value::Number(number) => u32::from(*number),
-        Value::Total(measure, _) if measure.weights().is_none() => 12,
-        Value::SuitTotal(measure, _, _) if measure.weights().is_none() => 3,
-        Value::Longest(_) => 13,
-        Value::Second(_) => 6,
-        Value::Shortest(_) => 3,
+        Value::Count(count) => count_beside(*count),
+        Value::Times(factor, count) => times_beside(*factor, *count),
+    }
+}
+
+/// The same of that many times a count.
+fn times_beside(factor: u16, count: Count) -> u32
+    ensures value { result ≡ greatest_beside (times factor count) }
+    ensures most { result ≤ 2621400 }
+{
+    let whole = if factor <= 15 {
+        count_beside(count)
+    } else {
+        count.greatest()
+    };
+    u32::from(factor) * whole
+}
+
+/// The same of a count.
+fn count_beside(count: Count) -> u32
+    ensures value { result ≡ count_beside count }
+    ensures most { result ≤ 13 }
+{
+    match count {
+        Count::Total(measure, _) if measure.weights().is_none() => 12,
+        Count::SuitTotal(measure, _, _) if measure.weights().is_none() => 3,
+        Count::Longest(_) => 13,
+        Count::Second(_) => 6,
+        Count::Shortest(_) => 3,
         _ => 0,
     }
 }
@@ -87,7 +133,7 @@ pub(crate) fn open_weight(
 ) -> u32
     requires { atoms_of (amount_of value.now) ≤ 1024 }
     ensures value { result ≡ open_weight bound stage (amount_of value.now) card fixed }
-    ensures most { result ≤ 255 * atoms_of (amount_of value.now) }
+    ensures most { result ≤ 3825 * atoms_of (amount_of value.now) }
 {
     match fixed {
         Some(seat) => weight_at(value, card, seat),

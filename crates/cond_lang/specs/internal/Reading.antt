@@ -5,6 +5,7 @@ use Rattle.cards.specs.declared.honours.Honours.{Honours}
 use Rattle.cards.specs.declared.hand.Measure.{Measure as AMeasure}
 use Rattle.cards.specs.declared.seat.Seat.{Seat as ASeat}
 use Rattle.cards.specs.declared.suit.Suit.{Suit as ASuit}
+use Rattle.conditions.specs.declared.tree.Count.{Count}
 use Rattle.conditions.specs.declared.tree.Item.{Item}
 use Rattle.conditions.specs.declared.tree.Item.TheVariants.{Length, Any}
 use Rattle.conditions.specs.declared.tree.Op.{Op}
@@ -14,10 +15,10 @@ use Rattle.cond_lang.specs.declared.classes.Class.{Class as AClass}
 use Rattle.cond_lang.specs.declared.classes.Class.TheVariants.{Suit as AnySuit, Major, Minor, Other, Seat as AnySeat, NorthSouth, EastWest}
 use Rattle.cond_lang.specs.declared.classes.Quantifier.{Quantifier as AQuantifier}
 use Rattle.cond_lang.specs.declared.scanner.Token.{Token}
-use Rattle.cond_lang.specs.declared.scanner.Token.TheVariants.{Or, And, Not, Balanced, Shape, Pattern, Quantifier, Stops, Measure, Cards, Len, Longest, Second, Shortest, In, X, Seat, Suit, Class, Neighbour, Ranks, Number, Open, Close, Comma, Dash, Plus, Relation}
+use Rattle.cond_lang.specs.declared.scanner.Token.TheVariants.{Or, And, Not, Balanced, Shape, Pattern, Quantifier, Stops, Measure, Cards, Len, Longest, Second, Shortest, In, X, Seat, Suit, Class, Neighbour, Ranks, Number, Open, Close, Comma, Dash, Plus, Star, Relation}
 use Rattle.cond_lang.specs.declared.parser.Refusal.{Refusal}
 use Rattle.cond_lang.specs.declared.parser.Refusal.TheVariants.{Syntax, Memory}
-use Rattle.conditions.specs.Form.{Amount, sum, number, measured, suit_measured, cards_held, suit_cards_held, suit_length, longest, second, shortest, Form, any_of, all_of, negation, compare, within, balanced, shaped, patterned, stops}
+use Rattle.conditions.specs.Form.{Amount, sum, number, counted, times, measured, suit_measured, cards_held, suit_cards_held, suit_length, longest, second, shortest, Form, any_of, all_of, negation, compare, within, balanced, shaped, patterned, stops}
 use Rattle.cond_lang.specs.Classes.{unbound, bound_to, bind, can_bind, is_member, all_choices, seat_bound_to, seat_beside}
 use Rattle.cond_lang.specs.Grammar.{joined}
 
@@ -114,7 +115,7 @@ abbrev pub comma_suit_close : Bound → Reader ASuit
 comma_suit_close E S = after (comma S) (λ _ S. after (suit E S) closing)
 
 -- ) or , suit )
-abbrev pub rest_of_measure : Bound → AMeasure → ASeat → Reader Amount
+abbrev pub rest_of_measure : Bound → AMeasure → ASeat → Reader Count
 rest_of_measure E m q (Comma ∷ S) = after (suit E S) (λ s R. closing (suit_measured m q s) R)
 rest_of_measure E m q S = closing (measured m q) S
 
@@ -127,12 +128,12 @@ abbrev pub comma_ranks_close : Reader Honours
 comma_ranks_close S = after (comma S) (λ _ S. ranks_close S)
 
 -- suit , ranks )
-abbrev pub suit_and_ranks : Bound → ASeat → Reader Amount
+abbrev pub suit_and_ranks : Bound → ASeat → Reader Count
 suit_and_ranks E q S =
     after (suit E S) (λ s S. after (comma_ranks_close S) (λ h R. got (suit_cards_held q s h) R))
 
 -- ranks ) or suit , ranks )
-abbrev pub rest_of_cards : Bound → ASeat → Reader Amount
+abbrev pub rest_of_cards : Bound → ASeat → Reader Count
 rest_of_cards E q (Suit s ∷ S) = suit_and_ranks E q (Suit s ∷ S)
 rest_of_cards E q (Class c ∷ S) = suit_and_ranks E q (Class c ∷ S)
 rest_of_cards E q S = after (ranks_close S) (λ h R. got (cards_held q h) R)
@@ -160,18 +161,30 @@ range S =
     after (digits S) (λ m S. after (dash S) (λ _ S. after (digits S) (λ n S. got (m, n) S)))
 
 -- how long one of a hand's suits is, by its place among them
-abbrev pub suit_count : Bound → Reader Amount
+abbrev pub suit_count : Bound → Reader Count
 suit_count E (Longest ∷ S) = after (seat_in_brackets E S) (λ q R. got (longest q) R)
 suit_count E (Second ∷ S) = after (seat_in_brackets E S) (λ q R. got (second q) R)
 suit_count E (Shortest ∷ S) = after (seat_in_brackets E S) (λ q R. got (shortest q) R)
 suit_count E S = stuck S
 
+unfoldable pub count_of : Bound → Reader Count
+count_of E (Measure m ∷ S) = after (open_seat E S) (rest_of_measure E m)
+count_of E (Len ∷ S) = after (seat_and_suit E S) (λ p R. got (suit_length p.0 p.1) R)
+count_of E (Cards ∷ S) = after (open_seat_comma E S) (λ q R. rest_of_cards E q R)
+count_of E S = suit_count E S
+
+-- nothing, or * count
+abbrev pub rest_of_number : Bound → ℕ → Reader Amount
+rest_of_number E n (Star ∷ S) = after (count_of E S) (λ k R. got (times n k) R)
+rest_of_number E n S = got (number n) S
+
+-- a count alone
+abbrev pub count_alone : Bound → Reader Amount
+count_alone E S = after (count_of E S) (λ k R. got (counted k) R)
+
 unfoldable pub atom_of : Bound → Reader Amount
-atom_of E (Number n ∷ S) = got (number n) S
-atom_of E (Measure m ∷ S) = after (open_seat E S) (rest_of_measure E m)
-atom_of E (Len ∷ S) = after (seat_and_suit E S) (λ p R. got (suit_length p.0 p.1) R)
-atom_of E (Cards ∷ S) = after (open_seat_comma E S) (λ q R. rest_of_cards E q R)
-atom_of E S = suit_count E S
+atom_of E (Number n ∷ S) = rest_of_number E n S
+atom_of E S = count_alone E S
 
 unfoldable pub items : Reader (List Item)
 items S =

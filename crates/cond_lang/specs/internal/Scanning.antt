@@ -4,7 +4,7 @@ use Rattle.std.specs.Str.{bytes_eq}
 use Rattle.std.specs.Char.{is_ascii_lowercase, is_ascii_digit}
 use Rattle.conditions.specs.declared.tree.Op.TheVariants.{Equal, NotEqual, Less, AtMost, More, AtLeast}
 use Rattle.cond_lang.specs.declared.scanner.Token.{Token}
-use Rattle.cond_lang.specs.declared.scanner.Token.TheVariants.{Ranks, Number, Open, Close, Comma, Dash, Plus, Relation}
+use Rattle.cond_lang.specs.declared.scanner.Token.TheVariants.{Ranks, Number, Open, Close, Comma, Dash, Plus, Star, Relation}
 use Rattle.cond_lang.specs.declared.scanner.Piece.{Piece}
 use Rattle.cond_lang.specs.declared.scanner.Piece.TheVariants.{Separator, Token as TokenPiece, StrayByte, UnknownWord, LongNumber}
 use Rattle.cond_lang.specs.Cut.{words, is_separator, is_comment_sign, is_in_comment, are_ranks, named_by, decimal}
@@ -31,11 +31,12 @@ symbol_after c s =
     else (if c == 44 then Some (Comma, 1)
     else (if c == 45 then Some (Dash, 1)
     else (if c == 43 then Some (Plus, 1)
+    else (if c == 42 then Some (Star, 1)
     else (if c == 61 then by_equals s (Relation Equal) None
     else (if c == 33 then by_equals s (Relation NotEqual) None
     else (if c == 60 then by_equals s (Relation AtMost) (Some (Relation Less, 1))
     else (if c == 62 then by_equals s (Relation AtLeast) (Some (Relation More, 1))
-    else None))))))))
+    else None)))))))))
 
 -- the longest symbol that the text begins with, and its length
 abbrev pub symbol_at : List ℕ → Option (Token × ℕ)

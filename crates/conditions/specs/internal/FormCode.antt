@@ -16,9 +16,9 @@ use Rattle.conditions.specs.declared.tree.Item.TheVariants.{Length, Any}
 use Rattle.conditions.specs.declared.tree.Op.{Op}
 use Rattle.conditions.specs.declared.tree.Op.TheVariants.{Equal, NotEqual, Less}
 use Rattle.conditions.specs.declared.tree.Op.TheVariants.{AtMost, More, AtLeast}
-use Rattle.conditions.specs.Form.{Amount, sum, number, points, suit_points, suit_length, total}
-use Rattle.conditions.specs.Form.{suit_total, cards_held, suit_cards_held, longest, second}
-use Rattle.conditions.specs.Form.{shortest}
+use Rattle.conditions.specs.declared.tree.Count.{Count}
+use Rattle.conditions.specs.declared.tree.Count.TheVariants as counts
+use Rattle.conditions.specs.Form.{Amount, sum, number, counted, times}
 use Rattle.conditions.specs.Form.{Form, any_of, all_of, negation, compare, within, balanced}
 use Rattle.conditions.specs.Form.{shape, pattern, loose_shape, loose_pattern, stops}
 use Rattle.conditions.specs.Questions.{Question, asks_condition, asks_value}
@@ -165,48 +165,73 @@ honours_back h =
       truth_back h.ten,
     ) refl
 
--- each kind of value is its number and then its parts: a new kind has a line in each of the next
+-- each kind of count is its number and then its parts: a new kind has a line in each of the next
 -- three
+abbrev count_stored : Count → Gv
+count_stored (counts.Points q) = gcons (gnum 0) (seat_stored q)
+count_stored (counts.SuitPoints q s) = gcons (gnum 1) (gcons (seat_stored q) (suit_stored s))
+count_stored (counts.Length q s) = gcons (gnum 2) (gcons (seat_stored q) (suit_stored s))
+count_stored (counts.Total m q) = gcons (gnum 3) (gcons (measure_stored m) (seat_stored q))
+count_stored (counts.SuitTotal m q s) =
+    gcons (gnum 4) (gcons (measure_stored m) (gcons (seat_stored q) (suit_stored s)))
+count_stored (counts.Cards q h) = gcons (gnum 5) (gcons (seat_stored q) (honours_stored h))
+count_stored (counts.SuitCards q s h) =
+    gcons (gnum 6) (gcons (seat_stored q) (gcons (suit_stored s) (honours_stored h)))
+count_stored (counts.Longest q) = gcons (gnum 7) (seat_stored q)
+count_stored (counts.Shortest q) = gcons (gnum 8) (seat_stored q)
+count_stored (counts.Second q) = gcons (gnum 9) (seat_stored q)
+
+abbrev count_from : Gv → Count
+count_from (gcons (gnum zero) q) = counts.Points (seat_from q)
+count_from (gcons (gnum (suc zero)) (gcons q s)) = counts.SuitPoints (seat_from q) (suit_from s)
+count_from (gcons (gnum (suc (suc zero))) (gcons q s)) = counts.Length (seat_from q) (suit_from s)
+count_from (gcons (gnum (suc (suc (suc zero)))) (gcons m q)) =
+    counts.Total (measure_from m) (seat_from q)
+count_from (gcons (gnum (suc (suc (suc (suc zero))))) (gcons m (gcons q s))) =
+    counts.SuitTotal (measure_from m) (seat_from q) (suit_from s)
+count_from (gcons (gnum (suc (suc (suc (suc (suc zero)))))) (gcons q h)) =
+    counts.Cards (seat_from q) (honours_from h)
+count_from (gcons (gnum (suc (suc (suc (suc (suc (suc zero))))))) (gcons q (gcons s h))) =
+    counts.SuitCards (seat_from q) (suit_from s) (honours_from h)
+count_from (gcons (gnum (suc (suc (suc (suc (suc (suc (suc zero)))))))) q) =
+    counts.Longest (seat_from q)
+count_from (gcons (gnum (suc (suc (suc (suc (suc (suc (suc (suc zero))))))))) q) =
+    counts.Shortest (seat_from q)
+count_from (gcons (gnum (suc (suc (suc (suc (suc (suc (suc (suc (suc k)))))))))) q) =
+    counts.Second (seat_from q)
+count_from _ = counts.Points North
+
+count_back : (c : Count) → count_from (count_stored c) ≡ c
+count_back (counts.Points q) = ap counts.Points (seat_back q)
+count_back (counts.SuitPoints q s) = rw (seat_back q, suit_back s) refl
+count_back (counts.Length q s) = rw (seat_back q, suit_back s) refl
+count_back (counts.Total m q) = rw (measure_back m, seat_back q) refl
+count_back (counts.SuitTotal m q s) = rw (measure_back m, seat_back q, suit_back s) refl
+count_back (counts.Cards q h) =
+    ap (λ p. counts.Cards p (honours_from (honours_stored h))) (seat_back q)
+    ∙ ap (counts.Cards q) (honours_back h)
+count_back (counts.SuitCards q s h) =
+    ap
+    (λ p. counts.SuitCards p (suit_of_number (suit_number s)) (honours_from (honours_stored h)))
+    (seat_back q)
+    ∙ ap (λ u. counts.SuitCards q u (honours_from (honours_stored h))) (suit_back s)
+    ∙ ap (counts.SuitCards q s) (honours_back h)
+count_back (counts.Longest q) = ap counts.Longest (seat_back q)
+count_back (counts.Shortest q) = ap counts.Shortest (seat_back q)
+count_back (counts.Second q) = ap counts.Second (seat_back q)
+
+-- and so each kind of value
 abbrev amount_stored : Amount → Gv
 amount_stored (sum a b) = gcons (gnum 0) (gcons (amount_stored a) (amount_stored b))
 amount_stored (number n) = gcons (gnum 1) (gnum n)
-amount_stored (points q) = gcons (gnum 2) (seat_stored q)
-amount_stored (suit_points q s) = gcons (gnum 3) (gcons (seat_stored q) (suit_stored s))
-amount_stored (suit_length q s) = gcons (gnum 4) (gcons (seat_stored q) (suit_stored s))
-amount_stored (total m q) = gcons (gnum 5) (gcons (measure_stored m) (seat_stored q))
-amount_stored (suit_total m q s) =
-    gcons (gnum 6) (gcons (measure_stored m) (gcons (seat_stored q) (suit_stored s)))
-amount_stored (cards_held q h) = gcons (gnum 7) (gcons (seat_stored q) (honours_stored h))
-amount_stored (suit_cards_held q s h) =
-    gcons (gnum 8) (gcons (seat_stored q) (gcons (suit_stored s) (honours_stored h)))
-amount_stored (longest q) = gcons (gnum 9) (seat_stored q)
-amount_stored (shortest q) = gcons (gnum 10) (seat_stored q)
-amount_stored (second q) = gcons (gnum 11) (seat_stored q)
+amount_stored (counted c) = gcons (gnum 2) (count_stored c)
+amount_stored (times n c) = gcons (gnum 3) (gcons (gnum n) (count_stored c))
 
 abbrev amount_from : Gv → Amount
 amount_from (gcons (gnum zero) (gcons a b)) = sum (amount_from a) (amount_from b)
 amount_from (gcons (gnum (suc zero)) n) = number (number_of n)
-amount_from (gcons (gnum (suc (suc zero))) q) = points (seat_from q)
-amount_from (gcons (gnum (suc (suc (suc zero)))) (gcons q s)) =
-    suit_points (seat_from q) (suit_from s)
-amount_from (gcons (gnum (suc (suc (suc (suc zero))))) (gcons q s)) =
-    suit_length (seat_from q) (suit_from s)
-amount_from (gcons (gnum (suc (suc (suc (suc (suc zero)))))) (gcons m q)) =
-    total (measure_from m) (seat_from q)
-amount_from (gcons (gnum (suc (suc (suc (suc (suc (suc zero))))))) (gcons m (gcons q s))) =
-    suit_total (measure_from m) (seat_from q) (suit_from s)
-amount_from (gcons (gnum (suc (suc (suc (suc (suc (suc (suc zero)))))))) (gcons q h)) =
-    cards_held (seat_from q) (honours_from h)
-amount_from
-    (gcons (gnum (suc (suc (suc (suc (suc (suc (suc (suc zero))))))))) (gcons q (gcons s h))) =
-    suit_cards_held (seat_from q) (suit_from s) (honours_from h)
-amount_from (gcons (gnum (suc (suc (suc (suc (suc (suc (suc (suc (suc zero)))))))))) q) =
-    longest (seat_from q)
-amount_from (gcons (gnum (suc (suc (suc (suc (suc (suc (suc (suc (suc (suc zero))))))))))) q) =
-    shortest (seat_from q)
-amount_from
-    (gcons (gnum (suc (suc (suc (suc (suc (suc (suc (suc (suc (suc (suc k)))))))))))) q) =
-    second (seat_from q)
+amount_from (gcons (gnum (suc (suc zero))) c) = counted (count_from c)
+amount_from (gcons (gnum (suc (suc (suc k)))) (gcons n c)) = times (number_of n) (count_from c)
 amount_from _ = number 0
 
 amount_back : (a : Amount) → amount_from (amount_stored a) ≡ a
@@ -214,23 +239,8 @@ amount_back (sum a b) =
     ap (λ x. sum x (amount_from (amount_stored b))) (amount_back a)
     ∙ ap (λ x. sum a x) (amount_back b)
 amount_back (number n) = refl
-amount_back (points q) = ap points (seat_back q)
-amount_back (suit_points q s) = rw (seat_back q, suit_back s) refl
-amount_back (suit_length q s) = rw (seat_back q, suit_back s) refl
-amount_back (total m q) = rw (measure_back m, seat_back q) refl
-amount_back (suit_total m q s) = rw (measure_back m, seat_back q, suit_back s) refl
-amount_back (cards_held q h) =
-    ap (λ p. cards_held p (honours_from (honours_stored h))) (seat_back q)
-    ∙ ap (cards_held q) (honours_back h)
-amount_back (suit_cards_held q s h) =
-    ap
-    (λ p. suit_cards_held p (suit_of_number (suit_number s)) (honours_from (honours_stored h)))
-    (seat_back q)
-    ∙ ap (λ u. suit_cards_held q u (honours_from (honours_stored h))) (suit_back s)
-    ∙ ap (suit_cards_held q s) (honours_back h)
-amount_back (longest q) = ap longest (seat_back q)
-amount_back (shortest q) = ap shortest (seat_back q)
-amount_back (second q) = ap second (seat_back q)
+amount_back (counted c) = ap counted (count_back c)
+amount_back (times n c) = ap (times n) (count_back c)
 
 -- and so each kind of tree
 abbrev pub form_stored : Form → Gv

@@ -1,5 +1,5 @@
 -- A value card by card: what a card counts in it at each seat, and what the value can be beside.
-use Rattle.std.specs.Prelude.{ℕ, ◌+◌, ◌==◌, ◌&&◌, Bool, cond, min, max, Option, Some, None, option_map, slice_index_or, unwrap_or}
+use Rattle.std.specs.Prelude.{ℕ, ◌+◌, ◌*◌, ◌==◌, ◌&&◌, nat_le, Bool, cond, min, max, Option, Some, None, option_map, slice_index_or, unwrap_or}
 use Rattle.cards.specs.declared.hand.Measure.{Measure}
 use Rattle.cards.specs.declared.hand.Measure.TheVariants.{Hcp}
 use Rattle.cards.specs.declared.seat.Seat.{Seat}
@@ -11,10 +11,10 @@ use Rattle.screens.specs.declared.stage.Bound.{Bound}
 use Rattle.screens.specs.declared.stage.Bound.TheVariants.{Least, Greatest}
 use Rattle.screens.specs.declared.stage.Stage.{Stage}
 use Rattle.screens.specs.declared.stage.Stage.TheVariants.{OneHand, TwoHands}
-use Rattle.conditions.specs.Bounds.{least_of}
-use Rattle.conditions.specs.Form.{Amount, cards_held, longest, number, points, second}
-use Rattle.conditions.specs.Form.{shortest, suit_cards_held, suit_length, suit_points, suit_total}
-use Rattle.conditions.specs.Form.{total, sum as plus}
+use Rattle.conditions.specs.declared.tree.Count.{Count}
+use Rattle.conditions.specs.declared.tree.Count.TheVariants as counts
+use Rattle.conditions.specs.Bounds.{greatest_count, least_of}
+use Rattle.conditions.specs.Form.{Amount, counted, number, times, sum as plus}
 
 abbrev pub is_at : Seat → Seat → Bool
 is_at seat holder = seat_number holder == seat_number seat
@@ -23,36 +23,47 @@ is_at seat holder = seat_number holder == seat_number seat
 abbrev pub rank_weight : Measure → ℕ → ℕ
 rank_weight m c = unwrap_or (option_map (λ w. slice_index_or w (rank_of c) 0) (weights_of m)) 0
 
+-- what the card counts if the seat `q` has it
+abbrev pub card_weight : Count → ℕ → Seat → ℕ
+card_weight (counts.Points p) c q = cond (is_at p q) (rank_weight Hcp c) 0
+card_weight (counts.SuitPoints p s) c q =
+    cond (is_in_suit s c && is_at p q) (rank_weight Hcp c) 0
+card_weight (counts.Total m p) c q = cond (is_at p q) (rank_weight m c) 0
+card_weight (counts.SuitTotal m p s) c q = cond (is_in_suit s c && is_at p q) (rank_weight m c) 0
+card_weight (counts.Cards p h) c q = cond (has_honour h (rank_of c) && is_at p q) 1 0
+card_weight (counts.SuitCards p s h) c q =
+    cond (has_honour h (rank_of c) && (is_in_suit s c && is_at p q)) 1 0
+card_weight (counts.Length p s) c q = cond (is_in_suit s c && is_at p q) 1 0
+card_weight (counts.Longest p) c q = 0
+card_weight (counts.Second p) c q = 0
+card_weight (counts.Shortest p) c q = 0
+
+-- cards that count that many times can be weighed one by one: a greater factor would make them too
+-- heavy, and what it multiplies is taken as a whole
+abbrev pub is_light : ℕ → Bool
+is_light factor = nat_le factor 15
+
 -- what the card counts in the value if the seat `q` has it
 abbrev pub weight_at : Amount → ℕ → Seat → ℕ
 weight_at (plus a b) c q = weight_at a c q + weight_at b c q
 weight_at (number n) c q = 0
-weight_at (points p) c q = cond (is_at p q) (rank_weight Hcp c) 0
-weight_at (suit_points p s) c q = cond (is_in_suit s c && is_at p q) (rank_weight Hcp c) 0
-weight_at (total m p) c q = cond (is_at p q) (rank_weight m c) 0
-weight_at (suit_total m p s) c q = cond (is_in_suit s c && is_at p q) (rank_weight m c) 0
-weight_at (cards_held p h) c q = cond (has_honour h (rank_of c) && is_at p q) 1 0
-weight_at (suit_cards_held p s h) c q =
-    cond (has_honour h (rank_of c) && (is_in_suit s c && is_at p q)) 1 0
-weight_at (suit_length p s) c q = cond (is_in_suit s c && is_at p q) 1 0
-weight_at (longest p) c q = 0
-weight_at (second p) c q = 0
-weight_at (shortest p) c q = 0
+weight_at (counted k) c q = card_weight k c q
+weight_at (times n k) c q = cond (is_light n) (n * card_weight k c q) 0
 
--- the greatest of what isn't counted card by card; its least is `least_of`
+-- the greatest of what isn't counted card by card; its least is that of the whole
+abbrev pub count_beside : Count → ℕ
+count_beside (counts.Total m p) = unwrap_or (option_map (λ w. 0) (weights_of m)) 12
+count_beside (counts.SuitTotal m p s) = unwrap_or (option_map (λ w. 0) (weights_of m)) 3
+count_beside (counts.Longest p) = 13
+count_beside (counts.Second p) = 6
+count_beside (counts.Shortest p) = 3
+count_beside _ = 0
+
 abbrev pub greatest_beside : Amount → ℕ
 greatest_beside (plus a b) = greatest_beside a + greatest_beside b
 greatest_beside (number n) = n
-greatest_beside (points p) = 0
-greatest_beside (suit_points p s) = 0
-greatest_beside (total m p) = unwrap_or (option_map (λ w. 0) (weights_of m)) 12
-greatest_beside (suit_total m p s) = unwrap_or (option_map (λ w. 0) (weights_of m)) 3
-greatest_beside (cards_held p h) = 0
-greatest_beside (suit_cards_held p s h) = 0
-greatest_beside (suit_length p s) = 0
-greatest_beside (longest p) = 13
-greatest_beside (second p) = 6
-greatest_beside (shortest p) = 3
+greatest_beside (counted k) = count_beside k
+greatest_beside (times n k) = cond (is_light n) (n * count_beside k) (n * greatest_count k)
 
 abbrev pub beside : Bound → Amount → ℕ
 beside Least a = least_of a

@@ -5,5 +5,5 @@ use Rattle.screens.proofs.estimate.total_of.Given as goal
 abbrev pub invariant-loop-card : goal.invariant-loop-card
 invariant-loop-card l = record {
   so_far : l.total ≡ sum_by (λ c. get_or l.weights c 0) (range_with_len 0 l.card);
-  most : l.total ≤ 255 * 1024 * l.card;
+  most : l.total ≤ 3825 * 1024 * l.card;
 }
