@@ -1,9 +1,9 @@
 //! How an end of a lane sleeps, and how the other end wakes it.
 //!
 //! An end says that it listens, looks once more at what it waits for and at the stop flag, and
-//! sleeps only then, until its bell rings. The other end looks at the bell after it has made what is
-//! waited for. All steps are in one order, as each is `SeqCst`: so either the first end sees at its
-//! last look what was made, or the other one sees that it listens.
+//! sleeps only then, until its bell rings. The other end looks at the bell after it has made what
+//! is waited for. All steps are in one order, as each is `SeqCst`: so either the first end sees at
+//! its last look what was made, or the other one sees that it listens.
 //!
 //! No bell rings for each verdict, since to wake a thread takes longer than to judge many
 //! candidates. It rings once there is half a lane's content or more to go on with, of a short lane

@@ -5,10 +5,10 @@
 //! or more. No clock can be read with the handles of a run. But the other end soon waits too, and
 //! counts its spins (`signals.rt`): after a long yield it has spun for long.
 //!
-//! Two long yields with few others between them show that the machine is busy (`load.rt`). From then
-//! on an end doesn't yield: it spins, and then sleeps until the other end wakes it. To be woken takes
-//! as long as dozens of candidates even if a core is free. So an end that slept in vain spins half as
-//! long the next time, and one that didn't twice as long.
+//! Two long yields with few others between them show that the machine is busy (`load.rt`). From
+//! then on an end doesn't yield: it spins, and then sleeps until the other end wakes it. To be woken
+//! takes as long as dozens of candidates even if a core is free. So an end that had to sleep spins
+//! half as long the next time, and one that hadn't twice as long.
 
 ghost use Rattle.std.specs.Prelude.{◌≡◌, ◌<◌, true};
 
