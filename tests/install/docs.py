@@ -28,6 +28,8 @@ PAGES += ["docs/SCALE.md", "docs/COUNTING.md", "package/deals.1.in"]
 BLOCK = re.compile(r"^ *```\n(.*?)^ *```$", re.M | re.S)
 EXAMPLE = re.compile(r"^\.EX\n(.*?)^\.EE$", re.M | re.S)
 OURS = re.compile(r"(\./)?deals(-tricks)? |printf |sed |cat ")
+# A file or a folder of the repository, where a page names it.
+PATH = re.compile(r"\b(?:bench|companion|crates|docs|examples|package|tests|tools)/[\w./-]*\w")
 ASSIGNS = re.compile(r"\w+=")
 # What other tests and ./check themselves run.
 ELSEWHERE = ("sudo dpkg ", "parallel ", "tar -xzf ", "sh ", "package/build", "./check", "tests/", "rt ")
@@ -204,6 +206,13 @@ def check_refusals():
         yield f"{example}", None if right else said
 
 
+def check_changelog():
+    """The pages and files that the newest version's changes name are there."""
+    newest = (harness.TOP / "CHANGELOG.md").read_text(encoding="utf-8").split("\n## ")[1]
+    for name in sorted(set(PATH.findall(newest))):
+        yield f"CHANGELOG: {name}", None if (harness.TOP / name).exists() else "it isn't there"
+
+
 def check_picture():
     """The terminal of README shows what the program prints now, and is drawn the same each time."""
     kept = (harness.TOP / "docs/pictures/terminal.svg").read_bytes()
@@ -222,5 +231,6 @@ def shown():
             with tempfile.TemporaryDirectory(prefix="docs-") as folder:
                 yield from ((f"{name}: {command}", wrong) for command, wrong in check_page(path, pathlib.Path(folder)))
     yield from check_refusals()
+    yield from check_changelog()
     yield from check_picture()
     yield from check_words()
