@@ -183,9 +183,9 @@ def of_refusals():
         (["--lane", "0"], "plan refused: lane capacity", "--lane 0: 1 to 4096 verdicts"),
         (["--boards", "0"], "plan refused: boards", "--boards 0: 1 to 4294967295 boards"),
         (["--first-board", "0"], "plan refused: first board", "--first-board 0: 1 to 1099511627776"),
-        (["--event", 'a"b'], "label refused: event", f'--event "a"b": {LABEL}'),
+        (["--event", 'a"b'], "label refused: event", f'--event "a"b": {LABEL}\n  hint: write a\'b'),
         (["--site", "a\\bc" * 30], "label refused: site", f'--site "{SHOWN}..": {LABEL}'),
-        (["--date", "2024-05-01"], "label refused: date", f'--date "2024-05-01": {DATE}'),
+        (["--date", "2024-05-01"], "label refused: date", f'--date "2024-05-01": {DATE}\n  hint: write 2024.05.01'),
         (["--west", "A10..."], "hand refused: west", '--west "A10...": a ten is written T'),
         (
             ["--north", "A...", "--east", "KA..."],

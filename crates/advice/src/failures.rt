@@ -1,6 +1,7 @@
 //! What helps a person with a failure, below the line that names it.
 
 use crate::advice::advise;
+use crate::rewritten;
 use jobs::Failure;
 use plans::{Cause, LineFault};
 use request_types::Request;
@@ -46,7 +47,13 @@ pub fn help(
 /// What helps with a plan, a label or a hand that is refused.
 fn plan_help(alloc: Global, request: Option<&Request<'_>>, failure: &Failure) -> Option<String> {
     let (search, look) = request?.plans()?;
-    advise(alloc, &search, &look, failure).unwrap_or(None)
+    let mut text = advise(alloc, &search, &look, failure).unwrap_or(None)?;
+    if let Failure::Label(name) = failure {
+        if let Some(hint) = rewritten::hint(alloc, &look, *name) {
+            text.push_str(hint.as_str()).ok()?;
+        }
+    }
+    Some(text)
 }
 
 /// The system's reason why the output failed.

@@ -10,6 +10,7 @@ mod advice;
 mod failures;
 mod notes;
 mod raw_words;
+mod rewritten;
 
 pub use advice::advise;
 pub use failures::{Reasons, help};
