@@ -4,11 +4,15 @@ use crate::advice::advise;
 use crate::rewritten;
 use jobs::Failure;
 use plans::{Cause, LineFault};
-use request_types::Request;
+use request_types::{QuestionName, Request};
 use std::alloc::Global;
 use std::io;
 
-/// What helps with a table that could be too large.
+/// What helps with a table of one question that could be too large.
+const TOO_MANY_ROWS: &str =
+    "  hint: --of has a row for each answer: take smaller factors, or ask for a condition\n";
+
+/// What helps with a table of two that could be.
 const TOO_LARGE: &str =
     "  hint: rows of --of times columns of --by: add up fewer values, or ask for a condition\n";
 
@@ -35,7 +39,8 @@ pub fn help(
         Failure::Plan(_) | Failure::Label(_) | Failure::Hand(_) => plan_help(
             alloc, request, failure,
         ),
-        Failure::Cells => String::from_str(alloc, TOO_LARGE).ok(),
+        Failure::Cells(QuestionName::Of) => String::from_str(alloc, TOO_MANY_ROWS).ok(),
+        Failure::Cells(QuestionName::By) => String::from_str(alloc, TOO_LARGE).ok(),
         Failure::Interrupted(Cause::Output) => reason_of_output(alloc, reasons),
         Failure::Input => reason_of_input(alloc, reasons),
         Failure::Line(line) => String::from_str(alloc, line_help(line.fault)).ok(),

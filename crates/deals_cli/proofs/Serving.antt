@@ -194,7 +194,7 @@ pick_fails T (pick seed hands l hints) job (Label name) before after old new rea
 pick_fails T (pick seed hands l hints) job (Hand seat) before after old new ready ends = absurd ends
 pick_fails T (pick seed hands l hints) job (Condition error) before after old new ready ends = absurd ends
 pick_fails T (pick seed hands l hints) job (Question name error) before after old new ready ends = absurd ends
-pick_fails T (pick seed hands l hints) job Cells before after old new ready ends = absurd ends
+pick_fails T (pick seed hands l hints) job (Cells name) before after old new ready ends = absurd ends
 pick_fails T (pick seed hands l hints) job (Interrupted Spawn) before after old new ready ends = absurd ends
 pick_fails T (pick seed hands l hints) job (Interrupted (Stopped worker)) before after old new ready ends = absurd ends
 pick_fails T (pick seed hands l hints) job (Interrupted (Unclosed worker)) before after old new ready ends = absurd ends
@@ -347,7 +347,7 @@ tricks_fail (make_with_tricks s l notices) job (Label name) before after old new
 tricks_fail (make_with_tricks s l notices) job (Hand seat) before after old new ready ends = absurd (ends.ends s l notices ready)
 tricks_fail (make_with_tricks s l notices) job (Condition error) before after old new ready ends = absurd (ends.ends s l notices ready)
 tricks_fail (make_with_tricks s l notices) job (Question name error) before after old new ready ends = absurd (ends.ends s l notices ready)
-tricks_fail (make_with_tricks s l notices) job Cells before after old new ready ends = absurd (ends.ends s l notices ready)
+tricks_fail (make_with_tricks s l notices) job (Cells name) before after old new ready ends = absurd (ends.ends s l notices ready)
 tricks_fail (make s l notices) job f before after old new ready ends = absurd ready
 tricks_fail (pick seed hands l hints) job f before after old new ready ends = absurd ready
 tricks_fail conditions job f before after old new ready ends = absurd ready
@@ -381,7 +381,7 @@ draw_fails T draw (Label name) before after old new ready ends = absurd ends
 draw_fails T draw (Hand seat) before after old new ready ends = absurd ends
 draw_fails T draw (Condition error) before after old new ready ends = absurd ends
 draw_fails T draw (Question name error) before after old new ready ends = absurd ends
-draw_fails T draw Cells before after old new ready ends = absurd ends
+draw_fails T draw (Cells name) before after old new ready ends = absurd ends
 draw_fails T (make s l notices) f before after old new ready ends = absurd ready
 draw_fails T (make_with_tricks s l notices) f before after old new ready ends = absurd ready
 draw_fails T (pick seed hands l hints) f before after old new ready ends = absurd ready

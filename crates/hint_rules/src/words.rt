@@ -79,7 +79,7 @@ pub(crate) fn are_ranks(word: &[u8]) -> bool {
 
 /// Whether the part may come in a value, outside of brackets.
 pub(crate) fn is_in_value(part: &[u8]) -> bool {
-    is(part, "+") || is_number(part) || is_measure(part)
+    is(part, "+") || is(part, "*") || is_number(part) || is_measure(part)
 }
 
 /// The number that the digits write, up to 9,999.

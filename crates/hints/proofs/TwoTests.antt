@@ -10,13 +10,15 @@ use Rattle.cards.specs.Hands.{hand_of, is_same, length_of, points_in, points_of}
 use Rattle.cards.specs.Counts.{longest_of, shortest_of, total_in, total_of}
 use Rattle.cards.specs.Measures.{measure_back, measure_of_number}
 use Rattle.cards.specs.Pack.{seat_number, suit_number}
-use Rattle.cond_lang.specs.Form.{Amount, Form, all_of, any_of, balanced, cards_held, compare, longest, loose_pattern, loose_shape, negation, number, pattern, points, second, shape, shortest, stops, suit_cards_held, suit_length, suit_points, suit_total, total, within}
+use Rattle.conditions.specs.declared.tree.Count.{Count}
+use Rattle.conditions.specs.declared.tree.Count.TheVariants as counts
+use Rattle.cond_lang.specs.Form.{Amount, Form, all_of, any_of, balanced, compare, counted, loose_pattern, loose_shape, negation, number, pattern, shape, stops, times, within}
 use Rattle.cond_lang.specs.Form.{sum as plus}
-use Rattle.cond_lang.specs.Meaning.{holds, is_related, value_in}
+use Rattle.cond_lang.specs.Meaning.{count_in, holds, is_related, value_in}
 use Rattle.conditions.specs.declared.tree.Op.{Op}
 use Rattle.conditions.specs.declared.tree.Op.TheVariants.{AtLeast, AtMost, Equal, Less, More, NotEqual}
 use Rattle.cond_lang.specs.Bounds.{greatest_of, least_of}
-use Rattle.hints.specs.Torn.{code_of, greatest_related, greatest_with, is_same_value, is_torn, is_torn_at, least_related, least_with, turned}
+use Rattle.hints.specs.Torn.{code_of, count_code, greatest_related, greatest_with, is_same_value, is_torn, is_torn_at, least_related, least_with, turned}
 use Rattle.conditions.proofs.ValueBounds.{at_least, at_most}
 use Rattle.hints.proofs.Values.{all_true, both_sides, less, no_less, not_more, same_number}
 
@@ -50,21 +52,25 @@ value_by deal n q s m =
 abbrev value_at : List Seat → List ℕ → ℕ
 value_at deal code = value_by deal (get_or code 0 0) (get_or code 1 0) (get_or code 2 0) (get_or code 3 0)
 
+count_by_code : (deal : List Seat) (c : Count) → nat_lt 0 (slice_index (count_code c) 0) ≡ true → value_at deal (count_code c) ≡ count_in deal c
+count_by_code deal (counts.Points q) h = refl
+count_by_code deal (counts.SuitPoints q s) h = ap (λ t. points_in (hand_of deal q) t) (suit_back s)
+count_by_code deal (counts.Total m q) h = ap (λ k. total_of k (hand_of deal q)) (measure_back m)
+count_by_code deal (counts.SuitTotal m q s) h =
+    ap (λ k. total_in k (hand_of deal q) (suit_at (suit_number s))) (measure_back m)
+    ∙ ap (λ t. total_in m (hand_of deal q) t) (suit_back s)
+count_by_code deal (counts.Cards q h) e = absurd (cc e)
+count_by_code deal (counts.SuitCards q s h) e = absurd (cc e)
+count_by_code deal (counts.Length q s) h = ap (λ t. length_of (hand_of deal q) t) (suit_back s)
+count_by_code deal (counts.Longest q) h = refl
+count_by_code deal (counts.Second q) e = absurd (cc e)
+count_by_code deal (counts.Shortest q) h = refl
+
 by_code : (deal : List Seat) (a : Amount) → nat_lt 0 (slice_index (code_of a) 0) ≡ true → value_at deal (code_of a) ≡ value_in deal a
 by_code deal (plus a b) h = absurd (cc h)
 by_code deal (number n) h = absurd (cc h)
-by_code deal (points q) h = refl
-by_code deal (suit_points q s) h = ap (λ t. points_in (hand_of deal q) t) (suit_back s)
-by_code deal (total m q) h = ap (λ k. total_of k (hand_of deal q)) (measure_back m)
-by_code deal (suit_total m q s) h =
-    ap (λ k. total_in k (hand_of deal q) (suit_at (suit_number s))) (measure_back m)
-    ∙ ap (λ t. total_in m (hand_of deal q) t) (suit_back s)
-by_code deal (cards_held q h) e = absurd (cc e)
-by_code deal (suit_cards_held q s h) e = absurd (cc e)
-by_code deal (suit_length q s) h = ap (λ t. length_of (hand_of deal q) t) (suit_back s)
-by_code deal (longest q) h = refl
-by_code deal (second q) e = absurd (cc e)
-by_code deal (shortest q) h = refl
+by_code deal (counted c) h = count_by_code deal c h
+by_code deal (times n c) h = absurd (cc h)
 
 equal_lists : (xs ys : List ℕ) → is_same xs ys ≡ true → xs ≡ ys
 equal_lists [] [] h = refl

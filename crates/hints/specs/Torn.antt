@@ -5,24 +5,30 @@ use Rattle.std.specs.Prelude.{if◌then◌else◌, slice_index}
 use Rattle.cards.specs.Hands.{is_same}
 use Rattle.cards.specs.Measures.{measure_number}
 use Rattle.cards.specs.Pack.{seat_number, suit_number}
-use Rattle.cond_lang.specs.Form.{Amount, Form, all_of, any_of, compare, longest, points, shortest}
-use Rattle.cond_lang.specs.Form.{suit_length, suit_points, suit_total, total, within}
+use Rattle.conditions.specs.declared.tree.Count.{Count}
+use Rattle.conditions.specs.declared.tree.Count.TheVariants as counts
+use Rattle.cond_lang.specs.Form.{Amount, Form, all_of, any_of, compare, counted, within}
 use Rattle.conditions.specs.declared.tree.Op.{Op}
 use Rattle.conditions.specs.declared.tree.Op.TheVariants.{AtLeast, AtMost, Equal, Less, More}
 use Rattle.cond_lang.specs.Bounds.{greatest_of, least_of}
 
 -- ---- the same value
 
--- what a value asks of a hand, by numbers: what, whose, in which suit and by which measure; the
--- first is 0 of a number, a sum, cards of some ranks and the second longest suit
+-- what is counted, by numbers: what, whose, in which suit and by which measure; the first is 0 of
+-- cards of some ranks and of the second longest suit
+abbrev pub count_code : Count → List ℕ
+count_code (counts.Points q) = 1 ∷ seat_number q ∷ 0 ∷ 0 ∷ []
+count_code (counts.SuitPoints q s) = 2 ∷ seat_number q ∷ suit_number s ∷ 0 ∷ []
+count_code (counts.Total m q) = 3 ∷ seat_number q ∷ 0 ∷ measure_number m ∷ []
+count_code (counts.SuitTotal m q s) = 4 ∷ seat_number q ∷ suit_number s ∷ measure_number m ∷ []
+count_code (counts.Length q s) = 5 ∷ seat_number q ∷ suit_number s ∷ 0 ∷ []
+count_code (counts.Longest q) = 6 ∷ seat_number q ∷ 0 ∷ 0 ∷ []
+count_code (counts.Shortest q) = 7 ∷ seat_number q ∷ 0 ∷ 0 ∷ []
+count_code _ = 0 ∷ 0 ∷ 0 ∷ 0 ∷ []
+
+-- the same of a value; the first is 0 of a number, a sum, and a count with a factor
 abbrev pub code_of : Amount → List ℕ
-code_of (points q) = 1 ∷ seat_number q ∷ 0 ∷ 0 ∷ []
-code_of (suit_points q s) = 2 ∷ seat_number q ∷ suit_number s ∷ 0 ∷ []
-code_of (total m q) = 3 ∷ seat_number q ∷ 0 ∷ measure_number m ∷ []
-code_of (suit_total m q s) = 4 ∷ seat_number q ∷ suit_number s ∷ measure_number m ∷ []
-code_of (suit_length q s) = 5 ∷ seat_number q ∷ suit_number s ∷ 0 ∷ []
-code_of (longest q) = 6 ∷ seat_number q ∷ 0 ∷ 0 ∷ []
-code_of (shortest q) = 7 ∷ seat_number q ∷ 0 ∷ 0 ∷ []
+code_of (counted c) = count_code c
 code_of _ = 0 ∷ 0 ∷ 0 ∷ 0 ∷ []
 
 -- both ask the same of a hand

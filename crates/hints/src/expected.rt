@@ -199,6 +199,7 @@ fn kind_name(kind: Kind) -> &'static str
         Kind::Second => "second",
         Kind::Shortest => "shortest",
         Kind::Plus => "+",
+        Kind::Star => "*",
         Kind::Relation => "a comparison such as >=",
         Kind::In => "in",
         Kind::Dash => "-",

@@ -5,10 +5,10 @@ ghost use Rattle.cards.specs.Hands.{is_same};
 ghost use Rattle.cond_lang.specs.Form.{amount_of, form_of};
 ghost use Rattle.cond_lang.specs.Limits.{HasAtMostAtoms, atoms_of};
 ghost use Rattle.cond_lang.specs.Bounds.{greatest_of};
-ghost use Rattle.hints.specs.Torn.{code_of, greatest_related, greatest_with, is_same_value};
+ghost use Rattle.hints.specs.Torn.{code_of, count_code, greatest_related, greatest_with, is_same_value};
 ghost use Rattle.hints.specs.Torn.{is_torn, is_torn_at, least_related, least_with, turned};
 
-use cond_lang::{Op, Tree, Value};
+use cond_lang::{Count, Op, Tree, Value};
 
 /// Whether the tree leaves no number to a value that a part of it tests.
 pub(crate) fn is_torn(tree: &Tree, part: &Tree) -> bool
@@ -107,7 +107,7 @@ fn turned(op: Op) -> Op
 
 /// The least that is in the relation to a number that is at least c.
 fn least_related(op: Op, c: u32) -> u32
-    requires { c ≤ 67107840 }
+    requires { c ≤ 2684313600 }
     ensures { result ≡ least_related op c }
 {
     match op {
@@ -149,14 +149,23 @@ fn code_of(value: &Value) -> [u8; 4]
     ensures { result ≡ code_of (amount_of value.now) }
 {
     match value {
-        Value::Points(seat) => [1, *seat as u8, 0, 0],
-        Value::SuitPoints(seat, suit) => [2, *seat as u8, *suit as u8, 0],
-        Value::Total(measure, seat) => [3, *seat as u8, 0, *measure as u8],
-        Value::SuitTotal(measure, seat, suit) => [4, *seat as u8, *suit as u8, *measure as u8],
-        Value::Length(seat, suit) => [5, *seat as u8, *suit as u8, 0],
-        Value::Longest(seat) => [6, *seat as u8, 0, 0],
-        Value::Shortest(seat) => [7, *seat as u8, 0, 0],
-        Value::Number(_) | Value::Sum(..) | Value::Cards(..) | Value::SuitCards(..) => [0; 4],
-        Value::Second(_) => [0; 4],
+        Value::Count(count) => count_code(*count),
+        Value::Number(_) | Value::Times(..) | Value::Sum(..) => [0; 4],
+    }
+}
+
+/// The same of a count.
+fn count_code(count: Count) -> [u8; 4]
+    ensures { result ≡ count_code count }
+{
+    match count {
+        Count::Points(seat) => [1, seat as u8, 0, 0],
+        Count::SuitPoints(seat, suit) => [2, seat as u8, suit as u8, 0],
+        Count::Total(measure, seat) => [3, seat as u8, 0, measure as u8],
+        Count::SuitTotal(measure, seat, suit) => [4, seat as u8, suit as u8, measure as u8],
+        Count::Length(seat, suit) => [5, seat as u8, suit as u8, 0],
+        Count::Longest(seat) => [6, seat as u8, 0, 0],
+        Count::Shortest(seat) => [7, seat as u8, 0, 0],
+        Count::Cards(..) | Count::SuitCards(..) | Count::Second(_) => [0; 4],
     }
 }

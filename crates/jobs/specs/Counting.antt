@@ -22,7 +22,7 @@ Asks (one_question text) subject = (a : Asked) × IsQuestion text a × (subject 
 Asks (two_questions rows columns) subject =
     (a : Asked) × (b : Asked) × IsQuestion rows a × IsQuestion columns b × (subject ≡ by_two a b)
 
--- and a table of two questions has at most 1,048,576 cells
+-- and the table has at most 1,048,576 cells: one of a single question has as many as rows
 pub record IsAsked (questions : Questions) (subject : Subject) : Type 0 where
   pub asks : Asks questions subject
   pub small : cells_of subject ≤ 2 ^ 20

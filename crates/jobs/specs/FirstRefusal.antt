@@ -23,6 +23,7 @@ use Rattle.jobs.specs.declared.failure.Failure.TheVariants.{Plan, Label, Hand}
 use Rattle.jobs.specs.declared.failure.Failure.TheVariants.{Cells, Condition, Question}
 use Rattle.jobs.specs.declared.failure.Failure.TheVariants.{Interrupted, Line, Input, EndOfInput}
 use Rattle.request_types.specs.declared.names.LabelName.TheVariants.{Event, Site, Date}
+use Rattle.request_types.specs.declared.names.QuestionName.{QuestionName}
 use Rattle.request_types.specs.declared.names.QuestionName.TheVariants.{Of, By}
 use Rattle.statistics.specs.Counting.{Asked, Subject, cells_of}
 
@@ -96,12 +97,18 @@ IsByDue (two_questions rows columns) error =
     ((asked : Asked) × IsQuestion rows asked) × IsQuestionDue columns error
 IsByDue questions error = ⊥
 
+-- the question that makes a table too large is the last
+abbrev pub last_of : Questions → QuestionName
+last_of (two_questions rows columns) = By
+last_of questions = Of
+
 -- why questions are refused: the text of one, or else the size of their table
 abbrev pub AreRefused : Questions → Failure → Type 0
 AreRefused questions (Question Of error) = IsOfDue questions error
 AreRefused questions (Question By error) = IsByDue questions error
-AreRefused questions Cells =
-    (subject : Subject) × Asks questions subject × (2 ^ 20 < cells_of subject)
+AreRefused questions (Cells name) =
+    (name ≡ last_of questions)
+    × ((subject : Subject) × Asks questions subject × (2 ^ 20 < cells_of subject))
 AreRefused questions failure = ⊥
 
 -- there is a condition
@@ -113,8 +120,8 @@ HasCondition s = (form : Form) × Means s.where_text form
 abbrev pub IsCountDue : Search → Questions → Failure → Type 0
 IsCountDue s questions (Question name error) =
     IsPlanned s numbers_look × HasCondition s × AreRefused questions (Question name error)
-IsCountDue s questions Cells =
-    IsPlanned s numbers_look × HasCondition s × AreRefused questions Cells
+IsCountDue s questions (Cells name) =
+    IsPlanned s numbers_look × HasCondition s × AreRefused questions (Cells name)
 IsCountDue s questions (Interrupted Memory) = IsPlanned s numbers_look
 IsCountDue s questions (Interrupted cause) =
     IsPlanned s numbers_look × HasCondition s × ((subject : Subject) × IsAsked questions subject)

@@ -51,6 +51,10 @@ condition_line =
     text_line (codes "condition refused at byte ")
     (codes "condition refused: longer than 1024 bytes\n")
 
+abbrev pub cells_line : QuestionName → List ℕ
+cells_line Of = codes "of refused: more than 1048576 cells\n"
+cells_line By = codes "by refused: more than 1048576 cells\n"
+
 abbrev pub question_line : QuestionName → CondError → List ℕ
 question_line Of =
     text_line (codes "of refused at byte ") (codes "of refused: longer than 1024 bytes\n")
@@ -84,7 +88,7 @@ line_of (failure.Label name) = label_line name
 line_of (failure.Hand holder) = hand_line holder
 line_of (failure.Condition error) = condition_line error
 line_of (failure.Question name error) = question_line name error
-line_of failure.Cells = codes "by refused: more than 1048576 cells\n"
+line_of (failure.Cells name) = cells_line name
 line_of (failure.Interrupted cause) = cause_line cause
 line_of (failure.Line refused) = input_line refused
 line_of failure.Input = codes "input failed\n"

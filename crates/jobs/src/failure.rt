@@ -7,7 +7,7 @@ ghost use Rattle.plans.specs.declared.cause.Cause.TheVariants.{Memory, Output};
 ghost use Rattle.jobs.specs.Failures.{failure_of, question_failure, status_of};
 ghost use Rattle.jobs.specs.Lines.{cause_line, condition_line, fault_text, hand_line};
 ghost use Rattle.jobs.specs.Lines.{input_line, label_line, line_of, plan_line};
-ghost use Rattle.jobs.specs.Lines.{question_line, text_line};
+ghost use Rattle.jobs.specs.Lines.{cells_line, question_line, text_line};
 ghost use Rattle.jobs.specs.declared.failure.Failure.TheVariants.{Interrupted};
 ghost use Rattle.sinks.specs.Messages.{text_of};
 
@@ -32,8 +32,8 @@ pub enum Failure {
     Condition(CondError),
     /// The text of a question is refused, and not since memory ran out.
     Question(QuestionName, CondError),
-    /// A table of the answers to two questions could have more than 1,048,576 cells.
-    Cells,
+    /// The table of the answers could have more than 1,048,576 cells; with the last question.
+    Cells(QuestionName),
     /// The output failed, memory ran out, a thread wasn't started, or a worker ended too soon.
     Interrupted(Cause),
     /// A line of the input is refused.
@@ -132,6 +132,15 @@ fn of_condition(error: CondError) -> Message<'static>
     )
 }
 
+fn of_cells(name: QuestionName) -> &'static str
+    ensures { result.now ≡ cells_line name }
+{
+    match name {
+        QuestionName::Of => "of refused: more than 1048576 cells\n",
+        QuestionName::By => "by refused: more than 1048576 cells\n",
+    }
+}
+
 fn of_question(name: QuestionName, error: CondError) -> Message<'static>
     ensures { text_of result ≡ question_line name error }
 {
@@ -202,7 +211,7 @@ impl Failure {
         match self {
             Failure::CommandLine(_) | Failure::Plan(_) | Failure::Label(_) => 2,
             Failure::Hand(_) => 2,
-            Failure::Condition(_) | Failure::Question(..) | Failure::Cells => 3,
+            Failure::Condition(_) | Failure::Question(..) | Failure::Cells(_) => 3,
             Failure::Interrupted(cause) => match cause {
                 Cause::Output => 4,
                 Cause::Memory => 5,
@@ -222,7 +231,7 @@ impl Failure {
             Failure::Hand(seat) => Message::plain(of_hand(*seat)),
             Failure::Condition(error) => of_condition(*error),
             Failure::Question(name, error) => of_question(*name, *error),
-            Failure::Cells => Message::plain("by refused: more than 1048576 cells\n"),
+            Failure::Cells(name) => Message::plain(of_cells(*name)),
             Failure::Interrupted(cause) => of_cause(*cause),
             Failure::Line(refused) => of_line(*refused),
             Failure::Input => Message::plain("input failed\n"),

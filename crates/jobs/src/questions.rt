@@ -3,6 +3,7 @@
 ghost use Rattle.std.specs.Prelude.{◌≡◌, ◌⊎◌, IfErr, IfOk};
 ghost use Rattle.jobs.specs.Counting.{Asks, IsAsked, IsQuestion};
 ghost use Rattle.jobs.specs.Failures.{status_of};
+ghost use Rattle.jobs.specs.FirstRefusal.{last_of};
 ghost use Rattle.request_types.specs.Requests.{questions_of};
 ghost use Rattle.jobs.specs.internal.QuestionFailures.{AreFailure, IsTextFailure};
 ghost use Rattle.statistics.specs.Counting.{Asked as AnAsked, Subject as ASubject};
@@ -28,8 +29,18 @@ fn asked_of(alloc: Global, name: QuestionName, text: &str) -> Result<Asked, Fail
     }
 }
 
-/// Returns what the texts ask. The first that is refused is told, and then that a table of two
-/// questions could have too many cells.
+/// The name of the last question, which makes a table too large.
+fn last_of(questions: &Questions<'_>) -> QuestionName
+    ensures { result ≡ last_of (questions_of questions.now) }
+{
+    match questions {
+        Questions::Two { .. } => QuestionName::By,
+        Questions::None | Questions::One(_) => QuestionName::Of,
+    }
+}
+
+/// Returns what the texts ask. The first that is refused is told, and then that the table could
+/// have too many cells.
 pub(crate) fn read_subject(alloc: Global, questions: &Questions<'_>) -> Result<Subject, Failure>
     ensures asked { IfOk result (λ s. IsAsked (questions_of questions.now) (subject_of s)) }
     ensures refused { IfErr result (AreFailure (questions_of questions.now)) }
@@ -39,7 +50,7 @@ pub(crate) fn read_subject(alloc: Global, questions: &Questions<'_>) -> Result<S
 {
     let subject = read_texts(alloc, questions)?;
     if subject.is_too_large() {
-        return Err(Failure::Cells);
+        return Err(Failure::Cells(last_of(questions)));
     }
     Ok(subject)
 }

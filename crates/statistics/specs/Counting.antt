@@ -33,10 +33,10 @@ pub data Subject : Type 0 where
   by_one : Asked → Subject
   by_two : Asked → Asked → Subject
 
--- how many cells a table of two questions can have. One of a single question has rows alone
+-- how many cells a table can have. One of a single question has a row for each answer
 abbrev pub cells_of : Subject → ℕ
 cells_of deals_alone = 0
-cells_of (by_one asked) = 0
+cells_of (by_one asked) = rows_of asked.question
 cells_of (by_two of by) = rows_of of.question * rows_of by.question
 
 -- what each of the deals answers to two questions
@@ -88,6 +88,10 @@ count_text Table subject deals candidates =
     ++ (if length deals == 0 then [] else table_text subject deals)
 count_text Csv subject deals candidates = csv_text subject deals candidates
 count_text Html subject deals candidates = page_text subject deals candidates
+
+-- the most rows or cells that a table can have: so no answer that is counted is as great
+abbrev pub most_counted : ℕ
+most_counted = 2 ^ 20
 
 -- no plan has more candidates
 abbrev pub most_deals : ℕ

@@ -2,7 +2,7 @@
 
 ghost use Rattle.std.specs.Prelude.{◌≡◌, ◌≤◌, ◌+◌, ◌*◌, ◌^◌, ◌++◌, length};
 ghost use Rattle.boards.specs.declared.buffer.TheConstants.{CAPACITY};
-ghost use Rattle.conditions.specs.Questions.{most_answer};
+ghost use Rattle.statistics.specs.Counting.{most_counted};
 ghost use Rattle.statistics.specs.TwoQuestions.{mean_or_dash};
 
 use crate::fractions::{Digits, put_fraction};
@@ -11,7 +11,7 @@ use boards::TextBuffer;
 /// Appends the mean of some answers, of which these are the number and the sum, or `-`.
 pub(crate) fn put_mean_or_dash(text: &mut TextBuffer, deals: u64, total: u64)
     requires deals { deals ≤ 2 ^ 40 }
-    requires total { total ≤ deals * most_answer }
+    requires total { total ≤ deals * most_counted }
     requires room { length text.old + 50 ≤ CAPACITY }
     ensures text { text.new ≡ text.old ++ mean_or_dash deals total }
     ensures most { length text.new ≤ length text.old + 40 }

@@ -54,6 +54,7 @@ impl One {
     /// # Errors
     /// `AllocError` if the allocation of a number for each row failed.
     pub(crate) fn new(alloc: Global, asked: Asked) -> Result<One, AllocError>
+        requires { rows_of asked.question ≤ 2 ^ 20 }
         ensures asked { IfOk result (λ one. one.asked ≡ asked) }
         ensures counted { IfOk result (λ one. CountsOne one []) }
         ensures kept { IfOk result (λ one. IsKeptOne one) }

@@ -3,7 +3,7 @@
 ghost use Rattle.std.specs.Prelude.{◌≡◌, ◌≤◌, ◌<◌, ◌+◌, ◌*◌, ◌/◌, ◌^◌, [], ◌++◌, codes};
 ghost use Rattle.std.specs.Prelude.{length};
 ghost use Rattle.boards.specs.declared.buffer.TheConstants.{CAPACITY};
-ghost use Rattle.conditions.specs.Questions.{most_answer};
+ghost use Rattle.statistics.specs.Counting.{most_counted};
 ghost use Rattle.statistics.specs.Columns.{commas, label, right};
 ghost use Rattle.statistics.specs.OneQuestion.{bar, bar_len, blocks, deviation, line, mean_text};
 ghost use Rattle.statistics.specs.OneQuestion.{row};
@@ -157,7 +157,7 @@ fn put_blocks(text: &mut TextBuffer, count: usize)
 pub(crate) fn put_mean(text: &mut TextBuffer, deals: u64, total: u64, squared: u128)
     requires some { 0 < deals }
     requires deals { deals ≤ 2 ^ 40 }
-    requires total { total ≤ deals * most_answer }
+    requires total { total ≤ deals * most_counted }
     requires squared { squared ≤ deals * 2 ^ 47 }
     requires room { length text.old + 200 ≤ CAPACITY }
     ensures text { text.new ≡ text.old ++ mean_text deals total squared }
@@ -178,7 +178,7 @@ pub(crate) fn put_mean(text: &mut TextBuffer, deals: u64, total: u64, squared: u
 fn deviation(deals: u128, total: u128, squared: u128) -> u64
     requires some { 0 < deals }
     requires deals { deals ≤ 2 ^ 40 }
-    requires total { total ≤ deals * most_answer }
+    requires total { total ≤ deals * most_counted }
     requires squared { squared ≤ deals * 2 ^ 47 }
     ensures { result ≡ deviation deals total squared }
 {

@@ -60,17 +60,18 @@ pub enum Subject {
     ByTwo(Asked, Asked),
 }
 
-/// How many cells a table of two questions can have at most.
+/// How many rows a table of one question can have at most, or how many cells one of two.
 pub const MAX_CELLS: u64 = 1_048_576;
 
 impl Subject {
-    /// Whether there are two questions, and a table of their answers can have more than `MAX_CELLS`
-    /// cells.
+    /// Whether a table of the answers can have more than `MAX_CELLS` cells: of one question as many
+    /// as it has rows.
     pub fn is_too_large(&self) -> bool
         ensures { result ≡ nat_lt MAX_CELLS (cells_of (subject_of self.now)) }
     {
         match self {
-            Subject::DealsAlone | Subject::ByOne(_) => false,
+            Subject::DealsAlone => false,
+            Subject::ByOne(asked) => u64::from(asked.question.rows()) > MAX_CELLS,
             Subject::ByTwo(of, by) => {
                 u64::from(of.question.rows()) * u64::from(by.question.rows()) > MAX_CELLS
             }

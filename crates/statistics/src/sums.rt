@@ -1,7 +1,7 @@
 //! The sums of some answers.
 
 ghost use Rattle.std.specs.Prelude.{◌≡◌, ◌<◌, ◌≤◌, []};
-ghost use Rattle.conditions.specs.Questions.{most_answer};
+ghost use Rattle.statistics.specs.Counting.{most_counted};
 ghost use Rattle.statistics.specs.Counting.{most_deals};
 ghost use Rattle.statistics.specs.internal.Kept.{AreSmall, sums_of, with_one};
 
@@ -35,7 +35,7 @@ impl Sums {
     pub(crate) fn add(&mut self, answer: u32)
         requires sums { AreSmall self.old }
         requires few { self.old.deals < most_deals }
-        requires small { answer ≤ most_answer }
+        requires small { answer ≤ most_counted }
         ensures sums { self.new ≡ with_one self.old answer }
         ensures small { AreSmall self.new }
     {

@@ -1,10 +1,10 @@
 -- What a counter keeps of the deals that it was given.
 use Rattle.std.specs.Prelude.{◌≡◌, ◌≤◌, ◌<◌, ◌+◌, ◌*◌, ◌^◌, ◌==◌, ℕ, List, length, max, min}
 use Rattle.std.specs.Prelude.{if◌then◌else◌, slice_index, slice_set, sum}
-use Rattle.conditions.specs.Questions.{most_answer, rows_of}
+use Rattle.conditions.specs.Questions.{rows_of}
 use Rattle.statistics.specs.declared.sums.Sums.{Sums}
 use Rattle.statistics.specs.Answers.{count_of, greatest_of, least_of, squares}
-use Rattle.statistics.specs.Counting.{Asked, most_deals}
+use Rattle.statistics.specs.Counting.{Asked, most_counted, most_deals}
 use Rattle.statistics.specs.TwoQuestions.{Pairs, cell, in_column, of_columns, of_rows}
 
 -- the sums of some answers
@@ -30,7 +30,7 @@ with_one sums answer = record {
 -- the sums are those of few and small answers
 pub record AreSmall (sums : Sums) : Type 0 where
   pub deals : sums.deals ≤ most_deals
-  pub sum : sums.sum ≤ sums.deals * most_answer
+  pub sum : sums.sum ≤ sums.deals * most_counted
   pub squares : sums.squares ≤ sums.deals * 2 ^ 47
   pub least : sums.least < 2 ^ 24
   pub greatest : sums.greatest < 2 ^ 24
@@ -63,7 +63,7 @@ with_answer one answer = record {
 
 pub record IsKeptOne (one : KeptOne) : Type 0 where
   pub rows : length one.counts ≡ rows_of one.asked.question
-  pub few : length one.counts ≤ most_answer + 1
+  pub few : length one.counts ≤ most_counted
   pub sums : AreSmall one.sums
   pub within : one.sums.greatest < length one.counts
   pub counted : AreUpTo one.sums.deals one.counts
@@ -106,7 +106,7 @@ pub record IsKeptTwo (two : KeptTwo) : Type 0 where
   pub in_cells : AreUpTo two.of.sums.deals two.cells
   pub in_columns : AreUpTo two.of.sums.deals two.column_deals
   pub sums_fit : (m : ℕ)
-      → slice_index two.column_sums m ≤ slice_index two.column_deals m * most_answer
+      → slice_index two.column_sums m ≤ slice_index two.column_deals m * most_counted
 
 -- the cell of a row and a column
 abbrev pub cell_at : KeptTwo → ℕ → ℕ → ℕ

@@ -2,7 +2,7 @@
 
 ghost use Rattle.std.specs.Prelude.{◌≡◌, ◌≤◌, ◌<◌, ◌+◌, ◌*◌, ◌^◌, ◌++◌, codes, length};
 ghost use Rattle.boards.specs.declared.buffer.TheConstants.{CAPACITY};
-ghost use Rattle.conditions.specs.Questions.{most_answer};
+ghost use Rattle.statistics.specs.Counting.{most_counted};
 ghost use Rattle.statistics.specs.OneQuestion.{mean_text};
 ghost use Rattle.statistics.specs.Page.{page_bar, page_header, page_row};
 ghost use Rattle.statistics.specs.Rounded.{fraction};
@@ -78,7 +78,7 @@ fn put_per_cent(text: &mut TextBuffer, part: u64, whole: u64)
 pub(crate) fn put_page_mean(text: &mut TextBuffer, deals: u64, total: u64, squared: u128)
     requires some { 0 < deals }
     requires deals { deals ≤ 2 ^ 40 }
-    requires total { total ≤ deals * most_answer }
+    requires total { total ≤ deals * most_counted }
     requires squared { squared ≤ deals * 2 ^ 47 }
     requires room { length text.old + 250 ≤ CAPACITY }
     ensures text { text.new

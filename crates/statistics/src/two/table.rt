@@ -3,7 +3,7 @@
 ghost use Rattle.std.specs.Prelude.{◌≡◌, ◌≤◌, ◌<◌, ◌+◌, ◌-◌, ◌*◌, ◌^◌, ◌++◌, length};
 ghost use Rattle.std.specs.List.{flat_map};
 ghost use Rattle.sinks.specs.Sinks.{AppendsOrBreaksOff, CountsFault};
-ghost use Rattle.conditions.specs.Questions.{most_answer};
+ghost use Rattle.statistics.specs.Counting.{most_counted};
 ghost use Rattle.statistics.specs.internal.Kept.{IsKeptTwo, cell_at};
 ghost use Rattle.statistics.specs.internal.Lines.{CanShade, IsLine, all_kept, bottom_kept};
 ghost use Rattle.statistics.specs.internal.Lines.{cell_in_columns, cell_piece, cell_text};
@@ -426,7 +426,7 @@ impl Two {
 /// How wide the cells of a column are with this many deals, and such a sum.
 fn cells_width(is_condition: bool, deals: u64, total: u64) -> usize
     requires deals { deals ≤ 2 ^ 40 }
-    requires total { total ≤ deals * most_answer }
+    requires total { total ≤ deals * most_counted }
     ensures value { result ≡ cells_kept is_condition deals total }
     ensures few { result ≤ 40 }
 {

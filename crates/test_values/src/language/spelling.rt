@@ -1,7 +1,7 @@
 //! Trees as text: each variant by its name, with its fields in brackets.
 
 use cards::{Honours, Measure, Seat, Suit};
-use cond_lang::{Item, Op, Tree, Value};
+use cond_lang::{Count, Item, Op, Tree, Value};
 use std::alloc::{AllocError, Global};
 
 /// The tree as text.
@@ -42,23 +42,22 @@ pub fn tree_text(alloc: Global, tree: &Tree) -> Result<String, AllocError> {
     }
 }
 
-fn value_text(alloc: Global, value: &Value) -> Result<String, AllocError> {
-    match value {
-        Value::Number(number) => one(alloc, "Number", number.to_string(alloc)?),
-        Value::Points(seat) => call(alloc, "Points", &[seat_text(*seat)]),
-        Value::SuitPoints(seat, suit) => {
+fn count_text(alloc: Global, count: &Count) -> Result<String, AllocError> {
+    match count {
+        Count::Points(seat) => call(alloc, "Points", &[seat_text(*seat)]),
+        Count::SuitPoints(seat, suit) => {
             call(alloc, "SuitPoints", &[seat_text(*seat), suit_text(*suit)])
         }
-        Value::Total(measure, seat) => {
+        Count::Total(measure, seat) => {
             call(alloc, "Total", &[measure_text(*measure), seat_text(*seat)])
         }
-        Value::SuitTotal(measure, seat, suit) => call(
+        Count::SuitTotal(measure, seat, suit) => call(
             alloc,
             "SuitTotal",
             &[measure_text(*measure), seat_text(*seat), suit_text(*suit)],
         ),
-        Value::Cards(seat, ranks) => of_seat(alloc, "Cards", *seat, ranks_text(alloc, *ranks)?),
-        Value::SuitCards(seat, suit, ranks) => {
+        Count::Cards(seat, ranks) => of_seat(alloc, "Cards", *seat, ranks_text(alloc, *ranks)?),
+        Count::SuitCards(seat, suit, ranks) => {
             let ranks = ranks_text(alloc, *ranks)?;
             call(
                 alloc,
@@ -66,10 +65,23 @@ fn value_text(alloc: Global, value: &Value) -> Result<String, AllocError> {
                 &[seat_text(*seat), suit_text(*suit), ranks.as_str()],
             )
         }
-        Value::Length(seat, suit) => call(alloc, "Length", &[seat_text(*seat), suit_text(*suit)]),
-        Value::Longest(seat) => call(alloc, "Longest", &[seat_text(*seat)]),
-        Value::Second(seat) => call(alloc, "Second", &[seat_text(*seat)]),
-        Value::Shortest(seat) => call(alloc, "Shortest", &[seat_text(*seat)]),
+        Count::Length(seat, suit) => call(alloc, "Length", &[seat_text(*seat), suit_text(*suit)]),
+        Count::Longest(seat) => call(alloc, "Longest", &[seat_text(*seat)]),
+        Count::Second(seat) => call(alloc, "Second", &[seat_text(*seat)]),
+        Count::Shortest(seat) => call(alloc, "Shortest", &[seat_text(*seat)]),
+    }
+}
+
+fn value_text(alloc: Global, value: &Value) -> Result<String, AllocError> {
+    match value {
+        Value::Number(number) => one(alloc, "Number", number.to_string(alloc)?),
+        Value::Count(count) => count_text(alloc, count),
+        Value::Times(factor, count) => two(
+            alloc,
+            "Times",
+            factor.to_string(alloc)?,
+            count_text(alloc, count)?,
+        ),
         Value::Sum(left, right) => two(
             alloc,
             "Sum",
