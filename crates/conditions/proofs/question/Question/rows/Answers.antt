@@ -7,5 +7,8 @@ use Rattle.conditions.proofs.question.Question.rows.Goals as goal
 
 pub returns-in-Value-clause-few : goal.returns-in-Value-clause-few
 returns-in-Value-clause-few c =
-    omega (arith, c.greatest.ensures.value,
-      few_rows (asks_value (amount_of c.in-Value.value)) (subst (λ a. IsAskable (question_of a)) c.in-Value.is c.self.invariant))
+    omega (
+      arith,
+      c.greatest.ensures.value,
+      few_rows (asks_value (amount_of c.in-Value.value)) (subst (λ a. IsAskable (question_of a)) c.in-Value.is c.self.invariant),
+    )
