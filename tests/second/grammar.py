@@ -32,14 +32,20 @@ WORDS = {
     **{word: f"class {word}" for word in [*language.CLASSES, *language.SIDES]},
     **{word: word for word in language.BESIDE},
 }
-SYMBOLS = {**{sign: sign for sign in "(),-+"}, **dict.fromkeys(["==", "!=", "<=", ">=", "<", ">"], "relation")}
-PIECE = re.compile(rb"[ \t\r\n]+|#[^\n]*|(?P<word>[a-z]+)|(?P<number>[0-9]+)|(?P<symbol>[<>=!]=|[<>]|[(),+-])")
+SYMBOLS = {**{sign: sign for sign in "(),-+*"}, **dict.fromkeys(["==", "!=", "<=", ">=", "<", ">"], "relation")}
+PIECE = re.compile(rb"[ \t\r\n]+|#[^\n]*|(?P<word>[a-z]+)|(?P<number>[0-9]+)|(?P<symbol>[<>=!]=|[<>]|[(),+*-])")
 MOST_BYTES = 1024
 
 VALUES = {"number", "measure", "cards", "len", "longest"}
 # All that begins a condition, and all that begins a value.
 INNERMOST = VALUES | {"balanced", "shape", "stops", "not", "("}
-BEGINNING = {"condition": INNERMOST | {"any"}, "innermost": INNERMOST, "value": VALUES}
+BEGINNING = {
+    "condition": INNERMOST | {"any"},
+    "innermost": INNERMOST,
+    "value": VALUES,
+    # What counts a hand, behind a factor.
+    "count": VALUES - {"number"},
+}
 # What must follow a word whatever happens, a letter each, and the state behind it: q a seat, s a suit, r ranks, n a
 # number, i a length or x, e a suit or ranks, ? a comma with a suit or a bracket, c a class, [ the bracket in which it
 # stands for a suit or a seat, and signs for themselves.
@@ -72,7 +78,9 @@ NAMES = {
     # Where all classes are bound no more can be.
     "innermost": '"not", "(", "balanced", "shape", "pattern", "stops" or a value such as hcp(north)',
     "value": "a value such as hcp(north)",
+    "count": '"hcp", "controls", "losers", "cards", "len", "longest", "second" or "shortest"',
     "+": '"+"',
+    "*": '"*"',
     "relation": "a comparison such as >=",
     "in": '"in"',
     "number": "a number",
@@ -125,10 +133,11 @@ class Machine:
         match self.state:
             case "unit":
                 return {"condition" if self.free() else "innermost"}
-            case "value":
-                return {"value"}
-            case "atom":
-                return {"+"} | ({"relation", "in"} if self.is_left else after)
+            case "value" | "count":
+                return {self.state}
+            case "atom" | "number":
+                times = {"*"} if self.state == "number" else set()
+                return {"+"} | times | ({"relation", "in"} if self.is_left else after)
             case "test":
                 return after
 
@@ -147,7 +156,9 @@ class Machine:
         if kind in OWED:
             self.owed, self.state = OWED[kind]
         elif kind == "number":
-            self.state = "atom"
+            self.state = "number"
+        elif kind == "*":
+            self.state = "count"
         elif kind == ")":
             self.state = "test"
         elif kind in ("+", "relation"):

@@ -28,7 +28,7 @@ RELATIONS = {
     ">": operator.gt,
     ">=": operator.ge,
 }
-TOKEN = re.compile(r"[ \t\r\n]|#[^\n]*|[a-z]+|[0-9]{1,4}|[<>=!]=|[<>]|[(),+-]")
+TOKEN = re.compile(r"[ \t\r\n]|#[^\n]*|[a-z]+|[0-9]{1,4}|[<>=!]=|[<>]|[(),+*-]")
 
 
 def ranks_in(hand, suit):
@@ -223,8 +223,18 @@ class Reader:
 
     def atom(self):
         word = self.next()
-        if word.isdigit():
+        if not word.isdigit():
+            return self.count(word)
+        if not self.sees("*"):
             return lambda hands: int(word)
+        self.next()
+        count = self.count(self.next())
+        return lambda hands: int(word) * count(hands)
+
+    def count(self, word):
+        """What a word counts in a hand."""
+        if word not in [*MEASURES, "longest", "second", "shortest", "len", "cards"]:
+            raise ValueError(f"{word!r} for what counts")
         self.expect("(")
         seat = self.seat()
         if word in ("longest", "second", "shortest"):

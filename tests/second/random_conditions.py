@@ -47,7 +47,16 @@ def single(dice, around):
 
 
 def of_hand(dice, around):
-    """A value, and what it is about."""
+    """A value, and what it is about: one in six has a factor."""
+    value, about = count(dice, around)
+    if dice.randrange(6):
+        return value, about
+    factor = dice.choice([0, 1, 2, 3, 6, 10, 15, 16, 40])
+    return f"{factor}*{value}", factor * about
+
+
+def count(dice, around):
+    """What is counted in a hand, and what that is about."""
     seat = hand(dice, around)
     match dice.randrange(3):
         case 0:

@@ -16,6 +16,7 @@ PIECES = [
     *grammar.SYMBOLS,
     *["akq", "t", "# and\n", "\r", "0", "15", "9999", "1+2", "0==0 and", "hcp(north)>=15 or", "not ("],
     *["hcp(north)", "len(south,clubs)", "hcp(east,hearts)", "controls(east)", "losers(east,hearts)", "cards(north,ak)"],
+    *["2*", "3*hcp(south)", "9999*len(east,spades)"],
     *["hcp(north) in", "balanced(west)", "shape(west,4-3-3-3)", "shape(west,x-x-3-3)", "pattern(north,5-4-3-1)"],
     *["any suit (", "every major (", "any other (", "len(north,suit)", "stops(east,minor)", "second(west)", ")"],
     *["any seat (", "every ns (", "hcp(seat)", "len(partner(ew),suit)", "balanced(left(north))", "shape(right(ns),"],

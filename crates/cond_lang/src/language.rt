@@ -32,7 +32,7 @@ Seats:        north, east, south, west; partner(north) is South, left(north) the
               next clockwise, East, right(north) West
 Suits:        spades, hearts, diamonds, clubs
 Comparisons:  ==  !=  <  <=  >  >=
-Sums:         hcp(north)+hcp(south)>=25
+Sums:         hcp(north)+hcp(south)>=25; 6*cards(north,a) is six for each ace
 Ranges:       hcp(north) in 15-17, both ends included
 Tests:        and, or, not, and brackets around tests; and binds tighter than
               or, not belongs to the one test after it

@@ -4,9 +4,9 @@ use crate::filling::first_in;
 use crate::kinds::Kinds;
 use crate::parts::Parts;
 use crate::tables::{
-    calls, classes, compared, honours, instead, joins, letters, limits, lists, more_or_less, names,
-    nouns, or_more, phrases, plain, ranges, ranks, rest, scripts, several, shapes, short, sides,
-    signs, suits, texts, whole,
+    calls, classes, compared, factors, honours, instead, joins, letters, limits, lists,
+    more_or_less, names, nouns, or_more, phrases, plain, ranges, ranks, rest, scripts, several,
+    shapes, short, sides, signs, suits, texts, whole,
 };
 use crate::{bounds, likeness, outside};
 use cond_lang::Kind;
@@ -21,6 +21,7 @@ enum Source {
     Calls,
     Classes,
     Compared,
+    Factors,
     Honours,
     Instead,
     Joins,
@@ -85,7 +86,7 @@ static PIECE: [Source; 14] = [
 ];
 
 /// What is asked of a token after `EITHER`; before it, the rules for shapes.
-static TOKEN: [Source; 2] = [Source::Calls, Source::Joins];
+static TOKEN: [Source; 3] = [Source::Factors, Source::Calls, Source::Joins];
 
 /// Returns the hint for the piece at the byte `at` of the text, which isn't in the language, if a
 /// rule has one.
@@ -152,6 +153,7 @@ fn rules_of(source: Source) -> &'static str {
         Source::Calls => calls::RULES,
         Source::Classes => classes::RULES,
         Source::Compared => compared::RULES,
+        Source::Factors => factors::RULES,
         Source::Honours => honours::RULES,
         Source::Instead => instead::RULES,
         Source::Joins => joins::RULES,

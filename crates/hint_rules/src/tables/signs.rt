@@ -7,7 +7,7 @@ pub(crate) const RULES: &str = "
     ^ ! = => write \"!=\" without a space
 
     In:shape|pattern ^ =|.|/|: => part the lengths with \"-\", as in 5-3-3-2
-    In:shape|pattern ^ *|?|_ => for any length write \"x\"
+    In:shape|pattern ^ ?|_ => for any length write \"x\"
 
     ^ =|=== => for \"%n0\" write \"==\"
     ^ =>|>==|!< => for \"%n0\" write \">=\"
@@ -34,7 +34,6 @@ pub(crate) const RULES: &str = "
     ^ Begins:QUOTES => in the shell write plain quotes, ' or \", around the whole condition
 
     Seat ^ . => begin with what you ask of the seat, as in hcp(%b1)
-    ^ * => values are added up with \"+\" alone
     ^ / / => for a comment write \"#\"
     ^ \"|'|` => leave the quotes out
 ";

@@ -74,22 +74,35 @@ const VALUE: [Kind; 7] = [
     Kind::Shortest,
 ];
 
+/// All that is counted in a hand.
+const COUNTS: [Kind; 6] = [
+    MEASURE,
+    Kind::Cards,
+    Kind::Len,
+    Kind::Longest,
+    Kind::Second,
+    Kind::Shortest,
+];
+
 /// Texts with a syntax fault, or whole ones, and what may come there.
-const EXPECTED: [(&str, &[Kind]); 36] = [
+const EXPECTED: [(&str, &[Kind]); 39] = [
+    ("2*", &COUNTS),
+    ("2*hcp(north) *", &[Kind::Plus, Kind::Relation, Kind::In]),
+    ("hcp(north) in 2*", &[Kind::Dash]),
     ("", &CONDITION),
     ("1==1+", &VALUE),
     ("hcp(north)", &[Kind::Plus, Kind::Relation, Kind::In]),
     (
         "hcp(north)>=15",
-        &[Kind::Plus, Kind::And, Kind::Or, Kind::End],
+        &[Kind::Plus, Kind::Star, Kind::And, Kind::Or, Kind::End],
     ),
     (
         "hcp(south)==3)",
-        &[Kind::Plus, Kind::And, Kind::Or, Kind::End],
+        &[Kind::Plus, Kind::Star, Kind::And, Kind::Or, Kind::End],
     ),
     (
         "(hcp(south)==3",
-        &[Kind::Plus, Kind::Close, Kind::And, Kind::Or],
+        &[Kind::Plus, Kind::Star, Kind::Close, Kind::And, Kind::Or],
     ),
     ("losers", &[Kind::Open]),
     ("losers(", &[Kind::Seat, PARTNER, LEFT, RIGHT]),

@@ -52,10 +52,16 @@ const EXPECTED: [(&str, &[Kind]); 6] = [
         "hcp(north) hcp(south)",
         &[Kind::Plus, Kind::Relation, Kind::In, Kind::End],
     ),
-    ("7", &[Kind::Plus, Kind::Relation, Kind::In, Kind::End]),
-    ("(7)", &[Kind::Plus, Kind::Relation, Kind::In]),
+    (
+        "7",
+        &[Kind::Plus, Kind::Star, Kind::Relation, Kind::In, Kind::End],
+    ),
+    ("(7)", &[Kind::Plus, Kind::Star, Kind::Relation, Kind::In]),
     ("len(north)", &[Kind::Comma]),
-    ("7==8 9", &[Kind::Plus, Kind::And, Kind::Or, Kind::End]),
+    (
+        "7==8 9",
+        &[Kind::Plus, Kind::Star, Kind::And, Kind::Or, Kind::End],
+    ),
     ("balanced(north)+1", &[Kind::And, Kind::Or, Kind::End]),
 ];
 

@@ -4,7 +4,15 @@ use super::spelling::tree_text;
 use super::*;
 
 /// Texts, and their trees.
-const TREES: [(&str, &str); 47] = [
+const TREES: [(&str, &str); 49] = [
+    (
+        "2*hcp(north)>=60",
+        "Compare { left: Times(2, Points(North)), op: AtLeast, right: Number(60) }",
+    ),
+    (
+        "1+0*cards(east,clubs,a)+3 in 4-5",
+        "Within(Sum(Sum(Number(1), Times(0, SuitCards(East, Clubs, A))), Number(3)), 4, 5)",
+    ),
     (
         "0==0",
         "Compare { left: Number(0), op: Equal, right: Number(0) }",
