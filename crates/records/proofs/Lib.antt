@@ -1,0 +1,5 @@
+pub mod Partitions
+pub mod DealTexts
+pub mod Steps
+pub mod Scanning
+pub mod Rooms

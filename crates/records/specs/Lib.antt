@@ -1,0 +1,7 @@
+pub mod Places
+pub mod Kinds
+pub mod Values
+pub mod DealValues
+pub mod Games
+pub mod Texts
+pub mod Scans
