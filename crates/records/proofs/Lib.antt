@@ -3,3 +3,5 @@ pub mod DealTexts
 pub mod Steps
 pub mod Scanning
 pub mod Rooms
+pub mod Unread
+pub mod Filling

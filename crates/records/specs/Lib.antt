@@ -5,3 +5,4 @@ pub mod DealValues
 pub mod Games
 pub mod Texts
 pub mod Scans
+pub mod Readers

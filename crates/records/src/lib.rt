@@ -12,6 +12,7 @@ mod game;
 
 mod kind;
 mod line;
+mod reader;
 mod reading;
 mod scanner;
 mod values;
@@ -23,4 +24,5 @@ pub use fault::{RecordFault, RefusedRecord};
 pub use game::Game;
 pub use kind::Kind;
 pub use line::{Part, Step};
+pub use reader::{BoardReader, Next, ReadFault};
 pub use scanner::Scanner;
