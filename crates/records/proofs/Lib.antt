@@ -5,3 +5,4 @@ pub mod Scanning
 pub mod Rooms
 pub mod Unread
 pub mod Filling
+pub mod Written

@@ -6,3 +6,5 @@ pub mod Games
 pub mod Texts
 pub mod Scans
 pub mod Readers
+pub mod Shown
+pub mod internal

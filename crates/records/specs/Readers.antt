@@ -4,7 +4,7 @@ use Rattle.std.specs.Prelude.{Option, None, Result, Ok, Err}
 use Rattle.std.specs.Io.KnownBytes.{Consumes, IsAtEnd}
 use Rattle.boards.specs.declared.board.Board.{Board as ABoard}
 use Rattle.records.specs.Scans.{IsWithin, spells_from}
-use Rattle.records.specs.Texts.{Spelled, after, refused_with}
+use Rattle.records.specs.Texts.{Spelled, after, refused_with, spelled}
 use Rattle.records.specs.declared.reader.BoardReader.{BoardReader}
 use Rattle.records.specs.declared.reader.Next.{Next}
 use Rattle.records.specs.declared.reader.Next.TheVariants.{Board, Last, End}
@@ -79,3 +79,7 @@ TellsEnd r (Err Input) = ⊥
 abbrev pub OnBoard : Result Next ReadFault → Type 0 → Type 0
 OnBoard (Ok (Board board)) P = P
 OnBoard _ P = Unit {0}
+
+-- it has read nothing
+abbrev pub IsFresh : BoardReader → Type 0
+IsFresh r = (text : List ℕ) → unread_spells r text ≡ spelled text

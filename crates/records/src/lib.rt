@@ -15,6 +15,7 @@ mod line;
 mod reader;
 mod reading;
 mod scanner;
+mod shown;
 mod values;
 
 
@@ -26,3 +27,4 @@ pub use kind::Kind;
 pub use line::{Part, Step};
 pub use reader::{BoardReader, Next, ReadFault};
 pub use scanner::Scanner;
+pub use shown::{ShowFault, show};
