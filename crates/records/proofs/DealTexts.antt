@@ -1,5 +1,5 @@
 -- The seat and the hands of a Deal tag's value.
-use Rattle.std.proofs.Common.{◌≡◌, ◌<◌, ◌≤◌, ℕ, ◌==◌, false, List, [], ◌∷◌, length, drop, take, get_or, None, refl, arith, eq-eqb}
+use Rattle.std.proofs.Common.{◌≡◌, ◌<◌, ◌≤◌, ℕ, List, [], ◌∷◌, length, drop, take, get_or, None, refl, arith, eq-eqb}
 use Rattle.std.proofs.lemmas.Bool.{ne_eqb}
 use Rattle.records.specs.DealValues.{deal_in, hands_tell}
 use Rattle.records.specs.Values.{dealer_in}

@@ -2,7 +2,7 @@
 use Rattle.std.proofs.Common.{◌≡◌, ◌∙◌, List, [], ◌∷◌, ◌++◌, ℕ, Option, Ok, Err, Result, ap, append_assoc, refl, sym}
 use Rattle.std.proofs.lemmas.List.{append-nil}
 use Rattle.std.proofs.KnownBytes.{Consumes-kept, Consumes-nil, Consumes-trans}
-use Rattle.std.specs.Io.KnownBytes.{Consumes, IsAtEnd, Keeps}
+use Rattle.std.specs.Io.KnownBytes.{IsAtEnd, Keeps}
 use Rattle.records.specs.Readers.{Fills, OnBoard, ReadsNext, TellsEnd, unread_spells}
 use Rattle.records.specs.declared.fault.RefusedRecord.{RefusedRecord}
 use Rattle.records.specs.declared.reader.BoardReader.{BoardReader}

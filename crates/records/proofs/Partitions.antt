@@ -1,5 +1,5 @@
 -- The seats of a deal, and the test that each has thirteen cards.
-use Rattle.std.proofs.Common.{◌≡◌, ◌↔◌, ◌∙◌, ℕ, ◌==◌, Bool, true, false, List, [], ◌∷◌, length, Option, None, Some, refl, sym, arith, rules}
+use Rattle.std.proofs.Common.{◌≡◌, ◌↔◌, ◌∙◌, ◌==◌, Bool, true, false, List, length, Option, None, Some, refl, sym, rules}
 use Rattle.std.specs.Prelude.{IfSome, IsSome, if◌then◌else◌}
 use Rattle.std.proofs.lemmas.Bool.{and_parts, eqb-true}
 use Rattle.std.proofs.Common.{eq-eqb, ◌&&◌}
@@ -17,7 +17,7 @@ is_it deal count test =
     record {
       count = count;
       thirteen = λ seat. elim seat as (λ q. cards_of deal q ≡ 13) [
-        North ↦ eqb-true (cards_of deal North) 13 n.0
+        | North ↦ eqb-true (cards_of deal North) 13 n.0
         | East ↦ eqb-true (cards_of deal East) 13 e.0
         | South ↦ eqb-true (cards_of deal South) 13 s.0
         | West ↦ eqb-true (cards_of deal West) 13 w.0

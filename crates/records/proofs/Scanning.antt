@@ -1,5 +1,5 @@
 -- What a byte does to what a text spells.
-use Rattle.std.proofs.Common.{◌≡◌, ◌∙◌, ℕ, ◌==◌, Bool, true, false, List, [], ◌∷◌, Result, Ok, Err, IfOk, IfErr, Option, None, ap, refl}
+use Rattle.std.proofs.Common.{◌≡◌, ◌∙◌, ℕ, ◌==◌, Bool, true, false, List, [], ◌∷◌, Result, Ok, Err, IfOk, IfErr, Option, None, refl}
 use Rattle.boards.specs.declared.board.Board.{Board as ABoard}
 use Rattle.picking.specs.NumberTexts.{starts_with_lf}
 use Rattle.records.specs.Scans.{spells_from}

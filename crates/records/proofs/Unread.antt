@@ -4,10 +4,9 @@ use Rattle.std.proofs.lemmas.List.{drop_all, get_or-take}
 use Rattle.boards.specs.declared.board.Board.{Board as ABoard}
 use Rattle.records.specs.Readers.{unread, unread_spells}
 use Rattle.records.specs.Scans.{spells_from}
-use Rattle.records.specs.Texts.{Spelled, after, list_of, refused_with}
+use Rattle.records.specs.Texts.{after, list_of, refused_with}
 use Rattle.records.specs.declared.fault.RefusedRecord.{RefusedRecord}
 use Rattle.records.specs.declared.reader.BoardReader.{BoardReader}
-use Rattle.records.specs.declared.scanner.Scanner.{Scanner}
 
 next_byte : (piece : List ℕ) (from to : ℕ) → from < to → to ≤ length piece → drop from (take to piece) ≡ get_or piece from 0 ∷ drop (from + 1) (take to piece)
 next_byte piece from to some fits =

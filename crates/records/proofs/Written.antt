@@ -3,14 +3,13 @@ use Rattle.std.proofs.Common.{◌≡◌, ◌∙◌, ℕ, ◌+◌, List, [], ◌�
 use Rattle.std.specs.Prelude.{IfErr, OnOk, flat_map}
 use Rattle.std.proofs.lemmas.List.{append-nil}
 use Rattle.std.proofs.KnownBytes.{Consumes-nil, Consumes-trans}
-use Rattle.std.specs.Io.KnownBytes.{Consumes, IsAtEnd}
 use Rattle.boards.specs.declared.board.Board.{Board as ABoard}
 use Rattle.boards.specs.Layouts.{Layout}
 use Rattle.plans.specs.Text.{text_of_boards}
 use Rattle.plans.proofs.BoardLists.{text_of_boards-append, text_of_boards-more, text_of_boards-none}
 use Rattle.records.specs.Readers.{IsFresh, ReadsNext, unread_spells}
-use Rattle.records.specs.Shown.{BeginsWith, InputFaultsOf, Puts, Shows, ShowsOf, footer_for, shown_text}
-use Rattle.records.specs.Texts.{Spelled, after, refused_with, spelled}
+use Rattle.records.specs.Shown.{InputFaultsOf, Puts, Shows, ShowsOf, footer_for, shown_text}
+use Rattle.records.specs.Texts.{Spelled, after, spelled}
 use Rattle.records.specs.internal.Showing.{ShownFrom}
 use Rattle.records.specs.declared.fault.RefusedRecord.{RefusedRecord}
 use Rattle.records.specs.declared.reader.BoardReader.{BoardReader}
@@ -62,8 +61,8 @@ breaks_board layout same_layout has r s count before now after_read base out new
     let read : unread_spells r q.given ≡ after (b ∷ []) later = ap (unread_spells r) (sym (append-nil q.given)) ∙ q.tells [] in
     let is : spelled (p.given ++ q.given) ≡ after boards later = spells_all layout has r count before now base out p q.given (after (b ∷ []) later) read ∙ after-after p.boards (b ∷ []) later in
     let text : shown_text layout (after boards later) ≡ front ++ same_layout.board b ++ tail =
-        ap (λ l. l ++ foot) (text_of_boards-append layout boards later.boards ∙ ap (λ l. l ++ flat_map layout.board later.boards) (more_text layout same_layout p.boards b same))
-        ∙ append_assoc (front ++ same_layout.board b) (flat_map layout.board later.boards) foot in
+    ap (λ l. l ++ foot) (text_of_boards-append layout boards later.boards ∙ ap (λ l. l ++ flat_map layout.board later.boards) (more_text layout same_layout p.boards b same))
+    ∙ append_assoc (front ++ same_layout.board b) (flat_map layout.board later.boards) foot in
     record {
       given = p.given ++ q.given;
       consumed = Consumes-trans before now after_read p.given q.given p.consumed q.consumed;
@@ -98,10 +97,10 @@ shows_last layout same_layout has r s count before now after_read base out new b
     let counted : count + 1 ≡ length boards = ap (λ n. n + 1) p.count_is ∙ sym (length-append p.boards (b ∷ [])) in
     let is : spelled (p.given ++ q.given) ≡ record { boards = boards; refused = None } = spells_all layout has r count before now base out p q.given _ q.tells in
     let whole : front ++ (same_layout.board b ++ same_layout.footer boards (count + 1)) ≡ shown_text layout (record { boards = boards; refused = None }) =
-        sym (append_assoc front (same_layout.board b) (same_layout.footer boards (count + 1)))
-        ∙ ap (λ l. l ++ same_layout.footer boards (count + 1)) (sym (more_text layout same_layout p.boards b same))
-        ∙ ap (λ (l : Layout). text_of_boards layout boards ++ l.footer boards (count + 1)) same
-        ∙ ap (λ n. text_of_boards layout boards ++ layout.footer boards n) counted in
+    sym (append_assoc front (same_layout.board b) (same_layout.footer boards (count + 1)))
+    ∙ ap (λ l. l ++ same_layout.footer boards (count + 1)) (sym (more_text layout same_layout p.boards b same))
+    ∙ ap (λ (l : Layout). text_of_boards layout boards ++ l.footer boards (count + 1)) same
+    ∙ ap (λ n. text_of_boards layout boards ++ layout.footer boards n) counted in
     record {
       given = p.given ++ q.given;
       consumed = Consumes-trans before now after_read p.given q.given p.consumed q.consumed;
@@ -117,7 +116,7 @@ shows_end layout same_layout has r s count before now after_read base out new re
     let as_spelled : List ABoard → Spelled = λ l. record { boards = l; refused = None } in
     let is : spelled (p.given ++ q.given) ≡ record { boards = p.boards; refused = None } = spells_all layout has r count before now base out p q.given _ q.tells ∙ ap as_spelled (append-nil p.boards) in
     let whole : front ++ same_layout.footer p.boards count ≡ shown_text layout (record { boards = p.boards; refused = None }) =
-        ap (λ (l : Layout). front ++ l.footer p.boards count) same ∙ ap (λ n. front ++ layout.footer p.boards n) p.count_is in
+    ap (λ (l : Layout). front ++ l.footer p.boards count) same ∙ ap (λ n. front ++ layout.footer p.boards n) p.count_is in
     record {
       given = p.given ++ q.given;
       consumed = Consumes-trans before now after_read p.given q.given p.consumed q.consumed;
@@ -143,10 +142,16 @@ shows_failed layout has r s count before now after_read base out q p = record {
   given = p.given ++ q.given;
   consumed = Consumes-trans before now after_read p.given q.given p.consumed q.consumed;
   all = tt;
-  written = (p.boards, (record {
-    later = λ rest. unread_spells r (q.given ++ rest);
-    spells = λ rest. ap spelled (append_assoc p.given q.given rest) ∙ p.spells (q.given ++ rest);
-  }, p.bytes));
+  written = (
+    p.boards,
+    (
+      record {
+        later = λ rest. unread_spells r (q.given ++ rest);
+        spells = λ rest. ap spelled (append_assoc p.given q.given rest) ∙ p.spells (q.given ++ rest);
+      },
+      p.bytes,
+    ),
+  );
 }
 
 -- ---- the beginning

@@ -44,9 +44,9 @@ gives first p seats [] = if p == 15 then Some seats else None
 gives first p seats (b ∷ bs) =
     if nat_lt p 15 && b == separator p then gives first (p + 1) seats bs
     else (if nat_lt (rank_in b) 13
-          then if_given (given seats (card_in p (rank_in b)) (seat_in first p))
-              (λ more. gives first p more bs)
-          else None)
+    then if_given (given seats (card_in p (rank_in b)) (seat_in first p))
+    (λ more. gives first p more bs)
+    else None)
 
 abbrev pub none_given : List (Option Seat)
 none_given = replicate 52 None

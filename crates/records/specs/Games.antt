@@ -17,8 +17,14 @@ use Rattle.records.specs.declared.kind.Kind.TheVariants.{Vulnerable, Deal}
 
 abbrev pub no_game : Game
 no_game = record {
-  event = false; site = false; date = false;
-  number = None; dealer = None; vulnerable = None; deal = None; fault = None
+  event = false;
+  site = false;
+  date = false;
+  number = None;
+  dealer = None;
+  vulnerable = None;
+  deal = None;
+  fault = None;
 }
 
 abbrev pub has : Kind → Game → Bool

@@ -21,7 +21,12 @@ pub record Place : Type 0 where
 
 abbrev pub begin : Place
 begin = record {
-  part = Open; skips = false; comment = false; column = 0; name = []; value = []
+  part = Open;
+  skips = false;
+  comment = false;
+  column = 0;
+  name = [];
+  value = [];
 }
 
 -- the next line
@@ -51,7 +56,7 @@ opened p b =
     else (if b == 123 then record p { comment = true }
     else (if b == 59 then record p { part = Rest }
     else (if b == 91 && (p.column == 1 || not p.skips)
-          then record p { part = Bracket; skips = false }
+    then record p { part = Bracket; skips = false }
     else (if is_blank b then p else record p { skips = true })))))
 
 -- ---- in a tag: `[`, a name, blanks, `"`, a value, `"`, blanks, `]`

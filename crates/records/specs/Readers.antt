@@ -1,8 +1,7 @@
 -- How far an input was read.
-use Rattle.std.specs.Prelude.{◌≡◌, ◌<◌, ◌≤◌, ℕ, ◌+◌, ◌-◌, ◌^◌, List, [], ◌∷◌, ◌++◌, drop, length, take}
+use Rattle.std.specs.Prelude.{◌≡◌, ◌≤◌, ℕ, ◌+◌, ◌-◌, ◌^◌, List, [], ◌∷◌, ◌++◌, drop, length, take}
 use Rattle.std.specs.Prelude.{Option, None, Result, Ok, Err}
 use Rattle.std.specs.Io.KnownBytes.{Consumes, IsAtEnd}
-use Rattle.boards.specs.declared.board.Board.{Board as ABoard}
 use Rattle.records.specs.Scans.{IsWithin, spells_from}
 use Rattle.records.specs.Texts.{Spelled, after, refused_with, spelled}
 use Rattle.records.specs.declared.reader.BoardReader.{BoardReader}

@@ -1,5 +1,5 @@
 -- What a text spells: boards, up to a line that is refused.
-use Rattle.std.specs.Prelude.{◌≡◌, ◌≤◌, ℕ, ◌+◌, ◌^◌, ◌==◌, ◌&&◌, Bool, not, nat_lt, unwrap_or}
+use Rattle.std.specs.Prelude.{◌≤◌, ℕ, ◌+◌, ◌^◌, nat_lt, unwrap_or}
 use Rattle.std.specs.Prelude.{List, [], ◌∷◌, ◌++◌, Option, None, Some, Result, Ok, Err}
 use Rattle.std.specs.Prelude.{if◌then◌else◌}
 use Rattle.boards.specs.declared.board.Board.{Board as ABoard}

@@ -123,9 +123,18 @@ impl Game {
         ensures most { unwrap_or self.now.number 0 ≤ 2 ^ 40 → unwrap_or result.number 0 ≤ 2 ^ 40 }
     {
         match kind {
-            Kind::Event => Game { event: true, ..*self },
-            Kind::Site => Game { site: true, ..*self },
-            Kind::Date => Game { date: true, ..*self },
+            Kind::Event => Game {
+                event: true,
+                ..*self
+            },
+            Kind::Site => Game {
+                site: true,
+                ..*self
+            },
+            Kind::Date => Game {
+                date: true,
+                ..*self
+            },
             Kind::Board => self.with_number(value, line),
             Kind::Dealer => self.with_dealer(value, line),
             Kind::Vulnerable => self.with_vulnerable(value, line),
@@ -158,7 +167,10 @@ impl Game {
             number,
             candidate: 0,
             dealer: self.dealer.unwrap_or(None).unwrap_or(dealer(number)),
-            vulnerable: self.vulnerable.unwrap_or(None).unwrap_or(vulnerable(number)),
+            vulnerable: self
+                .vulnerable
+                .unwrap_or(None)
+                .unwrap_or(vulnerable(number)),
             deal,
         }
     }

@@ -5,11 +5,9 @@
 //! in constant memory, and lines have at most 4,096 bytes.
 #![tactic(auto)]
 
-
 mod deal_value;
 mod fault;
 mod game;
-
 mod kind;
 mod line;
 mod reader;
@@ -17,9 +15,6 @@ mod reading;
 mod scanner;
 mod shown;
 mod values;
-
-
-
 
 pub use fault::{RecordFault, RefusedRecord};
 pub use game::Game;

@@ -31,11 +31,7 @@ pub enum ShowFault {
 }
 
 /// Writes a board.
-fn put<N: Notation, S: Sink>(
-    board: &Board,
-    notation: &mut N,
-    sink: &mut S,
-) -> Result<(), SinkFault>
+fn put<N: Notation, S: Sink>(board: &Board, notation: &mut N, sink: &mut S) -> Result<(), SinkFault>
     requires { S.faults sink.old < 2 ^ 64 - 1 }
     ensures layout { N.layout notation.new ≡ N.layout notation.old }
     ensures bytes { AppendsOrBreaksOff (S.bytes sink.old) (S.bytes sink.new) result

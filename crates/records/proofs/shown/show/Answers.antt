@@ -1,6 +1,5 @@
 use Rattle.std.proofs.Common.{◌≡◌, Err, refl, rules, subst, sym}
 use Rattle.records.specs.declared.reader.ReadFault.TheVariants.{Input}
-use Rattle.records.specs.Readers.{ReadsNext}
 use Rattle.records.specs.Shown.{Shows}
 use Rattle.records.specs.internal.Showing.{ShownFrom}
 use Rattle.sinks.specs.Appended.{AppendsAll, AppendsPart}

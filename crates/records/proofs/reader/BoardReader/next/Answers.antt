@@ -1,6 +1,4 @@
-use Rattle.std.proofs.Common.{◌≡◌, ◌∙◌, ℕ, List, ap, arith, refl, rules, subst, sym}
-use Rattle.std.specs.Prelude.{None}
-use Rattle.records.specs.Texts.{after, list_of}
+use Rattle.std.proofs.Common.{◌≡◌, ℕ, List, arith, rules}
 use Rattle.records.specs.Readers.{unread_spells}
 use Rattle.records.proofs.Filling.{fills_on, no_board, reads_end, reads_failed, reads_refused}
 use Rattle.records.proofs.reader.BoardReader.next.Goals as goal
@@ -14,7 +12,7 @@ returns-in-Ok-false-clause-reads g c =
     let middle = g.I.Source.rest c.loop-turn.input in
     let after_read = g.I.Source.rest c.fill.new.input in
     let same : (rest : List ℕ) → unread_spells c.loop-turn.self rest ≡ unread_spells c.take_piece.new.self rest =
-        λ rest. (rw c.in-Ok-None.field-0-is at c.in-Ok-None.ensures.goes_on) rest in
+    λ rest. (rw c.in-Ok-None.field-0-is at c.in-Ok-None.ensures.goes_on) rest in
     let all = fills_on c.args.self.now c.loop-turn.self c.take_piece.new.self c.fill.new.self before middle after_read c.loop-turn.invariant.so_far same c.in-Ok-false.ensures.fills in
     reads_end c.args.self.now c.fill.new.self c.finish.new.self c.finish.result before after_read all (c.in-Ok-false.ensures.end c.in-Ok-false.field-0-test) c.finish.ensures
 
@@ -37,7 +35,7 @@ loop-turn-preserved g c =
     let middle = g.I.Source.rest c.loop-turn.input in
     let after_read = g.I.Source.rest c.fill.new.input in
     let same : (rest : List ℕ) → unread_spells c.loop-turn.self rest ≡ unread_spells c.take_piece.new.self rest =
-        λ rest. (rw c.in-Ok-None.field-0-is at c.in-Ok-None.ensures.goes_on) rest in
+    λ rest. (rw c.in-Ok-None.field-0-is at c.in-Ok-None.ensures.goes_on) rest in
     record {
       so_far = fills_on c.args.self.now c.loop-turn.self c.take_piece.new.self c.fill.new.self before middle after_read c.loop-turn.invariant.so_far same c.in-Ok-true.ensures.fills;
       ready = search rules;

@@ -1,4 +1,4 @@
-use Rattle.std.proofs.Common.{◌≡◌, ◌≤◌, ◌<◌, ◌^◌, ◌+◌, ◌⊎◌}
+use Rattle.std.proofs.Common.{◌≡◌, ◌≤◌}
 use Rattle.records.specs.Readers.{Fills, IsFed, IsReady, left}
 use Rattle.records.proofs.reader.BoardReader.next.Given as goal
 

@@ -1,4 +1,4 @@
-use Rattle.std.proofs.Common.{◌+◌, arith, refl}
+use Rattle.std.proofs.Common.{arith, refl}
 use Rattle.records.proofs.Rooms.{on_ok}
 use Rattle.records.proofs.Unread.{byte_refused, byte_taken}
 use Rattle.records.proofs.reader.BoardReader.take_byte.Goals as goal

@@ -1,8 +1,5 @@
-use Rattle.std.proofs.Common.{◌≡◌, ◌∙◌, ap, false, rules}
-use Rattle.std.specs.Prelude.{None}
-use Rattle.std.proofs.lemmas.List.{append-nil}
+use Rattle.std.proofs.Common.{◌≡◌, false, rules}
 use Rattle.records.specs.Places.{is_in_tag}
-use Rattle.records.specs.Texts.{Spelled, list_of, nothing_more}
 use Rattle.records.proofs.Steps.{at_end, behind_all}
 use Rattle.records.proofs.reading.Reading.finish.Goals as goal
 

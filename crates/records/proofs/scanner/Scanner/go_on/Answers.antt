@@ -1,4 +1,4 @@
-use Rattle.std.proofs.Common.{◌≡◌, ◌==◌, false, rules, subst, sym}
+use Rattle.std.proofs.Common.{◌≡◌, ◌==◌, false, rules}
 use Rattle.records.proofs.Scanning.{at_cr, byte_read, byte_refused}
 use Rattle.records.proofs.scanner.Scanner.go_on.Goals as goal
 

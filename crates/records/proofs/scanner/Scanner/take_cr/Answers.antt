@@ -1,4 +1,4 @@
-use Rattle.std.proofs.Common.{◌≡◌, ◌∙◌, ◌≢◌, ap, arith, refl, rules, true}
+use Rattle.std.proofs.Common.{◌≡◌, ◌∙◌, ◌≢◌, ap, arith, rules, true}
 use Rattle.std.specs.Prelude.{None}
 use Rattle.records.specs.Scans.{spells_from}
 use Rattle.records.specs.Texts.{after, list_of}
