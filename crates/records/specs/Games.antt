@@ -1,0 +1,117 @@
+-- What the tags of a game say, and the board that the game is.
+use Rattle.std.specs.Prelude.{ℕ, zero, suc, ◌+◌, ◌==◌, ◌&&◌, Bool, true, false, not, is_none, is_some}
+use Rattle.std.specs.Prelude.{List, Option, None, Some, Result, Ok, Err, unwrap_or, if◌then◌else◌}
+use Rattle.boards.specs.declared.board.Board.{Board as ABoard}
+use Rattle.boards.specs.Law2.{dealer_of, vulnerable_of}
+use Rattle.cards.specs.declared.seat.Seat.{Seat}
+use Rattle.records.specs.DealValues.{deal_in}
+use Rattle.records.specs.Values.{dealer_in, is_unknown, number_in, vulnerable_in}
+use Rattle.records.specs.declared.fault.RecordFault.{RecordFault}
+use Rattle.records.specs.declared.fault.RecordFault.TheVariants.{NotADeal, NotANumber, NotADealer}
+use Rattle.records.specs.declared.fault.RecordFault.TheVariants.{NotAVulnerability}
+use Rattle.records.specs.declared.fault.RefusedRecord.{RefusedRecord}
+use Rattle.records.specs.declared.game.Game.{Game}
+use Rattle.records.specs.declared.kind.Kind.{Kind}
+use Rattle.records.specs.declared.kind.Kind.TheVariants.{Event, Site, Date, Board, Dealer}
+use Rattle.records.specs.declared.kind.Kind.TheVariants.{Vulnerable, Deal}
+
+abbrev pub no_game : Game
+no_game = record {
+  event = false;
+  site = false;
+  date = false;
+  number = None;
+  dealer = None;
+  vulnerable = None;
+  deal = None;
+  fault = None;
+}
+
+abbrev pub has : Kind → Game → Bool
+has Event g = g.event
+has Site g = g.site
+has Date g = g.date
+has Board g = is_some g.number
+has Dealer g = is_some g.dealer
+has Vulnerable g = is_some g.vulnerable
+has Deal g = is_some g.deal
+
+-- ---- a tag more
+
+-- the first fault stays
+abbrev pub first_fault : Option RefusedRecord → Bool → ℕ → RecordFault → Option RefusedRecord
+first_fault (Some first) bad line fault = Some first
+first_fault None bad line fault = if bad then Some (record { line = line; fault = fault }) else None
+
+abbrev pub with_number : List ℕ → ℕ → Game → Game
+with_number value line g = record g {
+  number = Some (number_in value);
+  fault = first_fault g.fault (number_in value == 0) line NotANumber;
+}
+
+abbrev pub with_dealer : List ℕ → ℕ → Game → Game
+with_dealer value line g = record g {
+  dealer = Some (dealer_in value);
+  fault = first_fault g.fault (is_none (dealer_in value) && not (is_unknown value)) line NotADealer;
+}
+
+abbrev pub with_vulnerable : List ℕ → ℕ → Game → Game
+with_vulnerable value line g = record g {
+  vulnerable = Some (vulnerable_in value);
+  fault = first_fault g.fault (is_none (vulnerable_in value) && not (is_unknown value)) line
+      NotAVulnerability;
+}
+
+abbrev pub with_deal : List ℕ → ℕ → Game → Game
+with_deal value line g = record g {
+  deal = Some (deal_in value);
+  fault = first_fault g.fault (is_none (deal_in value)) line NotADeal;
+}
+
+-- the game with the tag of this kind and value, on this line
+unfoldable pub with_tag : Kind → List ℕ → ℕ → Game → Game
+with_tag Event value line g = record g { event = true }
+with_tag Site value line g = record g { site = true }
+with_tag Date value line g = record g { date = true }
+with_tag Board value line g = with_number value line g
+with_tag Dealer value line g = with_dealer value line g
+with_tag Vulnerable value line g = with_vulnerable value line g
+with_tag Deal value line g = with_deal value line g
+
+-- ---- the board
+
+-- one more than the last, where no number is given
+abbrev pub or_next : ℕ → ℕ → ℕ
+or_next last zero = last + 1
+or_next last (suc n) = suc n
+
+abbrev pub number_of : ℕ → Game → ℕ
+number_of last g = or_next last (unwrap_or g.number 0)
+
+-- Law 2 gives the dealer and the vulnerability that aren't known. There is no candidate
+abbrev pub board_of : ℕ → Game → List Seat → ABoard
+board_of last g deal = record {
+  number = number_of last g;
+  candidate = 0;
+  dealer = unwrap_or (unwrap_or g.dealer None) (dealer_of (number_of last g));
+  vulnerable = unwrap_or (unwrap_or g.vulnerable None) (vulnerable_of (number_of last g));
+  deal = deal;
+}
+
+-- a deal that is none is a fault
+abbrev pub deal_says : ℕ → Game → Option (List Seat) → Option ABoard
+deal_says last g None = None
+deal_says last g (Some deal) = Some (board_of last g deal)
+
+abbrev pub unless_fault : Option RefusedRecord → Option ABoard → Result (Option ABoard) RefusedRecord
+unless_fault (Some fault) board = Err fault
+unless_fault None board = Ok board
+
+-- what a game says as it ends, behind the board of this number. Without a deal it has no board and
+-- no fault
+abbrev pub by_deal : ℕ → Game → Option (Option (List Seat)) → Result (Option ABoard) RefusedRecord
+by_deal last g None = Ok None
+by_deal last g (Some deal) = unless_fault g.fault (deal_says last g deal)
+
+unfoldable pub game_says : ℕ → Game → Result (Option ABoard) RefusedRecord
+game_says last g = by_deal last g g.deal

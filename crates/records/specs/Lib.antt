@@ -1,0 +1,10 @@
+pub mod Places
+pub mod Kinds
+pub mod Values
+pub mod DealValues
+pub mod Games
+pub mod Texts
+pub mod Scans
+pub mod Readers
+pub mod Shown
+pub mod internal

@@ -1,0 +1,71 @@
+-- The text that is written for a text of games.
+use Rattle.std.specs.Prelude.{◌≡◌, ℕ, ◌+◌, List, [], ◌++◌, length, Option, None, Some, Result, Ok, Err}
+use Rattle.std.specs.Prelude.{MatchResult, OnOk}
+use Rattle.std.specs.Io.KnownBytes.{Consumes, IsAtEnd}
+use Rattle.boards.specs.declared.board.Board.{Board as ABoard}
+use Rattle.boards.specs.Layouts.{Layout}
+use Rattle.plans.specs.Text.{text_of_boards}
+use Rattle.records.specs.Texts.{Spelled, after, spelled}
+use Rattle.records.specs.declared.fault.RefusedRecord.{RefusedRecord}
+use Rattle.records.specs.declared.shown.ShowFault.{ShowFault}
+use Rattle.records.specs.declared.shown.ShowFault.TheVariants.{Refused, Input, Output}
+use Rattle.sinks.specs.Appended.{AppendsAll, AppendsPart}
+
+-- the footer; there is none where a line is refused
+abbrev pub footer_for : Layout → List ABoard → Option RefusedRecord → List ℕ
+footer_for layout boards None = layout.footer boards (length boards)
+footer_for layout boards (Some line) = []
+
+-- the header, the boards in order, and the footer
+abbrev pub shown_text : Layout → Spelled → List ℕ
+shown_text layout s = text_of_boards layout s.boards ++ footer_for layout s.boards s.refused
+
+-- a text spells these boards first, whatever comes behind it
+pub record BeginsWith (text : List ℕ) (boards : List ABoard) : Type 0 where
+  pub later : List ℕ → Spelled
+  pub spells : (rest : List ℕ) → spelled (text ++ rest) ≡ after boards (later rest)
+
+-- what was written, by the bytes that the input gave
+abbrev pub ShowsOf : Layout → List ℕ → Result ℕ ShowFault → (old new : Option (List ℕ)) → Type 0
+-- all that they spell
+ShowsOf layout given (Ok boards) old new =
+    ((spelled given).refused ≡ None) × (boards ≡ length (spelled given).boards)
+    × AppendsAll old new (shown_text layout (spelled given))
+-- the boards up to the line that is refused
+ShowsOf layout given (Err (Refused line)) old new =
+    ((spelled given).refused ≡ Some line)
+    × AppendsAll old new (shown_text layout (spelled given))
+-- boards that they begin with
+ShowsOf layout given (Err Input) old new =
+    (boards : List ABoard) × (BeginsWith given boards × AppendsAll old new (text_of_boards layout boards))
+-- not all of what they spell
+ShowsOf layout given (Err Output) old new = AppendsPart old new (shown_text layout (spelled given))
+
+-- `given` is what the input gave, to its end at Ok: where it tells its bytes, these are the first
+-- of them
+pub record Shows (layout : Layout) (result : Result ℕ ShowFault)
+    (before after old new : Option (List ℕ)) : Type 0 where
+  pub given : List ℕ
+  pub consumed : Consumes before after given
+  pub all : OnOk result (IsAtEnd after)
+  pub written : ShowsOf layout given result old new
+
+-- how often the output failed, and the input
+abbrev pub FaultsOf : {T : Type 0} → Result T ShowFault → (old new : ℕ) → Type 0
+FaultsOf (Err Output) old new = new ≡ old + 1
+FaultsOf _ old new = new ≡ old
+
+abbrev pub InputFaultsOf : {T : Type 0} → Result T ShowFault → (old new : ℕ) → Type 0
+InputFaultsOf (Err Input) old new = new ≡ old + 1
+InputFaultsOf _ old new = new ≡ old
+
+-- a text was written after this many boards, or a part of it
+abbrev pub Puts : Result ℕ ShowFault → ℕ → (old new : Option (List ℕ)) → List ℕ → Type 0
+Puts result boards old new text = MatchResult result
+    (λ n. (n ≡ boards) × AppendsAll old new text)
+    (λ fault. (fault ≡ Output) × AppendsPart old new text)
+
+-- the input may fail after the first read, if a board was read first
+abbrev pub MoreFaults : {T U : Type 0} → Result T U → Result ℕ ShowFault → (old new : ℕ) → Type 0
+MoreFaults (Ok next) result old new = InputFaultsOf result old new
+MoreFaults (Err fault) result old new = new ≡ old

@@ -1,0 +1,40 @@
+-- What the values of tags say of a board's number, dealer and vulnerability.
+use Rattle.std.specs.Prelude.{ℕ, ◌^◌, ◌&&◌, ◌||◌, Bool, nat_le, List, map, bytes_eq, codes}
+use Rattle.std.specs.Prelude.{Option, None, Some, if◌then◌else◌}
+use Rattle.std.specs.Char.{is_ascii_digit, to_ascii_lowercase}
+use Rattle.std.specs.List.{list_all}
+use Rattle.std.specs.Str.Parse.{digits_value}
+use Rattle.boards.specs.declared.setting.Vul.{Vul}
+use Rattle.boards.specs.declared.setting.Vul.TheVariants.{Neither, NorthSouth, EastWest, Both}
+use Rattle.cards.specs.declared.seat.Seat.{Seat}
+use Rattle.cards.specs.declared.seat.Seat.TheVariants.{North, East, South, West}
+
+-- a number from 1 to 2^40 in decimal; 0 for anything else
+unfoldable pub number_in : List ℕ → ℕ
+number_in value =
+    if list_all is_ascii_digit value && nat_le (digits_value 10 value) (2 ^ 40)
+    then digits_value 10 value else 0
+
+-- nothing is known
+abbrev pub is_unknown : List ℕ → Bool
+is_unknown value = bytes_eq value (codes "?")
+
+unfoldable pub dealer_in : List ℕ → Option Seat
+dealer_in value =
+    if bytes_eq value (codes "N") then Some North
+    else (if bytes_eq value (codes "E") then Some East
+    else (if bytes_eq value (codes "S") then Some South
+    else (if bytes_eq value (codes "W") then Some West else None)))
+
+-- a word in any size of letters
+unfoldable pub is_word : List ℕ → List ℕ → Bool
+is_word word value = bytes_eq (map to_ascii_lowercase value) (map to_ascii_lowercase word)
+
+unfoldable pub vulnerable_in : List ℕ → Option Vul
+vulnerable_in value =
+    if is_word (codes "none") value || (is_word (codes "-") value || is_word (codes "love") value)
+    then Some Neither
+    else (if is_word (codes "ns") value then Some NorthSouth
+    else (if is_word (codes "ew") value then Some EastWest
+    else (if is_word (codes "all") value || is_word (codes "both") value then Some Both
+    else None)))

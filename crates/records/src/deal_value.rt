@@ -1,0 +1,115 @@
+//! The deal that a Deal tag tells.
+
+ghost use Rattle.std.specs.Prelude.{◌≡◌, ◌≤◌, Some, is_some, length};
+ghost use Rattle.std.specs.List.{list_all};
+ghost use Rattle.records.specs.DealValues.{deal_in, gives};
+ghost use Rattle.records.specs.DealValues.{none_given, rank_in, seat_in, separator, whole};
+
+use crate::values::dealer_in;
+use cards::{Deal, Seat};
+
+/// How many ranks there are.
+const RANKS: usize = 13;
+
+/// The last part of a deal: the clubs of the last hand.
+const LAST_PART: usize = 15;
+
+/// Who has each card, as far as that is known.
+type Given = [Option<Seat>; 52];
+
+/// The rank of a letter; 13 where there is none.
+#[tactic(auto, unfolding(crate::specs::DealValues::rank_in))]
+fn rank_in(byte: u8) -> usize
+    ensures value { result ≡ rank_in byte }
+    ensures range { result ≤ 13 }
+{
+    match byte {
+        b'A' => 0,
+        b'K' => 1,
+        b'Q' => 2,
+        b'J' => 3,
+        b'T' => 4,
+        b'2'..=b'9' => usize::from(14 - (byte - b'0')),
+        _ => RANKS,
+    }
+}
+
+/// What is behind a part of a deal.
+fn separator(part: usize) -> u8
+    requires { part ≤ 15 }
+    ensures { result ≡ separator part }
+{
+    if part % 4 == 3 { b' ' } else { b'.' }
+}
+
+/// Whose hand a part of a deal is of.
+fn seat_in(first: Seat, part: usize) -> Seat
+    requires { part ≤ 15 }
+    ensures { result ≡ seat_in first part }
+{
+    match (first as usize + part / 4) % 4 {
+        0 => Seat::North,
+        1 => Seat::East,
+        2 => Seat::South,
+        _ => Seat::West,
+    }
+}
+
+/// What the hands give, from that of the first seat on.
+fn gives(first: Seat, hands: &[u8]) -> Option<Given>
+    ensures value { result ≡ gives first 0 none_given hands.now }
+{
+    let mut seats = [None; 52];
+    let mut part = 0;
+    for byte in hands {
+        if part < LAST_PART && *byte == separator(part) {
+            part += 1;
+            continue;
+        }
+        let rank = rank_in(*byte);
+        if rank == RANKS {
+            return None;
+        }
+        let card = 13 * (part % 4) + rank;
+        if seats[card].is_some() {
+            return None;
+        }
+        seats[card] = Some(seat_in(first, part));
+    }
+    if part == LAST_PART { Some(seats) } else { None }
+}
+
+/// Whether every card is given.
+fn are_given(seats: &Given) -> bool
+    ensures { result ≡ list_all is_some seats.now }
+{
+    seats.iter().all(|seat| seat.is_some())
+}
+
+/// The deal, if every card is given and every seat has thirteen.
+fn whole(seats: &Given) -> Option<Deal>
+    requires { length seats.now ≡ 52 }
+    ensures { result ≡ whole (Some seats.now) }
+{
+    if !are_given(seats) {
+        return None;
+    }
+    let mut deal = [Seat::North; 52];
+    for card in 0..deal.len() {
+        deal[card] = seats[card].unwrap_or(Seat::North);
+    }
+    Deal::from_seats(&deal)
+}
+
+/// The deal that the value of a Deal tag tells.
+#[tactic(auto, unfolding(crate::specs::DealValues::deal_in))]
+pub(crate) fn deal_in(value: &[u8]) -> Option<Deal>
+    ensures { result ≡ deal_in value.now }
+{
+    if value.len() < 2 || value[1] != b':' {
+        return None;
+    }
+    let first = dealer_in(&value[..1])?;
+    let seats = gives(first, &value[2..])?;
+    whole(&seats)
+}

@@ -1,0 +1,200 @@
+//! A game: what its tags say of a board.
+
+ghost use Rattle.std.specs.Prelude.{◌≡◌, ◌+◌, ◌-◌, ◌<◌, ◌≤◌, ◌^◌, ℕ, IfOk, IfSome, unwrap_or};
+ghost use Rattle.records.specs.Games.{board_of, first_fault, game_says, has, no_game, number_of};
+ghost use Rattle.records.specs.Games.{with_deal, with_dealer, with_number, with_tag, with_vulnerable};
+
+use crate::deal_value::deal_in;
+use crate::fault::{RecordFault, RefusedRecord};
+use crate::kind::Kind;
+use crate::values::{dealer_in, is_unknown, number_in, vulnerable_in};
+use boards::{Board, Vul, dealer, vulnerable};
+use cards::{Deal, Seat};
+
+/// What the tags of a game say, each if the game has it: the number of its board, or 0 if it is
+/// none; the dealer and the vulnerability, or `None` if they aren't known; the deal; and the first
+/// fault of a tag.
+#[derive(Clone, Copy)]
+pub struct Game {
+    pub event: bool,
+    pub site: bool,
+    pub date: bool,
+    pub number: Option<u64>,
+    pub dealer: Option<Option<Seat>>,
+    pub vulnerable: Option<Option<Vul>>,
+    pub deal: Option<Option<Deal>>,
+    pub fault: Option<RefusedRecord>,
+}
+
+impl Game {
+    /// The game that has no tag.
+    pub(crate) fn none() -> Game
+        ensures { result ≡ no_game }
+    {
+        Game {
+            event: false,
+            site: false,
+            date: false,
+            number: None,
+            dealer: None,
+            vulnerable: None,
+            deal: None,
+            fault: None,
+        }
+    }
+
+    /// Whether the game has a tag of this kind.
+    pub(crate) fn has(&self, kind: Kind) -> bool
+        ensures { result ≡ has kind self.now }
+    {
+        match kind {
+            Kind::Event => self.event,
+            Kind::Site => self.site,
+            Kind::Date => self.date,
+            Kind::Board => self.number.is_some(),
+            Kind::Dealer => self.dealer.is_some(),
+            Kind::Vulnerable => self.vulnerable.is_some(),
+            Kind::Deal => self.deal.is_some(),
+        }
+    }
+
+    /// The first fault, where the tag of this line has this one or none.
+    fn first_fault(&self, bad: bool, line: u64, fault: RecordFault) -> Option<RefusedRecord>
+        ensures { result ≡ first_fault self.now.fault bad line fault }
+    {
+        match self.fault {
+            Some(first) => Some(first),
+            None if bad => Some(RefusedRecord { line, fault }),
+            None => None,
+        }
+    }
+
+    fn with_number(&self, value: &[u8], line: u64) -> Game
+        ensures value { result ≡ with_number value.now line self.now }
+        ensures most { unwrap_or result.number 0 ≤ 2 ^ 40 }
+    {
+        let number = number_in(value);
+        Game {
+            number: Some(number),
+            fault: self.first_fault(number == 0, line, RecordFault::NotANumber),
+            ..*self
+        }
+    }
+
+    fn with_dealer(&self, value: &[u8], line: u64) -> Game
+        ensures { result ≡ with_dealer value.now line self.now }
+    {
+        let dealer = dealer_in(value);
+        let bad = dealer.is_none() && !is_unknown(value);
+        Game {
+            dealer: Some(dealer),
+            fault: self.first_fault(bad, line, RecordFault::NotADealer),
+            ..*self
+        }
+    }
+
+    fn with_vulnerable(&self, value: &[u8], line: u64) -> Game
+        ensures { result ≡ with_vulnerable value.now line self.now }
+    {
+        let vulnerable = vulnerable_in(value);
+        let bad = vulnerable.is_none() && !is_unknown(value);
+        Game {
+            vulnerable: Some(vulnerable),
+            fault: self.first_fault(bad, line, RecordFault::NotAVulnerability),
+            ..*self
+        }
+    }
+
+    fn with_deal(&self, value: &[u8], line: u64) -> Game
+        ensures { result ≡ with_deal value.now line self.now }
+    {
+        let deal = deal_in(value);
+        Game {
+            deal: Some(deal),
+            fault: self.first_fault(deal.is_none(), line, RecordFault::NotADeal),
+            ..*self
+        }
+    }
+
+    /// The game with one tag more, on this line.
+    #[tactic(auto, unfolding(crate::specs::Games::with_tag))]
+    pub(crate) fn with_tag(&self, kind: Kind, value: &[u8], line: u64) -> Game
+        ensures value { result ≡ with_tag kind value.now line self.now }
+        ensures most { unwrap_or self.now.number 0 ≤ 2 ^ 40 → unwrap_or result.number 0 ≤ 2 ^ 40 }
+    {
+        match kind {
+            Kind::Event => Game {
+                event: true,
+                ..*self
+            },
+            Kind::Site => Game {
+                site: true,
+                ..*self
+            },
+            Kind::Date => Game {
+                date: true,
+                ..*self
+            },
+            Kind::Board => self.with_number(value, line),
+            Kind::Dealer => self.with_dealer(value, line),
+            Kind::Vulnerable => self.with_vulnerable(value, line),
+            Kind::Deal => self.with_deal(value, line),
+        }
+    }
+
+    /// The number of the board behind the one of number `last`.
+    fn number(&self, last: u64) -> u64
+        requires { last < 2 ^ 64 - 1 }
+        ensures value { result ≡ number_of last self.now }
+        ensures least { 1 ≤ result }
+        ensures most { (n : ℕ) → last + 1 ≤ n → unwrap_or self.now.number 0 ≤ n → result ≤ n }
+    {
+        match self.number {
+            None | Some(0) => last + 1,
+            Some(number) => number,
+        }
+    }
+
+    /// The board of this deal, behind the one of number `last`.
+    fn board(&self, last: u64, deal: Deal) -> Board
+        requires { last < 2 ^ 64 - 1 }
+        ensures value { result ≡ board_of last self.now deal }
+        ensures most { (n : ℕ) → last + 1 ≤ n → unwrap_or self.now.number 0 ≤ n
+            → result.number ≤ n }
+    {
+        let number = self.number(last);
+        Board {
+            number,
+            candidate: 0,
+            dealer: self.dealer.unwrap_or(None).unwrap_or(dealer(number)),
+            vulnerable: self
+                .vulnerable
+                .unwrap_or(None)
+                .unwrap_or(vulnerable(number)),
+            deal,
+        }
+    }
+
+    /// What the game says as it ends, behind the board of number `last`.
+    ///
+    /// # Errors
+    /// The first fault of its tags, if it has a deal.
+    #[tactic(auto, unfolding(crate::specs::Games::game_says))]
+    pub(crate) fn says(&self, last: u64) -> Result<Option<Board>, RefusedRecord>
+        requires { last < 2 ^ 64 - 1 }
+        ensures value { result ≡ game_says last self.now }
+        ensures most { IfOk result (λ board. IfSome board (λ b. (n : ℕ) → last + 1 ≤ n
+            → unwrap_or self.now.number 0 ≤ n → b.number ≤ n)) }
+    {
+        let Some(deal) = self.deal else {
+            return Ok(None);
+        };
+        if let Some(fault) = self.fault {
+            return Err(fault);
+        }
+        match deal {
+            None => Ok(None),
+            Some(deal) => Ok(Some(self.board(last, deal))),
+        }
+    }
+}

@@ -1,0 +1,25 @@
+//! Records of any boards: a text in Portable Bridge Notation is read, and the board of each of its
+//! games is told as the game ends.
+//!
+//! A line ends with LF or CR LF; the end of the last may be missing. The text is read byte by byte,
+//! in constant memory, and lines have at most 4,096 bytes.
+#![tactic(auto)]
+
+mod deal_value;
+mod fault;
+mod game;
+mod kind;
+mod line;
+mod reader;
+mod reading;
+mod scanner;
+mod shown;
+mod values;
+
+pub use fault::{RecordFault, RefusedRecord};
+pub use game::Game;
+pub use kind::Kind;
+pub use line::{Part, Step};
+pub use reader::{BoardReader, Next, ReadFault};
+pub use scanner::Scanner;
+pub use shown::{ShowFault, show};

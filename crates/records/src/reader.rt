@@ -1,0 +1,176 @@
+//! Boards that are read from an input.
+
+ghost use Rattle.std.specs.Prelude.{◌≡◌, ◌-◌, ◌+◌, ◌<◌, ◌≤◌, ◌^◌, [], ℕ, List, IfErr, IfOk};
+ghost use Rattle.std.specs.Prelude.{IfSome, MatchResult, OnOk, None, false, true};
+ghost use Rattle.std.specs.Io.KnownBytes.{IsAtEnd, Keeps};
+ghost use Rattle.records.specs.Readers.{Fills, InputFaults, IsFed, IsReady, ReadsNext};
+ghost use Rattle.records.specs.Readers.{OnBoard, TellsEnd, left, unread_spells};
+ghost use Rattle.records.specs.Texts.{after, list_of, refused_with, spelled};
+
+use crate::fault::RefusedRecord;
+use crate::scanner::Scanner;
+use boards::Board;
+use picking::{MOST_BYTES, Source, SourceFault};
+
+/// How many bytes are read at once.
+const PIECE: usize = 8192;
+
+/// No input gives a byte so often.
+const MOST_READS: u64 = MOST_BYTES + 1;
+
+/// What comes next of an input.
+#[derive(Drop)]
+pub enum Next {
+    /// The board of a game that ended.
+    Board(Board),
+    /// The board of the last game, behind which the input ended.
+    Last(Board),
+    /// The input ended.
+    End,
+}
+
+/// Why no more boards were read.
+#[derive(Clone, Copy, Debug, PartialEq, Eq)]
+pub enum ReadFault {
+    /// The line is refused.
+    Refused(RefusedRecord),
+    /// The input couldn't be read.
+    Input,
+}
+
+/// Reads boards from an input by pieces. It keeps a piece, and how far it was read; the memory that
+/// it takes is constant.
+#[derive(Drop)]
+pub struct BoardReader {
+    scanner: Scanner,
+    piece: [u8; PIECE],
+    from: usize,
+    to: usize,
+    taken: u64,
+}
+
+impl BoardReader {
+    /// Nothing was read.
+    pub fn new() -> BoardReader
+        ensures begin { (text : List ℕ) → unread_spells result text ≡ spelled text }
+        ensures ready { IsReady result }
+        ensures left { left result ≡ 0 }
+    {
+        BoardReader {
+            scanner: Scanner::new(),
+            piece: [0; PIECE],
+            from: 0,
+            to: 0,
+            taken: 0,
+        }
+    }
+
+    /// Takes the next byte of the piece.
+    fn take_byte(&mut self) -> Result<Option<Board>, RefusedRecord>
+        requires ready { IsReady self.old }
+        requires some { self.old.from < self.old.to }
+        ensures goes_on { IfOk result (λ board. (rest : List ℕ)
+            → unread_spells self.old rest ≡ after (list_of board) (unread_spells self.new rest)) }
+        ensures refused { IfErr result (λ e. (rest : List ℕ)
+            → unread_spells self.old rest ≡ refused_with e) }
+        ensures ready { OnOk result (IsReady self.new) }
+        ensures left { OnOk result (left self.new ≡ left self.old) }
+        ensures taken { self.new.taken ≡ self.old.taken + 1 }
+    {
+        let byte = self.piece[self.from];
+        self.from += 1;
+        self.taken += 1;
+        self.scanner.take(byte)
+    }
+
+    /// Reads on in the piece, up to a board or the end of the piece.
+    fn take_piece(&mut self) -> Result<Option<Board>, RefusedRecord>
+        requires { IsReady self.old }
+        ensures goes_on { IfOk result (λ board. (rest : List ℕ)
+            → unread_spells self.old rest ≡ after (list_of board) (unread_spells self.new rest)) }
+        ensures refused { IfErr result (λ e. (rest : List ℕ)
+            → unread_spells self.old rest ≡ refused_with e) }
+        ensures ready { OnOk result (IsReady self.new) }
+        ensures left { OnOk result (left self.new ≡ left self.old) }
+        ensures more { IfOk result (λ board. IfSome board (λ _. self.old.taken < self.new.taken)) }
+        ensures all { IfOk result (λ board. board ≡ None → self.new.from ≡ self.new.to) }
+        ensures taken { self.old.taken ≤ self.new.taken }
+    {
+        while self.from < self.to {
+            match self.take_byte() {
+                Ok(None) => {}
+                Ok(Some(board)) => return Ok(Some(board)),
+                Err(line) => return Err(line),
+            }
+        }
+        Ok(None)
+    }
+
+    /// Reads the next piece of the input, behind the last. Returns whether there is one.
+    fn fill<I: Source>(&mut self, input: &mut I) -> Result<bool, SourceFault>
+        requires ready { IsReady self.old }
+        requires empty { self.old.from ≡ self.old.to }
+        requires fed { IsFed self.old (I.given input.old) }
+        requires faults { I.faults input.old < 2 ^ 64 - 1 }
+        ensures ready { OnOk result (IsReady self.new) }
+        ensures fed { OnOk result (IsFed self.new (I.given input.new)) }
+        ensures taken { self.new.taken ≡ self.old.taken }
+        ensures fills { IfOk result (λ _. Fills self.old self.new
+            (I.rest input.old) (I.rest input.new)) }
+        ensures some { IfOk result (λ more. more ≡ true → self.new.from < self.new.to) }
+        ensures none { IfOk result (λ more. more ≡ false → self.new.from ≡ self.new.to) }
+        ensures end { IfOk result (λ more. more ≡ false → IsAtEnd (I.rest input.new)) }
+        ensures kept { IfErr result (λ _. Keeps (I.rest input.old) (I.rest input.new)) }
+        ensures faults { MatchResult result
+            (λ _. I.faults input.new ≡ I.faults input.old)
+            (λ _. I.faults input.new ≡ I.faults input.old + 1) }
+    {
+        let count = input.read(&mut self.piece)?;
+        self.from = 0;
+        self.to = count;
+        Ok(count > 0)
+    }
+
+    /// Takes the end of the input.
+    fn finish(&mut self) -> Result<Next, ReadFault>
+        requires ready { IsReady self.old }
+        requires empty { self.old.from ≡ self.old.to }
+        ensures { TellsEnd self.old result }
+    {
+        match self.scanner.finish() {
+            Ok(Some(board)) => Ok(Next::Last(board)),
+            Ok(None) => Ok(Next::End),
+            Err(line) => Err(ReadFault::Refused(line)),
+        }
+    }
+
+    /// Reads on to the next board of an input, from which all was read that was read before.
+    ///
+    /// # Errors
+    /// `Refused`: the first line that is refused; there is no board before it any more. `Input`: the
+    /// input couldn't be read.
+    pub fn next<I: Source>(&mut self, input: &mut I) -> Result<Next, ReadFault>
+        requires ready { IsReady self.old }
+        requires fed { IsFed self.old (I.given input.old) }
+        requires faults { I.faults input.old < 2 ^ 64 - 1 }
+        ensures reads { ReadsNext self.old self.new result (I.rest input.old) (I.rest input.new) }
+        ensures ready { OnBoard result (IsReady self.new) }
+        ensures fed { OnBoard result (IsFed self.new (I.given input.new)) }
+        ensures more { OnBoard result (self.old.taken < self.new.taken) }
+        ensures faults { InputFaults result (I.faults input.old) (I.faults input.new) }
+    {
+        for turn in 0..MOST_READS {
+            match self.take_piece() {
+                Ok(None) => {}
+                Ok(Some(board)) => return Ok(Next::Board(board)),
+                Err(line) => return Err(ReadFault::Refused(line)),
+            }
+            match self.fill(input) {
+                Ok(true) => {}
+                Ok(false) => return self.finish(),
+                Err(_) => return Err(ReadFault::Input),
+            }
+        }
+        unreachable!()
+    }
+}

@@ -1,0 +1,182 @@
+//! What was read of a text, up to a byte within a line or the end of one.
+
+ghost use Rattle.std.specs.Prelude.{◌≡◌, ◌≢◌, ◌+◌, ◌-◌, ◌<◌, ◌≤◌, ◌^◌, ℕ, IfErr, IfOk, None, OnOk};
+ghost use Rattle.std.specs.Prelude.{unwrap_or};
+ghost use Rattle.records.specs.Texts.{InRoom, Spelled, after, begin_text, behind_line, ends_game};
+ghost use Rattle.records.specs.Texts.{ends_line, list_of, reads_byte, refused_with, takes_tag};
+ghost use Rattle.records.specs.Texts.{nothing_more, with_last_tag};
+ghost use Rattle.records.specs.Kinds.{kind_of};
+
+use crate::fault::{RecordFault, RefusedRecord};
+use crate::game::Game;
+use crate::kind::{Kind, kind_of};
+use crate::line::{Line, MOST_BYTES, Step};
+use boards::Board;
+
+/// What was read of a text: where in a line it ends, how many lines there were before, what the
+/// game says so far, and the number of the last board, or 0.
+#[derive(Drop)]
+pub(crate) struct Reading {
+    pub(crate) line: Line,
+    pub(crate) lines: u64,
+    pub(crate) game: Game,
+    pub(crate) last: u64,
+}
+
+impl Reading {
+    /// Nothing was read.
+    pub(crate) fn new() -> Reading
+        ensures value { result ≡ begin_text }
+        ensures room { InRoom result 0 }
+    {
+        Reading {
+            line: Line::new(),
+            lines: 0,
+            game: Game::none(),
+            last: 0,
+        }
+    }
+
+    /// This line is refused.
+    fn refused(&self, fault: RecordFault) -> RefusedRecord
+        requires { self.now.lines < 2 ^ 64 - 1 }
+        ensures { result ≡ record { line = self.now.lines + 1; fault = fault } }
+    {
+        RefusedRecord {
+            line: self.lines + 1,
+            fault,
+        }
+    }
+
+    /// Ends the game, and returns its board, if it has one.
+    fn end_game(&mut self) -> Result<Option<Board>, RefusedRecord>
+        requires { InRoom self.old (2 ^ 62) }
+        ensures ends { IfOk result (λ board. (next : Reading → Spelled)
+            → ends_game self.old next ≡ after (list_of board) (next self.new)) }
+        ensures refused { IfErr result (λ e. (next : Reading → Spelled)
+            → ends_game self.old next ≡ refused_with e) }
+        ensures lines { OnOk result (self.new.lines ≡ self.old.lines) }
+        ensures room { (n : ℕ) → InRoom self.old n → OnOk result (InRoom self.new (n + 1)) }
+    {
+        let board = self.game.says(self.last)?;
+        self.game = Game::none();
+        if let Some(board) = &board {
+            self.last = board.number;
+        }
+        Ok(board)
+    }
+
+    /// Adds the last tag to the game.
+    fn add_tag(&mut self, kind: Kind)
+        requires { self.old.lines < 2 ^ 64 - 1 }
+        ensures value { self.new ≡ with_last_tag kind self.old }
+        ensures number { unwrap_or self.old.game.number 0 ≤ 2 ^ 40
+            → unwrap_or self.new.game.number 0 ≤ 2 ^ 40 }
+    {
+        self.game = self.game.with_tag(kind, self.line.value(), self.lines + 1);
+    }
+
+    /// Goes to the next line.
+    fn leave_line(&mut self)
+        requires { self.old.lines < 2 ^ 64 - 1 }
+        ensures { self.new ≡ behind_line self.old }
+    {
+        self.line.end();
+        self.lines += 1;
+    }
+
+    /// Takes the end of a tag, before which a game ends that has such a tag. Returns its board.
+    fn take_tag(&mut self) -> Result<Option<Board>, RefusedRecord>
+        requires { InRoom self.old (2 ^ 62) }
+        ensures takes { IfOk result (λ board. (next : Reading → Spelled)
+            → takes_tag (kind_of self.old.line.name) self.old next
+            ≡ after (list_of board) (next self.new)) }
+        ensures refused { IfErr result (λ e. (next : Reading → Spelled)
+            → takes_tag (kind_of self.old.line.name) self.old next ≡ refused_with e) }
+        ensures room { (n : ℕ) → InRoom self.old n → OnOk result (InRoom self.new (n + 1)) }
+    {
+        let Some(kind) = kind_of(self.line.name()) else {
+            return Ok(None);
+        };
+        if !self.game.has(kind) {
+            self.add_tag(kind);
+            return Ok(None);
+        }
+        match self.end_game() {
+            Ok(board) => {
+                self.add_tag(kind);
+                Ok(board)
+            }
+            Err(line) => Err(line),
+        }
+    }
+
+    /// Takes the next byte of a line, and returns the board of the game that it ends.
+    ///
+    /// # Errors
+    /// The line, if it is refused, whatever comes after.
+    pub(crate) fn take(&mut self, byte: u8) -> Result<Option<Board>, RefusedRecord>
+        requires { InRoom self.old (2 ^ 62) }
+        ensures reads { IfOk result (λ board. (next : Reading → Spelled)
+            → reads_byte self.old byte next ≡ after (list_of board) (next self.new)) }
+        ensures refused { IfErr result (λ e. (next : Reading → Spelled)
+            → reads_byte self.old byte next ≡ refused_with e) }
+        ensures tag { IfOk result (λ board. byte ≢ 93 → board ≡ None) }
+        ensures room { (n : ℕ) → InRoom self.old n → OnOk result (InRoom self.new (n + 1)) }
+    {
+        if self.line.column() == MOST_BYTES {
+            return Err(self.refused(RecordFault::TooLong));
+        }
+        match self.line.take(byte) {
+            Step::On => Ok(None),
+            Step::Whole => self.take_tag(),
+            Step::Wrong => Err(self.refused(RecordFault::NotATag)),
+        }
+    }
+
+    /// Takes the end of a line, and returns the board of the game that it ends.
+    ///
+    /// # Errors
+    /// The line, if it is refused, whatever comes after.
+    pub(crate) fn end_line(&mut self) -> Result<Option<Board>, RefusedRecord>
+        requires { InRoom self.old (2 ^ 62) }
+        ensures ends { IfOk result (λ board. (next : Reading → Spelled)
+            → ends_line self.old next ≡ after (list_of board) (next self.new)) }
+        ensures refused { IfErr result (λ e. (next : Reading → Spelled)
+            → ends_line self.old next ≡ refused_with e) }
+        ensures room { (n : ℕ) → InRoom self.old n → OnOk result (InRoom self.new (n + 1)) }
+    {
+        if self.line.is_in_tag() {
+            return Err(self.refused(RecordFault::NotATag));
+        }
+        if !self.line.is_empty() {
+            self.leave_line();
+            return Ok(None);
+        }
+        match self.end_game() {
+            Ok(board) => {
+                self.leave_line();
+                Ok(board)
+            }
+            Err(line) => Err(line),
+        }
+    }
+
+    /// Takes the end of the text, and returns the board of the last game.
+    ///
+    /// # Errors
+    /// The last line, if it is refused, or one of the last game.
+    pub(crate) fn finish(&mut self) -> Result<Option<Board>, RefusedRecord>
+        requires { InRoom self.old (2 ^ 62) }
+        ensures ends { IfOk result (λ board.
+            ends_line self.old (λ t. ends_game t nothing_more)
+            ≡ record { boards = list_of board; refused = None }) }
+        ensures refused { IfErr result (λ e.
+            ends_line self.old (λ t. ends_game t nothing_more) ≡ refused_with e) }
+    {
+        if self.line.is_in_tag() {
+            return Err(self.refused(RecordFault::NotATag));
+        }
+        self.end_game()
+    }
+}

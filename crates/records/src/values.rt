@@ -1,0 +1,78 @@
+//! What the values of tags say.
+
+ghost use Rattle.std.specs.Prelude.{◌≡◌, ◌≤◌, ◌^◌};
+ghost use Rattle.records.specs.Values.{dealer_in, is_unknown, is_word, number_in, vulnerable_in};
+
+use boards::Vul;
+use cards::Seat;
+
+/// The greatest number of a board.
+const MOST_NUMBER: u64 = 1 << 40;
+
+/// The number of a board that is written in decimal, or 0 if it isn't one.
+pub(crate) fn number_in(value: &[u8]) -> u64
+    ensures value { result ≡ number_in value.now }
+    ensures range { result ≤ 2 ^ 40 }
+{
+    let mut number = 0u64;
+    for byte in value {
+        if !byte.is_ascii_digit() {
+            return 0;
+        }
+        number = number * 10 + u64::from(*byte - b'0');
+        if number > MOST_NUMBER {
+            return 0;
+        }
+    }
+    number
+}
+
+/// Whether the value says that nothing is known.
+pub(crate) fn is_unknown(value: &[u8]) -> bool
+    ensures { result ≡ is_unknown value.now }
+{
+    value == b"?".as_slice()
+}
+
+/// The dealer of a value.
+#[tactic(auto, unfolding(crate::specs::Values::dealer_in))]
+pub(crate) fn dealer_in(value: &[u8]) -> Option<Seat>
+    ensures { result ≡ dealer_in value.now }
+{
+    if value == b"N".as_slice() {
+        Some(Seat::North)
+    } else if value == b"E".as_slice() {
+        Some(Seat::East)
+    } else if value == b"S".as_slice() {
+        Some(Seat::South)
+    } else if value == b"W".as_slice() {
+        Some(Seat::West)
+    } else {
+        None
+    }
+}
+
+/// Whether the value is this word, in any size of letters.
+fn is_word(value: &[u8], word: &[u8]) -> bool
+    ensures { result ≡ is_word word.now value.now }
+{
+    value.eq_ignore_ascii_case(word)
+}
+
+/// The vulnerability of a value.
+#[tactic(auto, unfolding(crate::specs::Values::vulnerable_in))]
+pub(crate) fn vulnerable_in(value: &[u8]) -> Option<Vul>
+    ensures { result ≡ vulnerable_in value.now }
+{
+    if is_word(value, b"none") || is_word(value, b"-") || is_word(value, b"love") {
+        Some(Vul::Neither)
+    } else if is_word(value, b"ns") {
+        Some(Vul::NorthSouth)
+    } else if is_word(value, b"ew") {
+        Some(Vul::EastWest)
+    } else if is_word(value, b"all") || is_word(value, b"both") {
+        Some(Vul::Both)
+    } else {
+        None
+    }
+}
