@@ -1,7 +1,12 @@
 """A second reading of texts of games: what boards a text spells, up to a line that is refused.
 
-It is written from docs/FORMATS.md alone. A text is split at its line ends, and each line is read
-with regular expressions.
+A line ends with LF, and a CR before it is dropped. A line that begins with `%` is skipped, and so are text in
+braces, which may go over lines, and text from `;` to the end of its line, outside a tag. A tag is `[`, a name of
+letters, digits and `_`, blanks, a value in quotes, in which a backslash takes the next byte with it, blanks, `]`. All
+else but blanks is skipped up to the next line that begins with `[`. A game ends at an empty line, at a tag of a kind
+that it has, or at the end of the text; one with a Deal tag is a board.
+
+Here a text is split at its line ends, and each line is read with regular expressions.
 """
 from __future__ import annotations
 

@@ -33,8 +33,8 @@ abbrev pub given : List (Option Seat) → ℕ → Seat → Option (List (Option 
 given seats c seat =
     if is_some (slice_index_or seats c None) then None else Some (slice_set seats c (Some seat))
 
-abbrev pub if_given : Option (List (Option Seat)) → (List (Option Seat) → Option (List (Option Seat)))
-    → Option (List (Option Seat))
+abbrev pub if_given : Option (List (Option Seat))
+    → (List (Option Seat) → Option (List (Option Seat))) → Option (List (Option Seat))
 if_given None later = None
 if_given (Some seats) later = later seats
 

@@ -1,5 +1,6 @@
 -- What the tags of a game say, and the board that the game is.
-use Rattle.std.specs.Prelude.{ℕ, zero, suc, ◌+◌, ◌==◌, ◌&&◌, Bool, true, false, not, is_none, is_some}
+use Rattle.std.specs.Prelude.{ℕ, zero, suc, ◌+◌, ◌==◌, ◌&&◌, Bool, true, false, not}
+use Rattle.std.specs.Prelude.{is_none, is_some}
 use Rattle.std.specs.Prelude.{List, Option, None, Some, Result, Ok, Err, unwrap_or, if◌then◌else◌}
 use Rattle.boards.specs.declared.board.Board.{Board as ABoard}
 use Rattle.boards.specs.Law2.{dealer_of, vulnerable_of}
@@ -103,7 +104,8 @@ abbrev pub deal_says : ℕ → Game → Option (List Seat) → Option ABoard
 deal_says last g None = None
 deal_says last g (Some deal) = Some (board_of last g deal)
 
-abbrev pub unless_fault : Option RefusedRecord → Option ABoard → Result (Option ABoard) RefusedRecord
+abbrev pub unless_fault : Option RefusedRecord → Option ABoard
+    → Result (Option ABoard) RefusedRecord
 unless_fault (Some fault) board = Err fault
 unless_fault None board = Ok board
 

@@ -1,5 +1,6 @@
 -- The text that is written for a text of games.
-use Rattle.std.specs.Prelude.{◌≡◌, ℕ, ◌+◌, List, [], ◌++◌, length, Option, None, Some, Result, Ok, Err}
+use Rattle.std.specs.Prelude.{◌≡◌, ℕ, ◌+◌, List, [], ◌++◌, length, Option, None, Some}
+use Rattle.std.specs.Prelude.{Result, Ok, Err}
 use Rattle.std.specs.Prelude.{MatchResult, OnOk}
 use Rattle.std.specs.Io.KnownBytes.{Consumes, IsAtEnd}
 use Rattle.boards.specs.declared.board.Board.{Board as ABoard}
@@ -37,7 +38,8 @@ ShowsOf layout given (Err (Refused line)) old new =
     × AppendsAll old new (shown_text layout (spelled given))
 -- boards that they begin with
 ShowsOf layout given (Err Input) old new =
-    (boards : List ABoard) × (BeginsWith given boards × AppendsAll old new (text_of_boards layout boards))
+    (boards : List ABoard)
+    × (BeginsWith given boards × AppendsAll old new (text_of_boards layout boards))
 -- not all of what they spell
 ShowsOf layout given (Err Output) old new = AppendsPart old new (shown_text layout (spelled given))
 

@@ -2,7 +2,8 @@
 
 ghost use Rattle.std.specs.Prelude.{◌≡◌, ◌+◌, ◌-◌, ◌<◌, ◌≤◌, ◌^◌, ℕ, IfOk, IfSome, unwrap_or};
 ghost use Rattle.records.specs.Games.{board_of, first_fault, game_says, has, no_game, number_of};
-ghost use Rattle.records.specs.Games.{with_deal, with_dealer, with_number, with_tag, with_vulnerable};
+ghost use Rattle.records.specs.Games.{with_deal, with_dealer, with_number, with_tag};
+ghost use Rattle.records.specs.Games.{with_vulnerable};
 
 use crate::deal_value::deal_in;
 use crate::fault::{RecordFault, RefusedRecord};

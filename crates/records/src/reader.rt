@@ -147,8 +147,8 @@ impl BoardReader {
     /// Reads on to the next board of an input, from which all was read that was read before.
     ///
     /// # Errors
-    /// `Refused`: the first line that is refused; there is no board before it any more. `Input`: the
-    /// input couldn't be read.
+    /// `Refused`: the first line that is refused; there is no board before it any more.
+    /// `Input`: the input couldn't be read.
     pub fn next<I: Source>(&mut self, input: &mut I) -> Result<Next, ReadFault>
         requires ready { IsReady self.old }
         requires fed { IsFed self.old (I.given input.old) }

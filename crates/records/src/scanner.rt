@@ -34,7 +34,8 @@ impl Scanner {
     fn end_line(&mut self) -> Result<Option<Board>, RefusedRecord>
         requires { IsWithin self.old (2 ^ 60) }
         ensures goes_on { IfOk result (λ board. (rest : List ℕ)
-            → spells_from self.old (10 ∷ rest) ≡ after (list_of board) (spells_from self.new rest)) }
+            → spells_from self.old (10 ∷ rest)
+            ≡ after (list_of board) (spells_from self.new rest)) }
         ensures refused { IfErr result (λ e. (rest : List ℕ)
             → spells_from self.old (10 ∷ rest) ≡ refused_with e) }
         ensures room { (n : ℕ) → IsWithin self.old n → OnOk result (IsWithin self.new (n + 1)) }
@@ -72,7 +73,8 @@ impl Scanner {
         requires within { byte ≢ 10 }
         requires plain { self.old.after_cr ≡ false }
         ensures goes_on { IfOk result (λ board. (rest : List ℕ)
-            → spells_from self.old (byte ∷ rest) ≡ after (list_of board) (spells_from self.new rest)) }
+            → spells_from self.old (byte ∷ rest)
+            ≡ after (list_of board) (spells_from self.new rest)) }
         ensures refused { IfErr result (λ e. (rest : List ℕ)
             → spells_from self.old (byte ∷ rest) ≡ refused_with e) }
         ensures room { (n : ℕ) → InRoom self.old.reading n
@@ -92,7 +94,8 @@ impl Scanner {
     pub fn take(&mut self, byte: u8) -> Result<Option<Board>, RefusedRecord>
         requires { IsWithin self.old (2 ^ 60) }
         ensures goes_on { IfOk result (λ board. (rest : List ℕ)
-            → spells_from self.old (byte ∷ rest) ≡ after (list_of board) (spells_from self.new rest)) }
+            → spells_from self.old (byte ∷ rest)
+            ≡ after (list_of board) (spells_from self.new rest)) }
         ensures refused { IfErr result (λ e. (rest : List ℕ)
             → spells_from self.old (byte ∷ rest) ≡ refused_with e) }
         ensures room { (n : ℕ) → IsWithin self.old n → OnOk result (IsWithin self.new (n + 1)) }
