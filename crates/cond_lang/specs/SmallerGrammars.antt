@@ -1,7 +1,7 @@
 -- Smaller grammars: one without factors, one without the words of seats too, one without those of
--- quantifiers too, one whose values are atoms alone, one whose only measure is hcp, one in the words that the language had
--- first, and the first grammar: those words without sums. What they spell, the whole grammar spells
--- too.
+-- quantifiers too, one whose values are atoms alone, one whose only measure is hcp, one in the words
+-- that the language had first, and the first grammar: those words without sums. What they spell, the
+-- whole grammar spells too.
 use Rattle.std.specs.Prelude.{◌≡◌, ◌≢◌, ℕ, List, [], ◌∷◌, ◌++◌, Option, Some, None}
 use Rattle.cards.specs.declared.honours.Honours.{Honours}
 use Rattle.cards.specs.declared.hand.Measure.TheVariants.{Hcp}

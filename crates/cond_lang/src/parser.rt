@@ -8,7 +8,8 @@ ghost use Rattle.conditions.specs.Form.{negation, sum};
 ghost use Rattle.cond_lang.specs.Grammar.{joined};
 ghost use Rattle.cond_lang.specs.Text.{kinds};
 ghost use Rattle.cond_lang.specs.internal.Reading.{Gives, front, rest_of_measure, rest_of_cards};
-ghost use Rattle.cond_lang.specs.internal.Reading.{count_of, rest_of_number, suit_and_ranks, suit_count};
+ghost use Rattle.cond_lang.specs.internal.Reading.{count_of, rest_of_number, suit_and_ranks};
+ghost use Rattle.cond_lang.specs.internal.Reading.{suit_count};
 ghost use Rattle.cond_lang.specs.internal.Reading.{atom_of, reading, a_value, comparing_by};
 ghost use Rattle.cond_lang.specs.internal.Reading.{test_by, a_unit, a_both, a_cond};
 ghost use Rattle.cond_lang.specs.internal.Reading.{whole, behind, with_choice_by, quantified_by};
@@ -176,7 +177,8 @@ impl<'a> Parser<'a> {
         measure: Measure,
         seat: Seat,
     ) -> Result<Count, Refusal>
-        ensures gives { Gives (λ k. k) result self.new (rest_of_measure bound measure seat self.old) }
+        ensures gives { Gives (λ k. k) result self.new
+            (rest_of_measure bound measure seat self.old) }
         ensures shorter { length self.new ≤ length self.old }
     {
         if let Some(Token::Comma) = self.peek() {
