@@ -64,8 +64,8 @@ pub data SeatOf (W : Addition → Type 0) (E : Bound) : List Token → ASeat →
       {n : ANeighbour} {Q : List Token} {q : ASeat} → W seats → SeatOf W E Q q
       → SeatOf W E (Neighbour n ∷ Open ∷ Q ++ Close ∷ []) (seat_beside n q)
 
--- What counts in a hand: the word before `( seat`, the tokens behind, and the count of each seat. It
--- is a measure of the hand or of one of its suits, cards of some ranks, or a length.
+-- What counts in a hand: the word before `( seat`, the tokens after, and the count of each seat.
+-- It is a measure of the hand or of one of its suits, cards of some ranks, or a length.
 pub data CountOf (W : Addition → Type 0) (E : Bound)
     : Token → List Token → (ASeat → Count) → Type 0 where
   measure : {m : AMeasure} → CountOf W E (Measure m) (Close ∷ []) (λ q. measured m q)

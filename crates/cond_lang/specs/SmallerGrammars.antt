@@ -1,7 +1,7 @@
 -- Smaller grammars: one without factors, one without the words of seats too, one without those of
--- quantifiers too, one whose values are atoms alone, one whose only measure is hcp, one in the words
--- that the language had first, and the first grammar: those words without sums. What they spell, the
--- whole grammar spells too.
+-- quantifiers too, one whose values are atoms alone, one whose only measure is hcp, one in the
+-- words that the language had first, and the first grammar: those words without sums. What they
+-- spell, the whole grammar spells too.
 use Rattle.std.specs.Prelude.{◌≡◌, ◌≢◌, ℕ, List, [], ◌∷◌, ◌++◌, Option, Some, None}
 use Rattle.cards.specs.declared.honours.Honours.{Honours}
 use Rattle.cards.specs.declared.hand.Measure.TheVariants.{Hcp}
@@ -145,7 +145,8 @@ pub data FirstTestOf (V : Amounts) : List Token → Form → Type 0 where
       → FirstTestOf V (Pattern ∷ four_numbers q a b c d) (pattern q (a ∷ b ∷ c ∷ d ∷ []))
 
 abbrev pub SpellsInFirstWords : List Token → Form → Type 0
-SpellsInFirstWords T t = CondOf no_additions (λ E. FirstTestOf (ValueOf SpellsFirstAtom)) unbound T t
+SpellsInFirstWords T t =
+    CondOf no_additions (λ E. FirstTestOf (ValueOf SpellsFirstAtom)) unbound T t
 
 -- the token was there first: it isn't a measure but hcp, and none of the later words
 abbrev pub IsFirst : Token → Type 0

@@ -428,8 +428,9 @@ impl<'a> Parser<'a> {
         Ok(tree)
     }
 
-    /// The tree of the condition that begins at `start`, with the suit or the seat in the place of the
-    /// class's word, after the tree of those before it. One that isn't of the class adds nothing.
+    /// The tree of the condition that begins at `start`, with the suit or the seat in the place of
+    /// the class's word, after the tree of those before it. One that isn't of the class adds
+    /// nothing.
     #[cycle(conditions)]
     #[inline(never)]
     fn with_choice(

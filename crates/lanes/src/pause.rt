@@ -6,9 +6,9 @@
 //! counts its spins (`signals.rt`): after a long yield it has spun for long.
 //!
 //! Two long yields with few others between them show that the machine is busy (`load.rt`). From
-//! then on an end doesn't yield: it spins, and then sleeps until the other end wakes it. To be woken
-//! takes as long as dozens of candidates even if a core is free. So an end that had to sleep spins
-//! half as long the next time, and one that hadn't twice as long.
+//! then on an end doesn't yield: it spins, and then sleeps until the other end wakes it. To be
+//! woken takes as long as dozens of candidates even if a core is free. So an end that had to sleep
+//! spins half as long the next time, and one that hadn't twice as long.
 
 ghost use Rattle.std.specs.Prelude.{◌≡◌, ◌<◌, true};
 
