@@ -1,8 +1,8 @@
 //! A condition: made of a tree, cloned, and asked whether it holds of a deal.
 
-ghost use Rattle.std.specs.Prelude.{◌≡◌, IfOk};
+ghost use Rattle.std.specs.Prelude.{◌≡◌};
 ghost use Rattle.conditions.specs.declared.tree.Op.TheVariants.{Equal};
-ghost use Rattle.conditions.specs.Form.{all_of, form_of, compare, number};
+ghost use Rattle.conditions.specs.Form.{form_of, compare, number};
 ghost use Rattle.conditions.specs.Limits.{IsWithinLimits, HasAtMostAtoms, HasNumbersUpTo};
 ghost use Rattle.conditions.specs.Meaning.{holds};
 ghost use Rattle.conditions.specs.Memory.{IsUnlessMemory};
@@ -11,7 +11,7 @@ use crate::error::CondError;
 use crate::meaning;
 use crate::tree::{Op, Tree, Value};
 use cards::Deal;
-use std::alloc::{AllocError, Global};
+use std::alloc::Global;
 use std::marker::Model;
 
 /// A condition on a deal, which contracts see as its tree's form.
@@ -68,33 +68,6 @@ impl Cond {
             right: Value::Number(0),
         };
         Cond { alloc, tree }
-    }
-
-    /// Returns the condition that both of these hold.
-    ///
-    /// # Errors
-    /// `Memory` if an allocation failed.
-    pub fn and(self, other: Cond) -> Result<Cond, CondError>
-        ensures { IsUnlessMemory result (all_of self other) }
-    {
-        let Cond { alloc, tree: left } = self;
-        let Cond {
-            alloc: _,
-            tree: right,
-        } = other;
-        match Cond::joined(alloc, left, right) {
-            Ok(tree) => Ok(Cond { alloc, tree }),
-            Err(_) => Err(CondError::Memory),
-        }
-    }
-
-    /// Returns the tree of the test that both hold.
-    fn joined(alloc: Global, left: Tree, right: Tree) -> Result<Tree, AllocError>
-        ensures { IfOk result (λ t. form_of t ≡ all_of (form_of left) (form_of right)) }
-    {
-        let left = Box::new(alloc, left)?;
-        let right = Box::new(alloc, right)?;
-        Ok(Tree::AllOf(left, right))
     }
 
     /// Returns an equal condition.
