@@ -15,7 +15,7 @@ WIDTHS = (360, 768, 1280)
 SECONDS = 20
 HERE = pathlib.Path(__file__).resolve().parent
 AUDIT = (HERE / "audit.js").read_text()
-NOTRUMP = "hcp(north) in 15-17 and balanced(north)"
+NOTRUMP = "balanced(north) and hcp(north) in 15-17 and every major (len(north,major)<5)"
 
 
 def need():

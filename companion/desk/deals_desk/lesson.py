@@ -40,7 +40,7 @@ def lesson() -> Response:
     line = words.boards(form, files.BY_NAME["boards"].look).line()
     return page(
         "lesson.html", 422 if answer else 200, form=form, answer=answer, files=offered(form), address=address(form),
-        is_dealt=is_asked and not answer, line=line, starts=starts.STARTS, has_solver=desk().runner.has(TRICKS),
+        is_dealt=is_asked and not answer, line=line, groups=starts.GROUPS, has_solver=desk().runner.has(TRICKS),
     )
 
 

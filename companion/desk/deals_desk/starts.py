@@ -1,28 +1,44 @@
-"""Lessons to start from. North holds the hand that deals."""
+"""Lessons to start from, as `lessons.txt` has them. North holds the hand that deals."""
 
 import dataclasses
+import pathlib
 
 
 @dataclasses.dataclass(frozen=True)
-class Start:
-    """A condition with its title."""
+class Lesson:
+    """A lesson: its name, its title, what it shows in a sentence, and the condition of its deals."""
 
+    name: str
     title: str
+    shows: str
     where: str
 
 
-QUIET_EAST = "hcp(east)<10 and longest(east)<6 and second(east)<5 and len(east,spades)+len(east,hearts)<9"
+@dataclasses.dataclass(frozen=True)
+class Group:
+    """Lessons on one subject."""
 
-STARTS = (
-    Start("Opening one notrump", "hcp(north) in 15-17 and balanced(north)"),
-    Start("Stayman", "hcp(north) in 15-17 and balanced(north) and hcp(south) in 8-14 and longest(south)<6 "
-          "and any major (len(south,major)==4) and not pattern(south,4-3-3-3) and hcp(west)<10 and longest(west)<6 "
-          f"and {QUIET_EAST}"),
-    Start("A weak two", "any suit (len(north,suit)==6 and cards(north,suit,akq)>=2 "
-          "and len(north,clubs)<6) and hcp(north) in 6-9 and second(north)<4 and shortest(north)>0"),
-    Start("A preempt", "any suit (len(north,suit)==7 and cards(north,suit,akq)>=1 and cards(north,suit,akqjt)>=3 "
-          "and hcp(north)<=hcp(north,suit)+3) and hcp(north) in 5-9 and second(north)<4 "
-          "and (hcp(north)<9 or controls(north)<3)"),
-    Start("Slams by points", "hcp(north)+hcp(south)>=33 and cards(north,a)+cards(south,a)>=3 "
-          "and any suit (len(north,suit)+len(south,suit)>=8)"),
-)
+    title: str
+    lessons: tuple[Lesson, ...]
+
+
+def lesson_of(block: str) -> Lesson:
+    """A lesson of its lines: `name: title`, the sentence, and the condition, which may go over lines."""
+    head, shows, *lines = block.splitlines()
+    name, _, title = head.partition(": ")
+    return Lesson(name, title, shows, " ".join(line.strip() for line in lines))
+
+
+def group_of(part: str) -> Group:
+    """A group of its title and its lessons, with an empty line before each."""
+    title, *blocks = part.strip().split("\n\n")
+    return Group(title, tuple(lesson_of(block) for block in blocks))
+
+
+def read(text: str) -> tuple[Group, ...]:
+    """The groups of a table of lessons."""
+    _, *parts = text.split("\n## ")
+    return tuple(group_of(part) for part in parts)
+
+
+GROUPS = read(pathlib.Path(__file__).with_name("lessons.txt").read_text(encoding="utf-8"))

@@ -1,0 +1,106 @@
+"""The boards of each lesson of deals-desk, judged by a bidder that knows nothing of its condition: at most two in a
+hundred may be wrong. North deals, East and South bid after it.
+"""
+
+import re
+import sys
+
+import bidder
+import harness
+import report
+
+sys.path.append(str(harness.TOP / "companion" / "desk"))
+from deals_desk import starts  # noqa: E402
+
+BOARDS, MANY_BOARDS = 200, 1_000
+# Drawn by hand, apart from the seed that the conditions were tried with.
+SEED = "318042"
+# What North opens, what East does over it, and what South answers where East passes; one of several each. A lesson
+# that isn't here claims how cards lie, and no calls.
+CALLS = {
+    "strong-notrump": ["1N"],
+    "five-card-major": ["1S 1H"],
+    "better-minor": ["1D 1C"],
+    "two-notrump": ["2N"],
+    "strong-two-clubs": ["2C"],
+    "weak-two": ["2S 2H"],
+    "weak-two-diamonds": ["2D"],
+    "preempt": ["3S 3H 3D 3C"],
+    "four-level-preempt": ["4S 4H"],
+    "gambling-3nt": ["3N"],
+    "rule-of-20": ["1S 1H 1D 1C"],
+    "third-seat": ["P", "P"],
+    "single-raise": ["1S 1H", "P", "2S 2H"],
+    "limit-raise": ["1S 1H", "P", "3S 3H"],
+    "preemptive-raise": ["1S 1H", "P", "4S 4H"],
+    "jacoby-2nt": ["1S 1H", "P", "2N"],
+    "splinter": ["1S 1H", "P", "SPL"],
+    "inverted-minor": ["1D", "P", "2D"],
+    "one-over-one": ["1D", "P", "1H 1S"],
+    "one-notrump-response": ["1S", "P", "1N"],
+    "two-over-one": ["1S", "P", "2C"],
+    "reverse": ["1D 1C", "P", "1S"],
+    "fourth-suit": ["1D", "P", "1S"],
+    "strong-two-suiter": ["1S 1H"],
+    "stayman": ["1N", "P", "2C"],
+    "transfer-hearts": ["1N", "P", "2D"],
+    "transfer-spades": ["1N", "P", "2H"],
+    "weak-transfer": ["1N", "P", "2D 2H"],
+    "notrump-invitation": ["1N", "P", "2N"],
+    "notrump-game": ["1N", "P", "3N"],
+    "quantitative-4nt": ["1N", "P", "4N"],
+    "both-majors-opposite": ["1N", "P", "2D 2H"],
+    "stayman-over-2nt": ["2N", "P", "3C"],
+    "takeout-double": ["1D", "X"],
+    "overcall": ["1H 1D 1C", "1S"],
+    "notrump-overcall": ["1D", "1N"],
+    "weak-jump-overcall": ["1D", "WS WH"],
+    "michaels": ["1D", "M"],
+    "unusual-notrump": ["1S 1H", "U"],
+    "majors-against-notrump": ["1N", "M"],
+    "negative-double": ["1D", "1S"],
+    "raise-of-overcall": ["1D", "1S"],
+    "balancing": ["1H", "P", "P"],
+    "responsive-double": ["1H", "X"],
+    "misfit": ["1S", "P", "1N"],
+}
+
+
+def auction(deal, calls):
+    """As many calls of a deal as a lesson tells of."""
+    north, east, south, _ = map(bidder.Hand, deal.split())
+    made = [bidder.opening(north)]
+    if calls > 1:
+        made.append(bidder.opening(east) if made[0] == "P" else bidder.action(east, made[0]))
+    if calls > 2:
+        made.append(bidder.answer(south, made[0]))
+    return made
+
+
+def judged(lesson):
+    """What is wrong with a lesson's boards, if anything is."""
+    boards = MANY_BOARDS if report.has("many") else BOARDS
+    words = ["--seed", SEED, "--boards", str(boards), "--candidates", "30000000", "--workers", "auto", "--dealer", "N"]
+    made = harness.deals("make", *words, "--where", lesson.where)
+    if made.returncode:
+        return made.stderr.decode()
+    deals = re.findall(r'\[Deal "N:([^"]*)"\]', made.stdout.decode())
+    if len(deals) < 20:
+        return f"only {len(deals)} boards"
+    wanted = CALLS.get(lesson.name, [])
+    wrong = [deal for deal in deals if wanted and any(
+        call not in calls.split() for call, calls in zip(auction(deal, len(wanted)), wanted, strict=True))]
+    return None if 50 * len(wrong) <= len(deals) else f"{len(wrong)} of {len(deals)} boards, as {wrong[0]}"
+
+
+def boards():
+    """Each lesson of the table."""
+    listed = [lesson for group in starts.GROUPS for lesson in group.lessons]
+    names = [lesson.name for lesson in listed]
+    yield "sixty lessons", None if len(names) == len(set(names)) == 60 else f"{len(names)} names"
+    yield "each lesson that is judged is there", ", ".join(sorted(set(CALLS) - set(names))) or None
+    other = starts.Lesson("stayman", "", "", "balanced(north) and hcp(north) in 15-17")
+    yield "boards that show something else", None if judged(other) else "aren't judged wrong"
+    for lesson in listed:
+        wrong = len(lesson.where.encode()) > 1024 or not lesson.shows.endswith(".")
+        yield lesson.name, "its table's row is wrong" if wrong else judged(lesson)
