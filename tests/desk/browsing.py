@@ -168,6 +168,7 @@ def lesson(window, desk):
     window.go(f"{desk.address}/lesson")
     yield from fits(window, "lesson")
     window.find(".starts summary").click()
+    window.find(".starts details summary").click()
     window.find(".starts a").click()
     window.until(lambda: window.find("[name=where]").get_attribute("value") == NOTRUMP, "the lesson")
     window.press("Deal")
