@@ -16,7 +16,7 @@ use boards::{Board, Notation};
 use picking::{MOST_BYTES, Source};
 use sinks::{Sink, SinkFault, put_all};
 
-/// No input has so many games.
+/// More games than any input has.
 const MOST_GAMES: u64 = MOST_BYTES + 1;
 
 /// Why showing ended before the end of the input.

@@ -115,12 +115,12 @@ fn number_of(word: &str, digits: &str) -> Option<u64> {
     times(whole, 1)
 }
 
-/// The number with so many zeros after it.
+/// The number with as many zeros after it as the power says.
 fn times_power(number: &str, power: &str) -> Option<u64> {
     times(number, 10u64.checked_pow(power.parse().ok()?)?)
 }
 
-/// The number that the text is, so many times.
+/// The number that the text is, times the factor.
 fn times(number: &str, factor: u64) -> Option<u64> {
     number.parse::<u64>().ok()?.checked_mul(factor)
 }
