@@ -2,7 +2,7 @@
 
 maintainer='Guzmerany maintainers <maintainers@users.noreply.guzmerany.example>'
 
-# The licences, as Debian wants them told.
+# The licences, as Debian asks for them.
 write_copyright() {
     cat <<END
 Format: https://www.debian.org/doc/packaging-manuals/copyright-format/1.0/

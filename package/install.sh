@@ -4,7 +4,7 @@
 # sh install.sh PREFIX            installs; what an earlier version left is removed first
 # sh install.sh --remove PREFIX   removes all that was installed
 #
-# PREFIX/share/doc/deals/installed lists what was installed, and this file stands beside it.
+# PREFIX/share/doc/deals/installed lists what was installed, and this file is beside it.
 set -eu
 
 usage() {
@@ -88,7 +88,7 @@ case $1 in
             *) here=. ;;
         esac
         [ -d "$here/files" ] || {
-            echo "install.sh: it stands beside no files to install" >&2
+            echo "install.sh: the files to install are not beside it" >&2
             exit 1
         }
         umask 022

@@ -38,7 +38,7 @@ make_room() {
     local left within=${TMPDIR:-/var/tmp}
     [ "${within::1}" = / ] || within=$PWD/$within
     for left in "$within/deals-$1".*/; do
-        # A link's target is no room, whoever made the link.
+        # A link's target isn't a room, whoever made the link.
         [ ! -L "${left%/}" ] && [ -O "$left" ] && flock -n "$left" rm -rf -- "${left%/}" || true
     done 2>/dev/null
     find "$within/" -maxdepth 1 -type d -name 'deals.??????' -user "$(id -u)" -empty -mmin +10 -delete 2>/dev/null || true

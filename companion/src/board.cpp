@@ -57,6 +57,20 @@ std::optional<ddTableDeal> read_deal(const std::string &value) {
     return cards;
 }
 
+std::string deal_text(const ddTableDeal &cards) {
+    std::string text;
+    for (const auto &hand : cards.cards) {
+        text += text.empty() ? "N:" : " ";
+        for (int suit = 0; suit < DDS_SUITS; suit++) {
+            text += suit > 0 ? "." : "";
+            for (size_t rank = RANKS.size(); rank-- > 0;)
+                if (hand[suit] & (4u << rank))
+                    text += RANKS[rank];
+        }
+    }
+    return text;
+}
+
 std::optional<int> read_dealer(const std::string &word) {
     return word.size() == 1 ? place_of(word[0], SEAT_LETTERS) : std::nullopt;
 }

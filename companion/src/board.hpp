@@ -27,6 +27,9 @@ struct Board {
 // The cards of a Deal value, all four hands of it (PBN 2.1, section 3.4.11).
 std::optional<ddTableDeal> read_deal(const std::string &value);
 
+// The same as `deals` writes it: from North on, each suit from the ace down.
+std::string deal_text(const ddTableDeal &cards);
+
 std::optional<int> read_dealer(const std::string &word);
 
 // PBN 2.1, section 3.4.10.

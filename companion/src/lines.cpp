@@ -65,7 +65,7 @@ std::string end_of_line(const std::string &text, size_t at) {
 std::string line_of(const Board &board, Solver &solver) {
     const ddTableResults table = solver.table();
     const auto par = par_of(board, table);
-    return digits_of(table) + (par ? " " + text_of(*par) : "") + '\n';
+    return digits_of(table) + (par ? " " + text_of(*par) : "") + ' ' + deal_text(*board.cards) + '\n';
 }
 
 std::string with_tricks(const Board &board, Solver &solver) {

@@ -37,7 +37,7 @@ std::optional<std::string> judged(const Options &options, const Board &board, in
         if (!meets(rule, solver))
             return std::nullopt;
     if (options.has_numbers)
-        return std::to_string(*board.number) + "\n";
+        return std::to_string(*board.number) + (options.has_tricks ? " " + line_of(board, solver) : "\n");
     if (options.has_tricks)
         return with_tricks(board, solver);
     return options.rules.empty() ? line_of(board, solver) : board.text;

@@ -13,13 +13,13 @@ namespace {
 
 constexpr uint64_t MOST_BOARDS = uint64_t(1) << 40;
 const std::string USAGE = R"(usage: deals-tricks [--boards M] < BOARDS > TRICKS
-       deals-tricks [--makes C].. [--beaten C].. [--tricks T].. [--boards M] [--add | --numbers] < BOARDS > KEPT
+       deals-tricks [--makes C].. [--beaten C].. [--tricks T].. [--boards M] [--add] [--numbers] < BOARDS > KEPT
 
 Reads boards in PBN or JSON, as `deals make` writes them, and writes a line for each deal: the tricks that North, South,
 East and West make as declarers, each in notrump, spades, hearts, diamonds and clubs, as a digit from 0 to d (13); then,
-where the board has a dealer and a vulnerability, the side and the score of par, and its contract.
+where the board has a dealer and a vulnerability, the side and the score of par, and its contract; then the deal.
 
-    97b8997b892624426244 NS 450 4H-NS+1
+    97b8997b892624426244 NS 450 4H-NS+1 N:72.AT64.75.AT872 AK985.85.A6.Q654 QJ43.Q732.QT3.K9 T6.KJ9.KJ9842.J3
 
 With rules it writes the boards that meet all of them, as it read them:
 
@@ -28,7 +28,8 @@ With rules it writes the boards that meet all of them, as it read them:
     --tricks S-N=10   some declarer takes so many tricks; >=10 and <=10: at least, at most
     --boards M        ends after M boards
     --add             adds tricks and par to boards that have none
-    --numbers         writes the numbers of the candidates alone, for `deals pick`; the boards have to be JSON
+    --numbers         writes the numbers of the candidates alone, for `deals pick`; the boards have to be JSON;
+                      with --add the board's line of tricks comes after its number
     --help, --version
 
 Exit status: 0; 1 if a deal can't be read, it isn't PBN or JSON, or the input fails; 2 for words that can't be read;
@@ -100,7 +101,5 @@ std::optional<Options> read_options(int count, char **words) {
     if (optind < count)
         throw refusal(std::string(words[optind]) + ": no option",
                       "boards come from its input: for those of a file write deals-tricks < FILE");
-    if (options.has_numbers && options.has_tricks)
-        throw refusal("--add: not with --numbers", "a number has no room for tricks");
     return options;
 }

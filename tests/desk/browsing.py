@@ -189,13 +189,13 @@ def mistake(window, desk):
     window.until(lambda: window.find(".refusal .mend").is_displayed(), "the refusal")
     yield from fits(window, "a mistake")
     yield "the fault is marked", window.find(".marks mark").get_attribute("textContent") == "nord"
-    yield "what could stand there", True
+    yield "what could be there", True
     window.find(".refusal .mend").click()
     yield "it is mended", window.find("[name=where]").get_attribute("value") == "hcp(north) in 15-17"
     window.until(lambda: "One deal in" in window.find("[data-rarity]").text, "how rare they are")
     yield "nothing is refused", not window.all(".refusal")
     window.write("where", "len(north,")
-    window.until(lambda: window.find(".chip").is_displayed(), "what could stand")
+    window.until(lambda: window.find(".chip").is_displayed(), "what could be there")
     window.find(".chip").click()
     yield "a word is put in", window.find("[name=where]").get_attribute("value").startswith("len(north,")
 

@@ -70,8 +70,8 @@ def named():
         yield name, answers.read(ended.stderr.decode(), {name: "nord"}).field == name
 
 
-def standing():
-    """All that could stand anywhere has words to be put there."""
+def possible():
+    """All that could be anywhere has words to be put there."""
     for left, text in tables.lines(harness.TOP / "tests" / "rows" / "places" / "expected.txt"):
         if text is not None:
             expected = left.partition("; ")[2]
@@ -98,5 +98,5 @@ def typed():
 
 def words_of_forms():
     yield "types", typed()
-    for part in (told, marked, named, standing, listed):
+    for part in (told, marked, named, possible, listed):
         yield from report.judged(part())

@@ -15,7 +15,7 @@ class Case:
     err: bytes | None = b""
     line: bytes = b""  # what err begins with: below it what is refused is explained, where memory allows
     workers: int = 0  # how many threads it starts
-    given: bytes = b""  # what stands on its input
+    given: bytes = b""  # what is on its input
 
 
 NORTH, EAST, SOUTH, WEST = range(4)
@@ -24,10 +24,10 @@ LABEL = 'at most 100 characters of ASCII, from space to ~, without " and \\'
 DATE = "a date is written YYYY.MM.DD, as 2024.05.01"
 SHOWN = "a\\bca\\bca\\bca\\bca\\bca\\bca\\bca\\bca\\bca\\bca\\bca\\bca\\bca\\bca\\bca\\bca\\bca\\"
 
-# Says what helps a person below a refusal, though standard error is no terminal.
+# Says what helps a person below a refusal, though standard error isn't a terminal.
 HINTS = ["--hints", "always"]
 
-# What clap says of a missing option, and what stands below it where a seed is missing.
+# What clap says of a missing option, and what is below it where a seed is missing.
 MISSING = "error: the following required arguments were not provided:\n"
 MORE_INFORMATION = "For more information, try '--help'.\n"
 SEED_HINTS = (
@@ -109,6 +109,15 @@ def of_pick():
     yield Case("pick, a refused line", words, 7, model.games(7, 2), refused, given=b"0\n1\ntwo\n")
 
 
+def of_tricks():
+    words = ["make", "--seed", "7", "--candidates", "3", "--tricks", "--workers", "1"]
+    yield Case("tricks, three", words, out=model.games(7, 3), workers=1, given=b"-\n-\r\n-")
+    refused = b"input refused at line 2: not tricks\n"
+    yield Case("tricks, a refused line", words, 7, model.games(7, 1), refused, workers=1, given=b"-\nthree\n-\n")
+    refused = b"input refused at line 5: more than the boards\n"
+    yield Case("tricks, a line too many", words, 7, model.games(7, 3), refused, workers=1, given=b"-\n-\n-\n\n-\n")
+
+
 def of_texts():
     yield Case("stream", ["stream", "--seed", "0", "--count", "3"], out=b"366850414\n1610402240\n206956554\n")
     yield Case("stream, nothing", ["stream", "--seed", "0", "--count", "0"])
@@ -130,7 +139,7 @@ def without_seed(command, more):
     return Case(f"{command}, no seed", [command, *words], 2, err=said.encode(), line=line.encode())
 
 
-# What stands below an option that isn't there, and below words whose command was left out.
+# What is below an option that isn't there, and below words whose command was left out.
 COMMAND_FIRST = "  hint: the command comes first: deals make --seed 7 --boards 36\n"
 TO_A_FILE = "  hint: boards go to standard output, and so into a file: deals make .. > boards.pbn\n"
 BY_WHERE = "  hint: a condition comes after --where, in quotes: --where 'hcp(north)>=15'\n"
@@ -269,5 +278,5 @@ def of_count():
 
 
 def every(is_all):
-    chosen = [*of_texts(), *of_make(), *of_find(), *of_count(), *of_pick(), *of_refusals()]
+    chosen = [*of_texts(), *of_make(), *of_find(), *of_count(), *of_pick(), *of_tricks(), *of_refusals()]
     return [*chosen, *of_more()] if is_all else chosen

@@ -1,6 +1,6 @@
 """Refuses the calls of the libraries their memory, one allocation at a time.
 
-The tests in crates/test_runs/src/memory accept either outcome and check what stands after it. Here they are proved and
+The tests in crates/test_runs/src/memory accept either outcome and check what is there after it. Here they are proved and
 built, if `rt ci` hasn't built them since the last change, and each is run with its N-th allocation failing, alone and
 with all that follow, N from 1 until nothing is refused.
 """

@@ -4,7 +4,7 @@ With `all` there are longer texts, more workers, and the address space is cut sh
 how the runs ended.
 
 Each kind of call fails alone, and from its N-th on, N from 1 until nothing is refused. A run must end within seconds,
-never by a signal, and leave no memory behind. With status 5 standard error has the line 'out of memory' and standard
+never by a signal, and leak no memory. With status 5 standard error has the line 'out of memory' and standard
 output has nothing; with 6 'thread not started' and nothing; with 4 'output failed', below it the system's reason where
 hints are asked for, or nothing where the reader of a pipe has gone, and a prefix of the right text; with the status of
 the undisturbed run, its whole texts.

@@ -128,7 +128,7 @@ class Terminal:
         self.until("ready:")
 
     def completed(self, line, tabs=2):
-        """What the shell shows for a line and some tabs, and the line as it then stands."""
+        """What the shell shows for a line and some tabs, and the line as it is then."""
         self.send(line + "\t" * tabs)
         # The line is given to echo, and isn't run.
         self.send("\x01echo ma''rk \n")

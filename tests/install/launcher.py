@@ -5,7 +5,7 @@ The stand-in notes each call. Asked to build, it puts the small program in place
 does. The launcher has to run the program that was built, and nothing else, where it was built from these sources; else
 the sources, and to say so. `check program` has to build once, in a room of its own, from the product's crates alone.
 Both have to work through links, from any folder, in a path of any bytes; to say on a terminal how far they are; to end
-what they started; and to leave no file behind.
+what they started; and to leave no file.
 """
 
 import contextlib

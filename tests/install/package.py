@@ -69,7 +69,7 @@ def check_man_form(_):
 
 
 def right_words(name):
-    """What stands behind a command, and where that is another list than its options, what is completed there."""
+    """What may follow a command, and where that is another list than its options, what is completed there."""
     options = commands.options(name)
     yield "--", set(options)
     yield "-", set(options) | commands.shorts(name)
@@ -86,7 +86,7 @@ def check_bash(_):
     listed = set(commands.commands())
     yield "bash, the commands", {word for word in commands.in_bash("deals ") if word[0] != "-"} == listed
     yield "bash, help", set(commands.in_bash("deals help ")) == listed
-    yield "bash, nothing behind a number's option", commands.in_bash("deals make --seed ") == []
+    yield "bash, nothing after a number's option", commands.in_bash("deals make --seed ") == []
     yield "bash, nothing of another command", commands.in_bash("deals stream --w") == []
     shell = commands.Terminal(["bash", "--norc", "--noprofile", "-i"])
     shell.do(f"source '{commands.PAGES}/deals.bash'")

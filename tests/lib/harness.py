@@ -70,8 +70,8 @@ def deals(*words, given=b"", stdin=None):
 
 
 def run(command, shim, fault, at, stderr=subprocess.PIPE, given=b""):
-    """Runs a command whose call number `at` of the fault's kind fails; 0: none fails. What it writes to a standard error
-    that is given isn't told. Its input has the bytes of `given`."""
+    """Runs a command whose call number `at` of the fault's kind fails; 0: none fails. What it writes to a given
+    standard error isn't told. Its input has the bytes of `given`."""
     report = os.memfd_create("report")
     os.truncate(report, REPORT.size)
     settings = {

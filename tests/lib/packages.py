@@ -21,7 +21,7 @@ SECONDS = 600
 
 
 def leave():
-    """What stands before `apt-get` where it may install something; None where it may not. Without root's rights it is
+    """What comes before `apt-get` where it may install something; None where it may not. Without root's rights it is
     asked for them in an automatic run alone."""
     if not is_there("apt-get"):
         return None

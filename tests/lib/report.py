@@ -77,5 +77,5 @@ OPTIONS = ("many", "all", "slow")
 
 
 def has(option):
-    """Whether the option stands among the words."""
+    """Whether the option is one of the words."""
     return option in sys.argv[1:]

@@ -207,7 +207,7 @@ static enum kind kind_of(const char *name)
     return NONE;
 }
 
-/* Leaves the address space room to grow by so many bytes; the stack has grown before by what the deepest condition needs. */
+/* Leaves the address space room to grow by this many bytes; the stack has grown before by what the deepest condition needs. */
 static void limit_space(rlim_t room)
 {
     volatile char stack[3 << 20];

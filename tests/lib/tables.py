@@ -1,7 +1,7 @@
 """Tables of texts, as those of second/truths and of rows/places.
 
 A line that begins with # says something of the rows below it. In a text, \\n, \\t, \\r, \\x0c, \\x1b and \\\\ stand for what
-can't stand there, and \\{12 not } for `not `, twelve times.
+can't be there, and \\{12 not } for `not `, twelve times.
 """
 
 import re

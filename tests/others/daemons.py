@@ -1,4 +1,4 @@
-"""A temporary folder with servers in it, and all that they leave behind: ended with it, whatever happened."""
+"""A temporary folder with servers in it, and all that they started: ended with it, whatever happened."""
 
 import contextlib
 import ctypes

@@ -71,6 +71,9 @@ def one_batch(deals: list[str], dice: random.Random, times: int):
         numbers = b"".join(b"%d\n" % (3 * index + 3) for index in chosen)
         yield f"the boards of {words}", said(kept(HEAD + b"".join(games), *words)) == (0, boards, "")
         yield f"the numbers of {words}", said(kept(b"".join(lines), *words, "--numbers")) == (0, numbers, "")
+    told = kept(b"".join(lines)).stdout.splitlines(keepends=True)
+    numbered = b"".join(b"%d %b" % (3 * index + 3, line) for index, line in enumerate(told))
+    yield "the lines of numbers", said(kept(b"".join(lines), "--numbers", "--add")) == (0, numbered, "")
 
 
 def compared():
@@ -125,7 +128,7 @@ def bytes_as_read():
 
 def in_pbn(line: str) -> bytes:
     """The four tags, by a line of tricks, as FORMATS has them."""
-    digits, score, contract = re.fullmatch(r"(\S+) (\S+ \d+) (\S+)\n", line).groups()
+    digits, score, contract = re.fullmatch(r"(\S+) (\S+ \d+) (\S+) N:.*\n", line).groups()
     rows = zip([seat + strain for seat in "NSEW" for strain in (" NT", "  S", "  H", "  D", "  C")], digits)
     table = "".join(f"{name} {int(digit, 16):2}\n" for name, digit in rows)
     tags = f'[DoubleDummyTricks "{digits}"]\n[OptimumScore "{score}"]\n[ParContract "{contract}"]\n'
@@ -143,7 +146,7 @@ def added():
     followed = said(kept(GAMES[0][:-2] + b" { x\ny }\n\n", "--add"))
     yield "a comment after the deal", followed == (0, GAMES[0][:-1] + tags[:-1] + b" { x\ny }\n\n", "")
     told = json.loads(kept(LINES[0], "--add", *EACH).stdout)
-    digits, _, par = line.rstrip("\n").partition(" ")
+    digits, _, par = line.partition(" N:")[0].partition(" ")
     yield "JSON", told == {**json.loads(LINES[0]), "tricks": digits, "par": par}
     had = LINES[0].replace(b"}", b',"tricks":"-"}')
     yield "JSON that has tricks", said(kept(had, "--add")) == (0, had, "")
@@ -163,7 +166,7 @@ def refused_words():
     ]:
         text = f"{NAMES}{option} {wrong}: can't be read\n{advice}"
         yield f"{option} {wrong}", said(kept(GAMES[0], f"{option}={wrong}")) == (2, b"", text)
-    for words in (["--what"], ["--makes"], ["--numbers", "--add"], ["boards.pbn"], ["--add=1"]):
+    for words in (["--what"], ["--makes"], ["boards.pbn"], ["--add=1"]):
         run = kept(GAMES[0], *words)
         yield f"{words}", run.returncode == 2 and run.stdout == b"" and run.stderr.startswith(NAMES.encode())
     version = (harness.TOP / "CHANGELOG.md").read_text().partition("\n## ")[2].partition("\n")[0]
@@ -304,7 +307,7 @@ def behind_find():
         began = time.monotonic()
         rest, told = process.communicate(timeout=SECONDS)
         seconds = time.monotonic() - began
-    yield f"behind find: {seconds:.1f} s", (rest, told, seconds < 1) == ("4 4 0 0\n", "", True)
+    yield f"after find: {seconds:.1f} s", (rest, told, seconds < 1) == ("4 4 0 0\n", "", True)
     words = ["find", "--seed", "7", "--candidates", str(numbers[-1] + 1), "--where", rare]
     yield "its numbers", harness.deals(*words).stdout == "".join(f"{number}\n" for number in numbers).encode()
 

@@ -179,7 +179,7 @@ def over_ssh(deals):
     packages.need("parallel", "parallel")
     packages.need("openssh-client", "ssh", "ssh-keygen")
     need_service("openssh-server", "/usr/sbin/sshd")
-    # Started by root, sshd wants this folder for what it does before a login.
+    # Started by root, sshd needs this folder for what it does before a login.
     own = os.geteuid() == 0 and not os.path.isdir("/run/sshd")
     if own:
         os.mkdir("/run/sshd", 0o755)

@@ -10,7 +10,7 @@ import packages
 
 HERE = pathlib.Path(__file__).resolve().parent
 LABELS = ["--event", "Pairs & <Teams>'s final", "--site", "a&lt;b" * 16, "--date", "2026.11.22"]
-# The screens that it is looked at on, with how many boards stand side by side there.
+# The screens that it is looked at on, with how many boards are side by side there.
 SCREENS = [("small phone", 320, {1}), ("phone", 360, {1}), ("wide phone", 390, {1, 2}), ("desktop", 1280, {3, 4})]
 
 
@@ -42,7 +42,7 @@ def measured(folder, file, width):
 
 
 def faults_on_screen(measures, columns):
-    """What is wrong with a page on a screen that has room for so many columns."""
+    """What is wrong with a page on a screen that has room for this many columns."""
     if measures["columns"] not in columns:
         yield f"{measures['columns']} columns"
     if measures["overflows"]:
@@ -76,7 +76,7 @@ def paper(pdf):
 
 
 def faults_on_paper(sheets, count):
-    """What is wrong with the sheets of so many boards."""
+    """What is wrong with the sheets of this many boards."""
     boards = [len(re.findall(r"Board \d", sheet)) for sheet in sheets]
     if sum(boards) != count:
         yield f"{sum(boards)} boards"

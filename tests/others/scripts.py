@@ -39,9 +39,14 @@ def where_of(words):
     return found[0] if found else "1==1"
 
 
+def by_manual(script):
+    """The script for Debian's dealer, whose altcount sets the count of two numbers before."""
+    return re.sub(r"\baltcount (\d+)", lambda found: f"altcount {int(found[1]) + 2}", script)
+
+
 def dealt(script, count):
     """The deals that dealer prints of a script, as texts of four hands."""
-    asked = f"{script}\ngenerate {count}\nproduce {count}\naction printoneline\n"
+    asked = f"{by_manual(script)}\ngenerate {count}\nproduce {count}\naction printoneline\n"
     ended = subprocess.run([DEALER, "-s", "7", "-v"], input=asked, capture_output=True, text=True, check=True)
     return [line for line in ended.stdout.splitlines() if line.startswith("n ")]
 
@@ -99,7 +104,8 @@ class Writer:
 
     def count(self):
         dice, seat, suit = self.dice, self.dice.choice(SEATS), self.dice.choice(SUITS)
-        word = dice.choice(["hcp", "control", "loser", "aces", "kings", "top3", "top4", "c13", "pt0", "pt6", "queens", "tens"])
+        words = ["hcp", "control", "loser", "aces", "kings", "top3", "top4", "c13", "pt0", "pt3", "pt6", "queens", "tens"]
+        word = dice.choice(words)
         return dice.choice([f"{suit}({seat})", f"{word}({seat})", f"{word}({seat}, {suit})", f"hcp({seat})", f"{suit[:-1]}({seat})"])
 
     def number(self, depth):
@@ -110,7 +116,7 @@ class Writer:
         if kind < 7:
             return f"{self.number(depth - 1)} {dice.choice('+-')} {self.number(0)}"
         if kind == 7:
-            return f"{dice.randrange(1, 4)}*{self.count()}"
+            return f"{dice.choice([1, 2, 3, 10, 73, 900])}*{self.count()}"
         if kind == 8:
             return f"({self.test(0)} ? {self.number(0)} : {self.number(0)})"
         return f"(({self.test(0)}) + ({self.test(0)}))"
@@ -144,6 +150,8 @@ class Writer:
         lines = ["# made at random", f"one = {self.test(2)}", f"two = {self.number(1)}"]
         if dice.random() < 0.3:
             lines.insert(1, f"pointcount {' '.join(str(dice.randrange(6)) for _ in range(5))}")
+        if dice.random() < 0.5:
+            lines.insert(1, f"altcount {dice.choice([0, 3, 9])} {' '.join(str(dice.randrange(-20, 99)) for _ in range(5))}")
         if dice.random() < 0.3:
             lines.append("predeal south SAQ5, HK /* some cards */ west DT")
         lines.append(f"condition one {dice.choice(['and', 'or'])} two > {dice.randrange(12)} // the last")
@@ -178,7 +186,7 @@ def spoiled():
         yield f"spoiled, {number}", None if is_told and "Traceback" not in said else f"{status}: {said}"
 
 
-# Scripts whose shares and averages both programs tell, of so many deals each.
+# Scripts whose shares and averages both programs tell, of this many deals each.
 COUNTED = ("1c", "controls", "2nt", "weaktwo", "you_hold", "notrump")
 BY_DEALER, BY_DEALS = (1_000_000, 10_000_000) if report.has("many") else (200_000, 1_000_000)
 # Standard errors that two shares may differ by.
@@ -214,6 +222,8 @@ VALUES = (
     "spades(south)",
     "hearts(north) + hearts(south)",
     "2*aces(south) + kings(south)",
+    "c13(north)",
+    "5*queens(west) + 2*tens(west)",
 )
 ON_CONDITION = "condition hcp(north) > 11 and not shape(east, any 4333)"
 
@@ -278,6 +288,8 @@ def runs():
     yield "run", None if (ended.returncode, ended.stdout) == (0, wanted.stdout) and wanted.stdout else "other"
     ended = subprocess.run(words, input=script.encode(), capture_output=True, env={"DEALS": "/nowhere"}, check=False)
     yield "run, no program", None if ended.returncode == 1 and b"isn't installed" in ended.stderr else "other"
+    _, _, said = translated("altcount 6 3 2\npt6(north)>2")
+    yield "altcount, what is told", None if "manual" in said else said
     for given, status in ((["/nowhere"], 1), (["--seed", "x"], 2), (["--seed", "4294967296"], 2), (["a", "b"], 2)):
         ended = subprocess.run([PYTHON, TRANSLATOR, *given], capture_output=True, text=True, check=False)
         yield f"words, {given}", None if ended.returncode == status and "Traceback" not in ended.stderr else ended.stderr

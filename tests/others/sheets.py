@@ -25,7 +25,7 @@ def tricks(count):
 
 
 def sheet(make, count, *words):
-    """A sheet of so many boards, with tricks."""
+    """A sheet of this many boards, with tricks."""
     words = ["--seed", "7", "--candidates", str(count), "--format", "sheet", "--tricks", *words]
     return make(*words, lines=tricks(count))
 

@@ -17,7 +17,7 @@ import par
 import report
 
 PROGRAM = TOP / "companion" / "out" / "deals-tricks"
-FORM = re.compile(r"[0-9a-d]{20}(?: (NS|EW) (\d{1,4})(?: ([A-Za-z0-9+*=,/-]{1,24}))?)?")
+FORM = re.compile(r"[0-9a-d]{20}(?: (NS|EW) (\d{1,4})(?: ([A-Za-z0-9+*=,/-]{1,24}))?)?(?: N:[AKQJT2-9. ]{67})")
 # The deals of DDS's own examples with their tables: spades, hearts, diamonds, clubs and notrump, each for North, East,
 # South and West.
 EXAMPLES = [
@@ -50,6 +50,17 @@ def digits(table):
     return "".join("0123456789abcd"[table[4 * strain + seat]] for seat in (0, 2, 1, 3) for strain in (4, 0, 1, 2, 3))
 
 
+def spelled(deal):
+    """The deal as a line ends with it: North's hand first. The hands are in order, and so are their cards."""
+    hands = deal[2:].split(" ")
+    north = -"NESW".index(deal[0]) % 4
+    return "N:" + " ".join(hands[north:] + hands[:north])
+
+
+def line_of(deal, table):
+    return f"{digits(table)} {spelled(deal)}"
+
+
 def dealt(count):
     """Random deals, the same in each run."""
     dice = random.Random(7)
@@ -64,9 +75,9 @@ def dealt(count):
 def tables():
     lines = ask("".join(game(deal) for deal, _ in EXAMPLES)).stdout.split("\n")
     for (deal, table), line in zip(EXAMPLES, lines):
-        yield f"the table of {deal}", line == digits(table)
+        yield f"the table of {deal}", line == line_of(deal, table)
     # North and South own spades and diamonds, East and West hearts and clubs.
-    yield "four suits", ask(game(FOUR_SUITS)).stdout == 2 * "0d0d0" + 2 * "00d0d" + "\n"
+    yield "four suits", ask(game(FOUR_SUITS)).stdout == f"{2 * '0d0d0'}{2 * '00d0d'} {FOUR_SUITS}\n"
     solid = ask(game(SOLID, "N", "All")).stdout
     yield "a solid hand", solid.startswith("d") and solid[10] == "0" and " NS 2220 7N-" in solid
 
@@ -96,7 +107,7 @@ def sheets():
                 for seat, (notrump, s, h, d, c) in found.items()}
         told = f" {'EW' if score[0] == '-' else 'NS'} {score.lstrip('-')} {contract}"
         yield f"what board {board} makes", made == odd
-        yield f"par of board {board}", (line[20:] + ",").startswith(told + ",")
+        yield f"par of board {board}", re.match(re.escape(told) + "[, ]", line[20:])
 
 
 def pars():
@@ -113,7 +124,7 @@ def pars():
 
 
 def texts():
-    line = digits(EXAMPLES[0][1]) + "\n"
+    line = line_of(*EXAMPLES[0]) + "\n"
     for name, text in {
         "no line feed at the end": f'[Deal "{GOOD}"]',
         "carriage returns": f'[Event "x"]\r\n[Deal "{GOOD}"]\r\n\r\n',
@@ -123,8 +134,8 @@ def texts():
     }.items():
         run = ask(text)
         yield name, (run.stdout, run.returncode) == (line, 0)
-    behind = ask(f'[Deal "{GOOD}"]\n[Dealer "N"]\n[Vulnerable "Love"]\n\n').stdout
-    yield "the dealer behind the deal", behind == ask(game(GOOD, "N", "None")).stdout and " " in behind
+    after = ask(f'[Deal "{GOOD}"]\n[Dealer "N"]\n[Vulnerable "Love"]\n\n').stdout
+    yield "the dealer after the deal", after == ask(game(GOOD, "N", "None")).stdout and re.search(" (NS|EW) ", after)
     yield "the next deal without an empty line", ask(2 * f'[Deal "{GOOD}"]\n').stdout == 2 * line
     yield "nothing", (ask("").stdout, ask("").returncode) == ("", 0)
 
@@ -143,7 +154,7 @@ def refusals():
     }.items():
         run = ask(game(GOOD) + game(deal) + game(GOOD))
         said = (run.returncode, run.stderr, run.stdout)
-        yield name, said == (1, "deals-tricks: line 3: the deal can't be read\n", digits(EXAMPLES[0][1]) + "\n")
+        yield name, said == (1, "deals-tricks: line 3: the deal can't be read\n", line_of(*EXAMPLES[0]) + "\n")
     with open("/dev/full", "w", encoding="ascii") as full:
         run = subprocess.run([PROGRAM], input=game(GOOD), stdout=full, stderr=subprocess.PIPE, text=True, check=False)
     yield "a full output", run.returncode == 4 and run.stderr.startswith("deals-tricks: output failed: ")
@@ -166,7 +177,7 @@ def streams():
         process.stdin.write(game(GOOD))
         process.stdin.close()
         yield "a line at once", first.startswith(digits(EXAMPLES[0][1]))
-        yield "and the next", process.stdout.read() == digits(EXAMPLES[0][1]) + "\n"
+        yield "and the next", process.stdout.read() == line_of(*EXAMPLES[0]) + "\n"
 
 
 def boards():
@@ -188,7 +199,7 @@ def package(folder):
         yield f"the package has {path}", path in listed
     subprocess.run(["dpkg-deb", "-x", made, folder], check=True)
     run = subprocess.run([f"{folder}/usr/bin/deals-tricks"], input=game(GOOD), capture_output=True, text=True, check=False)
-    yield "the package's program", run.stdout == digits(EXAMPLES[0][1]) + "\n"
+    yield "the package's program", run.stdout == line_of(*EXAMPLES[0]) + "\n"
     man = subprocess.run(["man", "--warnings", "-l", f"{folder}/usr/share/man/man1/deals-tricks.1.gz"],
                          capture_output=True, text=True, check=False) if packages.is_there("man") else None
     yield "the man page", man is None or (man.returncode == 0 and not man.stderr and "SYNOPSIS" in man.stdout)

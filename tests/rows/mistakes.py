@@ -1,14 +1,14 @@
 """Gives the built program each text of the tables beside this file, and compares what is said of it.
 
-A table of mistakes has a line `$ CONDITION` for each, and below it what the program says behind its first line; lines
+A table of mistakes has a line `$ CONDITION` for each, and below it what the program says after its first line; lines
 that begin with `#` are comments. A condition that a hint tells to write is given to the program again, on a terminal: it
 is accepted, and no note says that no deal meets it.
 
 A table of places/ has a line `WHERE | TEXT` for each: where and why the text is refused, as the program's first line has
 it, and behind a `;` what could stand there. A second reader (second/grammar.py) says the same.
 
-A table of notes/ has a line `NOTE | CONDITION` for each: how the note ends that stands on a terminal, that no deal meets
-the condition; `any` for any such note, and `none` for none. How texts are escaped is said in lib/tables.py.
+A table of notes/ has a line `NOTE | CONDITION` for each: a piece of the note that is shown on a terminal; `any` for any
+note that no deal meets the condition, `none` for none of these, and `silent` for no note at all. How texts are escaped is said in lib/tables.py.
 """
 
 import pathlib
@@ -54,9 +54,9 @@ def fault_of_mistake(condition, said):
 def fault_of_place(text, where):
     """Why the second reader or the program doesn't refuse the text in this way, or None."""
     why, _, expected = where.partition("; ")
-    read, stands = grammar.refusal(text.encode())
-    if read != why or (expected and stands != expected):
-        return f"the second reader: {read}, {stands}"
+    read, found = grammar.refusal(text.encode())
+    if read != why or (expected and found != expected):
+        return f"the second reader: {read}, {found}"
     return fault_of_text(text)
 
 

@@ -1,7 +1,7 @@
 """Gives the built program the words of each row of the tables beside this file, and compares what it writes and says.
 
-A row begins with `$` and the words behind `deals`, which bash reads. `< LINE` is a line of its input. Then comes
-the status that it ends with. The lines behind `|` are what it writes, those behind `!` what it says on standard error;
+A row begins with `$` and the words after `deals`, which bash reads. `< LINE` is a line of its input. Then comes
+the status that it ends with. The lines after `|` are what it writes, those after `!` what it says on standard error;
 where `...` ends them, anything may follow. With no such line it writes or says nothing, but that what it writes is not
 looked at where a row has none of it and ends with 0. `> 381 bytes` and `> 3 boards` count what it writes, and
 `> 80 columns` is the width of its longest line at most.
@@ -34,8 +34,8 @@ def rows(folder):
             yield file.stem, words, [line for line in lines if line and not line.startswith("#")]
 
 
-def behind(lines, sign):
-    """What stands behind the sign in the lines that begin with it."""
+def after(lines, sign):
+    """What comes after the sign in the lines that begin with it."""
     return [line[2:] for line in lines if line == sign or line.startswith(sign + " ")]
 
 
@@ -88,7 +88,7 @@ def without_far_tip(said, shown):
 
 
 def fault_of_hints(words, given, said):
-    """Why the lines below this refusal don't stand on a terminal alone, unless the option says otherwise, or None."""
+    """Why the lines below this refusal aren't on a terminal alone, unless the option says otherwise, or None."""
     shown = said_on_terminal(words, given)
     if not shown.startswith(without_far_tip(said, shown)):
         return f"said {said!r}, and on a terminal {shown!r}"
@@ -106,14 +106,14 @@ def fault_of_hints(words, given, said):
 
 def fault_of(words, lines):
     """Why the program's run isn't what the row says, or None."""
-    given = "".join(line + "\n" for line in behind(lines, "<")).encode()
+    given = "".join(line + "\n" for line in after(lines, "<")).encode()
     ended = run(words, given)
     (status,) = (int(line) for line in lines if line.isdigit())
     if ended.returncode != status:
         return f"status {ended.returncode}, not {status}: {ended.stderr[:200]}"
-    counts, written = behind(lines, ">"), behind(lines, "|")
+    counts, written = after(lines, ">"), after(lines, "|")
     said = ended.stderr.decode()
-    if not re.fullmatch(pattern(behind(lines, "!")), said):
+    if not re.fullmatch(pattern(after(lines, "!")), said):
         return f"said {said!r}"
     looked_at = written or status != 0
     if looked_at and not re.fullmatch(pattern(written), ended.stdout.decode()):

@@ -1,8 +1,8 @@
-"""Runs each worked condition of docs/CONDITIONS.md and each file of examples/ in the built program.
+"""Runs each worked condition of docs/CONDITIONS.md, each file of examples/ and each lesson in the built program.
 
 A second program (language.py over model.py) deals the same candidates and says of which
 of them each condition is true; `make` has to write the games of these and no others. Each condition is true of some
-candidate and not of all. Then the tables of truths/ are asked of both (given.py): conditions over deals that are given,
+candidate and not of all. Then the tables of truths/ are asked of both (given.py): conditions over given deals,
 with what is true of each; and random conditions (random_conditions.py). Fifty conditions are asked of ten million
 candidates each, given up early and dealt whole (early.py). The page that `conditions` prints is read as well (page.py).
 
@@ -15,6 +15,7 @@ import os
 import random
 import re
 import subprocess
+import sys
 
 import early
 import given
@@ -25,14 +26,16 @@ import page
 import random_conditions
 import report
 
+sys.path.append(str(harness.TOP / "companion" / "desk"))
+from deals_desk import starts  # noqa: E402
+
 SEED = 2026
 CANDIDATES = 20_000
 # How many random conditions there are, and of how many candidates each is asked.
 RANDOM = 20_000 if report.has("many") else 2_000
 ASKED = 48
-# A lesson's condition is shorter than this.
-SHORT = 200
-LESSONS = 21
+# How many lessons there are, and of how many candidates the condition of each is asked.
+LESSONS, TAUGHT = 60, 4_000
 # The pack has forty points: true of each candidate, and false of each.
 POINTS = "+".join(f"hcp({seat})" for seat in language.SEATS)
 FORTY = [(f"{POINTS}==40", CANDIDATES), (f"{POINTS}!=40", 0)]
@@ -46,11 +49,10 @@ def worked():
 
 
 def lessons():
-    """The lessons of the docs, a line of a table each, with the bytes that the line tells."""
-    text = (harness.TOP / "docs" / "CONDITIONS.md").read_text()
-    section = text.split("## Twenty-one lessons, a line each")[1].split("\n## ")[0]
-    for name, told, condition in re.findall(r"^\| ([^|]+?) \| (\d+) \| `([^`|]+)` \|$", section, re.M):
-        yield name, condition, int(told)
+    """The lessons, each with its condition."""
+    for group in starts.groups(str(harness.PROGRAM)):
+        for lesson in group.lessons:
+            yield lesson.name, lesson.where
 
 
 def examples():
@@ -102,11 +104,11 @@ def randoms():
     return [condition for condition in found if len(condition) <= 1024]
 
 
-def random_complaint(condition, deals):
+def random_complaint(condition, deals, asked=ASKED):
     """Why the program finds other candidates than the second one, or None."""
     is_true = language.condition(condition)
-    wanted = [number for number, hands in enumerate(deals[:ASKED]) if is_true(hands)]
-    words = ["find", "--seed", str(SEED), "--candidates", str(ASKED), "--where", condition]
+    wanted = [number for number, hands in enumerate(deals[:asked]) if is_true(hands)]
+    words = ["find", "--seed", str(SEED), "--candidates", str(asked), "--where", condition]
     run = subprocess.run([harness.PROGRAM, *words], capture_output=True, text=True, check=False)
     if run.returncode != 0 or run.stdout.split() != [str(number) for number in wanted]:
         return f"status {run.returncode}, {run.stdout.split()} for {wanted}"
@@ -121,15 +123,14 @@ def deals():
 
 def worked_conditions():
     """The worked conditions, lessons and examples, each with what it finds."""
-    short = {name: condition for name, condition, _ in lessons()}
-    told = {name: size for name, _, size in lessons()}
-    chosen = [*worked(), *short.items(), *examples()]
-    yield "how many there are", None if len(list(worked())) >= 40 and len(short) == LESSONS else "fewer than there were"
+    chosen = [(complaint, name, text, deals()) for name, text in [*worked(), *examples()]]
+    # A lesson may be rarer than one in these candidates.
+    taught = [(random_complaint, name, text, deals(), TAUGHT) for name, text in lessons()]
+    yield "how many there are", None if len(list(worked())) >= 40 and len(taught) == LESSONS else "fewer than there were"
     with concurrent.futures.ProcessPoolExecutor(len(os.sched_getaffinity(0))) as pool:
-        tried = [(name, text, pool.submit(complaint, text, deals())) for name, text in chosen]
-        for name, text, outcome in tried:
-            is_told = name not in short or len(text) == told[name] < SHORT
-            yield name, outcome.result() if is_told else f"{len(text)} bytes"
+        tried = [(name, pool.submit(judge, *asked)) for judge, name, *asked in [*chosen, *taught]]
+        for name, outcome in tried:
+            yield name, outcome.result()
     for condition, count in FORTY:
         found = len(written(condition))
         yield condition, None if found == count else f"{found} boards for {count}"
@@ -147,7 +148,7 @@ def given_up_early():
 
 
 def truths():
-    """Conditions over deals that are given."""
+    """Conditions over given deals."""
     rows = list(given.asked())
     yield "how many there are", None if len(rows) >= 700 else f"{len(rows)} of them"
     yield from report.asked(lambda row: given.complaint(*row[1:]), rows, lambda row: f"{row[0]}: {row[2]} of {row[1]}")

@@ -8,7 +8,7 @@ import math
 
 
 def rounded(fraction, digits):
-    """The fraction in decimal, rounded to so many digits, the half up; commas in its whole part."""
+    """The fraction in decimal, rounded to this many digits, the half up; commas in its whole part."""
     scaled = math.floor(fraction * 10**digits + fractions.Fraction(1, 2))
     whole, rest = divmod(scaled, 10**digits)
     return f"{whole:,}.{rest:0{digits}}"
@@ -72,8 +72,8 @@ def one(text, kind, answers):
     head, *lines = columns(cells, [5, 5, 6])
     bars = [max(1, (80 * count + most) // (2 * most)) if count else 0 for _, count, _ in rows]
     body = [line + ("  " + "█" * bar if bar else "") for line, bar in zip(lines, bars)]
-    behind = [] if kind == "condition" else ["", mean_line(answers)]
-    return ["", title(text), head, *body, *behind]
+    after = [] if kind == "condition" else ["", mean_line(answers)]
+    return ["", title(text), head, *body, *after]
 
 
 def count_or_dash(count):

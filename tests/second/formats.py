@@ -25,7 +25,7 @@ PAGE = 4096
 # By how many KiB the peak may differ from run to run, less than six bytes a board.
 SLACK = 1024
 
-# The words behind `make --seed 0`, and the length and the sha256 of what they write.
+# The words after `make --seed 0`, and the length and the sha256 of what they write.
 ELSEWHERE = [
     ("--candidates 16 --format hands", 6338, "8c4c3d9900a4ebbf512e26a81b6f1d92cb79f56571674f70275c80de0524eea3"),
     ("--candidates 16 --format lin", 1662, "37e8ea1a0ca9a76582e787aa75c10cdbdbc7972ae5c925b7fdd583d46c716123"),

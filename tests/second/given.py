@@ -1,4 +1,4 @@
-"""Conditions over deals that are given: the tables of truths/ beside the built program and the second program.
+"""Conditions over given deals: the tables of truths/ beside the built program and the second program.
 
 A table has its deals first, a line of four hands each. A row says of each deal what is true of it: `y n | CONDITION`, or
 which number a value has, `5 3 | VALUE`, which is asked as a comparison and as a range. The program is given the four

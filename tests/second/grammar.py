@@ -1,5 +1,5 @@
 """A reader of another kind than the program's, which keeps a state and counts brackets: why a text is refused, where, and
-what could stand there; and random texts for it. Written from docs/CONDITIONS.md alone; the words that count a hand are
+what could be there; and random texts for it. Written from docs/CONDITIONS.md alone; the words that count a hand are
 those of language.py.
 """
 
@@ -28,7 +28,7 @@ WORDS = {
     "x": "x",
     **dict.fromkeys(["north", "east", "south", "west"], "seat"),
     **dict.fromkeys(["spades", "hearts", "diamonds", "clubs"], "suit"),
-    # A class is a kind of its own: which one may stand depends on those around it.
+    # A class is a kind of its own: which one may come depends on those around it.
     **{word: f"class {word}" for word in [*language.CLASSES, *language.SIDES]},
     **{word: word for word in language.BESIDE},
 }
@@ -43,10 +43,10 @@ BEGINNING = {
     "condition": INNERMOST | {"any"},
     "innermost": INNERMOST,
     "value": VALUES,
-    # What counts a hand, behind a factor.
+    # What counts a hand, after a factor.
     "count": VALUES - {"number"},
 }
-# What must follow a word whatever happens, a letter each, and the state behind it: q a seat, s a suit, r ranks, n a
+# What must follow a word whatever happens, a letter each, and the state after it: q a seat, s a suit, r ranks, n a
 # number, i a length or x, e a suit or ranks, ? a comma with a suit or a bracket, c a class, [ the bracket in which it
 # stands for a suit or a seat, and signs for themselves.
 OWED = {
@@ -72,7 +72,7 @@ MEANT = {
 }
 SUIT_KINDS = {f"class {word}" for word in language.CLASSES}
 SEAT_KINDS = {f"class {word}" for word in language.SIDES}
-# How each is named where it could stand, in the order of the line that names them.
+# How each is named where it could be, in the order of the line that names them.
 NAMES = {
     "condition": "a condition such as balanced(north)",
     # Where all classes are bound no more can be.
@@ -221,7 +221,7 @@ def tokens_of(text):
 
 
 def refusal(text):
-    """Why a text is refused, None where it isn't; and what could stand there, where it is no sentence."""
+    """Why a text is refused, None where it isn't; and what could be there, where it isn't a sentence."""
     if len(text) > MOST_BYTES:
         return "longer than 1024 bytes", None
     tokens, fault = tokens_of(text)

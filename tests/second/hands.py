@@ -1,7 +1,7 @@
 """Gives texts of hands to the built program, written by hand and at random, and compares what it deals and what it says
 of a text that is refused with a second reading of them.
 
-A text that is a hand has its cards in the seat's hand of each deal. Of four texts the first that is no hand, or that has
+A text that is a hand has its cards in the seat's hand of each deal. Of four texts the first that isn't a hand, or that has
 a card of an earlier one, is refused: with status 2, nothing written, its seat, and below it a fault that the text has.
 """
 
@@ -41,8 +41,8 @@ DEALS = [
     "A... .A.. ..A. ...A",
     "... ... ... ...",
 ]
-# What is no hand, and what is said of it. Of several faults the first in this order is told: a byte, the dots, a card
-# that stands there twice, too many cards.
+# What isn't a hand, and what is said of it. Of several faults the first in this order is told: a byte, the dots, a card
+# that is there twice, too many cards.
 NO_HANDS = [
     ("", DOTS),
     (".", DOTS),
@@ -146,7 +146,7 @@ def run(texts, seed):
 
 
 def complaint(texts, seed=SEED):
-    """What is wrong with the run that is given these texts; None where nothing is."""
+    """What is wrong with the run with these texts; None where nothing is."""
     ended = run(texts, seed)
     held, refused = reading(texts)
     if refused:

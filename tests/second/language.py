@@ -274,5 +274,5 @@ def whole(rule, text):
     reader = Reader(tokens_of(text))
     found = rule(reader)
     if reader.tokens:
-        raise ValueError(f"{reader.tokens[0]!r} stands behind the end")
+        raise ValueError(f"{reader.tokens[0]!r} comes after the end")
     return found

@@ -1,4 +1,4 @@
-"""The boards of each lesson of deals-desk, judged by a bidder that knows nothing of its condition: at most two in a
+"""The boards of each lesson, judged by a bidder that knows nothing of its condition: at most two in a
 hundred may be wrong. North deals, East and South bid after it.
 """
 
@@ -13,6 +13,9 @@ sys.path.append(str(harness.TOP / "companion" / "desk"))
 from deals_desk import starts  # noqa: E402
 
 BOARDS, MANY_BOARDS = 200, 1_000
+# Lessons and conditions that are asked for together.
+JOINED = ("strong-notrump", "five-card-major", "stayman")
+OTHERS = ("hcp(south)>=10 or hcp(east)<4", "any suit (len(north,suit)==5)", "hcp(north)==16")
 # Drawn by hand, apart from the seed that the conditions were tried with.
 SEED = "318042"
 # What North opens, what East does over it, and what South answers where East passes; one of several each. A lesson
@@ -77,11 +80,11 @@ def auction(deal, calls):
     return made
 
 
-def judged(lesson):
-    """What is wrong with a lesson's boards, if anything is."""
+def judged(lesson, *asked):
+    """What is wrong with a lesson's boards, which these words ask for, if anything is."""
     boards = MANY_BOARDS if report.has("many") else BOARDS
     words = ["--seed", SEED, "--boards", str(boards), "--candidates", "30000000", "--workers", "auto", "--dealer", "N"]
-    made = harness.deals("make", *words, "--where", lesson.where)
+    made = harness.deals("make", *words, *asked)
     if made.returncode:
         return made.stderr.decode()
     deals = re.findall(r'\[Deal "N:([^"]*)"\]', made.stdout.decode())
@@ -93,14 +96,45 @@ def judged(lesson):
     return None if 50 * len(wrong) <= len(deals) else f"{len(wrong)} of {len(deals)} boards, as {wrong[0]}"
 
 
+def numbers(*asked):
+    """The numbers of the deals that these words ask for."""
+    words = ["--seed", SEED, "--candidates", "200000", "--workers", "auto"]
+    return {int(line) for line in harness.deals("find", *words, *asked).stdout.split()}
+
+
+def made(*asked):
+    """The boards that these words ask for, in a format that shows who deals."""
+    return harness.deals("make", "--seed", SEED, "--boards", "20", "--format", "json", *asked).stdout
+
+
+def joined(lesson):
+    """Why a lesson and a condition don't accept the deals that both accept, or why the
+    lesson's deals aren't turned as they are to be. None if they do and are."""
+    named, where = ["--lesson", lesson.name], ["--where", lesson.where]
+    for other in OTHERS:
+        alone = numbers(*named), numbers("--where", other)
+        if numbers(*named, "--where", other) != alone[0] & alone[1]:
+            return f"with {other}"
+    if numbers(*named) != numbers(*where):
+        return "other deals than its condition's"
+    for look in ([], ["--rotate"], ["--dealer", "S"], ["--dealer", "S", "--rotate"]):
+        turned = look if look else ["--rotate"]
+        if not made(*named, *look) or made(*named, *look) != made(*where, *turned):
+            return f"another board with {' '.join(look)}"
+    return None
+
+
 def boards():
     """Each lesson of the table."""
-    listed = [lesson for group in starts.GROUPS for lesson in group.lessons]
+    listed = [lesson for group in starts.groups(str(harness.PROGRAM)) for lesson in group.lessons]
     names = [lesson.name for lesson in listed]
     yield "sixty lessons", None if len(names) == len(set(names)) == 60 else f"{len(names)} names"
     yield "each lesson that is judged is there", ", ".join(sorted(set(CALLS) - set(names))) or None
     other = starts.Lesson("stayman", "", "", "balanced(north) and hcp(north) in 15-17")
-    yield "boards that show something else", None if judged(other) else "aren't judged wrong"
+    judgement = judged(other, "--where", other.where)
+    yield "boards that show something else", None if judgement else "aren't judged wrong"
     for lesson in listed:
+        if lesson.name in JOINED:
+            yield f"{lesson.name} and a condition", joined(lesson)
         wrong = len(lesson.where.encode()) > 1024 or not lesson.shows.endswith(".")
-        yield lesson.name, "its table's row is wrong" if wrong else judged(lesson)
+        yield lesson.name, "its table's row is wrong" if wrong else judged(lesson, "--lesson", lesson.name)

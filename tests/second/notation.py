@@ -29,9 +29,9 @@ def shown(hands, dealer, show):
 
 def known(line):
     """The digits, the score and the contract of a line of tricks; each empty where it isn't known."""
-    digits, _, behind = line.partition(" ")
-    side, _, behind = behind.partition(" ")
-    points, _, contract = behind.partition(" ")
+    digits, _, after = line.partition(" ")
+    side, _, after = after.partition(" ")
+    points, _, contract = after.partition(" ")
     return ("" if digits == "-" else digits.lower()), f"{side} {points}".strip(), contract
 
 
@@ -85,7 +85,7 @@ def deal(hands):
 
 
 def json_line(number, dealer, sides, hands, tricks, candidate):
-    """A line of JSON, whose names stand in this order and without blanks."""
+    """A line of JSON, whose names come in this order and without blanks."""
     board = {"board": number, "dealer": model.SEATS[dealer], "vulnerable": sides}
     board |= {"deal": deal(hands), "number": candidate}
     board |= {"tricks": tricks[0]} if tricks[0] else {}
@@ -152,15 +152,15 @@ def frame(part, labels, form="html", with_tricks=False):
     page = (DOCS / "FORMATS.md").read_text()
     text = re.findall(r"^```html\n(.*?)^```$", page, re.M | re.S)[part]
     sheet, more = re.findall(r"^```css\n(.*?)^```$", page, re.M | re.S)
-    before, _, behind = text.partition("</style>\n")
-    if form == "sheet" and behind:
-        text = before[: before.index("<style>\n") + 8] + sheet + "</style>\n" + behind
-    elif with_tricks and behind:
-        text = before + more + "</style>\n" + behind
+    before, _, after = text.partition("</style>\n")
+    if form == "sheet" and after:
+        text = before[: before.index("<style>\n") + 8] + sheet + "</style>\n" + after
+    elif with_tricks and after:
+        text = before + more + "</style>\n" + after
     title = ", ".join(value for _, value in labels if value.strip(" ")) or "Boards"
     escaped = html.escape(title, quote=False)
     first, *rest = text.split("Boards")
-    # It stands as the title, as a string of CSS, and as the heading.
+    # It is the title, a string of CSS, and the heading.
     return first + "".join(put + piece for put, piece in zip([escaped, title.replace("<", "\\3C "), escaped], rest))
 
 
@@ -174,7 +174,7 @@ def header(form, labels, with_tricks=False):
 
 def text(seed, count, form="pbn", dealer=None, sides=None, rotate=False, accepts=None, first=0, first_board=1,
          boards=None, labels=(), show="all", lines=None):
-    """The text of a `make` of so many candidates. The condition is asked of the hands before they are turned. With lines
+    """The text of a `make` of this many candidates. The condition is asked of the hands before they are turned. With lines
     of tricks there is one for each board; they are written only beside all hands."""
     state, parts, number = model.start(seed), [header(form, labels, lines is not None)], first_board
     for candidate in range(first + count):

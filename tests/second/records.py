@@ -73,7 +73,7 @@ def hands_of(value: str) -> list[list[str]] | None:
 
 
 def board_of(game: Game, last: int) -> Board | None:
-    """The board of a game that ends, behind the one of number `last`."""
+    """The board of a game that ends, after the one of number `last`."""
     if "Deal" not in game.tags:
         return None
     faults: list[tuple[int, int, str]] = []
@@ -169,7 +169,7 @@ class Reader:
 
     @staticmethod
     def fault_within(text: bytes, at: int) -> str:
-        """What is wrong with what begins with `[` there and is no tag: it may be too long for that."""
+        """What is wrong with what begins with `[` there and isn't a tag: it may be too long for that."""
         head = text[at:MOST_BYTES]
         begun = re.fullmatch(rb'\[([A-Za-z0-9_]+([ \t]*("((?:[^"\\]|\\.)*)("[ \t]*|\\)?)?)?)?', head, re.DOTALL)
         return "longer than 4096 bytes" if len(text) > MOST_BYTES and begun else "not a tag"

@@ -1,5 +1,5 @@
 """A strict reader of Portable Bridge Notation, for what `make` writes in it: escape lines first, games of tag pairs with
-names of the standard, each once, tables with as many columns as their tag says, and an empty line behind each game.
+names of the standard, each once, tables with as many columns as their tag says, and an empty line after each game.
 
 What it reads has to be what `make --format json` says of the same boards.
 """
@@ -73,7 +73,7 @@ def games_of(text):
         raise Refused(lines[0])
     *games, rest = "\n".join(line for line in lines if not line.startswith("%")).split("\n\n")
     if rest:
-        raise Refused(f"behind the last game: {rest}")
+        raise Refused(f"after the last game: {rest}")
     return [game_of(game.split("\n")) for game in games]
 
 

@@ -18,11 +18,61 @@ SECONDS = 60
 RANDOM = [(random_texts.sentence, 10_000), (random_texts.pieces, 5_000), (random_texts.characters, 1_000)]
 TIMES = 10 if report.has("many") else 1
 NEVER = "note: no deal meets this condition"
+MIXED = 'note: "and" binds first: A and B or C is (A and B) or C; brackets would say so\n'
+UNNAMED = 'note: "{0}" isn\'t named in the brackets of "{1} {0}", so that it asks the same each time\n'
 NOTES = {
-    "none": "",
+    "silent": "",
+    "binds first": MIXED.replace("\n", "\r\n"),
+    "suit isn't named": UNNAMED.format("suit", "any").replace("\n", "\r\n"),
+    "ew isn't named": UNNAMED.format("ew", "every").replace("\n", "\r\n"),
     "by its numbers alone": f"{NEVER}, by its numbers alone\r\n",
     "write in 12-14": f"{NEVER}: in 14-12 has its ends turned; write in 12-14\r\n",
 }
+
+
+def nested(tokens):
+    """The tokens up to the bracket that closes them, those in brackets as lists."""
+    out = []
+    for token in tokens:
+        if token == ")":
+            break
+        out.append(nested(tokens) if token == "(" else token)
+    return out
+
+
+def flat(tokens):
+    """The tokens without brackets."""
+    return [word for token in tokens for word in (flat(token) if isinstance(token, list) else [token])]
+
+
+def through(tokens):
+    """Each `any` and `every` with its class and what is in its brackets, in the order of the text."""
+    for at, token in enumerate(tokens):
+        if isinstance(token, list):
+            yield from through(token)
+        elif token in ("any", "every"):
+            yield token, *tokens[at + 1:at + 3]
+
+
+def is_unnamed(name, inside):
+    """Whether the brackets don't name their class; `other` names a class of suits."""
+    return not {name, name if name in ("seat", "ns", "ew") else "other"} & set(flat(inside))
+
+
+def is_mixed(tokens):
+    """Whether `and` and `or` stand beside each other somewhere."""
+    mixed = "and" in tokens and "or" in tokens
+    return mixed or any(is_mixed(token) for token in tokens if isinstance(token, list))
+
+
+def slip(condition):
+    """The note on a slip in a condition that is accepted, or nothing."""
+    text = re.sub(r"#[^\n]*", "", condition)
+    tokens = nested(iter(re.findall(r"[a-z]+|[()]|[^\sa-z()]+", text)))
+    for one, name, inside in through(tokens):
+        if is_unnamed(name, inside):
+            return UNNAMED.format(name, one)
+    return MIXED if is_mixed(tokens) else ""
 
 
 def words(condition):
@@ -39,10 +89,14 @@ def told(condition):
 
 
 def fault_of_suggestion(said):
-    """Why the condition that a hint tells to write isn't accepted, or no deal meets it, or None.
+    """Why the condition that a hint tells to write isn't accepted, or no deal meets it, or no lesson has the name that it
+    tells, or None.
 
     A test of a class is one for the brackets of the class.
     """
+    for lesson in re.findall(r"--lesson ([a-z0-9-]+)", said):
+        if subprocess.run([harness.PROGRAM, "lessons", lesson], capture_output=True, timeout=SECONDS).returncode:
+            return f"no lesson {lesson}"
     suggested = re.search(r"write: (.*)\n", said)
     if not suggested:
         return None
@@ -60,7 +114,10 @@ def fault_of_note(condition, note):
     os.close(theirs)
     noted = harness.all_of(ours).decode()
     os.close(ours)
-    is_so = noted.startswith(NEVER) if note == "any" else noted == NOTES[note]
+    if note == "any":
+        is_so = noted.startswith(NEVER)
+    else:
+        is_so = noted == (slip(condition).replace("\n", "\r\n") if note == "none" else NOTES[note])
     return None if ended.returncode == 0 and is_so else f"status {ended.returncode}, {noted!r}"
 
 
@@ -70,7 +127,7 @@ def fault_of_text(text):
     status, said = told(text)
     first, *lines = said.split("\n")
     line = f"condition refused{' ' if why and why.startswith('at') else ': '}{why}" if why else ""
-    first = "" if status == 0 and first.startswith(NEVER) else first
+    first = "" if status == 0 and (first.startswith(NEVER) or first + "\n" == slip(text)) else first
     stands = [line for line in lines[2:] if line.startswith("  expected ")]
     if status != (3 if why else 0) or first != line or stands != ([f"  expected {expected}"] if expected else []):
         return f"status {status}, {said!r} for {why}, {expected}"

@@ -129,7 +129,7 @@ def other_inputs():
 
 
 def line_by_line():
-    """A board stands on the output before the next number is given."""
+    """A board is on the output before the next number is given."""
     process = subprocess.Popen(
         [harness.PROGRAM, "pick", "--seed", "0", "--format", "lin"], stdin=subprocess.PIPE, stdout=subprocess.PIPE
     )

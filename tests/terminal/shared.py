@@ -20,7 +20,7 @@ DRAWN = b"\x1b[?7h"
 
 
 def pieces_of(terminal, process):
-    """What the terminal was given, cut behind each line of counts."""
+    """What the terminal was given, cut after each line of counts."""
     text, is_open = b"", True
     while is_open:
         try:

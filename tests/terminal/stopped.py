@@ -1,4 +1,4 @@
-"""Runs that are stopped at a random moment, as by Ctrl-C: what stands in their file, or came through their pipe.
+"""Runs that are stopped at a random moment, as by Ctrl-C: what is in their file, or came through their pipe.
 
 Where boards are rare, each that was found is there or was found in the last quarter of a second, all are whole, and
 none is missing that the counts on the terminal told. Where they come fast the last one may be cut, since the kernel
@@ -46,7 +46,7 @@ def read_all(descriptor):
 
 
 def stopped(words, into, seconds):
-    """What stands on the output of a run that is stopped after so many seconds, and what it drew on the terminal."""
+    """What is on the output of a run that is stopped after this many seconds, and what it drew on the terminal."""
     terminal, drawn_on = pty.openpty()
     with tempfile.TemporaryFile() as file, concurrent.futures.ThreadPoolExecutor(1) as readers:
         cat = subprocess.Popen(["cat"], stdin=subprocess.PIPE, stdout=file) if into == "pipe" else None

@@ -68,7 +68,7 @@ LABEL = 'at most 100 characters of ASCII, from space to ~, without " and \\'
 DATE = "a date is written YYYY.MM.DD, as 2024.05.01"
 DOTS = "three dots part spades, hearts, diamonds and clubs, as AKQ32.K..A"
 CAPITALS = "ranks are capital letters, A K Q J T 9 8 7 6 5 4 3 2"
-# Words of which an option is refused, and the line that stands below the one that names the refusal.
+# Words of which an option is refused, and the line below the one that names the refusal.
 ADVISED = [
     (["--candidates", "1", "--workers", "17"], "--workers 17: 1 to 16 workers"),
     (["--candidates", "1", "--workers", "0", "--event", "é"], "--workers 0: 1 to 16 workers"),
@@ -237,7 +237,7 @@ class Watched:
 
 
 def into_a_file(words, is_enough, folder):
-    """A run whose standard error is no terminal, and that is stopped once enough was seen."""
+    """A run whose standard error isn't a terminal, and that is stopped once enough was seen."""
     run = Watched(words, folder, *os.pipe())
     run.watch(is_enough)
     return run

@@ -40,7 +40,7 @@ def say(text: str) -> None:
 
 
 def text_of(path: str) -> str:
-    """The script's text; bytes that are no UTF-8 may stand in its comments."""
+    """The script's text; bytes that are no UTF-8 may be in its comments."""
     if path == "-":
         return sys.stdin.buffer.read().decode("utf-8", "replace")
     with open(path, "rb") as file:

@@ -14,6 +14,8 @@ MOST_BOARDS = 4294967295
 GENERATE, PRODUCE, PRODUCE_COUNTED = 1_000_000, 40, 100_000
 SEED = 1
 ORDER = "AKQJT98765432"
+# Debian's dealer sets another count by altcount than its manual says: that of two numbers before.
+ALTCOUNT = "altcount sets the count that dealer's manual says; dealer 20211121 sets another"
 
 # The actions that write boards: the look, and what is other.
 LOOKS = {
@@ -74,7 +76,7 @@ class Translation:
         """Boards. Dealer has one dealer and one vulnerability for all of them."""
         dealer = (self.script.dealer or "north")[0].upper()
         table = [f"--dealer={dealer}", f"--vulnerable={self.script.vulnerable or 'None'}"]
-        return Command(("deals", "make", *self.which(PRODUCE), *table, *look), (note,) if note else ())
+        return Command(("deals", "make", *self.which(PRODUCE), *table, *look), self.notes(note))
 
     def counted(self, action: Action) -> Command:
         texts = [self.meaning.number(expression) for expression in action.expressions]
@@ -83,7 +85,12 @@ class Translation:
             if len(text) > LONGEST:
                 raise Refusal(action.at, too_long("this", text))
         note = "all values are shown, and not only those between the bounds" if action.bounds else ""
-        return Command(("deals", "count", *self.which(PRODUCE_COUNTED), *asked), (note,) if note else ())
+        return Command(("deals", "count", *self.which(PRODUCE_COUNTED), *asked), self.notes(note))
+
+    def notes(self, note: str) -> tuple[str, ...]:
+        """What is other in an action, and in the whole script."""
+        alternative = ALTCOUNT if self.script.weights.keys() - {"hcp"} else ""
+        return tuple(text for text in (note, alternative) if text)
 
     def command(self, action: Action) -> list[Command]:
         """What an action becomes."""

@@ -61,7 +61,7 @@ def any_of(*formulas: Formula) -> Formula:
 
 
 def inner(formula: Formula) -> str:
-    """Spelled so that it can be joined by `and`, or stand after `not`."""
+    """Spelled so that it can be joined by `and`, or put after `not`."""
     text = spelled(formula)
     return text if isinstance(formula, (Test, Not, Always)) else f"({text})"
 

@@ -20,8 +20,8 @@ WEIGHTS = {
     "kings": (0, 1, 0, 0, 0), "aces": (1, 0, 0, 0, 0), "top2": (1, 1, 0, 0, 0), "top3": (1, 1, 1, 0, 0),
     "top4": (1, 1, 1, 1, 0), "top5": (1, 1, 1, 1, 1), "c13": (6, 4, 2, 1, 0),
 }
-# A comparison has at most so many counts and cases: beyond, a text of `deals` has no room.
-MOST_COUNTS, MOST_CASES = 60, 16
+# A comparison has at most this many cases: beyond, a text of `deals` has no room.
+MOST_CASES = 16
 MOST_NUMBER = 9999
 FLIPPED = {"<": ">", ">": "<", "<=": ">=", ">=": "<=", "==": "==", "!=": "!="}
 HOLDS: Mapping[str, Callable[[int, int], bool]] = {
@@ -170,25 +170,20 @@ def combined(expression: Binary, left: Sum, right: Sum) -> Sum:
 
 
 def weighed(weights: tuple[int, ...], inside: str) -> Sum:
-    """Weights of the five top ranks, as often as each set of ranks has to be counted."""
-    left, counts = list(weights), []
-    while any(left):
-        sign = 1 if max(left) > 0 else -1
-        chosen = [place for place, weight in enumerate(left) if weight * sign > 0]
-        often = min(abs(left[place]) for place in chosen)
-        counts.append((f"cards({inside},{''.join(RANKS[place] for place in chosen)})", often * sign))
-        for place in chosen:
-            left[place] -= often * sign
-    return Sum(tuple(counts))
+    """Weights of the five top ranks: those of one weight are counted together."""
+    chosen: dict[int, str] = {}
+    for rank, weight in zip(RANKS, weights):
+        if weight:
+            chosen[weight] = chosen.get(weight, "") + rank
+    return Sum(tuple((f"cards({inside},{ranks})", weight) for weight, ranks in chosen.items()))
 
 
 def side(at: Place, counts: tuple[tuple[str, int], ...], number: int) -> str:
     """One side of a comparison."""
-    terms = [count for count, often in counts for _ in range(often)]
-    if len(terms) > MOST_COUNTS:
-        raise Refusal(at, "deals has no weights yet, and this would take too many counts")
-    if number > MOST_NUMBER:
-        raise Refusal(at, f"a number of deals has at most four digits, and {number} has more")
+    for written in (number, *(often for _, often in counts)):
+        if written > MOST_NUMBER:
+            raise Refusal(at, f"a number of deals has at most four digits, and {written} has more")
+    terms = [count if often == 1 else f"{often}*{count}" for count, often in counts]
     return "+".join([*terms, *([str(number)] if number or not terms else [])])
 
 

@@ -182,7 +182,7 @@ def told(error: lark.UnexpectedInput) -> Refusal:
         return Refusal(at, "the script ends in the middle of a statement")
     if token is None:
         return Refusal(at, "a sign that dealer doesn't know")
-    return Refusal(at, f"{str(token)!r} can't stand here")
+    return Refusal(at, f"{str(token)!r} isn't expected here")
 
 
 def read(text: str) -> Script:

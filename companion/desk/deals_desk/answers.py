@@ -69,7 +69,7 @@ def field_of(line: str) -> str:
 
 
 def could_stand(said: str) -> tuple[str, ...]:
-    """What could stand at the place, as words to be put there."""
+    """What could be at the place, as words to be put there."""
     found = EXPECTED.search(said)
     if not found:
         return ()
@@ -83,12 +83,12 @@ def could_stand(said: str) -> tuple[str, ...]:
 
 
 def characters(text: str, count: int) -> int:
-    """How many characters so many bytes of a text are."""
+    """How many characters this many bytes of a text are."""
     return len(text.encode()[:count].decode("utf-8", "ignore"))
 
 
 def mended(text: str, at: int, length: int, hints: tuple[str, ...]) -> tuple[str | None, str]:
-    """The text as the first hint wants it, and what the hint puts there: in the place of what is marked, or of a text
+    """The text as the first hint says, and what the hint puts there: in the place of what is marked, or of a text
     that is one test."""
     for hint in hints:
         word = WRITE_WORD.match(hint)

@@ -36,7 +36,7 @@ def check(name: str) -> Response:
 
 @pages.post("/rarity")
 def rare() -> Response:
-    """How many of so many deals meet the condition."""
+    """How many of this many deals meet the condition."""
     text = text_of("where")
     try:
         found, tried = rarity(text)

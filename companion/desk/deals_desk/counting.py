@@ -53,7 +53,7 @@ ENOUGH = 50
 
 
 def counted(where: str, candidates: int) -> int:
-    """How many of so many deals meet a condition."""
+    """How many of this many deals meet a condition."""
     # A heading, and a line with the deals and the candidates.
     _, line = checked(words.rarity(where, candidates), {"where": where}).output.decode().splitlines()
     return int(line.partition(",")[0])

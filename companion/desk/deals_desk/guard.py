@@ -42,7 +42,7 @@ class Guard:
             return True
         if asked.headers.get("Sec-Fetch-Site", "none") in ("none", "same-origin"):
             return False
-        # A link to a lesson may stand anywhere.
+        # A link to a lesson may be anywhere.
         return asked.method != "GET" or asked.headers.get("Sec-Fetch-Mode") != "navigate" or asked.headers.get(
             "Sec-Fetch-Dest"
         ) != "document"

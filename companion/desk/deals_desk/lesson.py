@@ -6,7 +6,7 @@ from flask import Blueprint, Response, abort, request
 
 from . import fields, files, starts, words
 from .desk import Refused, bounded, checked, command_of, desk, page, written
-from .words import TRICKS, Form
+from .words import DEALS, TRICKS, Form
 
 pages = Blueprint("lesson", __name__)
 
@@ -40,7 +40,7 @@ def lesson() -> Response:
     line = words.boards(form, files.BY_NAME["boards"].look).line()
     return page(
         "lesson.html", 422 if answer else 200, form=form, answer=answer, files=offered(form), address=address(form),
-        is_dealt=is_asked and not answer, line=line, groups=starts.GROUPS, has_solver=desk().runner.has(TRICKS),
+        is_dealt=is_asked and not answer, line=line, groups=starts.groups(desk().runner.programs.get(DEALS, "")), has_solver=desk().runner.has(TRICKS),
     )
 
 

@@ -8,7 +8,7 @@ import time
 from . import fields
 
 COOKIE = "night"
-# Nights are forgotten after so many seconds, the oldest also where there are too many.
+# Nights are forgotten after this many seconds, the oldest also where there are too many.
 LASTS = 24 * 3600.0
 MOST = 1000
 

@@ -20,7 +20,7 @@ PIECE = 65536
 LOOK = 0.1
 # So long a program whose reader has gone may still run.
 GRACE = 0.2
-# Of what is said on standard error, so many bytes are kept.
+# Of what is said on standard error, this many bytes are kept.
 MOST_SAID = 65536
 
 
@@ -163,7 +163,7 @@ def wait_for(output: IO[bytes], seconds: float) -> None:
 
 
 class Runner:
-    """Runs commands, at most so many at once."""
+    """Runs commands, at most this many at once."""
 
     def __init__(self, limits: Limits) -> None:
         self.limits = limits

@@ -1,7 +1,11 @@
-"""Lessons to start from, as `lessons.txt` has them. North holds the hand that deals."""
+"""Lessons to start from, as `deals lessons` lists and tells them. North holds the hand that deals."""
 
 import dataclasses
-import pathlib
+import functools
+import subprocess
+
+# So long the program may take to tell of one.
+SECONDS = 10
 
 
 @dataclasses.dataclass(frozen=True)
@@ -22,23 +26,31 @@ class Group:
     lessons: tuple[Lesson, ...]
 
 
-def lesson_of(block: str) -> Lesson:
-    """A lesson of its lines: `name: title`, the sentence, and the condition, which may go over lines."""
-    head, shows, *lines = block.splitlines()
-    name, _, title = head.partition(": ")
-    return Lesson(name, title, shows, " ".join(line.strip() for line in lines))
+def told(program: str, *words: str) -> str:
+    """What the program tells of lessons; nothing, where it can't."""
+    command = [program, "lessons", *words]
+    try:
+        return subprocess.run(command, capture_output=True, text=True, check=True, timeout=SECONDS).stdout
+    except (OSError, subprocess.SubprocessError):
+        return ""
 
 
-def group_of(part: str) -> Group:
-    """A group of its title and its lessons, with an empty line before each."""
-    title, *blocks = part.strip().split("\n\n")
-    return Group(title, tuple(lesson_of(block) for block in blocks))
+def lesson_of(program: str, line: str) -> Lesson:
+    """The lesson of a line of the list, `name: title`. What is told of it is its sentence, its condition and a command, with
+    an empty line between."""
+    name, _, title = line.strip().partition(": ")
+    shows, where, *_ = [*told(program, name).split("\n\n"), "", ""]
+    return Lesson(name, title, shows, where)
 
 
-def read(text: str) -> tuple[Group, ...]:
-    """The groups of a table of lessons."""
-    _, *parts = text.split("\n## ")
-    return tuple(group_of(part) for part in parts)
+def group_of(program: str, part: str) -> Group:
+    """A group of its title and a line for each lesson."""
+    title, *lines = part.splitlines()
+    return Group(title, tuple(lesson_of(program, line) for line in lines))
 
 
-GROUPS = read(pathlib.Path(__file__).with_name("lessons.txt").read_text(encoding="utf-8"))
+@functools.cache
+def groups(program: str) -> tuple[Group, ...]:
+    """The groups of this program's lessons. The list has an empty line after each, and a last line of advice."""
+    *parts, _ = told(program).split("\n\n")
+    return tuple(group_of(program, part) for part in parts)

@@ -8,7 +8,7 @@ from . import fields
 
 DEALS = "deals"
 TRICKS = "deals-tricks"
-# Beyond so many characters a field is cut, since no option takes more.
+# Beyond this many characters a field is cut, since no option takes more.
 LONGEST = 4096
 
 Form = Mapping[str, str]

@@ -3,7 +3,7 @@
 use crate::advice::advise;
 use crate::rewritten;
 use jobs::Failure;
-use plans::{Cause, LineFault};
+use plans::{Cause, LineFault, RefusedLine};
 use request_types::{QuestionName, Request};
 use std::alloc::Global;
 use std::io;
@@ -43,7 +43,7 @@ pub fn help(
         Failure::Cells(QuestionName::By) => String::from_str(alloc, TOO_LARGE).ok(),
         Failure::Interrupted(Cause::Output) => reason_of_output(alloc, reasons),
         Failure::Input => reason_of_input(alloc, reasons),
-        Failure::Line(line) => String::from_str(alloc, line_help(line.fault)).ok(),
+        Failure::Line(line) => String::from_str(alloc, line_help(*line)).ok(),
         Failure::Condition(_) | Failure::Question(..) => None,
         Failure::Interrupted(_) | Failure::EndOfInput => None,
     }
@@ -74,10 +74,15 @@ fn reason_of_input(alloc: Global, reasons: Reasons<'_>) -> Option<String> {
 }
 
 /// What helps with a line of the input that is refused.
-fn line_help(fault: LineFault) -> &'static str {
-    match fault {
+fn line_help(line: RefusedLine) -> &'static str {
+    match line.fault {
         LineFault::NotTricks => "  hint: deals-tricks writes such lines of a file of the boards\n",
+        LineFault::Missing if line.line == 1 =>
+            "  hint: no line came: is deals-tricks installed?\n",
         LineFault::Missing => "  hint: each board needs a line of the tricks of all boards\n",
+        LineFault::OtherDeal | LineFault::MoreThanBoards => {
+            "  hint: the tricks are of other boards: let deals-tricks count those of these\n"
+        }
         LineFault::NotANumber | LineFault::NotBelow | LineFault::TooMany => {
             "  hint: a line has the number of a candidate, as deals find writes it\n"
         }

@@ -17,9 +17,9 @@ use Rattle.clap.specs.declared.parser.matches.ArgMatches.{ArgMatches}
 use Rattle.clap.specs.declared.parser.matches.ArgMatches.TheViews.{out-ArgMatches, out-SubCommand}
 use Rattle.clap.specs.declared.parser.matches.SubCommand.{SubCommand}
 use Rattle.command_line.specs.Commands.{deals}
-use Rattle.command_line.specs.CommandLine.{asked, asks_page, further_kinds, has_bad_workers, has_unknown, kinds_by, kinds_for, lacks_option, made_by, missing_kinds, read_kinds, search_in, unless_fault, wish_by, wish_in}
+use Rattle.command_line.specs.CommandLine.{asked, asks_page, further_kinds, has_bad_workers, has_unknown, is_no_lesson, kinds_by, kinds_for, lacks_option, lessons_wish, made_by, missing_kinds, read_kinds, search_in, unless_fault, wish_by, wish_in}
 use Rattle.request_types.specs.Requests.{Wish, conditions}
-use Rattle.command_line.specs.internal.Asking.{AsksMake, Chosen, IsRefused}
+use Rattle.command_line.specs.internal.Asking.{AsksLessons, AsksMake, Chosen, IsRefused}
 use Rattle.command_line.proofs.OptionValues.{Makes, Reads, each_reads, read_by}
 use Rattle.command_line.proofs.Entered.{enters}
 
@@ -116,14 +116,18 @@ by_kinds words p read is =
 
 asks_make : (words : List Text) (name : Text) (rows : List Row) → Makes name → IsRead words → subcommand_of deals words ≡ Some (name, rows) → AsksMake words name rows
 asks_make words name rows makes f is = record {
-  ends = λ u w e. by_wish words found f is ∙ wishes ∙ ap (λ (k : Kinds). unless_fault k wish) (known u ∙ counted w ∙ ending e);
-  missing = λ u w e. record {
-    asked_is = by_wish words found f is ∙ wishes ∙ ap (λ (k : Kinds). unless_fault k wish) (known u ∙ counted w ∙ ending e);
-    kinds_are = by_kinds words found f is ∙ known u ∙ counted w ∙ ending e;
+  ends = λ u n w e. by_wish words found f is ∙ wishes ∙ ap (λ (k : Kinds). unless_fault k wish) (known u ∙ taught n ∙ counted w ∙ ending e);
+  missing = λ u n w e. record {
+    asked_is = by_wish words found f is ∙ wishes ∙ ap (λ (k : Kinds). unless_fault k wish) (known u ∙ taught n ∙ counted w ∙ ending e);
+    kinds_are = by_kinds words found f is ∙ known u ∙ taught n ∙ counted w ∙ ending e;
   };
-  bad_workers = λ u w. record {
-    asked_is = by_wish words found f is ∙ wishes ∙ ap (λ (k : Kinds). unless_fault k wish) (known u ∙ counted w);
-    kinds_are = by_kinds words found f is ∙ known u ∙ counted w;
+  bad_workers = λ u n w. record {
+    asked_is = by_wish words found f is ∙ wishes ∙ ap (λ (k : Kinds). unless_fault k wish) (known u ∙ taught n ∙ counted w);
+    kinds_are = by_kinds words found f is ∙ known u ∙ taught n ∙ counted w;
+  };
+  no_lesson = λ u n. record {
+    asked_is = by_wish words found f is ∙ wishes ∙ ap (λ (k : Kinds). unless_fault k wish) (known u ∙ taught n);
+    kinds_are = by_kinds words found f is ∙ known u ∙ taught n;
   };
   unknown = λ u. record {
     asked_is = by_wish words found f is ∙ wishes ∙ ap (λ (k : Kinds). unless_fault k wish) (known u);
@@ -138,20 +142,44 @@ asks_make words name rows makes f is = record {
     wish = Some (made_by name (search_in rows) rows)
 
     wishes : unless_fault (kinds_by found) (Some (wish_by found)) ≡ unless_fault (kinds_by found) wish
-    wishes = rw (makes.0, makes.1, makes.2) refl
+    wishes = rw (makes.0, makes.1, makes.2, makes.3) refl
 
-    -- the kinds where each word is one of its option's values
+    -- the kinds where each word is one of its option's values, and the lesson is one
     further : Kinds
     further = if has_bad_workers rows then ValueValidation ∷ [] else missing_kinds name (search_in rows) rows
 
-    known : {b : Bool} → has_unknown name rows ≡ b → kinds_by found ≡ (if b then InvalidValue ∷ [] else further)
-    known {b} u = rw (makes.0, makes.1, makes.2) (ap (λ (x : Bool). if x then InvalidValue ∷ [] else further) u)
+    with_lesson : Kinds
+    with_lesson = if is_no_lesson (codes "lesson") rows then InvalidValue ∷ [] else further
+
+    known : {b : Bool} → has_unknown name rows ≡ b → kinds_by found ≡ (if b then InvalidValue ∷ [] else with_lesson)
+    known {b} u = rw (makes.0, makes.1, makes.2, makes.3) (ap (λ (x : Bool). if x then InvalidValue ∷ [] else with_lesson) u)
+
+    taught : {b : Bool} → is_no_lesson (codes "lesson") rows ≡ b → with_lesson ≡ (if b then InvalidValue ∷ [] else further)
+    taught {b} n = ap (λ (x : Bool). if x then InvalidValue ∷ [] else further) n
 
     counted : {b : Bool} → has_bad_workers rows ≡ b → further ≡ (if b then ValueValidation ∷ [] else missing_kinds name (search_in rows) rows)
     counted {b} w = ap (λ (x : Bool). if x then ValueValidation ∷ [] else missing_kinds name (search_in rows) rows) w
 
     ending : {b : Bool} → lacks_option name (search_in rows) rows ≡ b → missing_kinds name (search_in rows) rows ≡ (if b then MissingRequiredArgument ∷ [] else [])
     ending {b} e = ap (λ (x : Bool). if x then MissingRequiredArgument ∷ [] else []) e
+
+asks_lessons : (words : List Text) (rows : List Row) → IsRead words → subcommand_of deals words ≡ Some (codes "lessons", rows) → AsksLessons words rows
+asks_lessons words rows f is = record {
+  found = λ n. by_wish words found f is ∙ ap (λ (k : Kinds). unless_fault k wish) (kinds n);
+  unknown = λ n. record {
+    asked_is = by_wish words found f is ∙ ap (λ (k : Kinds). unless_fault k wish) (kinds n);
+    kinds_are = by_kinds words found f is ∙ kinds n;
+  };
+}
+  where
+    found : Text × List Row
+    found = (codes "lessons", rows)
+
+    wish : Option Wish
+    wish = Some (lessons_wish rows)
+
+    kinds : {b : Bool} → is_no_lesson (codes "name") rows ≡ b → kinds_by found ≡ (if b then InvalidValue ∷ [] else [])
+    kinds {b} n = ap (λ (x : Bool). if x then InvalidValue ∷ [] else []) n
 
 abbrev of_pair : List Text → Bor Text × Bor ArgMatches → Type 0
 of_pair words p = Chosen words p.0.now (rows_of (found_of p.1.now))
@@ -161,21 +189,24 @@ never e = absurd cc
 
 chosen_by : (words : List Text) (name : Text) (rows : List Row) → IsRead words → subcommand_of deals words ≡ Some (name, rows) → Reads (name, rows) → Chosen words name rows
 chosen_by words name rows f is (inl (makes, values)) = record {
-  values = record { stream = λ e. no_stream e; make = λ e c d. values };
+  values = record { stream = λ e. no_stream e; make = λ e c l d. values };
   stream = λ e. no_stream e;
   conditions_too = λ e. never (sym makes.1 ∙ e);
-  seed_too = λ e. never (sym makes.2 ∙ e);
-  make = λ e c d. asks_make words name rows makes f is;
+  lessons_too = λ e. never (sym makes.2 ∙ e);
+  seed_too = λ e. never (sym makes.3 ∙ e);
+  make = λ e c l d. asks_make words name rows makes f is;
 }
   where
     no_stream : {X : Type 0} → bytes_eq name (codes "stream") ≡ true → X
     no_stream e = never (sym makes.0 ∙ e)
 chosen_by words name rows f is (inr (inl same)) = subst (λ (n : Text). subcommand_of deals words ≡ Some (n, rows) → Chosen words n rows) (sym same)
-    (λ at. record { values = record { stream = λ e. never e; make = λ e c d. never (sym c) }; stream = λ e. never e; conditions_too = λ e. by_wish words (codes "conditions", rows) f at; seed_too = λ e. never e; make = λ e c d. never (sym c) }) is
+    (λ at. record { values = record { stream = λ e. never e; make = λ e c l d. never (sym c) }; stream = λ e. never e; conditions_too = λ e. by_wish words (codes "conditions", rows) f at; lessons_too = λ e. never e; seed_too = λ e. never e; make = λ e c l d. never (sym c) }) is
 chosen_by words name rows f is (inr (inr (inl same))) = subst (λ (n : Text). subcommand_of deals words ≡ Some (n, rows) → Chosen words n rows) (sym same)
-    (λ at. record { values = record { stream = λ e. never e; make = λ e c d. never (sym d) }; stream = λ e. never e; conditions_too = λ e. never e; seed_too = λ e. by_wish words (codes "seed", rows) f at; make = λ e c d. never (sym d) }) is
-chosen_by words name rows f is (inr (inr (inr (same, values)))) = subst (λ (n : Text). subcommand_of deals words ≡ Some (n, rows) → Chosen words n rows) (sym same)
-    (λ at. record { values = record { stream = λ e. values; make = λ e c d. never (sym e) }; stream = λ e. by_wish words (codes "stream", rows) f at; conditions_too = λ e. never e; seed_too = λ e. never e; make = λ e c d. never (sym e) }) is
+    (λ at. record { values = record { stream = λ e. never e; make = λ e c l d. never (sym l) }; stream = λ e. never e; conditions_too = λ e. never e; lessons_too = λ e. asks_lessons words rows f at; seed_too = λ e. never e; make = λ e c l d. never (sym l) }) is
+chosen_by words name rows f is (inr (inr (inr (inl same)))) = subst (λ (n : Text). subcommand_of deals words ≡ Some (n, rows) → Chosen words n rows) (sym same)
+    (λ at. record { values = record { stream = λ e. never e; make = λ e c l d. never (sym d) }; stream = λ e. never e; conditions_too = λ e. never e; lessons_too = λ e. never e; seed_too = λ e. by_wish words (codes "seed", rows) f at; make = λ e c l d. never (sym d) }) is
+chosen_by words name rows f is (inr (inr (inr (inr (same, values))))) = subst (λ (n : Text). subcommand_of deals words ≡ Some (n, rows) → Chosen words n rows) (sym same)
+    (λ at. record { values = record { stream = λ e. values; make = λ e c l d. never (sym e) }; stream = λ e. by_wish words (codes "stream", rows) f at; conditions_too = λ e. never e; lessons_too = λ e. never e; seed_too = λ e. never e; make = λ e c l d. never (sym e) }) is
 
 from_met : (words : List Text) (sub : Option (Bor Text × Bor ArgMatches)) (p : Bor Text × Bor ArgMatches) (name : Text) (rows : List Row) → sub ≡ Some p → Met sub name rows
     → Chosen words name rows → of_pair words p

@@ -16,7 +16,8 @@ use Rattle.cards.specs.declared.seat.Seat.{Seat}
 use Rattle.cards.specs.declared.seat.Seat.TheVariants.{North, East, South, West}
 use Rattle.request_types.specs.PredealtHands.{GivenHands}
 use Rattle.request_types.specs.Requests.{Look, Questions, Search, Wish, conditions, count, draw}
-use Rattle.request_types.specs.Requests.{look_as, make, make_with_tricks, no_question, one_question, pick, stream, two_questions}
+use Rattle.lessons.specs.Lessons.{Lesson, lesson_named}
+use Rattle.request_types.specs.Requests.{lessons, look_as, make, make_with_tricks, no_question, one_question, pick, stream, two_questions}
 use Rattle.request_types.specs.declared.request.Notices.{Notices}
 use Rattle.boards.specs.Formats.{formats}
 use Rattle.boards.specs.declared.format.Format.{Format}
@@ -86,6 +87,15 @@ has_unknown_format name rows =
     if bytes_eq name (codes "count") then is_unknown styles (codes "format") rows
     else is_unknown formats (codes "format") rows
 
+-- the lesson whose name was given, if there is one
+abbrev pub lesson_in : Text → List Row → Option Lesson
+lesson_in id rows = option_and_then lesson_named (first_of id rows)
+
+-- a name was given that no lesson has
+abbrev pub is_no_lesson : Text → List Row → Bool
+is_no_lesson id rows =
+    option_map_or (λ name. not (is_some (lesson_named name))) (first_of id rows) false
+
 abbrev pub has_unknown : Text → List Row → Bool
 has_unknown name rows =
     has_unknown_format name rows
@@ -117,6 +127,9 @@ abbrev pub has_bad_workers : List Row → Bool
 has_bad_workers rows = option_map_or (λ text. not (is_some (workers_meant text)))
     (first_of (codes "workers") rows) false
 
+abbrev pub lessons_wish : List Row → Wish
+lessons_wish rows = lessons (lesson_in (codes "name") rows)
+
 abbrev pub stream_wish : List Row → Wish
 stream_wish rows = stream (number_or 0 (codes "seed") rows) (number_or 0 (codes "count") rows)
 
@@ -137,10 +150,18 @@ search_in rows = record {
   first = number_or 0 (codes "first") rows;
   workers = workers_in rows;
   lane = number_in (codes "lane") rows;
+  lesson = option_map (λ l. l.condition) (lesson_in (codes "lesson") rows);
   where_text = first_of (codes "where") rows;
   boards = number_in (codes "boards") rows;
   hands = hands_in rows;
 }
+
+-- deals are turned where that is asked for, and those of a lesson too unless a dealer is given
+abbrev pub is_turned : List Row → Bool
+is_turned rows =
+    is_set (codes "rotate") rows
+    || (is_some (first_of (codes "lesson") rows)
+    && not (is_some (first_of (codes "dealer") rows)))
 
 -- what options of the boards' look were given, or their defaults
 abbrev pub look_in : List Row → Look
@@ -153,7 +174,7 @@ look_in rows = record {
   date = first_of (codes "date") rows;
   dealer = choice_in dealers (codes "dealer") rows;
   vulnerable = choice_in sides (codes "vulnerable") rows;
-  rotate = is_set (codes "rotate") rows;
+  rotate = is_turned rows;
 }
 
 abbrev pub when_in : Text → List Row → When
@@ -199,8 +220,9 @@ abbrev pub wish_by : Text × List Row → Wish
 wish_by p =
     if bytes_eq p.0 (codes "stream") then stream_wish p.1
     else (if bytes_eq p.0 (codes "conditions") then conditions
+    else (if bytes_eq p.0 (codes "lessons") then lessons_wish p.1
     else (if bytes_eq p.0 (codes "seed") then draw
-    else made_by p.0 (search_in p.1) p.1))
+    else made_by p.0 (search_in p.1) p.1)))
 
 -- the wish of the subcommand that the words name, by clap's function of the words
 abbrev pub wish_in : List Text → Option Wish
@@ -228,15 +250,20 @@ missing_kinds name s rows =
 abbrev pub make_kinds : Text → List Row → Kinds
 make_kinds name rows =
     if has_unknown name rows then InvalidValue ∷ []
+    else (if is_no_lesson (codes "lesson") rows then InvalidValue ∷ []
     else (if has_bad_workers rows then ValueValidation ∷ []
-    else missing_kinds name (search_in rows) rows)
+    else missing_kinds name (search_in rows) rows))
+
+abbrev pub lessons_kinds : List Row → Kinds
+lessons_kinds rows = if is_no_lesson (codes "name") rows then InvalidValue ∷ [] else []
 
 -- by the subcommand's name and what its options were given
 abbrev pub kinds_by : Text × List Row → Kinds
 kinds_by p =
     if bytes_eq p.0 (codes "stream") then []
     else (if bytes_eq p.0 (codes "conditions") then []
-    else (if bytes_eq p.0 (codes "seed") then [] else make_kinds p.0 p.1))
+    else (if bytes_eq p.0 (codes "lessons") then lessons_kinds p.1
+    else (if bytes_eq p.0 (codes "seed") then [] else make_kinds p.0 p.1)))
 
 -- the kinds of error in words that clap takes
 abbrev pub further_kinds : List Text → Kinds

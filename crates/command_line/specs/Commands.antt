@@ -13,6 +13,10 @@ abbrev pub option_rule : Text → ValueParser → Rule
 option_rule id parser =
     record (new_rule id) { long = Some id; value_names = 1; parser = Some parser }
 
+-- a value on its own, without `--id`
+abbrev pub value_rule : Text → Rule
+value_rule id = record (new_rule id) { value_names = 1; parser = Some parsed.String }
+
 -- a flag `--id`, which takes no value
 abbrev pub flag_rule : Text → Rule
 flag_rule id = record (new_rule id) { long = Some id; action = Some SetTrue }
@@ -53,7 +57,8 @@ seed_rule = lettered (codes "s") (required (option_rule (codes "seed") u32_parse
 
 abbrev pub search_rules : List Rule
 search_rules =
-    lettered (codes "w") (option_rule (codes "where") parsed.String)
+    option_rule (codes "lesson") parsed.String
+    ∷ lettered (codes "w") (option_rule (codes "where") parsed.String)
     ∷ lettered (codes "n") (option_rule (codes "boards") u32_parser)
     ∷ option_rule (codes "candidates") u64_parser
     ∷ option_rule (codes "first") u64_parser
@@ -128,7 +133,11 @@ pick_app = command_with (codes "pick") (
 abbrev pub conditions_app : App
 conditions_app = command_with (codes "conditions") (help_flag ∷ [])
 
--- `deals seed`, likewise
+-- `deals lessons`, with the name of one or without
+abbrev pub lessons_app : App
+lessons_app = command_with (codes "lessons") (value_rule (codes "name") ∷ help_flag ∷ [])
+
+-- `deals seed`, without options
 abbrev pub seed_app : App
 seed_app = command_with (codes "seed") (help_flag ∷ [])
 
@@ -145,8 +154,8 @@ deals_top = on_top (λ s. record s { has_version = true; subcommand_required = t
 -- the subcommands, in the order of the help
 abbrev pub subcommands : List App
 subcommands =
-    make_app ∷ find_app ∷ count_app ∷ pick_app ∷ conditions_app ∷ seed_app ∷ stream_app
-    ∷ []
+    make_app ∷ find_app ∷ count_app ∷ pick_app ∷ conditions_app ∷ lessons_app ∷ seed_app
+    ∷ stream_app ∷ []
 
 abbrev pub deals : App
 deals = fold with_subcommand deals_top (map (λ a. a.top) subcommands)

@@ -5,8 +5,8 @@
 //! about, and a colon.
 
 use crate::texts::{
-    CONDITIONS_EXAMPLES, COUNT_EXAMPLES, FIND_EXAMPLES, MAKE_EXAMPLES, PICK_EXAMPLES,
-    SEED_EXAMPLES, STREAM_EXAMPLES,
+    CONDITIONS_EXAMPLES, COUNT_EXAMPLES, FIND_EXAMPLES, LESSONS_EXAMPLES, MAKE_EXAMPLES,
+    PICK_EXAMPLES, SEED_EXAMPLES, STREAM_EXAMPLES,
 };
 
 /// What help says of an option: the heading that it is under, and the text.
@@ -25,6 +25,8 @@ count: Counts deals: how often something comes, and how much on average
 pick: Writes the boards of the deals whose numbers it reads
 
 conditions: Explains all that --where understands, with ten examples
+
+lessons: Prints the lessons that --lesson deals, and tells of one
 
 seed: Draws a seed that nobody can guess
 
@@ -46,6 +48,10 @@ const SHARED: &[Section] = &[
         "seed: A number from 0 to 4294967295: the same one gives the
 same deals again. Any number will do for a lesson;
 for a club draw one by deals seed
+
+lesson: Deals a lesson, as stayman; deals lessons prints their
+names. Each deal is turned, as with --rotate, unless
+--dealer is given [default: none]
 
 where: What each deal has to meet, in quotes, as
 'hcp(north)>=15'; deals help conditions explains it
@@ -144,13 +150,20 @@ help: Print help",
     ),
 ];
 
+/// Of a lesson where no deal is turned.
+const LESSON_ALONE: &str = "lesson: The deals of a lesson, as stayman; deals lessons prints
+their names [default: none]";
+
 /// The same in these subcommands, for the options that have an entry of their own.
-const OF_COUNT: &[Section] = &[(
-    COUNTED,
-    "format: How the table is written: table for people, csv for
+const OF_COUNT: &[Section] = &[
+    (WHICH, LESSON_ALONE),
+    (
+        COUNTED,
+        "format: How the table is written: table for people, csv for
 spreadsheets and programs, html for a page
 [default: table] [possible values: table, csv, html]",
-)];
+    ),
+];
 
 const OF_PICK: &[Section] = &[
     (
@@ -174,7 +187,17 @@ count: How many numbers, 0 to 1099511627776
 help: Print help",
 )];
 
+const OF_LESSONS: &[Section] = &[(
+    OPTIONS,
+    "name: The lesson to tell of: what it shows, its condition, and a
+command [default: the names of all]
+
+help: Print help",
+)];
+
 const OF_OTHERS: &[Section] = &[(OPTIONS, "help: Print help")];
+
+const OF_FIND: &[Section] = &[(WHICH, LESSON_ALONE)];
 
 /// What a subcommand has of its own.
 fn own_sections(name: &str) -> &'static [Section] {
@@ -182,7 +205,9 @@ fn own_sections(name: &str) -> &'static [Section] {
         "count" => OF_COUNT,
         "pick" => OF_PICK,
         "stream" => OF_STREAM,
-        "make" | "find" => &[],
+        "lessons" => OF_LESSONS,
+        "find" => OF_FIND,
+        "make" => &[],
         _ => OF_OTHERS,
     }
 }
@@ -219,6 +244,7 @@ pub(crate) fn examples_of(name: &str) -> &'static str {
         "count" => COUNT_EXAMPLES,
         "pick" => PICK_EXAMPLES,
         "conditions" => CONDITIONS_EXAMPLES,
+        "lessons" => LESSONS_EXAMPLES,
         "seed" => SEED_EXAMPLES,
         "stream" => STREAM_EXAMPLES,
         _ => "",

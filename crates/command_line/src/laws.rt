@@ -1,6 +1,6 @@
 //! What the words of some command lines ask for: the definition of that, at examples.
 
-ghost use Rattle.std.specs.Prelude.{◌≡◌, ◌∷◌, [], Some, codes, true};
+ghost use Rattle.std.specs.Prelude.{◌≡◌, ◌∷◌, [], None, Some, codes, true};
 ghost use Rattle.boards.specs.declared.setting.Vul.TheVariants.{NorthSouth};
 ghost use Rattle.cards.specs.declared.seat.Seat.TheVariants.{South};
 ghost use Rattle.clap.specs.declared.error.kind.ErrorKind.TheVariants.{InvalidValue};
@@ -10,7 +10,7 @@ ghost use Rattle.clap.specs.declared.error.kind.ErrorKind.TheVariants.{ValueVali
 ghost use Rattle.command_line.specs.CommandLine.{asked, kinds_for};
 ghost use Rattle.request_types.specs.PredealtHands.{none_given};
 ghost use Rattle.request_types.specs.Requests.{conditions, count, draw, make, make_with_tricks};
-ghost use Rattle.request_types.specs.Requests.{numbers_look, pick};
+ghost use Rattle.request_types.specs.Requests.{lessons, numbers_look, pick};
 ghost use Rattle.request_types.specs.Requests.{plain_look, plain_notices, plain_search, stream};
 ghost use Rattle.request_types.specs.Requests.{two_questions};
 ghost use Rattle.boards.specs.declared.format.Format.TheVariants.{Hands};
@@ -78,6 +78,11 @@ pub fn example_of_tricks()
         (codes "deals" ∷ codes "make" ∷ codes "--seed" ∷ codes "0"
         ∷ codes "--boards" ∷ codes "12" ∷ codes "--workers" ∷ codes "many" ∷ [])
         ≡ ValueValidation ∷ [] }
+{}
+
+/// `deals lessons` asks for the list of all lessons.
+pub fn example_of_lessons()
+    ensures { asked (codes "deals" ∷ codes "lessons" ∷ []) ≡ Some (lessons None) }
 {}
 
 /// `deals pick --seed 2024 --north KQ432.A93.AJ.JT8 --south A985.KJ742.KQ32. --format hands` asks

@@ -1,13 +1,14 @@
 //! What the words of a command line ask for.
 //!
 //! `options.rt` has the subcommands and their options as tables, `helps.rt` and `texts.rt` what is
-//! said of them, `choices.rt` the words that an option may have, and `words.rt` reads words as a
-//! request. `shown.rt` shows what clap says of them.
+//! said of them, `choices.rt` the words that an option may have, `lesson_names.rt` the names of
+//! lessons, and `words.rt` reads words as a request. `shown.rt` shows what clap says of them.
 #![tactic(auto)]
 
 mod choices;
 mod helps;
 pub mod laws;
+mod lesson_names;
 mod options;
 mod refusals;
 mod shown;

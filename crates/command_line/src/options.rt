@@ -4,10 +4,10 @@ ghost use Rattle.std.specs.Prelude.{◌≡◌, IfOk, false, fold, map};
 ghost use Rattle.clap.specs.Words.{app_of, rule_of, with_rule, with_subcommand};
 ghost use Rattle.clap.specs.declared.Command.TheViews.{out-Command as fields_of};
 ghost use Rattle.command_line.specs.Commands.{asking_rule, deals, deals_top, flag_rule};
-ghost use Rattle.command_line.specs.Commands.{option_rule, subcommands};
+ghost use Rattle.command_line.specs.Commands.{option_rule, subcommands, value_rule};
 ghost use Rattle.command_line.specs.internal.Rows.{app_for, rule_for, taking, top_for};
 
-use self::Takes::{Count, Help, Nothing, Text, U32, U64};
+use self::Takes::{Count, Help, Nothing, Text, U32, U64, Value};
 use crate::helps::{about_of, examples_of, help_of};
 use crate::texts::{ABOUT, PROGRAM_EXAMPLES};
 use boards::Format;
@@ -25,6 +25,8 @@ pub(crate) enum Takes {
     /// clap's flag for help, which takes none either.
     Help,
     Text(&'static str),
+    /// A value on its own, without the option's name.
+    Value(&'static str),
     U32(&'static str),
     U64(&'static str),
     /// A number up to 2^40.
@@ -49,6 +51,16 @@ fn option<'a>(alloc: Global, id: &'a str, parser: ValueParser<'a>, name: &'a str
     Arg::new(alloc, id)
         .long(id)
         .value_parser(parser)
+        .value_name(name)
+}
+
+/// A value on its own, without `--id`.
+fn value<'a>(alloc: Global, id: &'a str, name: &'a str) -> Arg<'a>
+    ensures rule { rule_of result ≡ value_rule id.entry.now }
+    ensures local { result.global ≡ false }
+{
+    Arg::new(alloc, id)
+        .value_parser(ValueParser::String)
         .value_name(name)
 }
 
@@ -77,6 +89,7 @@ fn taking<'a>(alloc: Global, takes: &Takes, id: &'static str) -> Arg<'a>
         Takes::Nothing => return flag(alloc, id),
         Takes::Help => return help_flag(alloc, id),
         Takes::Text(name) => (ValueParser::String, name),
+        Takes::Value(name) => return value(alloc, id, name),
         Takes::U32(name) => (value_parser!(u32), name),
         Takes::U64(name) => (value_parser!(u64), name),
         Takes::Count(name) => (value_parser!(u64).range(..=MAX_VALUES), name),
@@ -171,6 +184,8 @@ macro_rules! required {
 
 const SEED: Row = required! { 's' "seed" U32("S") };
 
+const LESSON: Row = optional! { "lesson" Text("NAME") };
+
 const WHERE: Row = optional! { 'w' "where" Text("TEXT") };
 
 const BOARDS: Row = optional! { 'n' "boards" U32("M") };
@@ -221,6 +236,8 @@ const PROGRESS: Row = optional! { "progress" Text("WHEN") };
 
 const HINTS: Row = optional! { "hints" Text("WHEN") };
 
+const NAME: Row = optional! { "name" Value("NAME") };
+
 const HELP: Row = optional! { 'h' "help" Help };
 
 const VALUES: Row = required! { "count" Count("N") };
@@ -228,19 +245,19 @@ const VALUES: Row = required! { "count" Count("N") };
 // Which deals, how they look, speed, and what is said: each in the order in which people need them.
 
 pub(crate) const MAKE: &[Row] = &[
-    SEED, WHERE, BOARDS, CANDIDATES, FIRST, NORTH, EAST, SOUTH, WEST, FORMAT, SHOW, TRICKS, DEALER,
-    VULNERABLE, ROTATE, FROM_BOARD, EVENT, SITE, DATE, WORKERS, LANE, REPORT, PROGRESS, HINTS,
-    HELP,
+    SEED, LESSON, WHERE, BOARDS, CANDIDATES, FIRST, NORTH, EAST, SOUTH, WEST, FORMAT, SHOW, TRICKS,
+    DEALER, VULNERABLE, ROTATE, FROM_BOARD, EVENT, SITE, DATE, WORKERS, LANE, REPORT, PROGRESS,
+    HINTS, HELP,
 ];
 
 pub(crate) const FIND: &[Row] = &[
-    SEED, WHERE, BOARDS, CANDIDATES, FIRST, NORTH, EAST, SOUTH, WEST, WORKERS, LANE, REPORT,
-    PROGRESS, HINTS, HELP,
+    SEED, LESSON, WHERE, BOARDS, CANDIDATES, FIRST, NORTH, EAST, SOUTH, WEST, WORKERS, LANE,
+    REPORT, PROGRESS, HINTS, HELP,
 ];
 
 pub(crate) const COUNT: &[Row] = &[
-    SEED, WHERE, BOARDS, CANDIDATES, FIRST, NORTH, EAST, SOUTH, WEST, OF, BY, FORMAT, WORKERS,
-    LANE, PROGRESS, HINTS, HELP,
+    SEED, LESSON, WHERE, BOARDS, CANDIDATES, FIRST, NORTH, EAST, SOUTH, WEST, OF, BY, FORMAT,
+    WORKERS, LANE, PROGRESS, HINTS, HELP,
 ];
 
 pub(crate) const PICK: &[Row] = &[
@@ -250,6 +267,9 @@ pub(crate) const PICK: &[Row] = &[
 
 /// The options of a command that needs none.
 pub(crate) const ALONE: &[Row] = &[HELP];
+
+/// The name of a lesson.
+pub(crate) const NAMED: &[Row] = &[NAME, HELP];
 
 pub(crate) const STREAM: &[Row] = &[SEED, VALUES, HELP];
 
@@ -265,7 +285,7 @@ pub(crate) struct Subcommand {
 }
 
 /// The subcommands, in the order of the help.
-static SUBCOMMANDS: [Subcommand; 7] = [
+static SUBCOMMANDS: [Subcommand; 8] = [
     Subcommand {
         name: "make",
         in_full: "deals make",
@@ -292,6 +312,11 @@ static SUBCOMMANDS: [Subcommand; 7] = [
         rows: ALONE,
     },
     Subcommand {
+        name: "lessons",
+        in_full: "deals lessons",
+        rows: NAMED,
+    },
+    Subcommand {
         name: "seed",
         in_full: "deals seed",
         rows: ALONE,
@@ -304,7 +329,7 @@ static SUBCOMMANDS: [Subcommand; 7] = [
 ];
 
 /// The subcommands: the table stands in one function alone, since a proof reads all of it.
-fn subcommands() -> &'static [Subcommand; 7]
+fn subcommands() -> &'static [Subcommand; 8]
     ensures { map top_for result.now ≡ map (λ a. a.top) subcommands }
 {
     &SUBCOMMANDS
@@ -323,17 +348,18 @@ fn command_of<'a>(alloc: Global, sub: &Subcommand) -> Result<Command<'a>, AllocE
     with_rows(alloc, sub.name, command, sub.rows)
 }
 
-/// The command `make`, or `find`, `count` or `pick` if it has that name, as `clap` names it in a
-/// refusal.
+/// The command `make`, or `find`, `count`, `pick` or `lessons` if it has that name, as `clap` names
+/// it in a refusal.
 ///
 /// # Errors
 /// `AllocError` if an allocation failed.
 pub fn named_command<'a>(alloc: Global, name: &str) -> Result<Command<'a>, AllocError> {
-    let [make, find, count, pick, ..] = subcommands();
+    let [make, find, count, pick, _, lessons, ..] = subcommands();
     let sub = match name {
         "find" => find,
         "count" => count,
         "pick" => pick,
+        "lessons" => lessons,
         _ => make,
     };
     command_of(alloc, sub)?.bin_name(sub.in_full)

@@ -4,6 +4,7 @@ ghost use Rattle.std.specs.Prelude.{◌≡◌, IfOk};
 ghost use Rattle.clap.specs.Words.{kind_of};
 
 use crate::choices::Unknown;
+use crate::lesson_names::tip;
 use crate::options::named_command;
 use crate::workers::why_no_number;
 use clap::Error;
@@ -40,6 +41,23 @@ pub fn invalid_number(alloc: Global, name: &str, word: &str) -> Result<Error, Al
     let why = why_no_number(word);
     let message = format!(in alloc; "invalid value '{word}' for '--workers <W>': {why}")?;
     refusal(alloc, name, ErrorKind::ValueValidation, message.as_str())
+}
+
+/// clap's refusal of a name that no lesson has.
+pub fn invalid_name(
+    alloc: Global,
+    name: &str,
+    option: &str,
+    word: &str,
+) -> Result<Error, AllocError>
+    ensures { IfOk result (λ e. kind_of e ≡ ErrorKind.InvalidValue) }
+{
+    let tip = tip(alloc, word)?;
+    let tip = tip.as_str();
+    let message = format!(in alloc;
+        "invalid value '{word}' for '{option}': no lesson has this name\n\n  tip: {tip}"
+    )?;
+    refusal(alloc, name, ErrorKind::InvalidValue, message.as_str())
 }
 
 /// clap's refusal of a word that is none of an option's values.

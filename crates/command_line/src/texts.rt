@@ -57,6 +57,12 @@ pub(crate) const CONDITIONS_EXAMPLES: &str = "Examples:
     deals make --seed 7 --boards 12 \\
       --where 'hcp(north) in 15-17 and balanced(north)'";
 
+pub(crate) const LESSONS_EXAMPLES: &str = "Examples:
+  What a lesson shows, its condition, and a command that deals it:
+    deals lessons stayman
+  Twelve boards of it, of which those where South is strong:
+    deals make --seed 7 --boards 12 --lesson stayman --where 'hcp(south)>=12'";
+
 pub(crate) const SEED_EXAMPLES: &str = "Example:
   A seed for boards that nobody may know beforehand:
     deals seed
@@ -70,7 +76,9 @@ pub(crate) const STREAM_EXAMPLES: &str = "Example:
 pub(crate) const MAKE_EXAMPLES: &str = "Examples:
   Twenty-seven boards for a club, with the number that deals seed drew as SEED:
     deals make --seed SEED --boards 27 --event 'Club night' > boards.pbn
-  A lesson for print: twelve 1NT openings, each by the board's dealer:
+  A lesson by name: Stayman, twelve boards, each opened by its dealer:
+    deals make --seed 7 --boards 12 --format hands --lesson stayman
+  A lesson of your own: twelve 1NT openings, each by the board's dealer:
     deals make --seed 7 --boards 12 --format hands --rotate \\
       --where 'hcp(north) in 15-17 and balanced(north)' > lesson.txt
 

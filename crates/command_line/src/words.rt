@@ -7,24 +7,29 @@ ghost use Rattle.clap.specs.Walk.{Text};
 ghost use Rattle.clap.specs.Words.{first_of, found_of, kind_of, rows_of};
 ghost use Rattle.clap.specs.declared.error.kind.ErrorKind.{ErrorKind};
 ghost use Rattle.command_line.specs.CommandLine.{asks_page, hands_in, has_by_alone, has_no_end};
-ghost use Rattle.command_line.specs.CommandLine.{is_set, lacks_option, look_in, made_by};
+ghost use Rattle.command_line.specs.CommandLine.{is_set, is_turned, lacks_option, look_in, made_by};
 ghost use Rattle.command_line.specs.CommandLine.{notices_in, number_in, number_or, questions_in};
 ghost use Rattle.command_line.specs.CommandLine.{search_in};
 ghost use Rattle.command_line.specs.Reading.{AreRead};
-ghost use Rattle.command_line.specs.internal.Asking.{Chosen, HasValues};
+ghost use Rattle.command_line.specs.internal.Asking.{AsksLessons, Chosen, HasValues};
 ghost use Rattle.command_line.specs.internal.Readings.{MayGive32, MayGive64, SearchValues};
 ghost use Rattle.command_line.specs.internal.Readings.{StreamValues};
+ghost use Rattle.lessons.specs.Lessons.{lesson_of};
 ghost use Rattle.request_types.specs.PredealtHands.{given_by};
 ghost use Rattle.request_types.specs.Requests.{look_of, questions_of, search_of, wish_of};
 
 use crate::choices::{
     DEALER, FORMAT, HINTS, PROGRESS, SHOW, STYLE, VULNERABLE, look_up, unknown_in,
 };
+use crate::lesson_names::{lesson_in, no_lesson_in};
 use crate::options::{FINDERS, command};
-use crate::refusals::{NO_END, NO_QUESTION, invalid_number, invalid_value, missing_option};
+use crate::refusals::{
+    NO_END, NO_QUESTION, invalid_name, invalid_number, invalid_value, missing_option,
+};
 use crate::workers::{bad_workers_in, workers_in};
 use boards::Show;
 use clap::{ArgMatches, Error};
+use lessons::Lesson;
 use request_types::{
     Format, Look, Notices, PredealtHands, Questions, Request, Search, StreamRequest, Style, When,
 };
@@ -87,6 +92,17 @@ fn hands_in<'a>(matches: &ArgMatches<'a>) -> PredealtHands<'a>
     }
 }
 
+/// The text of the lesson's condition.
+fn condition_of(lesson: Option<Lesson>) -> Option<&'static str>
+    ensures { option_map (λ t. t.now) result
+        ≡ option_map (λ l. l.condition) (option_map lesson_of lesson) }
+{
+    match lesson {
+        Some(lesson) => Some(lesson.condition),
+        None => None,
+    }
+}
+
 /// What the options of a search were given, or their defaults.
 fn search_in<'a>(matches: &ArgMatches<'a>) -> Search<'a>
     requires { SearchValues (rows_of (found_of matches.now)) }
@@ -98,10 +114,20 @@ fn search_in<'a>(matches: &ArgMatches<'a>) -> Search<'a>
         first: u64_in(matches, "first").unwrap_or(0),
         workers: workers_in(matches),
         lane: u32_in(matches, "lane"),
+        lesson: condition_of(lesson_in(matches, "lesson")),
         where_text: text_in(matches, "where"),
         boards: u32_in(matches, "boards"),
         hands: hands_in(matches),
     }
+}
+
+/// Whether deals are turned: where that is asked for, and those of a lesson too unless a dealer is
+/// given.
+fn is_turned(matches: &ArgMatches) -> bool
+    ensures { result ≡ is_turned (rows_of (found_of matches.now)) }
+{
+    is_set(matches, "rotate")
+        || (text_in(matches, "lesson").is_some() && text_in(matches, "dealer").is_none())
 }
 
 /// What the options of the boards' look were given, or their defaults.
@@ -118,7 +144,7 @@ fn look_in<'a>(matches: &ArgMatches<'a>) -> Look<'a>
         date: text_in(matches, "date"),
         dealer: DEALER.given(matches),
         vulnerable: VULNERABLE.given(matches),
-        rotate: is_set(matches, "rotate"),
+        rotate: is_turned(matches),
     }
 }
 
@@ -247,6 +273,17 @@ fn written(refusal: Result<Error, AllocError>) -> Error
     }
 }
 
+/// What the words ask for that name `lessons` and give its value so.
+fn lessons_request<'a>(alloc: Global, matches: &ArgMatches<'a>) -> Result<Request<'a>, Error>
+    ensures { (words : List Text) → AsksLessons words (rows_of (found_of matches.now))
+        → AreRead words result }
+{
+    if let Some(word) = no_lesson_in(matches, "name") {
+        return Err(written(invalid_name(alloc, "lessons", "[NAME]", word)));
+    }
+    Ok(Request::Lessons(lesson_in(matches, "name")))
+}
+
 /// What the words ask for that name this subcommand and give its options these values.
 fn request_of<'a>(alloc: Global, name: &str, matches: &ArgMatches<'a>) -> Result<Request<'a>, Error>
     requires { HasValues name.now (rows_of (found_of matches.now)) }
@@ -259,11 +296,17 @@ fn request_of<'a>(alloc: Global, name: &str, matches: &ArgMatches<'a>) -> Result
     if name == "conditions" {
         return Ok(Request::Conditions);
     }
+    if name == "lessons" {
+        return lessons_request(alloc, matches);
+    }
     if name == "seed" {
         return Ok(Request::Seed);
     }
     if let Some(unknown) = unknown_in(name, matches) {
         return Err(written(invalid_value(alloc, name, &unknown)));
+    }
+    if let Some(word) = no_lesson_in(matches, "lesson") {
+        return Err(written(invalid_name(alloc, name, "--lesson <NAME>", word)));
     }
     if let Some(word) = bad_workers_in(matches) {
         return Err(written(invalid_number(alloc, name, word)));

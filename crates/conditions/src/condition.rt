@@ -1,8 +1,8 @@
 //! A condition: made of a tree, cloned, and asked whether it holds of a deal.
 
-ghost use Rattle.std.specs.Prelude.{◌≡◌};
+ghost use Rattle.std.specs.Prelude.{◌≡◌, IfOk};
 ghost use Rattle.conditions.specs.declared.tree.Op.TheVariants.{Equal};
-ghost use Rattle.conditions.specs.Form.{form_of, compare, number};
+ghost use Rattle.conditions.specs.Form.{all_of, form_of, compare, number};
 ghost use Rattle.conditions.specs.Limits.{IsWithinLimits, HasAtMostAtoms, HasNumbersUpTo};
 ghost use Rattle.conditions.specs.Meaning.{holds};
 ghost use Rattle.conditions.specs.Memory.{IsUnlessMemory};
@@ -11,7 +11,7 @@ use crate::error::CondError;
 use crate::meaning;
 use crate::tree::{Op, Tree, Value};
 use cards::Deal;
-use std::alloc::Global;
+use std::alloc::{AllocError, Global};
 use std::marker::Model;
 
 /// A condition on a deal, which contracts see as its tree's form.
@@ -86,6 +86,29 @@ impl Cond {
         }
     }
 
+    /// The condition that holds of the deals of which both do.
+    ///
+    /// # Errors
+    /// `Memory` if an allocation failed.
+    pub fn and(self, other: Cond) -> Result<Cond, CondError>
+        ensures { IsUnlessMemory result (all_of self other) }
+    {
+        let alloc = self.alloc;
+        match both(alloc, self.into_tree(), other.into_tree()) {
+            Ok(tree) => Ok(Cond { alloc, tree }),
+            Err(_) => Err(CondError::Memory),
+        }
+    }
+
+    /// The tree alone.
+    fn into_tree(self) -> Tree
+        ensures form { form_of result ≡ self }
+        ensures limits { IsWithinLimits self }
+    {
+        let Cond { alloc: _, tree } = self;
+        tree
+    }
+
     /// Whether the condition is true of the deal.
     pub fn holds(&self, deal: &Deal) -> bool
         ensures { result ≡ holds self.now deal.now }
@@ -102,4 +125,13 @@ impl Cond {
     {
         &self.tree
     }
+}
+
+/// The tree that is true where both are.
+fn both(alloc: Global, left: Tree, right: Tree) -> Result<Tree, AllocError>
+    ensures { IfOk result (λ t. form_of t ≡ all_of (form_of left) (form_of right)) }
+{
+    let left = Box::new(alloc, left)?;
+    let right = Box::new(alloc, right)?;
+    Ok(Tree::AllOf(left, right))
 }

@@ -3,6 +3,7 @@
 use advice::dealt_again;
 use clap::Error;
 use deals_cli::{Job, Request, Task};
+use hint_rules::slip;
 use sinks::{Piped, put_all};
 use std::alloc::Global;
 use std::io::IsTerminal;
@@ -20,8 +21,8 @@ pub fn put_notes(
     }
 }
 
-/// What there is to note of the job of a request: that no deal meets its condition, or that boards
-/// with later numbers are the first deals again. None if memory runs out.
+/// What there is to note of the job of a request: that no deal meets its condition, that this has a
+/// slip, or that boards with later numbers are the first deals again. None if memory runs out.
 fn note(alloc: Global, words: &[String], request: &Request<'_>, job: &Job) -> Option<String> {
     let condition = match job {
         Job::Boards(job) | Job::WithTricks(job) => &job.condition,
@@ -29,9 +30,19 @@ fn note(alloc: Global, words: &[String], request: &Request<'_>, job: &Job) -> Op
         _ => return None,
     };
     match hints::note(alloc, condition) {
-        Ok(None) => dealt_again(alloc, words, request),
+        Ok(None) => match slip_of(alloc, request) {
+            Some(slip) => Some(slip),
+            None => dealt_again(alloc, words, request),
+        },
         noted => noted.unwrap_or(None),
     }
+}
+
+/// The note on a slip in the condition of a request. None if it has none, or if memory runs out.
+fn slip_of(alloc: Global, request: &Request<'_>) -> Option<String> {
+    let (search, _) = request.plans()?;
+    let condition = search.where_text?;
+    slip(alloc, condition.as_bytes()).unwrap_or(None)
 }
 
 /// Notes it for a person, before a line of counts is drawn.

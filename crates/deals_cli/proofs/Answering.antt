@@ -13,13 +13,13 @@ use Rattle.jobs.specs.FirstRefusal.{IsDueFor}
 use Rattle.deals_cli.specs.Interruptions.{LeavesFrom}
 use Rattle.jobs.specs.Jobs.{IsReady, IsRefused, ReadsInput}
 use Rattle.deals_cli.specs.Served.{Serves}
-use Rattle.request_types.specs.Requests.{Wish, conditions, count, draw, make, make_with_tricks, pick, stream}
+use Rattle.request_types.specs.Requests.{Wish, conditions, count, draw, lessons, make, make_with_tricks, pick, stream}
 use Rattle.jobs.specs.Statuses.{HasInput, IsStatusOf}
 use Rattle.deals_cli.specs.Wishes.{AppendsFrom}
 use Rattle.jobs.specs.declared.failure.Failure.{Failure}
 use Rattle.jobs.specs.declared.failure.Failure.TheVariants.{CommandLine, Plan, Label, Hand, Condition, Question, Cells, Interrupted, Line, Input, EndOfInput}
 use Rattle.jobs.specs.declared.job.Job.{Job}
-use Rattle.jobs.specs.declared.job.Job.TheVariants.{Boards, Conditions, Count, Pick, Seed, Stream, WithTricks}
+use Rattle.jobs.specs.declared.job.Job.TheVariants.{Boards, Conditions, Count, Lessons, Pick, Seed, Stream, WithTricks}
 use Rattle.plans.specs.declared.report.Report.{Report}
 use Rattle.jobs.proofs.FirstDue.{output_due}
 use Rattle.jobs.proofs.Statuses.{no_memory, served}
@@ -199,6 +199,7 @@ input_read (make s l notices) (WithTricks job) ready reads = ready
 input_read (make s l notices) Seed ready reads = ready
 input_read (make s l notices) (Boards job) ready reads = reads
 input_read (make s l notices) Conditions ready reads = reads
+input_read (make s l notices) (Lessons text) ready reads = reads
 input_read (make s l notices) (Count job) ready reads = reads
 input_read (make s l notices) (Stream job) ready reads = reads
 input_read conditions (Pick job) ready reads = ready
@@ -206,13 +207,23 @@ input_read conditions (WithTricks job) ready reads = ready
 input_read conditions Seed ready reads = ready
 input_read conditions (Boards job) ready reads = reads
 input_read conditions Conditions ready reads = reads
+input_read conditions (Lessons text) ready reads = reads
 input_read conditions (Count job) ready reads = reads
 input_read conditions (Stream job) ready reads = reads
+input_read (lessons lesson) (Pick job) ready reads = ready
+input_read (lessons lesson) (WithTricks job) ready reads = ready
+input_read (lessons lesson) Seed ready reads = ready
+input_read (lessons lesson) (Boards job) ready reads = reads
+input_read (lessons lesson) Conditions ready reads = reads
+input_read (lessons lesson) (Lessons text) ready reads = reads
+input_read (lessons lesson) (Count job) ready reads = reads
+input_read (lessons lesson) (Stream job) ready reads = reads
 input_read (count s q style notices) (Pick job) ready reads = ready
 input_read (count s q style notices) (WithTricks job) ready reads = ready
 input_read (count s q style notices) Seed ready reads = ready
 input_read (count s q style notices) (Boards job) ready reads = reads
 input_read (count s q style notices) Conditions ready reads = reads
+input_read (count s q style notices) (Lessons text) ready reads = reads
 input_read (count s q style notices) (Count job) ready reads = reads
 input_read (count s q style notices) (Stream job) ready reads = reads
 input_read (stream seed n) (Pick job) ready reads = ready
@@ -220,6 +231,7 @@ input_read (stream seed n) (WithTricks job) ready reads = ready
 input_read (stream seed n) Seed ready reads = ready
 input_read (stream seed n) (Boards job) ready reads = reads
 input_read (stream seed n) Conditions ready reads = reads
+input_read (stream seed n) (Lessons text) ready reads = reads
 input_read (stream seed n) (Count job) ready reads = reads
 input_read (stream seed n) (Stream job) ready reads = reads
 

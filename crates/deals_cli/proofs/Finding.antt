@@ -62,13 +62,13 @@ limited_short : (limit : Option ℕ) (n : ℕ) (xs : List ℕ) → length xs ≤
 limited_short None n xs h = h
 limited_short (Some most) n xs h = rw length-take (omega arith)
 
-accepted_below : (plan : Planned) (form : Form) → plan.first + plan.count ≤ 2 ^ 40 → All (λ k. k < 2 ^ 40) (accepted plan form)
+pub accepted_below : (plan : Planned) (form : Form) → plan.first + plan.count ≤ 2 ^ 40 → All (λ k. k < 2 ^ 40) (accepted plan form)
 unfolding accepted_among
 accepted_below plan form h =
     limited_below plan.limit (2 ^ 40) (filter (λ k. holds form (candidate_of plan k)) (range_with_len plan.first plan.count))
     (All-filter (λ k. holds form (candidate_of plan k)) (λ k. k < 2 ^ 40) (range_with_len plan.first plan.count) (range_below plan.first plan.count (2 ^ 40) h))
 
-accepted_short : (plan : Planned) (form : Form) → plan.first + plan.count ≤ 2 ^ 40 → length (accepted plan form) ≤ 2 ^ 40
+pub accepted_short : (plan : Planned) (form : Form) → plan.first + plan.count ≤ 2 ^ 40 → length (accepted plan form) ≤ 2 ^ 40
 unfolding accepted_among
 accepted_short plan form h =
     limited_short plan.limit (2 ^ 40) (filter (λ k. holds form (candidate_of plan k)) (range_with_len plan.first plan.count))

@@ -2,7 +2,6 @@ pub mod Serving
 pub mod Reports
 pub mod Counted
 pub mod OtherWorkers
-pub mod ToldText
 pub mod Telling
 pub mod Finding
 pub mod Statuses

@@ -8,7 +8,7 @@ use Rattle.plans.specs.declared.refusal.RefusedLine.{RefusedLine}
 use Rattle.picking.specs.declared.fault.PickFault.TheVariants.{Refused}
 use Rattle.jobs.specs.Failures.{status_of}
 use Rattle.deals_cli.specs.Interruptions.{EndsFor}
-use Rattle.request_types.specs.Requests.{Wish, conditions, count, draw, make, make_with_tricks, pick, stream}
+use Rattle.request_types.specs.Requests.{Wish, conditions, count, draw, lessons, make, make_with_tricks, pick, stream}
 use Rattle.jobs.specs.declared.failure.Failure.{Failure}
 use Rattle.jobs.specs.declared.failure.Failure.TheVariants.{CommandLine, Plan, Label, Hand, Condition, Question, Cells, Interrupted, Line, Input, EndOfInput}
 use Rattle.jobs.specs.Statuses.{IsStatus, IsStatusWithInput}
@@ -27,6 +27,7 @@ no_line_ended (make s l notices) line old new other e = e
 no_line_ended (make_with_tricks s l notices) line old new other e = other tt
 no_line_ended draw line old new other e = other tt
 no_line_ended conditions line old new other e = e
+no_line_ended (lessons lesson) line old new other e = e
 no_line_ended (count s q style notices) line old new other e = e
 no_line_ended (stream seed n) line old new other e = e
 
@@ -38,6 +39,8 @@ no_end (make s l notices) other (inr due) = due
 no_end (make_with_tricks s l notices) other (inr due) = other tt
 no_end draw other (inr due) = other tt
 no_end conditions other (inr due) = cc
+no_end (lessons lesson) other (inr (inl due)) = cc
+no_end (lessons lesson) other (inr (inr due)) = cc
 no_end (count s q style notices) other (inr due) = due
 no_end (stream seed n) other (inr due) = cc
 

@@ -6,7 +6,7 @@ use Rattle.sinks.specs.Appended.{AppendsAll, append_known}
 use Rattle.jobs.specs.Makings.{plan_of}
 use Rattle.deals_cli.specs.Reported.{Counts, Reports, ReportsFor, wants_report}
 use Rattle.plans.specs.Reports.{next_line, report_line, report_of}
-use Rattle.request_types.specs.Requests.{Look, Search, Wish, conditions, count, draw, make, make_with_tricks, pick, stream}
+use Rattle.request_types.specs.Requests.{Look, Search, Wish, conditions, count, draw, lessons, make, make_with_tricks, pick, stream}
 use Rattle.request_types.specs.declared.request.Notices.{Notices}
 use Rattle.boards.specs.declared.format.Format.{Format}
 use Rattle.plans.specs.declared.report.Report.{Report}
@@ -30,6 +30,7 @@ none_made None r some none quiet = let bad : Some r ≡ None = none refl in cc
 none_made (Some (stream seed n)) r some none quiet = let bad : Some r ≡ None = some (stream seed n) refl in cc
 none_made (Some (count s q style notices)) r some none quiet = let bad : Some r ≡ None = some (count s q style notices) refl in cc
 none_made (Some conditions) r some none quiet = let bad : Some r ≡ None = some conditions refl in cc
+none_made (Some (lessons lesson)) r some none quiet = let bad : Some r ≡ None = some (lessons lesson) refl in cc
 none_made (Some draw) r some none quiet = let bad : Some r ≡ None = some draw refl in cc
 none_made (Some (make_with_tricks s l notices)) r some none quiet = let is = (some (make_with_tricks s l notices) refl).0 in let bad : true ≡ false = sym is ∙ quiet in cc
 none_made (Some (pick seed hands l hints)) r some none quiet = let bad : Some r ≡ None = some (pick seed hands l hints) refl in cc

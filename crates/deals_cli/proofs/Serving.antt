@@ -1,5 +1,5 @@
 -- From how the parts of a job end to what is promised of a wish.
-use Rattle.std.proofs.Common.{◌≡◌, ◌⊎◌, ℕ, List, Option, None, Some, Ok, Err, true, false, refl, sym, ◌∙◌, inl, inr}
+use Rattle.std.proofs.Common.{◌≡◌, ◌⊎◌, ℕ, List, Option, None, Some, Ok, Err, true, false, refl, string_bytes, sym, ◌∙◌, inl, inr}
 use Rattle.cond_lang.specs.Form.{Form}
 use Rattle.jobs.specs.Makings.{Means}
 use Rattle.dealrun.specs.Values.{lines}
@@ -9,14 +9,14 @@ use Rattle.jobs.specs.Failures.{is_untouched}
 use Rattle.deals_cli.specs.Interruptions.{EndsTold, InterruptsCount, InterruptsMake, LeavesFrom}
 use Rattle.jobs.specs.Jobs.{IsReady}
 use Rattle.deals_cli.specs.Served.{Serves}
-use Rattle.request_types.specs.Requests.{Look, Questions, Search, Wish, conditions, count, draw, make, make_with_tricks, pick, stream}
+use Rattle.request_types.specs.Requests.{Look, Questions, Search, Wish, conditions, count, draw, lessons, make, make_with_tricks, pick, stream}
 use Rattle.deals_cli.specs.Wishes.{language_page}
 use Rattle.jobs.specs.declared.failure.Failure.{Failure}
 use Rattle.jobs.specs.declared.failure.Failure.TheVariants.{CommandLine, Plan, Label, Hand, Condition, Question, Cells, Interrupted, Line, Input, EndOfInput}
 use Rattle.jobs.specs.declared.boards_job.BoardsJob.{BoardsJob}
 use Rattle.jobs.specs.declared.count_job.CountJob.{CountJob}
 use Rattle.jobs.specs.declared.job.PickJob.{PickJob}
-use Rattle.jobs.specs.declared.job.Job.TheVariants.{Boards, Conditions, Count, Pick, Seed, Stream, WithTricks}
+use Rattle.jobs.specs.declared.job.Job.TheVariants.{Boards, Conditions, Count, Lessons, Pick, Seed, Stream, WithTricks}
 use Rattle.plans.specs.declared.report.Report.{Report}
 use Rattle.request_types.specs.declared.request.StreamRequest.{StreamRequest}
 use Rattle.deals_cli.specs.internal.Ends.{EndsBoards, EndsCount, EndsDraw, EndsPicking, EndsReady}
@@ -48,6 +48,7 @@ run_text (make s l notices) job report r before after old new ready ends asked =
     }
 run_text (pick seed hands l hints) job report r before after old new ready ends asked = absurd ready
 run_text conditions job report r before after old new ready ends asked = absurd ready
+run_text (lessons lesson) job report r before after old new ready ends asked = absurd ready
 run_text (make_with_tricks s l notices) job report r before after old new ready ends asked = absurd ready
 run_text draw job report r before after old new ready ends asked = absurd ready
 run_text (count s q style notices) job report r before after old new ready ends asked = absurd ready
@@ -83,6 +84,7 @@ interrupts (make s l notices) job c before after old new ready ends =
     }
 interrupts (pick seed hands l hints) job c before after old new ready ends = absurd ready
 interrupts conditions job c before after old new ready ends = absurd ready
+interrupts (lessons lesson) job c before after old new ready ends = absurd ready
 interrupts (make_with_tricks s l notices) job c before after old new ready ends = absurd ready
 interrupts draw job c before after old new ready ends = absurd ready
 interrupts (count s q style notices) job c before after old new ready ends = absurd ready
@@ -104,6 +106,7 @@ counted T (count s q style notices) job value before after old new (planned, pla
 counted T (make s l notices) job value before after old new ready ends = absurd ready
 counted T (pick seed hands l hints) job value before after old new ready ends = absurd ready
 counted T conditions job value before after old new ready ends = absurd ready
+counted T (lessons lesson) job value before after old new ready ends = absurd ready
 counted T (make_with_tricks s l notices) job value before after old new ready ends = absurd ready
 counted T draw job value before after old new ready ends = absurd ready
 counted T (stream seed n) job value before after old new ready ends = absurd ready
@@ -132,6 +135,7 @@ count_interrupts T (count s q style notices) job c before after old new (planned
 count_interrupts T (make s l notices) job c before after old new ready ends = absurd ready
 count_interrupts T (pick seed hands l hints) job c before after old new ready ends = absurd ready
 count_interrupts T conditions job c before after old new ready ends = absurd ready
+count_interrupts T (lessons lesson) job c before after old new ready ends = absurd ready
 count_interrupts T (make_with_tricks s l notices) job c before after old new ready ends = absurd ready
 count_interrupts T draw job c before after old new ready ends = absurd ready
 count_interrupts T (stream seed n) job c before after old new ready ends = absurd ready
@@ -149,6 +153,7 @@ picked (pick seed hands l hints) job value before after old new (planned, plan_i
 }
 picked (make s l notices) job value before after old new ready ends = absurd ready
 picked conditions job value before after old new ready ends = absurd ready
+picked (lessons lesson) job value before after old new ready ends = absurd ready
 picked (make_with_tricks s l notices) job value before after old new ready ends = absurd ready
 picked draw job value before after old new ready ends = absurd ready
 picked (count s q style notices) job value before after old new ready ends = absurd ready
@@ -200,6 +205,7 @@ pick_fails T (pick seed hands l hints) job (Interrupted (Stopped worker)) before
 pick_fails T (pick seed hands l hints) job (Interrupted (Unclosed worker)) before after old new ready ends = absurd ends
 pick_fails T (make s l notices) job f before after old new ready ends = absurd ready
 pick_fails T conditions job f before after old new ready ends = absurd ready
+pick_fails T (lessons lesson) job f before after old new ready ends = absurd ready
 pick_fails T (make_with_tricks s l notices) job f before after old new ready ends = absurd ready
 pick_fails T draw job f before after old new ready ends = absurd ready
 pick_fails T (count s q style notices) job f before after old new ready ends = absurd ready
@@ -209,6 +215,7 @@ pick_fails T (stream seed n) job f before after old new ready ends = absurd read
 
 pub page_written : (w : Wish) (before after old new : Option (List ℕ)) → IsReady w Conditions → AppendsAll old new language_page → Serves w (Ok None) before after old new
 page_written conditions before after old new ready text = record { text = text; report = refl; status = served conditions 0 (inl refl) tt tt; untouched = tt; stands = tt; due = tt }
+page_written (lessons lesson) before after old new ready text = absurd ready
 page_written (make_with_tricks s l notices) before after old new ready text = absurd ready
 page_written draw before after old new ready text = absurd ready
 page_written (make s l notices) before after old new ready text = absurd ready
@@ -218,6 +225,7 @@ page_written (stream seed n) before after old new ready text = absurd ready
 
 pub page_breaks : (w : Wish) (before after old new : Option (List ℕ)) → IsReady w Conditions → AppendsPart old new language_page → Serves w (Err (Interrupted Output)) before after old new
 page_breaks conditions before after old new ready part = record { text = tt; report = tt; status = served conditions 4 (inr refl) tt tt; untouched = λ bad. absurd cc; stands = part; due = refl }
+page_breaks (lessons lesson) before after old new ready part = absurd ready
 page_breaks (make_with_tricks s l notices) before after old new ready part = absurd ready
 page_breaks draw before after old new ready part = absurd ready
 page_breaks (make s l notices) before after old new ready part = absurd ready
@@ -228,6 +236,7 @@ page_breaks (stream seed n) before after old new ready part = absurd ready
 pub values_written : (w : Wish) (r : StreamRequest) (before after old new : Option (List ℕ)) → IsReady w (Stream r) → AppendsAll old new (lines r.seed r.count) → Serves w (Ok None) before after old new
 values_written (stream seed n) r before after old new (seed_is, count_is) text = record { text = rw (seed_is, count_is) at text; report = refl; status = served (stream seed n) 0 (inl refl) tt tt; untouched = tt; stands = tt; due = tt }
 values_written conditions r before after old new ready text = absurd ready
+values_written (lessons lesson) r before after old new ready text = absurd ready
 values_written (make_with_tricks s l notices) r before after old new ready text = absurd ready
 values_written draw r before after old new ready text = absurd ready
 values_written (count s q style notices) r before after old new ready text = absurd ready
@@ -237,11 +246,34 @@ values_written (pick seed hands l hints) r before after old new ready text = abs
 pub values_break : (w : Wish) (r : StreamRequest) (before after old new : Option (List ℕ)) → IsReady w (Stream r) → AppendsPart old new (lines r.seed r.count) → Serves w (Err (Interrupted Output)) before after old new
 values_break (stream seed n) r before after old new (seed_is, count_is) part = record { text = tt; report = tt; status = served (stream seed n) 4 (inr refl) tt tt; untouched = λ bad. absurd cc; stands = rw (seed_is, count_is) at part; due = refl }
 values_break conditions r before after old new ready part = absurd ready
+values_break (lessons lesson) r before after old new ready part = absurd ready
 values_break (make_with_tricks s l notices) r before after old new ready part = absurd ready
 values_break draw r before after old new ready part = absurd ready
 values_break (count s q style notices) r before after old new ready part = absurd ready
 values_break (make s l notices) r before after old new ready part = absurd ready
 values_break (pick seed hands l hints) r before after old new ready part = absurd ready
+
+-- ---- lessons
+
+pub lessons_written : (w : Wish) (page : _) (before after old new : Option (List ℕ)) → IsReady w (Lessons page) → AppendsAll old new (string_bytes page) → Serves w (Ok None) before after old new
+lessons_written (lessons lesson) page before after old new ready text = record { text = rw ready at text; report = refl; status = served (lessons lesson) 0 (inl refl) tt tt; untouched = tt; stands = tt; due = tt }
+lessons_written conditions page before after old new ready text = absurd ready
+lessons_written (make_with_tricks s l notices) page before after old new ready text = absurd ready
+lessons_written draw page before after old new ready text = absurd ready
+lessons_written (make s l notices) page before after old new ready text = absurd ready
+lessons_written (count s q style notices) page before after old new ready text = absurd ready
+lessons_written (pick seed hands l hints) page before after old new ready text = absurd ready
+lessons_written (stream seed n) page before after old new ready text = absurd ready
+
+pub lessons_break : (w : Wish) (page : _) (before after old new : Option (List ℕ)) → IsReady w (Lessons page) → AppendsPart old new (string_bytes page) → Serves w (Err (Interrupted Output)) before after old new
+lessons_break (lessons lesson) page before after old new ready part = record { text = tt; report = tt; status = served (lessons lesson) 4 (inr refl) tt tt; untouched = λ bad. absurd cc; stands = rw ready at part; due = inl refl }
+lessons_break conditions page before after old new ready part = absurd ready
+lessons_break (make_with_tricks s l notices) page before after old new ready part = absurd ready
+lessons_break draw page before after old new ready part = absurd ready
+lessons_break (make s l notices) page before after old new ready part = absurd ready
+lessons_break (count s q style notices) page before after old new ready part = absurd ready
+lessons_break (pick seed hands l hints) page before after old new ready part = absurd ready
+lessons_break (stream seed n) page before after old new ready part = absurd ready
 
 -- ---- boards with tricks
 
@@ -262,6 +294,7 @@ tricks_text (make_with_tricks s l notices) job report r before after old new rea
 tricks_text (make s l notices) job report r before after old new ready ends asked = absurd ready
 tricks_text (pick seed hands l hints) job report r before after old new ready ends asked = absurd ready
 tricks_text conditions job report r before after old new ready ends asked = absurd ready
+tricks_text (lessons lesson) job report r before after old new ready ends asked = absurd ready
 tricks_text draw job report r before after old new ready ends asked = absurd ready
 tricks_text (count s q style notices) job report r before after old new ready ends asked = absurd ready
 tricks_text (stream seed n) job report r before after old new ready ends asked = absurd ready
@@ -275,10 +308,10 @@ pub tricks_unreported : (w : Wish) (job : BoardsJob) (report : Report) (before a
 tricks_unreported w job report before after old new ready ends asked = tricks_text w job report None before after old new ready ends (inr (asked, refl))
 
 -- how it breaks off
-tricks_broken : (s : Search) (l : Look) (form : Form) (c : Cause) (before after old new : Option (List ℕ)) → Means s.where_text form
+tricks_broken : (s : Search) (l : Look) (form : Form) (c : Cause) (before after old new : Option (List ℕ)) → Means s form
     → (BreaksTold s l form c before after old new × (c ≡ Spawn → new ≡ old))
     ⊎ ((c ≡ Output) × (((line : RefusedLine) × StopsAtLine s l form line before after old new) ⊎ FailsTold s l form before after old new))
-    → ((form : Form) × Means s.where_text form × BreaksTold s l form c before after old new) ⊎ ((fault : PickFault) × EndsTold s l fault before after old new)
+    → ((form : Form) × Means s form × BreaksTold s l form c before after old new) ⊎ ((fault : PickFault) × EndsTold s l fault before after old new)
 tricks_broken s l form c before after old new means (inl run) = inl (form, means, run.0)
 tricks_broken s l form c before after old new means (inr (is, inl (line, stops))) = inr (Refused line, (form, means, stops))
 tricks_broken s l form c before after old new means (inr (is, inr fails)) = inr (PickInput, (form, means, fails))
@@ -351,6 +384,7 @@ tricks_fail (make_with_tricks s l notices) job (Cells name) before after old new
 tricks_fail (make s l notices) job f before after old new ready ends = absurd ready
 tricks_fail (pick seed hands l hints) job f before after old new ready ends = absurd ready
 tricks_fail conditions job f before after old new ready ends = absurd ready
+tricks_fail (lessons lesson) job f before after old new ready ends = absurd ready
 tricks_fail draw job f before after old new ready ends = absurd ready
 tricks_fail (count s q style notices) job f before after old new ready ends = absurd ready
 tricks_fail (stream seed n) job f before after old new ready ends = absurd ready
@@ -363,6 +397,7 @@ drawn (make s l notices) value before after old new ready ends = absurd ready
 drawn (make_with_tricks s l notices) value before after old new ready ends = absurd ready
 drawn (pick seed hands l hints) value before after old new ready ends = absurd ready
 drawn conditions value before after old new ready ends = absurd ready
+drawn (lessons lesson) value before after old new ready ends = absurd ready
 drawn (count s q style notices) value before after old new ready ends = absurd ready
 drawn (stream seed n) value before after old new ready ends = absurd ready
 
@@ -386,5 +421,6 @@ draw_fails T (make s l notices) f before after old new ready ends = absurd ready
 draw_fails T (make_with_tricks s l notices) f before after old new ready ends = absurd ready
 draw_fails T (pick seed hands l hints) f before after old new ready ends = absurd ready
 draw_fails T conditions f before after old new ready ends = absurd ready
+draw_fails T (lessons lesson) f before after old new ready ends = absurd ready
 draw_fails T (count s q style notices) f before after old new ready ends = absurd ready
 draw_fails T (stream seed n) f before after old new ready ends = absurd ready

@@ -13,7 +13,9 @@ use Rattle.jobs.specs.Counting.{IsAsked}
 use Rattle.deals_cli.specs.Formats.{layout_in}
 use Rattle.jobs.specs.Makings.{AreWorkers, Means, plan_of}
 use Rattle.request_types.specs.Requests.{Look, Questions, Search, Wish, conditions, count, draw, make}
-use Rattle.request_types.specs.Requests.{make_with_tricks, no_search, numbers_look, pick, stream}
+use Rattle.lessons.specs.Lessons.{lessons_text}
+use Rattle.request_types.specs.Requests.{lessons, make_with_tricks, no_search, numbers_look}
+use Rattle.request_types.specs.Requests.{pick, stream}
 pub use Rattle.deals_cli.specs.Runs.{InterruptsRun}
 use Rattle.deals_cli.specs.WithTricks.{BreaksTold, FailsTold, StopsAtLine}
 use Rattle.deals_cli.specs.Wishes.{IsDrawn, language_page, seed_text}
@@ -26,7 +28,7 @@ use Rattle.boards.specs.declared.style.Style.{Style}
 pub record InterruptsMake (s : Search) (l : Look) (cause : Cause) (old new : Option (List ℕ))
     : Type 0 where
   pub form : Form
-  pub means : Means s.where_text form
+  pub means : Means s form
   pub workers : ℕ
   pub are_workers : AreWorkers s.workers workers
   pub run : InterruptsRun (layout_in s l) (record (plan_of s l) { workers = workers }) form cause
@@ -37,7 +39,7 @@ pub record InterruptsMake (s : Search) (l : Look) (cause : Cause) (old new : Opt
 pub record InterruptsCount (s : Search) (questions : Questions) (style : Style) (cause : Cause)
     (old new : Option (List ℕ)) : Type 0 where
   pub form : Form
-  pub means : Means s.where_text form
+  pub means : Means s form
   pub subject : Subject
   pub asked : IsAsked questions subject
   pub workers : ℕ
@@ -53,9 +55,9 @@ EndsPick s l fault before after old new =
 -- a `make` with tricks was ended by this fault of its input
 abbrev pub EndsTold : Search → Look → PickFault → (before after old new : Option (List ℕ)) → Type 0
 EndsTold s l (picks.Refused line) before after old new =
-    (form : Form) × Means s.where_text form × StopsAtLine s l form line before after old new
+    (form : Form) × Means s form × StopsAtLine s l form line before after old new
 EndsTold s l picks.Input before after old new =
-    (form : Form) × Means s.where_text form × FailsTold s l form before after old new
+    (form : Form) × Means s form × FailsTold s l form before after old new
 EndsTold s l picks.Output before after old new = ⊥
 
 -- a wish was broken off for this cause: of a text that needs no run a proper prefix is written. The
@@ -64,9 +66,10 @@ EndsTold s l picks.Output before after old new = ⊥
 abbrev pub BreaksOff : Wish → Cause → (before after old new : Option (List ℕ)) → Type 0
 BreaksOff (stream seed n) cause before after old new = AppendsPart old new (lines seed n)
 BreaksOff conditions cause before after old new = AppendsPart old new language_page
+BreaksOff (lessons l) cause before after old new = AppendsPart old new (lessons_text l)
 BreaksOff (make s l notices) cause before after old new = InterruptsMake s l cause old new
 BreaksOff (make_with_tricks s l notices) cause before after old new =
-    ((form : Form) × Means s.where_text form × BreaksTold s l form cause before after old new)
+    ((form : Form) × Means s form × BreaksTold s l form cause before after old new)
     ⊎ ((fault : PickFault) × EndsTold s l fault before after old new)
 BreaksOff draw cause before after old new =
     (new ≡ old)

@@ -11,7 +11,7 @@ use Rattle.jobs.specs.declared.failure.Failure.{Failure}
 use Rattle.sinks.specs.Appended.{AppendsAll}
 use Rattle.boards.specs.declared.format.Format.{Format}
 use Rattle.request_types.specs.Requests.{Look, Search, Wish, conditions, count, draw, make}
-use Rattle.request_types.specs.Requests.{make_with_tricks, pick, stream}
+use Rattle.request_types.specs.Requests.{lessons, make_with_tricks, pick, stream}
 use Rattle.request_types.specs.declared.request.Notices.{Notices}
 use Rattle.plans.specs.declared.report.Report.{Report}
 
@@ -29,11 +29,12 @@ abbrev pub ReportsOf : Search → Look → Notices → Option Report → Type 0
 ReportsOf s l notices None = notices.report ≡ false
 ReportsOf s l notices (Some report) =
     (notices.report ≡ true)
-    × ((form : Form) × Means s.where_text form × Counts l.format (plan_of s l) form report)
+    × ((form : Form) × Means s form × Counts l.format (plan_of s l) form report)
 
 abbrev pub ReportsFor : Wish → Option Report → Type 0
 ReportsFor (stream seed n) report = report ≡ None
 ReportsFor conditions report = report ≡ None
+ReportsFor (lessons l) report = report ≡ None
 ReportsFor (make s l notices) report = ReportsOf s l notices report
 ReportsFor (make_with_tricks s l notices) report = ReportsOf s l notices report
 ReportsFor draw report = report ≡ None
@@ -48,7 +49,7 @@ wants_report _ = false
 -- the report of a run was appended
 abbrev pub Reports : Search → Look → Option (List ℕ) → Option (List ℕ) → Type 0
 Reports s l old new =
-    (form : Form) × Means s.where_text form
+    (form : Form) × Means s form
     × AppendsAll old new (report_of l.format (plan_of s l) form)
 
 -- what is said of how it ended, if the error output took all: a report, if there is one, or a

@@ -14,7 +14,8 @@ use Rattle.jobs.specs.Counting.{IsAsked, table_by}
 use Rattle.deals_cli.specs.Formats.{layout_in, text_showing}
 use Rattle.jobs.specs.Makings.{IsPlanned, Means, plan_of}
 use Rattle.request_types.specs.Requests.{Wish, conditions, count, draw, make, make_with_tricks}
-use Rattle.request_types.specs.Requests.{no_search, numbers_look, pick, stream}
+use Rattle.lessons.specs.Lessons.{lessons_text}
+use Rattle.request_types.specs.Requests.{lessons, no_search, numbers_look, pick, stream}
 use Rattle.deals_cli.specs.WithTricks.{WritesTold}
 use Rattle.statistics.specs.Counting.{Subject}
 
@@ -36,15 +37,16 @@ seed_text bytes = decimal (from_le_bytes w32 bytes) ++ (10 ∷ [])
 abbrev pub AppendsFrom : Wish → (before after old new : Option (List ℕ)) → Type 0
 AppendsFrom (stream seed n) before after old new = AppendsAll old new (lines seed n)
 AppendsFrom conditions before after old new = AppendsAll old new language_page
+AppendsFrom (lessons l) before after old new = AppendsAll old new (lessons_text l)
 AppendsFrom (make s l notices) before after old new =
-    (form : Form) × Means s.where_text form
+    (form : Form) × Means s form
     × AppendsAll old new (text_showing l.format l.show (plan_of s l) form)
 AppendsFrom (make_with_tricks s l notices) before after old new =
-    (form : Form) × Means s.where_text form × WritesTold s l form before after old new
+    (form : Form) × Means s form × WritesTold s l form before after old new
 AppendsFrom draw before after old new =
     (bytes : List ℕ) × IsDrawn bytes before after × AppendsAll old new (seed_text bytes)
 AppendsFrom (count s questions style notices) before after old new =
-    (form : Form) × Means s.where_text form
+    (form : Form) × Means s form
     × ((subject : Subject) × IsAsked questions subject
     × AppendsAll old new (table_by style subject (plan_of s numbers_look) form))
 AppendsFrom (pick seed hands l hints) before after old new =

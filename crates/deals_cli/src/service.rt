@@ -194,6 +194,10 @@ pub fn serve<R: Threads + Wait + Clone + Send + 'static, I: Source, O: Sink>(
             Ok(()) => Ok(None),
             Err(_) => Err(Failure::Interrupted(Cause::Output)),
         },
+        Job::Lessons(text) => match put_all(out, text.as_bytes()) {
+            Ok(()) => Ok(None),
+            Err(_) => Err(Failure::Interrupted(Cause::Output)),
+        },
         Job::Seed => match draw(input, out) {
             Ok(()) => Ok(None),
             Err(failure) => Err(failure),

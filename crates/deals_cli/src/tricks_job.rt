@@ -1,136 +1,68 @@
-//! The job of a `make` with tricks: the lines that tell of them are read first, at most as many as
-//! there can be boards; then the boards that have a line are written, and nothing of the next.
+//! The job of a `make` with tricks: the candidates are found first, and then their boards are
+//! written, each as soon as its line of tricks was read.
 
-ghost use Rattle.std.specs.Prelude.{◌≡◌, ◌-◌, ◌+◌, ◌^◌, ◌<◌, Err, IfErr, Ok, vec_len};
+ghost use Rattle.std.specs.Prelude.{◌≡◌, ◌-◌, ◌+◌, ◌^◌, ◌<◌, IfErr};
 ghost use Rattle.jobs.specs.Failures.{CountsInput, faults_in, status_of};
-ghost use Rattle.deals_cli.specs.WithTricks.{line_fault, most_lines, plan_told};
-ghost use Rattle.deals_cli.specs.internal.Ends.{EndsReady, EndsTold, FaultsOfRun, by_cause};
-ghost use Rattle.deals_cli.specs.internal.Ends.{told_of};
+ghost use Rattle.request_types.specs.Defaults.{workers_in};
+ghost use Rattle.deals_cli.specs.internal.Ends.{EndsFinding, EndsReady, finding_cause};
 
 use crate::workers::worked;
-use crate::written::write_plan;
-use boards::Tricks;
+use crate::written::{Written, write_plan};
+use boards::Format;
+use cond_lang::Cond;
 use jobs::{BoardsJob, Failure};
 use notations::AnyPrinter;
-use picking::{LineFault, LinesEnd, RefusedLine, Source, TricksRead, read_tricks};
+use picking::{PickFault, Source};
 use plans::{Cause, Plan, Report};
-use sinks::Sink;
+use request_types::Workers;
+use sinks::{MemSink, Sink};
 use std::alloc::Global;
 use std::sync::Wait;
 use std::thread::Threads;
+use told::{numbers_of, tell};
 
-/// The most lines that are read: the number of one more fits 32 bits.
-const MOST_LINES: u64 = (u32::MAX - 1) as u64;
-
-/// Returns how many lines are read at most: as many as there can be boards.
-fn most_lines(plan: &Plan) -> u64
-    ensures value { result ≡ most_lines plan.now }
-    ensures max { result < 2 ^ 32 - 1 }
-{
-    let limit = match plan.limit() {
-        Some(limit) => u64::from(limit),
-        None => plan.count(),
-    };
-    plan.count().min(limit).min(MOST_LINES)
+/// The numbers of the accepted candidates, and how many candidates that took.
+#[derive(Drop)]
+pub(crate) struct FoundNumbers {
+    pub(crate) numbers: Vec<u64>,
+    pub(crate) written: Written,
 }
 
-/// Returns the plan that ends at the first board without a line, where this many lines were read.
-fn plan_told(plan: &Plan, lines: u32) -> Plan
-    requires { lines < 2 ^ 32 - 1 }
-    ensures { result ≡ plan_told plan.now lines }
+/// Why finding was interrupted, if this interrupted the run that writes the numbers to memory.
+fn finding_cause(cause: Cause) -> Cause
+    ensures { result ≡ finding_cause cause }
 {
-    let limit = plan.limit().unwrap_or(lines + 1);
-    match plan.limited((lines + 1).min(limit)) {
-        Ok(plan) => plan,
-        Err(_) => unreachable!(),
+    match cause {
+        Cause::Output => Cause::Memory,
+        cause => cause,
     }
 }
 
-/// Returns why the line is refused that comes next.
-fn line_fault(end: LinesEnd) -> LineFault
-    ensures { result ≡ line_fault end }
-{
-    match end {
-        LinesEnd::Enough => LineFault::TooMany,
-        LinesEnd::Refused => LineFault::NotTricks,
-        LinesEnd::Missing | LinesEnd::Failed => LineFault::Missing,
-    }
-}
-
-/// Writes the boards that have a line of the table, and counts them and one more, if it came.
-fn write_told<R: Threads + Wait + Clone + Send + 'static, O: Sink>(
+/// Finds the accepted candidates of the plan.
+fn find<R: Threads + Wait + Clone + Send + 'static>(
     rt: &R,
     alloc: Global,
-    job: BoardsJob,
-    table: Vec<Tricks>,
-    out: &mut O,
-) -> Result<Report, Cause>
-    requires out { O.faults out.old < 2 ^ 64 - 1 }
-    requires few { vec_len table < 2 ^ 32 - 1 }
-    ensures ends { EndsTold job table.items result (O.bytes out.old) (O.bytes out.new) }
-    ensures faults { FaultsOfRun result (O.faults out.old) (O.faults out.new) }
+    plan: &Plan,
+    condition: Cond,
+    workers: Workers,
+) -> Result<FoundNumbers, Cause>
+    requires { plan.now.workers ≡ workers_in workers }
+    ensures { EndsFinding plan.now workers condition result }
 {
-    let BoardsJob {
-        plan,
-        condition,
-        format,
-        show,
-        workers,
-        ..
-    } = job;
-    let run = worked(rt, &plan_told(&plan, table.len() as u32), workers);
-    let first = plan.first_board();
-    let Ok(mut printer) = AnyPrinter::with_tricks(alloc, format, show, plan.heading(), first, table)
-    else {
+    let run = worked(rt, plan, workers);
+    // The plan tells that its candidates are below 2^40.
+    let _first = plan.first();
+    let Ok(mut printer) = AnyPrinter::new(alloc, Format::Numbers, plan.heading()) else {
         return Err(Cause::Memory);
     };
-    let written = write_plan(rt, alloc, &run, condition, &mut printer, out)?;
-    Ok(Report {
-        plan,
-        format,
-        candidates: written.candidates,
-        boards: written.boards,
-    })
-}
-
-/// Returns what is told of a run that was interrupted: that the input failed, if it did, unless
-/// the output failed after it.
-fn of_cause(cause: Cause, end: LinesEnd) -> Failure
-    ensures { Err result ≡ by_cause cause end }
-{
-    match (cause, end) {
-        (Cause::Output, _) => Failure::Interrupted(Cause::Output),
-        (_, LinesEnd::Failed) => Failure::Input,
-        (cause, _) => Failure::Interrupted(cause),
-    }
-}
-
-/// Returns what is told of a run that came to its end: that the input failed, or that a board had
-/// no line, if so.
-fn of_report(report: Report, end: LinesEnd, lines: u64) -> Result<Report, Failure>
-    requires { lines < 2 ^ 32 }
-    ensures { result ≡ told_of (Ok report) end lines }
-{
-    if matches!(end, LinesEnd::Failed) {
-        return Err(Failure::Input);
-    }
-    if report.boards > lines {
-        return Err(Failure::Line(RefusedLine {
-            line: lines + 1,
-            fault: line_fault(end),
-        }));
-    }
-    Ok(report)
-}
-
-/// Returns how it is told, by how the run ended and why no more lines were read.
-fn told_of(ended: Result<Report, Cause>, end: LinesEnd, lines: u64) -> Result<Report, Failure>
-    requires { lines < 2 ^ 32 }
-    ensures { result ≡ told_of ended end lines }
-{
-    match ended {
-        Ok(report) => of_report(report, end, lines),
-        Err(cause) => Err(of_cause(cause, end)),
+    let mut sink = MemSink::new(alloc);
+    let written = match write_plan(rt, alloc, &run, condition, &mut printer, &mut sink) {
+        Ok(written) => written,
+        Err(cause) => return Err(finding_cause(cause)),
+    };
+    match numbers_of(alloc, sink.bytes()) {
+        Ok(numbers) => Ok(FoundNumbers { numbers, written }),
+        Err(_) => Err(Cause::Memory),
     }
 }
 
@@ -153,13 +85,37 @@ pub(crate) fn write_with_tricks<R: Threads + Wait + Clone + Send + 'static, I: S
     ensures input { CountsInput result (I.faults input.old) (I.faults input.new) }
     ensures flushed { IfErr result (λ e. status_of e ≡ 7 → O.is_flushed out.new) }
 {
-    let TricksRead { table, end } = read_tricks(alloc, input, most_lines(&job.plan))?;
-    let lines = table.len() as u64;
-    match told_of(write_told(rt, alloc, job, table, out), end, lines) {
-        Err(failure) if failure.status() == 7 => {
+    let BoardsJob {
+        plan,
+        condition,
+        format,
+        show,
+        workers,
+        ..
+    } = job;
+    let found = match find(rt, alloc, &plan, condition, workers) {
+        Ok(found) => found,
+        Err(cause) => return Err(Failure::Interrupted(cause)),
+    };
+    let none = Vec::new(alloc);
+    let mut printer = AnyPrinter::with_tricks(alloc, format, show, plan.heading(), 1, none)?;
+    let told = tell(&plan, found.numbers.as_slice(), &mut printer, input, out);
+    drop(printer);
+    match told {
+        Ok(()) => Ok(Report {
+            plan,
+            format,
+            candidates: found.written.candidates,
+            boards: found.written.boards,
+        }),
+        Err(PickFault::Output) => Err(Failure::Interrupted(Cause::Output)),
+        Err(PickFault::Refused(line)) => {
             out.flush()?;
-            Err(failure)
+            Err(Failure::Line(line))
         }
-        told => told,
+        Err(PickFault::Input) => {
+            out.flush()?;
+            Err(Failure::Input)
+        }
     }
 }

@@ -4,7 +4,7 @@ use crate::filling::first_in;
 use crate::kinds::Kinds;
 use crate::parts::Parts;
 use crate::tables::{
-    calls, classes, compared, factors, honours, instead, joins, letters, limits, lists,
+    calls, classes, compared, factors, honours, instead, joins, lessons, letters, limits, lists,
     more_or_less, names, nouns, or_more, phrases, plain, ranges, ranks, rest, scripts, several,
     shapes, short, sides, signs, suits, texts, whole,
 };
@@ -25,6 +25,7 @@ enum Source {
     Honours,
     Instead,
     Joins,
+    Lessons,
     Letters,
     Limits,
     Lists,
@@ -68,7 +69,8 @@ static EITHER: [Source; 13] = [
 ];
 
 /// What is asked of a piece after `EITHER`.
-static PIECE: [Source; 14] = [
+static PIECE: [Source; 15] = [
+    Source::Lessons,
     Source::OrMore,
     Source::Limits,
     Source::Compared,
@@ -157,6 +159,7 @@ fn rules_of(source: Source) -> &'static str {
         Source::Honours => honours::RULES,
         Source::Instead => instead::RULES,
         Source::Joins => joins::RULES,
+        Source::Lessons => lessons::RULES,
         Source::Letters => letters::RULES,
         Source::Limits => limits::RULES,
         Source::Lists => lists::RULES,

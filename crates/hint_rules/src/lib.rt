@@ -21,9 +21,11 @@ mod outside;
 mod parts;
 mod rule;
 mod samples;
+mod slips;
 mod tables;
 mod words;
 
 pub use filling::suggested;
 pub use hint::{Said, of_piece, of_syntax};
 pub use kinds::Kinds;
+pub use slips::slip;

@@ -8,6 +8,7 @@ pub(crate) mod factors;
 pub(crate) mod honours;
 pub(crate) mod instead;
 pub(crate) mod joins;
+pub(crate) mod lessons;
 pub(crate) mod letters;
 pub(crate) mod limits;
 pub(crate) mod lists;

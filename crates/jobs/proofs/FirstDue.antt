@@ -12,10 +12,10 @@ use Rattle.plans.specs.Refusals.{refusal_of}
 use Rattle.plans.specs.declared.plan.PlanError.{PlanError}
 use Rattle.plans.specs.declared.plan.PlanError.TheVariants.{Range, Workers, Capacity, Boards, FirstBoard}
 use Rattle.jobs.specs.Failures.{failure_of, is_refusal, status_of}
-use Rattle.jobs.specs.FirstRefusal.{AreRefused, HasCondition, IsConditionDue, IsCountDue, IsDueFor, IsFirstHand, IsFirstOf, IsMakeDue, IsPickDue, IsPlanDue, IsTricksDue, Meets, of_labels, of_numbers}
+use Rattle.jobs.specs.FirstRefusal.{AreRefused, HasCondition, IsCountDue, IsDueFor, IsFirstHand, IsFirstOf, IsMakeDue, IsPickDue, IsPlanDue, IsTextDue, IsTricksDue, Meets, of_labels, of_numbers}
 use Rattle.request_types.specs.Defaults.{candidates_of, workers_in}
 use Rattle.jobs.specs.Makings.{HasLabels, HasNumbers, IsPlanned, Means}
-use Rattle.request_types.specs.Requests.{Look, Questions, Search, Wish, conditions, count, draw, make, make_with_tricks, no_search, numbers_look, pick, stream}
+use Rattle.request_types.specs.Requests.{Look, Questions, Search, Wish, conditions, count, draw, lessons, make, make_with_tricks, no_search, numbers_look, pick, stream}
 use Rattle.jobs.specs.Jobs.{IsRefused}
 use Rattle.jobs.specs.Statuses.{HasMeaning, HasPlan, IsStatusOf}
 use Rattle.jobs.proofs.Statuses.{no_memory as out_of_memory, refused_meaning, refused_plan}
@@ -27,7 +27,7 @@ use Rattle.jobs.specs.declared.failure.Failure.TheVariants.{CommandLine, Plan, L
 use Rattle.request_types.specs.declared.names.LabelName.TheVariants.{Event, Site, Date}
 use Rattle.request_types.specs.declared.names.QuestionName.TheVariants.{Of, By}
 use Rattle.jobs.specs.Counting.{IsAsked}
-use Rattle.jobs.specs.internal.Conditions.{IsConditionFailure}
+use Rattle.jobs.specs.internal.Conditions.{IsConditionFailure, IsTextFailure}
 use Rattle.jobs.specs.internal.QuestionFailures.{AreFailure}
 use Rattle.statistics.specs.Counting.{Subject}
 use Rattle.boards.specs.declared.style.Style.{Style}
@@ -118,16 +118,16 @@ pub ruleset plans = (numbers_due, labels_due, hands_due)
 -- ---- the condition
 
 pub unread : (o : Option (Bor (List ℕ))) (text : Bor (List ℕ)) (bytes : List ℕ) (e : CondError) → o ≡ Some text → bytes ≡ text.now
-    → IsDue bytes e → IsConditionFailure (option_map (λ s. s.now) o) (failure_of e)
+    → IsDue bytes e → IsTextFailure (option_map (λ s. s.now) o) (failure_of e)
 unread o text bytes e given same due = by_error e due
   where
     is_given : option_map (λ s. s.now) o ≡ Some bytes
     is_given = ap (option_map (λ s. s.now)) given ∙ ap (λ (t : List ℕ). Some t) (sym same)
 
-    because : (e : CondError) → IsDue bytes e → e ≢ no_memory → IsConditionDue (option_map (λ s. s.now) o) e
+    because : (e : CondError) → IsDue bytes e → e ≢ no_memory → IsTextDue (option_map (λ s. s.now) o) e
     because e due refused = record { text = bytes; is_given = is_given; due = due; refused = refused }
 
-    by_error : (e : CondError) → IsDue bytes e → IsConditionFailure (option_map (λ s. s.now) o) (failure_of e)
+    by_error : (e : CondError) → IsDue bytes e → IsTextFailure (option_map (λ s. s.now) o) (failure_of e)
     by_error TooLong due = inr (TooLong, refl, because TooLong due (λ bad. cc))
     by_error (Byte at) due = inr (Byte at, refl, because (Byte at) due (λ bad. cc))
     by_error (Word at) due = inr (Word at, refl, because (Word at) due (λ bad. cc))
@@ -135,13 +135,13 @@ unread o text bytes e given same due = by_error e due
     by_error (Syntax at) due = inr (Syntax at, refl, because (Syntax at) due (λ bad. cc))
     by_error no_memory due = inl refl
 
-pub condition_due : (s : Search) (l : Look) (f : Failure) → IsPlanned s l → IsConditionFailure s.where_text f → IsMakeDue s l f
+pub condition_due : (s : Search) (l : Look) (f : Failure) → IsPlanned s l → IsConditionFailure s f → IsMakeDue s l f
 condition_due s l f plan (inl memory) = rw memory plan
 condition_due s l f plan (inr (error, is, due)) = rw is (plan, due)
 
 -- ---- the run
 
-pub run_due : (s : Search) (l : Look) (c : Cause) → IsPlanned s l → (form : Form) → Means s.where_text form → IsMakeDue s l (Interrupted c)
+pub run_due : (s : Search) (l : Look) (c : Cause) → IsPlanned s l → (form : Form) → Means s form → IsMakeDue s l (Interrupted c)
 run_due s l cause.Memory plan form means = plan
 run_due s l cause.Output plan form means = (plan, (form, means))
 run_due s l cause.Spawn plan form means = (plan, (form, means))
@@ -152,6 +152,7 @@ run_due s l (cause.Unclosed worker) plan form means = (plan, (form, means))
 pub output_due : (w : Wish) → IsStatusOf w 0 → IsDueFor w (Interrupted cause.Output)
 output_due (stream seed n) status = refl
 output_due conditions status = refl
+output_due (lessons l) status = inl refl
 output_due (make s l notices) status = status.accepted (inl refl)
 output_due (make_with_tricks s l notices) status = status.accepted (inl refl)
 output_due draw status = tt
@@ -217,7 +218,7 @@ count_plan_due s q Input h = absurd h
 count_plan_due s q EndOfInput h = absurd h
 
 -- a condition or a question that is refused is due for a `count`
-count_condition_due : (s : Search) (q : Questions) (f : Failure) → IsPlanned s numbers_look → IsConditionFailure s.where_text f → IsCountDue s q f
+count_condition_due : (s : Search) (q : Questions) (f : Failure) → IsPlanned s numbers_look → IsConditionFailure s f → IsCountDue s q f
 count_condition_due s q f plan (inl memory) = rw memory plan
 count_condition_due s q f plan (inr (error, is, due)) = rw is (plan, due)
 
@@ -303,18 +304,18 @@ refused_later w f (inr is) plan memory =
     refused_meaning w (status_of f) is plan (λ meaning. let five : status_of f ≡ 5 = memory meaning in omega (arith, is, five))
 
 pub count_condition_refused : (s : Search) (q : Questions) (style : Style) (notices : Notices) (f : Failure) → IsPlanned s numbers_look → (status_of f ≡ 5) ⊎ (status_of f ≡ 3)
-    → ((form : Form) → Means s.where_text form → status_of f ≡ 5) → IsConditionFailure s.where_text f → IsRefused (count s q style notices) f
+    → ((form : Form) → Means s form → status_of f ≡ 5) → IsConditionFailure s f → IsRefused (count s q style notices) f
 count_condition_refused s q style notices f plan status memory due = record {
   due = count_condition_due s q f plan due;
   status = refused_later (count s q style notices) f status plan (λ meaning. memory meaning.0.0 meaning.0.1);
   nothing_done = by_failure due;
 }
   where
-    by_failure : IsConditionFailure s.where_text f → is_refusal f ≡ true
+    by_failure : IsConditionFailure s f → is_refusal f ≡ true
     by_failure (inl memory) = rw memory refl
     by_failure (inr (error, is, due)) = rw is refl
 
-pub questions_refused : (s : Search) (q : Questions) (style : Style) (notices : Notices) (f : Failure) → IsPlanned s numbers_look → (form : Form) → Means s.where_text form
+pub questions_refused : (s : Search) (q : Questions) (style : Style) (notices : Notices) (f : Failure) → IsPlanned s numbers_look → (form : Form) → Means s form
     → (status_of f ≡ 5) ⊎ (status_of f ≡ 3) → ((subject : Subject) → IsAsked q subject → status_of f ≡ 5) → AreFailure q f → IsRefused (count s q style notices) f
 questions_refused s q style notices f plan form means status memory due = record {
   due = by_failure due;
@@ -330,22 +331,22 @@ questions_refused s q style notices f plan form means status memory due = record
     refusal (inl memory) = rw memory refl
     refusal (inr refused) = questions_refusal q f refused
 
-pub meaning_refused : (s : Search) (l : Look) (notices : Notices) (f : Failure) → IsPlanned s l → (status_of f ≡ 5) ⊎ (status_of f ≡ 3) → ((form : Form) → Means s.where_text form → status_of f ≡ 5)
-    → IsConditionFailure s.where_text f → IsRefused (make s l notices) f
+pub meaning_refused : (s : Search) (l : Look) (notices : Notices) (f : Failure) → IsPlanned s l → (status_of f ≡ 5) ⊎ (status_of f ≡ 3) → ((form : Form) → Means s form → status_of f ≡ 5)
+    → IsConditionFailure s f → IsRefused (make s l notices) f
 meaning_refused s l notices f plan status memory due = record {
   due = condition_due s l f plan due;
   status = by_status status;
   nothing_done = by_failure due;
 }
   where
-    no_meaning : status_of f ≡ 3 → ((form : Form) × Means s.where_text form) → ⊥
+    no_meaning : status_of f ≡ 3 → ((form : Form) × Means s form) → ⊥
     no_meaning is means = let five : status_of f ≡ 5 = memory means.0 means.1 in omega (arith, is, five)
 
     by_status : (status_of f ≡ 5) ⊎ (status_of f ≡ 3) → IsStatusOf (make s l notices) (status_of f)
     by_status (inl is) = out_of_memory (make s l notices) (status_of f) is
     by_status (inr is) = refused_meaning (make s l notices) (status_of f) is plan (no_meaning is)
 
-    by_failure : IsConditionFailure s.where_text f → is_refusal f ≡ true
+    by_failure : IsConditionFailure s f → is_refusal f ≡ true
     by_failure (inl memory) = rw memory refl
     by_failure (inr (error, is, due)) = rw is refl
 

@@ -2,3 +2,4 @@ pub mod Statuses
 pub mod FirstDue
 pub mod Refusals
 pub mod Asking
+pub mod Joined

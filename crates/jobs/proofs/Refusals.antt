@@ -6,7 +6,7 @@ use Rattle.cond_lang.specs.Text.{SpellsTree}
 use Rattle.conditions.specs.declared.error.CondError.{CondError}
 use Rattle.conditions.specs.declared.error.CondError.TheVariants.{TooLong, Byte, Word, Number, Syntax, Memory}
 use Rattle.jobs.specs.Failures.{failure_of, status_of}
-use Rattle.jobs.specs.Makings.{Means}
+use Rattle.jobs.specs.Makings.{TextMeans}
 use Rattle.jobs.specs.Statuses.{IsStatusWithInput}
 use Rattle.jobs.specs.declared.failure.Failure.{Failure}
 use Rattle.plans.specs.declared.cause.Cause.TheVariants as cause
@@ -22,10 +22,10 @@ refused_status Memory = inl refl
 
 -- a text that means something is refused only where memory ran out
 pub meant_status : (o : Option (Bor (List ℕ))) (text : Bor (List ℕ)) (bytes : List ℕ) (e : CondError) → o ≡ Some text → bytes ≡ text.now
-    → ((t : Form) → length bytes ≤ 1024 → SpellsTree bytes t → e ≡ Memory) → (f : Form) → Means (option_map (λ s. s.now) o) f → status_of (failure_of e) ≡ 5
+    → ((t : Form) → length bytes ≤ 1024 → SpellsTree bytes t → e ≡ Memory) → (f : Form) → TextMeans (option_map (λ s. s.now) o) f → status_of (failure_of e) ≡ 5
 meant_status o text bytes e given same memory f means =
-    let here : Means (Some text.now) f = subst (λ (x : Option (Bor (List ℕ))). Means (option_map (λ s. s.now) x) f) given means in
-    let at : Means (Some bytes) f = subst (λ (b : List ℕ). Means (Some b) f) (sym same) here in
+    let here : TextMeans (Some text.now) f = subst (λ (x : Option (Bor (List ℕ))). TextMeans (option_map (λ s. s.now) x) f) given means in
+    let at : TextMeans (Some bytes) f = subst (λ (b : List ℕ). TextMeans (Some b) f) (sym same) here in
     ap (λ x. status_of (failure_of x)) (memory f at.0 at.1)
 
 -- a failure's status is one of the program's

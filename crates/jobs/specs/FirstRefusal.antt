@@ -13,9 +13,10 @@ use Rattle.plans.specs.declared.plan.PlanError.TheVariants.{FirstBoard}
 use Rattle.jobs.specs.Counting.{Asks, IsAsked, IsQuestion}
 use Rattle.jobs.specs.Makings.{CanDate, CanLabel, HasLabels, HasNumbers}
 use Rattle.request_types.specs.Defaults.{candidates_of, first_board_of}
-use Rattle.jobs.specs.Makings.{IsPlanned, Means}
+use Rattle.jobs.specs.Makings.{IsPlanned, Means, TextMeans}
 use Rattle.request_types.specs.Defaults.{lane_of, workers_in}
 use Rattle.request_types.specs.Requests.{Look, Questions, Search, Wish, conditions, count, draw}
+use Rattle.request_types.specs.Requests.{lessons}
 use Rattle.request_types.specs.Requests.{make, make_with_tricks, no_question, no_search, numbers_look, one_question}
 use Rattle.request_types.specs.Requests.{pick, stream, two_questions}
 use Rattle.jobs.specs.declared.failure.Failure.{Failure}
@@ -54,12 +55,18 @@ IsFirstOf (refusal ∷ rest) s l failure =
     ((failure ≡ refusal) × (Meets s l refusal → ⊥))
     ⊎ (Meets s l refusal × IsFirstOf rest s l failure)
 
--- the condition is refused so, and not since memory ran out
-pub record IsConditionDue (given : Option (List ℕ)) (error : CondError) : Type 0 where
+-- a text is refused so, and not since memory ran out
+pub record IsTextDue (given : Option (List ℕ)) (error : CondError) : Type 0 where
   pub text : List ℕ
   pub is_given : given ≡ Some text
   pub due : IsDue text error
   pub refused : error ≢ no_memory
+
+-- the condition is refused so: the text of the lesson, or else that of the condition
+abbrev pub IsConditionDue : Search → CondError → Type 0
+IsConditionDue s error =
+    IsTextDue s.lesson error
+    ⊎ (((form : Form) × TextMeans s.lesson form) × IsTextDue s.where_text error)
 
 -- the hand that is refused is the first of them
 abbrev pub IsFirstHand : Search → Failure → Type 0
@@ -76,9 +83,9 @@ IsPlanDue s l _ = ⊥
 -- why a `make` or a `find` fails: it has no plan; else its condition is refused, or memory ran
 -- out; else how its run was interrupted
 abbrev pub IsMakeDue : Search → Look → Failure → Type 0
-IsMakeDue s l (Condition error) = IsPlanned s l × IsConditionDue s.where_text error
+IsMakeDue s l (Condition error) = IsPlanned s l × IsConditionDue s error
 IsMakeDue s l (Interrupted Memory) = IsPlanned s l
-IsMakeDue s l (Interrupted cause) = IsPlanned s l × ((form : Form) × Means s.where_text form)
+IsMakeDue s l (Interrupted cause) = IsPlanned s l × ((form : Form) × Means s form)
 IsMakeDue s l failure = IsPlanDue s l failure
 
 -- a question's text is refused so, and not since memory ran out
@@ -113,7 +120,7 @@ AreRefused questions failure = ⊥
 
 -- there is a condition
 abbrev pub HasCondition : Search → Type 0
-HasCondition s = (form : Form) × Means s.where_text form
+HasCondition s = (form : Form) × Means s form
 
 -- why a `count` fails: it has no plan, or its condition is refused, as a `find`; else its questions
 -- are refused, or memory ran out; else how its run was interrupted
@@ -139,8 +146,8 @@ IsPickDue s l failure = IsPlanDue s l failure
 -- why a `make` with tricks fails: as without; else a line of the input is refused, or the input
 -- failed
 abbrev pub IsTricksDue : Search → Look → Failure → Type 0
-IsTricksDue s l (Line line) = IsPlanned s l × ((form : Form) × Means s.where_text form)
-IsTricksDue s l Input = IsPlanned s l × ((form : Form) × Means s.where_text form)
+IsTricksDue s l (Line line) = IsPlanned s l × ((form : Form) × Means s form)
+IsTricksDue s l Input = IsPlanned s l × ((form : Form) × Means s form)
 IsTricksDue s l failure = IsMakeDue s l failure
 
 -- why no seed is drawn
@@ -154,6 +161,8 @@ IsDrawDue _ = ⊥
 abbrev pub IsDueFor : Wish → Failure → Type 0
 IsDueFor (stream seed n) failure = failure ≡ Interrupted Output
 IsDueFor conditions failure = failure ≡ Interrupted Output
+IsDueFor (lessons l) failure =
+    (failure ≡ Interrupted Output) ⊎ (failure ≡ Interrupted Memory)
 IsDueFor (make s l notices) failure = IsMakeDue s l failure
 IsDueFor (make_with_tricks s l notices) failure = IsTricksDue s l failure
 IsDueFor draw failure = IsDrawDue failure

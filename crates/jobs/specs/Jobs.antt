@@ -1,5 +1,6 @@
 -- What is ready to be done for a wish, and what refuses it.
-use Rattle.std.specs.Prelude.{◌≡◌, true}
+use Rattle.std.specs.Prelude.{◌≡◌, string_bytes, true}
+use Rattle.lessons.specs.Lessons.{lessons_text}
 use Rattle.jobs.specs.Counting.{IsAsked}
 use Rattle.jobs.specs.Failures.{is_refusal, status_of}
 use Rattle.jobs.specs.FirstRefusal.{IsDueFor}
@@ -8,10 +9,11 @@ use Rattle.jobs.specs.Statuses.{IsStatusOf}
 use Rattle.jobs.specs.declared.boards_job.BoardsJob.{BoardsJob}
 use Rattle.jobs.specs.declared.failure.Failure.{Failure}
 use Rattle.jobs.specs.declared.job.Job.{Job}
-use Rattle.jobs.specs.declared.job.Job.TheVariants.{Boards, Conditions, Count, Pick, Seed}
+use Rattle.jobs.specs.declared.job.Job.TheVariants.{Boards, Conditions, Count, Lessons, Pick, Seed}
 use Rattle.jobs.specs.declared.job.Job.TheVariants.{Stream, WithTricks}
 use Rattle.request_types.specs.Requests.{Look, Search, Wish, conditions, count, draw, make}
-use Rattle.request_types.specs.Requests.{make_with_tricks, no_search, numbers_look, pick, stream}
+use Rattle.request_types.specs.Requests.{lessons, make_with_tricks, no_search, numbers_look}
+use Rattle.request_types.specs.Requests.{pick, stream}
 use Rattle.request_types.specs.declared.request.Notices.{Notices}
 use Rattle.statistics.specs.Subjects.{subject_of}
 
@@ -20,7 +22,7 @@ use Rattle.statistics.specs.Subjects.{subject_of}
 pub record IsReadyRun (s : Search) (l : Look) (notices : Notices) (job : BoardsJob) : Type 0 where
   pub planned : IsPlanned s l
   pub plan_is : job.plan ≡ plan_of s l
-  pub means : Means s.where_text job.condition
+  pub means : Means s job.condition
   pub format_is : job.format ≡ l.format
   pub show_is : job.show ≡ l.show
   pub workers_are : job.workers ≡ s.workers
@@ -32,12 +34,13 @@ IsReady (make_with_tricks s l notices) (WithTricks job) = IsReadyRun s l notices
 IsReady draw Seed = Unit {0}
 IsReady (count s questions style notices) (Count job) =
     IsPlanned s numbers_look × (job.plan ≡ plan_of s numbers_look)
-    × Means s.where_text job.condition × IsAsked questions (subject_of job.subject)
+    × Means s job.condition × IsAsked questions (subject_of job.subject)
     × (job.style ≡ style) × (job.workers ≡ s.workers)
 IsReady (pick seed hands l hints) (Pick job) =
     IsPlanned (no_search seed hands) l × (job.plan ≡ plan_of (no_search seed hands) l)
     × (job.format ≡ l.format) × (job.show ≡ l.show)
 IsReady conditions Conditions = Unit {0}
+IsReady (lessons l) (Lessons text) = string_bytes text ≡ lessons_text l
 IsReady (stream seed n) (Stream r) = (r.seed ≡ seed) × (r.count ≡ n)
 IsReady _ _ = ⊥
 

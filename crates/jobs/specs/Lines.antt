@@ -74,6 +74,8 @@ fault_text fault.NotBelow = codes ": not below 1099511627776\n"
 fault_text fault.TooMany = codes ": too many numbers\n"
 fault_text fault.NotTricks = codes ": not tricks\n"
 fault_text fault.Missing = codes ": missing\n"
+fault_text fault.OtherDeal = codes ": tricks of another deal\n"
+fault_text fault.MoreThanBoards = codes ": more than the boards\n"
 
 -- a line of the input is refused, counted from 1
 abbrev pub input_line : RefusedLine → List ℕ

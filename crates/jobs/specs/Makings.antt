@@ -1,9 +1,8 @@
 -- What a search and a look come to: the plan of a run, and the meaning of its condition.
-use Rattle.std.specs.Prelude.{◌≡◌, ◌≤◌, ◌<◌, ◌^◌, ◌+◌, ◌-◌, ℕ, List, Option, None, Some, length}
-use Rattle.std.specs.Prelude.{unwrap_or}
+use Rattle.std.specs.Prelude.{◌≡◌, ◌≤◌, ◌<◌, ◌^◌, ◌+◌, ℕ, List, Option, None, Some, length}
 use Rattle.boards.specs.Headings.{HeadingView}
 use Rattle.boards.specs.declared.setting.Setting.{Setting}
-use Rattle.cond_lang.specs.Form.{Form, compare, number}
+use Rattle.cond_lang.specs.Form.{Form, all_of, compare, number}
 use Rattle.cond_lang.specs.Text.{SpellsTree}
 use Rattle.conditions.specs.declared.tree.Op.TheVariants.{Equal}
 use Rattle.request_types.specs.PredealtHands.{first_refused, fixed_of}
@@ -73,6 +72,18 @@ pub record IsPlanned (s : Search) (l : Look) : Type 0 where
   pub hands : HasHands s
 
 -- the text of a condition means this tree; without a text every deal is accepted
-abbrev pub Means : Option (List ℕ) → Form → Type 0
-Means None form = form ≡ compare (number 0) Equal (number 0)
-Means (Some t) form = (length t ≤ 1024) × SpellsTree t form
+abbrev pub TextMeans : Option (List ℕ) → Form → Type 0
+TextMeans None form = form ≡ compare (number 0) Equal (number 0)
+TextMeans (Some t) form = (length t ≤ 1024) × SpellsTree t form
+
+-- the text of a lesson's condition and that of a condition are read each on its own: with both a
+-- deal has to meet both
+abbrev pub BothMean : (lesson given : Option (List ℕ)) → Form → Type 0
+BothMean None given form = TextMeans given form
+BothMean (Some text) None form = TextMeans (Some text) form
+BothMean (Some text) (Some given) form =
+    (a b : Form) × TextMeans (Some text) a × TextMeans (Some given) b × (form ≡ all_of a b)
+
+-- which deals a search accepts: those of which this tree holds
+abbrev pub Means : Search → Form → Type 0
+Means s form = BothMean s.lesson s.where_text form

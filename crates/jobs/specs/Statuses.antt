@@ -4,13 +4,14 @@ use Rattle.cond_lang.specs.Form.{Form}
 use Rattle.jobs.specs.Counting.{IsAsked}
 use Rattle.jobs.specs.Makings.{IsPlanned, Means}
 use Rattle.request_types.specs.Requests.{Wish, conditions, count, draw, make, make_with_tricks}
-use Rattle.request_types.specs.Requests.{no_search, numbers_look, pick, stream}
+use Rattle.request_types.specs.Requests.{lessons, no_search, numbers_look, pick, stream}
 use Rattle.statistics.specs.Counting.{Subject}
 
 -- the words of a wish have to be accepted, so far as they are neither a condition nor a question
 abbrev pub HasPlan : Wish → Type 0
 HasPlan (stream seed n) = Unit {0}
 HasPlan conditions = Unit {0}
+HasPlan (lessons l) = Unit {0}
 HasPlan (make s l notices) = IsPlanned s l
 HasPlan (make_with_tricks s l notices) = IsPlanned s l
 HasPlan draw = Unit {0}
@@ -21,17 +22,19 @@ HasPlan (pick seed hands l hints) = IsPlanned (no_search seed hands) l
 abbrev pub HasMeaning : Wish → Type 0
 HasMeaning (stream seed n) = Unit {0}
 HasMeaning conditions = Unit {0}
-HasMeaning (make s l notices) = (form : Form) × Means s.where_text form
-HasMeaning (make_with_tricks s l notices) = (form : Form) × Means s.where_text form
+HasMeaning (lessons l) = Unit {0}
+HasMeaning (make s l notices) = (form : Form) × Means s form
+HasMeaning (make_with_tricks s l notices) = (form : Form) × Means s form
 HasMeaning draw = Unit {0}
 HasMeaning (count s questions style notices) =
-    ((form : Form) × Means s.where_text form) × ((subject : Subject) × IsAsked questions subject)
+    ((form : Form) × Means s form) × ((subject : Subject) × IsAsked questions subject)
 HasMeaning (pick seed hands l hints) = Unit {0}
 
 -- a wish that is served by threads
 abbrev pub HasRun : Wish → Type 0
 HasRun (stream seed n) = ⊥
 HasRun conditions = ⊥
+HasRun (lessons l) = ⊥
 HasRun (make s l notices) = Unit {0}
 HasRun (make_with_tricks s l notices) = Unit {0}
 HasRun draw = ⊥
@@ -42,6 +45,7 @@ HasRun (pick seed hands l hints) = ⊥
 abbrev pub HasInput : Wish → Type 0
 HasInput (stream seed n) = ⊥
 HasInput conditions = ⊥
+HasInput (lessons l) = ⊥
 HasInput (make s l notices) = ⊥
 HasInput (make_with_tricks s l notices) = Unit {0}
 HasInput draw = Unit {0}

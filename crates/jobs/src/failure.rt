@@ -180,6 +180,8 @@ fn of_fault(fault: LineFault) -> &'static str
         LineFault::TooMany => ": too many numbers\n",
         LineFault::NotTricks => ": not tricks\n",
         LineFault::Missing => ": missing\n",
+        LineFault::OtherDeal => ": tricks of another deal\n",
+        LineFault::MoreThanBoards => ": more than the boards\n",
     }
 }
 

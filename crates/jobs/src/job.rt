@@ -12,6 +12,7 @@ use crate::failure::Failure;
 use crate::questions::read_subject;
 use crate::search::{planned, read_condition};
 use boards::{Format, Show, Style};
+use lessons::page;
 use plans::Plan;
 use request_types::{Look, Notices, Questions, Request, Search, StreamRequest};
 use std::alloc::Global;
@@ -25,6 +26,8 @@ pub enum Job {
     Count(CountJob),
     Pick(PickJob),
     Conditions,
+    /// The text of what is told of a lesson, or of all.
+    Lessons(String),
     Seed,
     Stream(StreamRequest),
 }
@@ -86,6 +89,7 @@ pub fn prepare(alloc: Global, request: &Request<'_>) -> Result<Job, Failure>
             Ok(Job::Pick(PickJob { plan, format, show }))
         }
         Request::Conditions => Ok(Job::Conditions),
+        Request::Lessons(lesson) => Ok(Job::Lessons(page(alloc, *lesson)?)),
         Request::Seed => Ok(Job::Seed),
         Request::Stream(request) => Ok(Job::Stream(*request)),
     }

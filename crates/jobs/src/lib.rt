@@ -9,6 +9,7 @@ mod boards_job;
 mod count_job;
 mod failure;
 mod job;
+pub mod laws;
 mod questions;
 mod search;
 

@@ -3,11 +3,12 @@
 ghost use Rattle.std.specs.Prelude.{◌≡◌, ◌⊎◌, IfErr, IfOk, option_map};
 ghost use Rattle.cond_lang.specs.Form.{Form};
 ghost use Rattle.jobs.specs.Failures.{status_of};
-ghost use Rattle.jobs.specs.Makings.{Means, CanDate, CanLabel, HasLabels, HasHands, HasNumbers};
+ghost use Rattle.jobs.specs.Makings.{Means, TextMeans, CanDate, CanLabel, HasLabels, HasHands};
+ghost use Rattle.jobs.specs.Makings.{HasNumbers};
 ghost use Rattle.jobs.specs.Makings.{IsPlanned, heading_of, plan_of, setting_of};
 ghost use Rattle.request_types.specs.PredealtHands.{fixed_of};
 ghost use Rattle.request_types.specs.Requests.{Search as ASearch, look_of, search_of};
-ghost use Rattle.jobs.specs.internal.Conditions.{IsConditionFailure};
+ghost use Rattle.jobs.specs.internal.Conditions.{IsConditionFailure, IsTextFailure};
 ghost use Rattle.jobs.specs.FirstRefusal.{IsFirstOf, of_labels, IsFirstHand, IsPlanDue};
 ghost use Rattle.jobs.specs.FirstRefusal.{of_numbers};
 ghost use Rattle.boards.specs.Settings.{by_law};
@@ -22,18 +23,38 @@ use plans::{Plan, PlanError};
 use request_types::{LabelName, Look, Search};
 use std::alloc::Global;
 
-/// Returns what the condition's text means; without a text every deal is accepted.
-pub(crate) fn read_condition(alloc: Global, search: &Search<'_>) -> Result<Cond, Failure>
-    ensures meant { IfOk result (λ c. Means (search_of search.now).where_text c) }
+/// Returns what the text means; without one every deal is accepted.
+fn read_text(alloc: Global, given: Option<&str>) -> Result<Cond, Failure>
+    ensures meant { IfOk result (TextMeans (option_map (λ t. t.now) given.entry)) }
     ensures refused { IfErr result (λ e. (status_of e ≡ 5) ⊎ (status_of e ≡ 3)) }
     ensures memory { IfErr result (λ e. (f : Form)
-        → Means (search_of search.now).where_text f → status_of e ≡ 5) }
-    ensures due { IfErr result (IsConditionFailure (search_of search.now).where_text) }
+        → TextMeans (option_map (λ t. t.now) given.entry) f → status_of e ≡ 5) }
+    ensures due { IfErr result (IsTextFailure (option_map (λ t. t.now) given.entry)) }
 {
-    let Some(text) = search.where_text else {
+    let Some(text) = given else {
         return Ok(Cond::any(alloc));
     };
     Ok(parse(alloc, text.as_bytes())?)
+}
+
+/// Returns which deals are accepted: those that meet the lesson's condition and the condition, each
+/// of them a text of its own.
+pub(crate) fn read_condition(alloc: Global, search: &Search<'_>) -> Result<Cond, Failure>
+    ensures meant { IfOk result (Means (search_of search.now)) }
+    ensures refused { IfErr result (λ e. (status_of e ≡ 5) ⊎ (status_of e ≡ 3)) }
+    ensures memory { IfErr result (λ e. (f : Form)
+        → Means (search_of search.now) f → status_of e ≡ 5) }
+    ensures due { IfErr result (IsConditionFailure (search_of search.now)) }
+{
+    if search.lesson.is_none() {
+        return read_text(alloc, search.where_text);
+    }
+    let lesson = read_text(alloc, search.lesson)?;
+    if search.where_text.is_none() {
+        return Ok(lesson);
+    }
+    let condition = read_text(alloc, search.where_text)?;
+    Ok(lesson.and(condition)?)
 }
 
 /// Returns the labels. The first one that can't be written is refused.

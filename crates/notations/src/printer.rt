@@ -1,7 +1,7 @@
 //! The printer of any format that boards are written in.
 
-ghost use Rattle.std.specs.Prelude.{◌≡◌, [], IfOk, None, Some};
-ghost use Rattle.notations.specs.Formats.{HasPrinted, header_of, header_with_tricks, layout_in};
+ghost use Rattle.std.specs.Prelude.{◌≡◌, ◌≢◌, [], IfOk, None, Some};
+ghost use Rattle.notations.specs.Formats.{HasPrinted, beside_hands, board_text, header_of, header_with_tricks, layout_in};
 ghost use Rattle.notations.specs.Formats.{layout_of, layout_showing, layout_with};
 ghost use Rattle.notations.specs.internal.Pens.{footer_after, format_of};
 ghost use Rattle.boards.specs.declared.show.Show.TheVariants.{All};
@@ -134,7 +134,10 @@ impl AnyPrinter {
         table: Vec<Tricks>,
     ) -> Result<AnyPrinter, AllocError>
         ensures format { IfOk result (λ p. p.format ≡ format) }
+        ensures show { IfOk result (λ p. p.show ≡ show) }
         ensures heading { IfOk result (λ p. p.heading ≡ heading.now) }
+        ensures tricks { IfOk result (λ p. p.tricks
+            ≡ Some (record { first = first; lines = table.items })) }
         ensures layout { IfOk result (λ p. ⟦<AnyPrinter as Notation>⟧.layout p
             ≡ layout_with format show heading.now first table.items) }
         ensures text { IfOk result (λ p. p.text ≡ []) }
@@ -155,6 +158,21 @@ impl AnyPrinter {
             text: TextBuffer::new(),
             boards: 0,
         })
+    }
+
+    /// Prints the board with these tricks in place of the last one, where boards are written with
+    /// tricks. They are written only beside all hands. The board isn't counted.
+    pub fn print_with(&mut self, tricks: &Tricks, board: &Board)
+        requires { self.old.tricks ≢ None }
+        ensures { self.new ≡ record self.old {
+          text = board_text self.old.format self.old.show self.old.heading
+              (beside_hands self.old.show tricks.now) board.now;
+        } }
+    {
+        self.text.clear();
+        let beside = beside(self.show, tricks);
+        self.pen
+            .put(&mut self.text, &self.heading, self.show, beside, board);
     }
 }
 

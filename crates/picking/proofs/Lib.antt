@@ -5,5 +5,4 @@ pub mod ReadBack
 pub mod Boards
 pub mod Pieces
 pub mod LineEnds
-pub mod LinesRead
 pub mod FourBytes

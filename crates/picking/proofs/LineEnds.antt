@@ -2,8 +2,8 @@
 use Rattle.std.proofs.Common.{◌≡◌, ◌∙◌, ◌≤◌, ℕ, zero, suc, ◌+◌, ◌==◌, Bool, true, false, List, [], ◌∷◌, ◌++◌, length, take, get_or, refl, ap, ap₂, arith, eq-eqb}
 use Rattle.std.proofs.lemmas.Bool.{and_right, or_parts, or_from, ne_eqb}
 use Rattle.picking.specs.NumberTexts.{first_line, has_lf, later_lines, starts_with_lf, with_lf}
-use Rattle.picking.specs.TricksLines.{text_lines, unless_empty, without_empty_end}
-use Rattle.picking.specs.internal.LinesRead.{without_cr}
+use Rattle.picking.specs.TextLines.{text_lines, unless_empty, without_empty_end}
+use Rattle.picking.specs.internal.LineEnds.{without_cr}
 
 no_start : (xs : List ℕ) → has_lf xs ≡ false → starts_with_lf xs ≡ false
 no_start [] h = refl

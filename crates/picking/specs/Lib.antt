@@ -3,5 +3,5 @@ pub mod Scans
 pub mod Picked
 pub mod Outcomes
 pub mod FourBytes
-pub mod TricksLines
+pub mod TextLines
 pub mod internal

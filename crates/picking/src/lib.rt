@@ -13,7 +13,6 @@ mod line;
 mod picked;
 mod scanner;
 mod source;
-mod tricks_lines;
 
 pub use fault::PickFault;
 pub use four_bytes::{BytesFault, read_four};
@@ -21,4 +20,3 @@ pub use picked::pick;
 pub use plans::{LineFault, RefusedLine};
 pub use scanner::Scanner;
 pub use source::{MOST_BYTES, NoBytes, Reader, Source, SourceFault};
-pub use tricks_lines::{LinesEnd, TricksRead, read_tricks};

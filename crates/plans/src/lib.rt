@@ -13,7 +13,7 @@ mod refusal;
 mod report;
 
 pub use cause::Cause;
-pub use next_board::{is_full, put_board};
+pub use next_board::{board_after, is_full, put_board};
 pub use plan::{Plan, PlanError};
 pub use reference::{PlainFault, run_plain_in};
 pub use refusal::{LineFault, RefusedLine};

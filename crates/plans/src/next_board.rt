@@ -21,7 +21,7 @@ pub fn is_full(plan: &Plan, boards: u64) -> bool
 }
 
 /// The board of a candidate's deal, after `boards` of them, by the plan's setting.
-fn next_board(plan: &Plan, boards: u64, candidate: u64, deal: &Deal) -> Board
+pub fn board_after(plan: &Plan, boards: u64, candidate: u64, deal: &Deal) -> Board
     requires { boards ≤ 2 ^ 40 }
     ensures { result ≡ board_of plan.now boards candidate deal.now }
 {
@@ -52,6 +52,6 @@ pub fn put_board<N: Notation, S: Sink>(
         (before ++ board_of plan.now boards candidate deal.now ∷ []) }
     ensures faults { CountsFault (S.faults sink.old) (S.faults sink.new) result }
 {
-    notation.print(&next_board(plan, boards, candidate, deal));
+    notation.print(&board_after(plan, boards, candidate, deal));
     put_all(sink, notation.text())
 }

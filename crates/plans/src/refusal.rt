@@ -13,6 +13,10 @@ pub enum LineFault {
     NotTricks,
     /// The input ended before it.
     Missing,
+    /// It has the tricks of another deal than its board's.
+    OtherDeal,
+    /// It comes after the lines of all boards.
+    MoreThanBoards,
 }
 
 /// A line that is refused, by its number: the first line is 1, and each line counts.

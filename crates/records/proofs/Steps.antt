@@ -6,13 +6,13 @@ use Rattle.boards.specs.declared.board.Board.{Board as ABoard}
 use Rattle.records.specs.Games.{game_says, has}
 use Rattle.records.specs.Kinds.{kind_of}
 use Rattle.records.specs.Places.{is_empty, is_in_tag}
-use Rattle.records.specs.Texts.{Spelled, after, behind_line, ends_game, ends_line, list_of, nothing_more, refused_with, says_and, takes_tag, with_last_tag}
+use Rattle.records.specs.Texts.{Spelled, after, after_line, ends_game, ends_line, list_of, nothing_more, refused_with, says_and, takes_tag, with_last_tag}
 use Rattle.records.specs.declared.fault.RefusedRecord.{RefusedRecord}
 use Rattle.records.specs.declared.kind.Kind.{Kind}
 use Rattle.records.specs.declared.reading.Reading.{Reading}
 
 pub at_empty_line : (s : Reading) (next : Reading → Spelled) (v : Spelled) → is_in_tag s.line.part ≡ false → is_empty s.line ≡ true
-    → ends_game s (λ t. next (behind_line t)) ≡ v → ends_line s next ≡ v
+    → ends_game s (λ t. next (after_line t)) ≡ v → ends_line s next ≡ v
 at_empty_line s next v off empty e = rw (off, empty) e
 
 pub at_such_tag : (kind : Kind) (s : Reading) (next : Reading → Spelled) (v : Spelled) → kind_of s.line.name ≡ Some kind → has kind s.game ≡ true
@@ -21,14 +21,14 @@ at_such_tag kind s next v is such e = rw (is, such) e
 
 -- ---- the end of a text
 
--- behind a game that ended nothing is left
-empty_last : (s : Reading) (r : Result (Option ABoard) RefusedRecord) → says_and s r (λ t. ends_game (behind_line t) nothing_more) ≡ says_and s r nothing_more
+-- after a game that ended nothing is left
+empty_last : (s : Reading) (r : Result (Option ABoard) RefusedRecord) → says_and s r (λ t. ends_game (after_line t) nothing_more) ≡ says_and s r nothing_more
 unfolding game_says
 empty_last s (Err line) = refl
 empty_last s (Ok None) = refl
 empty_last s (Ok (Some board)) = refl
 
-same_last : (s : Reading) (r : Result (Option ABoard) RefusedRecord) → says_and (behind_line s) r nothing_more ≡ says_and s r nothing_more
+same_last : (s : Reading) (r : Result (Option ABoard) RefusedRecord) → says_and (after_line s) r nothing_more ≡ says_and s r nothing_more
 same_last s (Err line) = refl
 same_last s (Ok None) = refl
 same_last s (Ok (Some board)) = refl
@@ -40,11 +40,11 @@ last_line s off = by_empty (is_empty s.line) refl
     by_empty true e = rw (off, e) (empty_last s (game_says s.last s.game))
     by_empty false e = rw (off, e) (same_last s (game_says s.last s.game))
 
-pub behind_all : (s t : Reading) (r : Result (Option ABoard) RefusedRecord) → is_in_tag s.line.part ≡ false
+pub after_all : (s t : Reading) (r : Result (Option ABoard) RefusedRecord) → is_in_tag s.line.part ≡ false
     → IfOk r (λ board. (next : Reading → Spelled) → ends_game s next ≡ after (list_of board) (next t))
     → IfOk r (λ board. ends_line s (λ t. ends_game t nothing_more) ≡ record { boards = list_of board; refused = None })
-behind_all s t (Err e) off ends = tt
-behind_all s t (Ok board) off ends =
+after_all s t (Err e) off ends = tt
+after_all s t (Ok board) off ends =
     let as_spelled : List ABoard → Spelled = λ l. record { boards = l; refused = None } in
     last_line s off ∙ ends nothing_more ∙ ap as_spelled (append-nil (list_of board))
 

@@ -41,7 +41,7 @@ byte_refused r b (Err e) some fits is reads = λ rest.
     ∙ ap (λ x. spells_from r.scanner (x ∷ (drop (r.from + 1) (take r.to r.piece) ++ rest))) (sym is)
     ∙ reads (drop (r.from + 1) (take r.to r.piece) ++ rest)
 
--- a piece is read behind the last
+-- a piece is read after the last
 pub filled : (r s : BoardReader) → r.from ≡ r.to → s.scanner ≡ r.scanner → s.from ≡ 0 → (rest : List ℕ) → unread_spells r (take s.to s.piece ++ rest) ≡ unread_spells s rest
 unfolding unread_spells unread
 filled r s empty same first rest =

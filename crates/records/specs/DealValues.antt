@@ -12,7 +12,7 @@ use Rattle.cards.specs.Deals.{all_seats, cards_of}
 use Rattle.cards.specs.Pack.{seat_number, seat_of_number}
 use Rattle.records.specs.Values.{dealer_in}
 
--- part p, from 0 to 15, has the cards of suit p mod 4 in hand p / 4. What is behind it
+-- part p, from 0 to 15, has the cards of suit p mod 4 in hand p / 4. What is after it
 abbrev pub separator : ℕ → ℕ
 separator p = if p % 4 == 3 then 32 else 46
 
@@ -38,7 +38,7 @@ abbrev pub if_given : Option (List (Option Seat))
 if_given None later = None
 if_given (Some seats) later = later seats
 
--- what the text from within part p gives, behind what was given before
+-- what the text from within part p gives, after what was given before
 abbrev pub gives : Seat → ℕ → List (Option Seat) → List ℕ → Option (List (Option Seat))
 gives first p seats [] = if p == 15 then Some seats else None
 gives first p seats (b ∷ bs) =

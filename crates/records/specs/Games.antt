@@ -109,7 +109,7 @@ abbrev pub unless_fault : Option RefusedRecord → Option ABoard
 unless_fault (Some fault) board = Err fault
 unless_fault None board = Ok board
 
--- what a game says as it ends, behind the board of this number. Without a deal it has no board and
+-- what a game says as it ends, after the board of this number. Without a deal it has no board and
 -- no fault
 abbrev pub by_deal : ℕ → Game → Option (Option (List Seat)) → Result (Option ABoard) RefusedRecord
 by_deal last g None = Ok None

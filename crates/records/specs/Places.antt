@@ -47,7 +47,7 @@ is_name_byte b = is_ascii_alphanumeric b || b == 95
 
 -- ---- outside a tag, at a byte that was counted
 
--- a line that begins with `%` is skipped, and so is text in braces, what is behind `;`, and all
+-- a line that begins with `%` is skipped, and so is text in braces, what is after `;`, and all
 -- that isn't a tag up to the next line that begins with `[`
 abbrev pub opened : Place → ℕ → Place
 opened p b =
@@ -89,6 +89,6 @@ moved Value p b =
 moved Escape p b = record p { part = Value; value = p.value ++ b ∷ [] }
 moved Close p b = if b == 93 then record p { part = Open } else p
 
--- behind a byte
+-- after a byte
 abbrev pub place_after : Place → ℕ → Place
 place_after p b = moved p.part (record p { column = p.column + 1 }) b

@@ -21,7 +21,7 @@ footer_for layout boards (Some line) = []
 abbrev pub shown_text : Layout → Spelled → List ℕ
 shown_text layout s = text_of_boards layout s.boards ++ footer_for layout s.boards s.refused
 
--- a text spells these boards first, whatever comes behind it
+-- a text spells these boards first, whatever comes after it
 pub record BeginsWith (text : List ℕ) (boards : List ABoard) : Type 0 where
   pub later : List ℕ → Spelled
   pub spells : (rest : List ℕ) → spelled (text ++ rest) ≡ after boards (later rest)

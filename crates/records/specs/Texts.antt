@@ -72,14 +72,14 @@ reads_byte s b next =
     else refused_at s TooLong
 
 -- a line ends: an empty one ends the game
-abbrev pub behind_line : Reading → Reading
-behind_line s = record s { line = new_line s.line; lines = s.lines + 1 }
+abbrev pub after_line : Reading → Reading
+after_line s = record s { line = new_line s.line; lines = s.lines + 1 }
 
 abbrev pub ends_line : Reading → (Reading → Spelled) → Spelled
 ends_line s next =
     if is_in_tag s.line.part then refused_at s NotATag
-    else (if is_empty s.line then ends_game s (λ t. next (behind_line t))
-    else next (behind_line s))
+    else (if is_empty s.line then ends_game s (λ t. next (after_line t))
+    else next (after_line s))
 
 -- ---- lines
 
@@ -90,7 +90,7 @@ line_spells s (b ∷ bs) next = reads_byte s b (λ t. line_spells t bs next)
 abbrev pub nothing_more : Reading → Spelled
 nothing_more s = record { boards = []; refused = None }
 
--- the last game ends behind the last line
+-- the last game ends after the last line
 abbrev pub lines_spell : Reading → List (List ℕ) → Spelled
 lines_spell s [] = ends_game s nothing_more
 lines_spell s (l ∷ ls) = line_spells s l (λ t. lines_spell t ls)

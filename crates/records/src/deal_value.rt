@@ -34,7 +34,7 @@ fn rank_in(byte: u8) -> usize
     }
 }
 
-/// What is behind a part of a deal.
+/// What is after a part of a deal.
 fn separator(part: usize) -> u8
     requires { part ≤ 15 }
     ensures { result ≡ separator part }

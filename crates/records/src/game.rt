@@ -143,7 +143,7 @@ impl Game {
         }
     }
 
-    /// The number of the board behind the one of number `last`.
+    /// The number of the board after the one of number `last`.
     fn number(&self, last: u64) -> u64
         requires { last < 2 ^ 64 - 1 }
         ensures value { result ≡ number_of last self.now }
@@ -156,7 +156,7 @@ impl Game {
         }
     }
 
-    /// The board of this deal, behind the one of number `last`.
+    /// The board of this deal, after the one of number `last`.
     fn board(&self, last: u64, deal: Deal) -> Board
         requires { last < 2 ^ 64 - 1 }
         ensures value { result ≡ board_of last self.now deal }
@@ -176,7 +176,7 @@ impl Game {
         }
     }
 
-    /// What the game says as it ends, behind the board of number `last`.
+    /// What the game says as it ends, after the board of number `last`.
     ///
     /// # Errors
     /// The first fault of its tags, if it has a deal.

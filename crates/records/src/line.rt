@@ -20,17 +20,17 @@ pub enum Part {
     Open,
     /// In what is left of a line that counts for nothing.
     Rest,
-    /// Behind the `[` of a tag.
+    /// After the `[` of a tag.
     Bracket,
     /// In its name.
     Name,
-    /// In the blanks behind it.
+    /// In the blanks after it.
     Gap,
     /// In its value.
     Value,
-    /// Behind a `\` in the value.
+    /// After a `\` in the value.
     Escape,
-    /// Behind the value.
+    /// After the value.
     Close,
 }
 
@@ -186,7 +186,7 @@ impl Line {
         Step::On
     }
 
-    /// Takes a byte of a name or behind it.
+    /// Takes a byte of a name or after it.
     fn take_name(&mut self, byte: u8) -> Step
         requires { length self.old.name < self.old.column }
         ensures step { result ≡ step_at Name byte }
@@ -221,7 +221,7 @@ impl Line {
         }
     }
 
-    /// Takes a byte of a value or behind it.
+    /// Takes a byte of a value or after it.
     fn take_value(&mut self, byte: u8)
         requires { length self.old.value < self.old.column }
         ensures { self.new ≡ moved Value self.old byte }
@@ -245,7 +245,7 @@ impl Line {
         self.part = Part::Value;
     }
 
-    /// Takes a byte behind a value.
+    /// Takes a byte after a value.
     fn take_close(&mut self, byte: u8) -> Step
         ensures step { result ≡ step_at Close byte }
         ensures moved { result ≢ Wrong → self.new ≡ moved Close self.old byte }

@@ -23,7 +23,7 @@ const MOST_READS: u64 = MOST_BYTES + 1;
 pub enum Next {
     /// The board of a game that ended.
     Board(Board),
-    /// The board of the last game, behind which the input ended.
+    /// The board of the last game, after which the input ended.
     Last(Board),
     /// The input ended.
     End,
@@ -106,7 +106,7 @@ impl BoardReader {
         Ok(None)
     }
 
-    /// Reads the next piece of the input, behind the last. Returns whether there is one.
+    /// Reads the next piece of the input, after the last. Returns whether there is one.
     fn fill<I: Source>(&mut self, input: &mut I) -> Result<bool, SourceFault>
         requires ready { IsReady self.old }
         requires empty { self.old.from ≡ self.old.to }

@@ -2,7 +2,7 @@
 
 ghost use Rattle.std.specs.Prelude.{◌≡◌, ◌≢◌, ◌+◌, ◌-◌, ◌<◌, ◌≤◌, ◌^◌, ℕ, IfErr, IfOk, None, OnOk};
 ghost use Rattle.std.specs.Prelude.{unwrap_or};
-ghost use Rattle.records.specs.Texts.{InRoom, Spelled, after, begin_text, behind_line, ends_game};
+ghost use Rattle.records.specs.Texts.{InRoom, Spelled, after, begin_text, after_line, ends_game};
 ghost use Rattle.records.specs.Texts.{ends_line, list_of, reads_byte, refused_with, takes_tag};
 ghost use Rattle.records.specs.Texts.{nothing_more, with_last_tag};
 ghost use Rattle.records.specs.Kinds.{kind_of};
@@ -79,7 +79,7 @@ impl Reading {
     /// Goes to the next line.
     fn leave_line(&mut self)
         requires { self.old.lines < 2 ^ 64 - 1 }
-        ensures { self.new ≡ behind_line self.old }
+        ensures { self.new ≡ after_line self.old }
     {
         self.line.end();
         self.lines += 1;

@@ -67,7 +67,7 @@ impl Scanner {
         }
     }
 
-    /// Takes a byte behind another than a CR.
+    /// Takes a byte after another than a CR.
     fn go_on(&mut self, byte: u8) -> Result<Option<Board>, RefusedRecord>
         requires room { InRoom self.old.reading (2 ^ 62) }
         requires within { byte ≢ 10 }

@@ -64,7 +64,7 @@ fn put_end<N: Notation, S: Sink>(
     }
 }
 
-/// Writes the last board, behind others, and what comes after them.
+/// Writes the last board, after others, and what comes after them.
 fn put_last<N: Notation, S: Sink>(
     board: &Board,
     boards: u64,
@@ -87,7 +87,7 @@ fn put_last<N: Notation, S: Sink>(
     }
 }
 
-/// Writes the boards that are left of an input, behind this many, and what comes after them.
+/// Writes the boards that are left of an input, after this many, and what comes after them.
 fn show_rest<N: Notation, I: Source, S: Sink>(
     reader: &mut BoardReader,
     written: u64,

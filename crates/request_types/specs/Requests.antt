@@ -3,6 +3,7 @@ use Rattle.std.specs.Prelude.{ℕ, Bool, List, Option, None, Some, false, option
 use Rattle.std.specs.Prelude.{if◌then◌else◌}
 use Rattle.boards.specs.declared.setting.Vul.{Vul}
 use Rattle.cards.specs.declared.seat.Seat.{Seat}
+use Rattle.lessons.specs.Lessons.{Lesson, lesson_of}
 use Rattle.request_types.specs.PredealtHands.{GivenHands, given_by, none_given}
 use Rattle.boards.specs.declared.format.Format.{Format}
 use Rattle.boards.specs.declared.format.Format.TheVariants.{Numbers, Pbn}
@@ -13,7 +14,7 @@ use Rattle.request_types.specs.declared.request.Notices.{Notices}
 use Rattle.request_types.specs.declared.request.Request.{Request}
 use Rattle.request_types.specs.declared.questions.Questions.{Questions as GivenQuestions}
 use Rattle.request_types.specs.declared.questions.Questions.TheVariants as questions
-use Rattle.request_types.specs.declared.request.Request.TheVariants.{Conditions, Count, Find, Make, Pick}
+use Rattle.request_types.specs.declared.request.Request.TheVariants.{Conditions, Count, Find, Lessons, Make, Pick}
 use Rattle.request_types.specs.declared.request.Request.TheVariants.{Seed, Stream}
 use Rattle.request_types.specs.declared.search.Search as asked
 use Rattle.request_types.specs.declared.workers.Workers.{Workers}
@@ -31,6 +32,8 @@ pub record Search : Type 0 where
   pub first : ℕ
   pub workers : Workers
   pub lane : Option ℕ
+  -- the text of the lesson's condition
+  pub lesson : Option (List ℕ)
   pub where_text : Option (List ℕ)
   pub boards : Option ℕ
   -- the texts of the options north, east, south and west
@@ -56,6 +59,7 @@ plain_search seed = record {
   first = 0;
   workers = Number 1;
   lane = None;
+  lesson = None;
   where_text = None;
   boards = None;
   hands = none_given;
@@ -108,6 +112,8 @@ pub data Wish : Type 0 where
   count : Search → Questions → Style → Notices → Wish
   -- the page of the language
   conditions : Wish
+  -- what is told of a lesson, or of all
+  lessons : Option Lesson → Wish
   -- a seed that the input draws
   draw : Wish
   -- the boards of the candidates of a seed, around these hands, whose numbers the input gives
@@ -123,6 +129,7 @@ search_of s = record {
   first = s.first;
   workers = s.workers;
   lane = s.lane;
+  lesson = option_map (λ t. t.now) s.lesson;
   where_text = option_map (λ t. t.now) s.where_text;
   boards = s.boards;
   hands = given_by s.hands;
@@ -155,5 +162,6 @@ wish_of (Count search asked style notices) =
     count (search_of search) (questions_of asked) style notices
 wish_of (Pick seed hands look hints) = pick seed (given_by hands) (look_of look) hints
 wish_of Conditions = conditions
+wish_of (Lessons lesson) = lessons (option_map lesson_of lesson)
 wish_of Seed = draw
 wish_of (Stream r) = stream r.seed r.count

@@ -9,6 +9,7 @@ use crate::questions::Questions;
 use crate::search::Search;
 use crate::when::When;
 use boards::{Format, Style};
+use lessons::Lesson;
 
 /// What a person is told while a run lasts and when it has ended. Nothing else depends on it.
 #[derive(Clone, Copy)]
@@ -63,6 +64,8 @@ pub enum Request<'a> {
     },
     /// The page of the language.
     Conditions,
+    /// What is told of a lesson, or without one the list of all.
+    Lessons(Option<Lesson>),
     /// A seed that the first bytes of the input draw.
     Seed,
     Stream(StreamRequest),
@@ -81,7 +84,7 @@ impl<'a> Request<'a> {
                 look,
                 ..
             } => Some((Search::none(*seed, *hands), *look)),
-            Request::Conditions | Request::Seed | Request::Stream(_) => None,
+            Request::Conditions | Request::Lessons(_) | Request::Seed | Request::Stream(_) => None,
         }
     }
 
@@ -100,7 +103,9 @@ impl<'a> Request<'a> {
             | Request::Find { notices, .. }
             | Request::Count { notices, .. } => notices.hints,
             Request::Pick { hints, .. } => *hints,
-            Request::Conditions | Request::Seed | Request::Stream(_) => When::Auto,
+            Request::Conditions | Request::Lessons(_) | Request::Seed | Request::Stream(_) => {
+                When::Auto
+            }
         }
     }
 }

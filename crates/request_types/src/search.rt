@@ -23,7 +23,9 @@ pub struct Search<'a> {
     /// How many verdicts a worker's lane holds: 64 if it isn't given, and 4,096 if the machine says
     /// how many workers there are.
     pub lane: Option<u32>,
-    /// The text of the condition.
+    /// The text of the lesson's condition.
+    pub lesson: Option<&'a str>,
+    /// The text of the condition. With a lesson a deal meets both.
     pub where_text: Option<&'a str>,
     /// How many boards are written at most.
     pub boards: Option<u32>,
@@ -42,6 +44,7 @@ impl<'a> Search<'a> {
             first: 0,
             workers: Workers::Number(1),
             lane: Some(1),
+            lesson: None,
             where_text: None,
             boards: None,
             hands,

@@ -53,6 +53,16 @@ fn failures_are_told(rt: HostRuntime) {
             7,
             "input refused at line 3: missing\n",
         ),
+        (
+            of_line(LineFault::OtherDeal),
+            7,
+            "input refused at line 3: tricks of another deal\n",
+        ),
+        (
+            of_line(LineFault::MoreThanBoards),
+            7,
+            "input refused at line 3: more than the boards\n",
+        ),
         (Failure::Input, 7, "input failed\n"),
         (Failure::EndOfInput, 7, "input failed\n"),
     ] {

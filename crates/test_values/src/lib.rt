@@ -23,4 +23,6 @@ mod portable;
 #[cfg(test)]
 mod support;
 #[cfg(test)]
+mod taught;
+#[cfg(test)]
 mod written;

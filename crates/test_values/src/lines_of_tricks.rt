@@ -2,7 +2,7 @@
 
 use crate::support::same;
 use boards::Tricks;
-use picking::{LinesEnd, NoBytes, Reader, read_four, read_tricks};
+use picking::{NoBytes, Reader, read_four};
 
 const DIGITS: &[u8] = b"97b8997b892624426244";
 
@@ -65,47 +65,6 @@ fn malformed_lines_tell_none(rt: HostRuntime) {
     for line in MALFORMED {
         same(&rt, Tricks::read(line).is_some(), false);
     }
-}
-
-/// A text, how many lines are asked for, how many are read, and why no more are.
-type Text = (&'static [u8], u64, usize, LinesEnd);
-
-const TEXTS: [Text; 15] = [
-    (b"", 2, 0, LinesEnd::Missing),
-    (b"", 0, 0, LinesEnd::Enough),
-    (b"x", 0, 0, LinesEnd::Enough),
-    (b"-", 1, 1, LinesEnd::Enough),
-    (b"-", 2, 1, LinesEnd::Missing),
-    (b"-\n", 2, 1, LinesEnd::Missing),
-    (b"-\r\n-", 2, 2, LinesEnd::Enough),
-    (b"-\n-\nx\n", 2, 2, LinesEnd::Enough),
-    (b"-\n-\nx\n", 3, 2, LinesEnd::Refused),
-    (b"-\n\n-\n", 3, 1, LinesEnd::Refused),
-    (b"-\r", 1, 0, LinesEnd::Refused),
-    (b"-\r\r\n", 1, 0, LinesEnd::Refused),
-    (b"\xff\xfe", 1, 0, LinesEnd::Refused),
-    (
-        b"97b8997b892624426244 NS 450 4H-NS+1                              ",
-        1,
-        0,
-        LinesEnd::Refused,
-    ),
-    (
-        b"-\n97b8997b892624426244 NS 450 4H-NS+1\n-",
-        9,
-        3,
-        LinesEnd::Missing,
-    ),
-];
-
-#[test]
-fn texts_have_lines(rt: HostRuntime) -> Result<(), std::test::Fail> {
-    for (text, most, count, end) in TEXTS {
-        let read = read_tricks(rt.alloc(), &mut Reader::new(text), most)?;
-        same(&rt, read.table.len(), count);
-        same(&rt, read.end as u8, end as u8);
-    }
-    Ok(())
 }
 
 #[test]

@@ -14,7 +14,8 @@ const MISTAKES: [(&[u8], CondError, &str); 6] = [
         b"",
         CondError::Syntax { at: 0 },
         "  \n  ^\n  expected a condition such as balanced(north)
-  hint: for 15 points or more with North write: hcp(north)>=15
+  hint: there is no condition here (is a file missing?); for 15 points or more with North write: \
+hcp(north)>=15
 ",
     ),
     (

@@ -13,8 +13,9 @@ const ROWS: &str = "
     count --rotate => leave --rotate out: it changes no count, and north has the dealer's hand
     count --show --dealer --vulnerable --rotate --first-board --event --site --date --format => \
         deals count writes a table: deals make writes boards
-    pick --where --boards --candidates --first --workers --lane --report --progress => \
+    pick --lesson --where --boards --candidates --first --workers --lane --report --progress => \
         deals pick reads the numbers of deals: deals find searches for them
+    lessons * => deals lessons prints the names of lessons, and deals lessons NAME tells of one
     seed * => deals seed draws a seed, and takes no options
     conditions * => deals conditions prints the language, and takes no options
     stream * => deals stream takes --seed and --count

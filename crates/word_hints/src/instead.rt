@@ -8,6 +8,9 @@ const BY_WHERE: &str = "a condition comes after --where, in quotes: --where 'hcp
 pub(crate) const HOW_MANY: &str =
     "--boards 36 says how many boards, --candidates 1000 how many deals are tried";
 
+const NUMBERS_OF_PICK: &str =
+    "numbers come from the input, one a line: printf '1\\n4\\n' | deals pick --seed 7";
+
 const BEHIND_OPTIONS: &str = "each value comes after its option, as --seed 7 --boards 36";
 
 /// Options, first words in place of a command, commands, and words that are no option.
@@ -32,7 +35,9 @@ const ROWS: &str = "
     option --start --start-at --from --begin => \
         write --first 28 to begin at candidate 28, --first-board 28 to give the first board the \
         number 28
-    option --board --start-board --board-number --from-board => \
+    option --board => \
+        --boards 27 says how many boards, --first-board 27 the number of the first one
+    option --start-board --board-number --from-board => \
         write --first-board B for the number of the first board
     option --random --random-seed => write --seed 7, or draw one by deals seed
     option --predeal --hand => \
@@ -40,8 +45,17 @@ const ROWS: &str = "
     option --turn => write --rotate to give north's hand to the dealer
     option --par --dd --double-dummy --makes => \
         write --tricks, with what deals-tricks prints of the boards as input
-    option --hide --only --print --handout --handouts => \
+    option --hide --only --handout --handouts => \
         write --show north, or dealer, east, south, west, ns or ew
+    option --print --printer => \
+        for pages to print write --format html, or --format sheet for the hand records
+    option --numbers => \
+        numbers come from the input, one a line: printf '1\\n4\\n' | deals pick --seed 7
+    option --hcp --points --balanced --len --length --shape => \
+        a condition comes after --where, in quotes: --where 'hcp(north)>=15'
+    option --sections --section --tables --rounds => \
+        every section can play the same file of boards; for other boards draw a seed for each
+    option --shuffle => every deal is shuffled: without --where all of them are kept
     option --quiet --silent -q => \
         write --progress never; nothing else is said unless something fails
     option --verbose -v => write --report, or --progress always
@@ -50,8 +64,10 @@ const ROWS: &str = "
     first -v -version --ver => write deals --version
     first -help --usage -? => write deals --help, or deals make --help
 
-    command deal deals generate gen create new run boards hands shuffle write print lesson => \
+    command deal deals generate gen create new run boards hands shuffle write print => \
         write deals make --seed 7 --boards 36
+    command lesson teach stayman => \
+        deals lessons prints the lessons, and deals make --lesson NAME deals one
     command stats stat statistics average mean frequency probability odds howoften how-often \
         simulate => write deals count --seed 7 --candidates 100000 --of 'hcp(north)'
     command search filter list where => \
@@ -60,7 +76,8 @@ const ROWS: &str = "
     command tricks solve par => deals-tricks is a program of its own: deals-tricks < boards.pbn
     command language syntax => write deals conditions
     command version => write deals --version
-    command usage man examples ? => write deals --help, or deals make --help
+    command usage man ? => write deals --help, or deals make --help
+    command examples example => deals conditions has examples, and deals make --help commands
 
     word pbn hands lin html json pdf => \
         boards are PBN, or what --format says: --format hands, lin, html, sheet or json
@@ -72,13 +89,17 @@ pub(crate) fn of(alloc: Global, kind: &str, word: &str) -> Option<&'static str> 
     find_small(alloc, ROWS, kind, word)
 }
 
-/// What to write in the place of a word that belongs to no option.
-pub(crate) fn of_word(word: &str) -> &'static str {
+/// What to write in the place of a word that belongs to no option of this command.
+pub(crate) fn of_word(command: &str, word: &str) -> &'static str {
     if word.contains('(') || word.contains(">=") {
         return BY_WHERE;
     }
     if word.parse::<u64>().is_ok() {
-        return HOW_MANY;
+        return if command == "pick" {
+            NUMBERS_OF_PICK
+        } else {
+            HOW_MANY
+        };
     }
     find(ROWS, "word", word).unwrap_or(BEHIND_OPTIONS)
 }

@@ -90,7 +90,7 @@ fn of_argument(alloc: Global, words: &[String], command: &str, word: &str) -> Op
     if is_behind_tricks(words, word) {
         return joined(alloc, &["the lines come from its input: --tricks < ", word]);
     }
-    joined(alloc, &[instead::of_word(word)])
+    joined(alloc, &[instead::of_word(command, word)])
 }
 
 /// Whether the word is after the flag `--tricks`, as if that took a file.

@@ -39,8 +39,9 @@ const NUMBER: Takes = Takes::Number {
     most: 1099511627776,
 };
 
-static OPTIONS: [Known; 27] = [
+static OPTIONS: [Known; 28] = [
     known! { "--seed" "-s" SEED, "7" },
+    known! { "--lesson" "" Takes::Choice, "stayman" },
     known! { "--where" "-w" Takes::Text, "'hcp(north)>=15'" },
     known! { "--boards" "-n" SEED, "36" },
     known! { "--candidates" "" NUMBER, "100000" },

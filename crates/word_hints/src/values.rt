@@ -17,7 +17,7 @@ const SPELLINGS: &str = "
     --format pbn .pbn => pbn
     --format hands hand records text txt plain print => hands
     --format lin bbo .lin => lin
-    --format html htm page web pdf => html
+    --format html htm page web => html
     --format json jsonl ndjson => json
     --progress always yes on true 1 => always
     --progress never no off false 0 none => never
@@ -48,6 +48,8 @@ const WISHES: &str = "
         the dealer
     --vulnerable rotate rotates rotating auto board default standard => \
         without --vulnerable it changes from board to board
+    --format pdf rtf doc docx odt word => \
+        for a page write --format html, and print it from a browser, into a PDF too
     --format dup dlm bri dge rbn machine machines duplimate => \
         dealing machines read PBN: write --format pbn
     --format handout handouts pupil pupils => \
@@ -61,12 +63,17 @@ const WISHES: &str = "
     count pbn lin bbo hands sheet => deals count writes a table of numbers; deals make writes boards
 ";
 
+const ONE_FORMAT: &str = "one format a run: run it again with the same seed for the other";
+
 /// What helps with the value of this option, in any case.
 pub(crate) fn hint(alloc: Global, command: &str, option: &str, word: &str) -> Option<String> {
     let of_count = command == "count" && option == "--format";
     let of = if of_count { command } else { option };
     if let Some(text) = find_small(alloc, WISHES, of, word) {
         return joined(alloc, &[text]);
+    }
+    if option == "--format" && word.contains(',') {
+        return joined(alloc, &[ONE_FORMAT]);
     }
     let value = find_small(alloc, SPELLINGS, of, word)?;
     valued(alloc, "write ", option, value, "")

@@ -55,7 +55,7 @@ function refusal(area, answer) {
   if (answer.mended !== null)
     box.append(button("write " + answer.mend, "mend", () => change(area, answer.mended)));
   if (answer.could.length) {
-    const chips = make("div", "could stand here: ", "chips muted");
+    const chips = make("div", "possible here: ", "chips muted");
     for (const word of answer.could)
       chips.append(button(word, "chip", () => change(area, withWord(area.value, answer, word))));
     box.append(chips);

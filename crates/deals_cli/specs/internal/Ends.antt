@@ -1,11 +1,12 @@
 -- How the parts of a job end.
-use Rattle.std.specs.Prelude.{◌≡◌, ◌⊎◌, ◌+◌, ◌≤◌, nat_lt, if◌then◌else◌, ℕ, length, List, Option, Result, Ok, Err}
+use Rattle.std.specs.Prelude.{◌≡◌, ◌⊎◌, ◌≤◌, ◌<◌, ◌^◌, ℕ, All, length, List, [], Option, Some}
+use Rattle.std.specs.Prelude.{Result, Ok, Err}
 use Rattle.dealrun.specs.Headline.{WritesTextIn}
 use Rattle.dealrun.specs.Interrupted.{FaultsAfter}
 use Rattle.plans.specs.declared.cause.Cause.{Cause}
 use Rattle.plans.specs.declared.cause.Cause.TheVariants.{Memory, Output, Spawn, Stopped, Unclosed}
 use Rattle.boards.specs.Layouts.{Layout}
-use Rattle.notations.specs.Formats.{layout_showing, layout_with}
+use Rattle.notations.specs.Formats.{layout_showing}
 use Rattle.plans.specs.Plans.{Planned}
 use Rattle.plans.specs.Text.{accepted, end_of, text_in}
 use Rattle.jobs.specs.Makings.{AreWorkers, plan_of}
@@ -13,12 +14,10 @@ use Rattle.request_types.specs.Requests.{Look, Search}
 use Rattle.cond_lang.specs.Form.{Form}
 use Rattle.plans.specs.declared.refusal.RefusedLine.{RefusedLine}
 use Rattle.deals_cli.specs.Wishes.{IsDrawn, seed_text}
-use Rattle.deals_cli.specs.WithTricks.{BreaksTold, FailsTold, StopsAtLine, WritesTold, line_fault}
-use Rattle.deals_cli.specs.WithTricks.{plan_told}
-use Rattle.picking.specs.declared.tricks_lines.LinesEnd.{LinesEnd}
-use Rattle.picking.specs.declared.tricks_lines.LinesEnd.TheVariants.{Enough, Failed, Missing, Refused}
+use Rattle.deals_cli.specs.WithTricks.{BreaksTold, FailsTold, StopsAtLine, WritesTold}
+use Rattle.deals_cli.specs.declared.tricks_job.FoundNumbers.{FoundNumbers}
+use Rattle.notations.specs.Numbers.{numbers}
 use Rattle.request_types.specs.declared.workers.Workers.{Workers}
-use Rattle.boards.specs.TricksLines.{TricksView}
 use Rattle.picking.specs.FourBytes.{EndsBefore}
 use Rattle.picking.specs.Outcomes.{Picks}
 use Rattle.picking.specs.declared.fault.PickFault.{PickFault}
@@ -73,28 +72,31 @@ abbrev pub IsWorked : Planned → Workers → Planned → Type 0
 IsWorked plan asked worked =
     (workers : ℕ) × AreWorkers asked workers × (worked ≡ record plan { workers = workers })
 
--- a run over boards with tricks wrote the text of its plan and was counted, or was interrupted
-abbrev pub layout_by : BoardsJob → List TricksView → Layout
-layout_by job table =
-    layout_with job.format job.show job.plan.heading job.plan.first_board table
+-- a run found the numbers of the accepted candidates and was counted, or was interrupted
+pub record Found (plan : Planned) (form : Form) (found : List ℕ) (candidates boards : ℕ)
+    : Type 0 where
+  pub numbers_are : found ≡ accepted plan form
+  pub below : All (λ k. k < 2 ^ 40) found
+  pub few : length found ≤ 2 ^ 40
+  pub candidates_are : candidates ≡ end_of plan form
+  pub boards_are : boards ≡ length (accepted plan form)
+  pub counts : (boards ≤ candidates) × (candidates ≤ plan.count)
 
-pub record WroteTold (job : BoardsJob) (table : List TricksView) (report : Report)
-    (old new : Option (List ℕ)) : Type 0 where
-  pub text : AppendsAll old new
-      (text_in (layout_by job table) (plan_told job.plan (length table)) job.condition)
-  pub format_is : report.format ≡ job.format
-  pub plan_is : report.plan ≡ job.plan
-  pub candidates_are : report.candidates
-      ≡ end_of (plan_told job.plan (length table)) job.condition
-  pub boards_are : report.boards
-      ≡ length (accepted (plan_told job.plan (length table)) job.condition)
+abbrev pub InterruptsFound : Planned → Workers → Form → Cause → Type 0
+InterruptsFound plan asked form cause =
+    (found : List ℕ) × InterruptsWorked numbers plan asked form cause (Some []) (Some found)
 
-abbrev pub EndsTold : BoardsJob → List TricksView → Result Report Cause
-    → (old new : Option (List ℕ)) → Type 0
-EndsTold job table (Ok report) old new = WroteTold job table report old new
-EndsTold job table (Err cause) old new =
-    InterruptsWorked (layout_by job table) (plan_told job.plan (length table)) job.workers
-    job.condition cause old new
+-- the numbers are written to memory
+abbrev pub finding_cause : Cause → Cause
+finding_cause Output = Memory
+finding_cause cause = cause
+
+abbrev pub EndsFinding : Planned → Workers → Form → Result FoundNumbers Cause → Type 0
+EndsFinding plan asked form (Ok f) =
+    Found plan form f.numbers.items f.written.candidates f.written.boards
+EndsFinding plan asked form (Err Memory) = Unit {0}
+EndsFinding plan asked form (Err Output) = ⊥
+EndsFinding plan asked form (Err cause) = InterruptsFound plan asked form cause
 
 -- a run wrote its table, or was interrupted
 abbrev pub EndsCount : {T : Type 0} → CountJob → Result T Cause
@@ -159,27 +161,6 @@ EndsDraw (Err (Interrupted Output)) before after old new =
 EndsDraw (Err Input) before after old new = new ≡ old
 EndsDraw (Err EndOfInput) before after old new = (new ≡ old) × EndsBefore 4 before after
 EndsDraw (Err failure) before after old new = ⊥
-
--- a failure of the input is told before any other but the output's
-abbrev pub unless_failed : LinesEnd → Result Report Failure → Result Report Failure
-unless_failed Failed told = Err Input
-unless_failed Enough told = told
-unless_failed Refused told = told
-unless_failed Missing told = told
-
-abbrev pub by_cause : Cause → LinesEnd → Result Report Failure
-by_cause Output end = Err (Interrupted Output)
-by_cause Memory end = unless_failed end (Err (Interrupted Memory))
-by_cause Spawn end = unless_failed end (Err (Interrupted Spawn))
-by_cause (Stopped worker) end = unless_failed end (Err (Interrupted (Stopped worker)))
-by_cause (Unclosed worker) end = unless_failed end (Err (Interrupted (Unclosed worker)))
-
--- how a run over boards with tricks is told, by why no more lines were read
-abbrev pub told_of : Result Report Cause → LinesEnd → ℕ → Result Report Failure
-told_of (Err cause) end lines = by_cause cause end
-told_of (Ok report) end lines = unless_failed end
-    (if nat_lt lines report.boards
-    then Err (Line (record { line = lines + 1; fault = line_fault end })) else Ok report)
 
 -- a run over boards with tricks ended so, whatever the wish that the job is ready for
 pub record EndsReady (job : BoardsJob) (r : Result Report Failure)

@@ -30,6 +30,9 @@ pub(crate) const RULES: &str = "
     InMeasure ( Seat ^ Relation Number ) => \
         with the bracket before the comparison write: %w0(%b1)%n0%n1
     Can:Close Cannot:And ^ ==|!=|<|<=|>|>=|in|+|and|or => a \")\" is missing before this
+    Can:Close Cannot:And In:cards Ranks ^ 10 => for the ten write \"t\"
+    Can:Close Cannot:And In:cards Ranks ^ Number => \
+        a, k, q, j and t alone are counted: leave \"%n0\" out
     Can:Close Cannot:And In:cards ^ => write all ranks as one word, as in akq
     Can:Close Cannot:And Seat ^ , => name the seat alone, as in %w0(%b1)
 ";

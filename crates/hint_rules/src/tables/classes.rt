@@ -4,6 +4,18 @@ pub(crate) const RULES: &str = "
     Can:SuitClass any|every ^ other => \
         other comes in the brackets of another, as in any suit (len(north,suit)>=5 and any other \
         (len(north,other)>=5))
+    any|every ^ suits => write \"%b1 suit\", as in %b1 suit (len(north,suit)>=5)
+    any|every ^ majors => write \"%b1 major\", as in %b1 major (len(north,major)>=5)
+    any|every ^ minors => write \"%b1 minor\", as in %b1 minor (len(north,minor)>=5)
+    any|every ^ seats => write \"%b1 seat\", as in %b1 seat (hcp(seat)>=12)
+    any 2 ^ suits => \
+        for two suits write: any suit (len(north,suit)>=5 and any other (len(north,other)>=5))
+    any ^ two suits => \
+        for two suits write: any suit (len(north,suit)>=5 and any other (len(north,other)>=5))
+    any ^ black => name the suits, as in len(north,spades)>=5 or len(north,clubs)>=5
+    any ^ red => name the suits, as in len(north,hearts)>=5 or len(north,diamonds)>=5
+    every ^ black => name the suits, as in len(north,spades)>=4 and len(north,clubs)>=4
+    every ^ red => name the suits, as in len(north,hearts)>=4 and len(north,diamonds)>=4
     any|every ^ Named:opponent|opponents|opp|opps => \
         for east and west write \"%b1 ew\", as in %b1 ew (hcp(ew)>=12)
     any|every ^ Seat => a seat alone is named in a test, as in hcp(%n0)>=12

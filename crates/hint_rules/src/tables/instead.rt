@@ -22,9 +22,21 @@ pub(crate) const RULES: &str = "
     ^ stopper|stop|stopped|guard in|of Suit => for a stopper write \"stops\", as in stops(north,%n2)
     ^ stopper|stoppers|stop|stopped|guard|guards => \
         for a stopper write \"stops\", as in stops(north,spades)
+    ^ Named:zar|zars|zarpoints => \
+        for Zar points write: \
+        hcp(%u2)+controls(%u2)+2*longest(%u2)+second(%u2)>=26+shortest(%u2)
+    ^ Named:dp|dpts|tp|totalpoints ( => \
+        points for length aren't counted: add lengths up, as in \
+        hcp(%u2)+longest(%u2)+second(%u2)>=20
+    ^ Named:lott|ltt => \
+        for a law of total tricks ask for fits, as in any suit (len(north,suit)+len(south,suit)>=9)
+    ^ Named:cccc|knr|kr|kaplan => \
+        this count isn't there: weigh honours, as in 3*cards(%u2,a)+2*cards(%u2,k)+cards(%u2,q)>=9
     ^ quicktricks|quicktrick|quick => \
         quick tricks aren't counted: for an ace 2 and a king 1 write controls, as in \
         controls(north)>=3
+    ^ tricks ( => \
+        tricks are counted of whole boards: deals make .. | deals-tricks --makes 4S-NS
     ^ tricks => for eight tricks ask for few losers, as in losers(north)<=5
     ^ fit => for a fit add lengths up, as in len(north,spades)+len(south,spades)
     ^ Named:PEOPLE => name the seat: north, east, south or west

@@ -2,6 +2,8 @@
 
 pub(crate) const RULES: &str = "
     Can:Number and|or|not ^ Nothing => a test is missing after \"%b1\", such as balanced(north)
+    Can:Number and ^ and => write \"and\" once
+    Can:Number or ^ or => write \"or\" once
     Can:Number and|or ^ and|or => leave out \"%b1\" or \"%n0\"
     Can:Number Nothing ^ and|or => begin with a test: leave out \"%n0\"
     Can:Number Relation Number or ^ Suit Relation Number => \
@@ -11,6 +13,9 @@ pub(crate) const RULES: &str = "
     Can:Number ^ <> => for \"<>\" write \"!=\"
     Can:Number < ^ > => for \"<>\" write \"!=\"
     Can:Number ^ Relation => a value is missing before this sign, as in hcp(north)>=15
+    Can:Number ^ qt ( => \
+        quick tricks aren't counted: for an ace 2 and a king 1 write controls, as in \
+        controls(north)>=3
     Can:Number ^ Ranks => for cards of a rank write \"cards(north,%n0)\"
 
     Can:Relation |( Digits:4 ^ |) => for lengths in any order write: pattern(north,%d1)
@@ -27,6 +32,8 @@ pub(crate) const RULES: &str = "
         together that is %v1+%n1(%n3,%n5)%n7%n8; for each write: %v1%n7%n8 and %n1(%n3,%n5)%n7%n8
     Can:Relation Call ^ or Measure ( Seat ) Relation Number => \
         to compare each write: %v1%n5%n6 or %n1(%n3)%n5%n6
+    Can:Relation Number ^ Measure ( Seat ) Amount => write \"%b1*%n0(%n2)\"
+    Can:Relation Number ^ Measure ( Seat ) + => write \"%b1*%n0(%n2)\"
     Can:Relation STARTS Number ^ => say of what, as in hcp(north)>=%b1
     Can:Relation Value ^ => compare it, as in %v1%c1
 

@@ -1,6 +1,14 @@
 //! Letters that aren't small, and letters where lengths or ranks are wanted.
 
 pub(crate) const RULES: &str = "
+    In:cards Seat , ^ Named:as|ks|qs|js|ts => \
+        name the suit before the rank, as in cards(%b2,spades,a)
+    In:cards Seat , ^ Named:ah|kh|qh|jh|th => \
+        name the suit before the rank, as in cards(%b2,hearts,a)
+    In:cards Seat , ^ Named:ad|kd|qd|jd|td => \
+        name the suit before the rank, as in cards(%b2,diamonds,a)
+    In:cards Seat , ^ Named:ac|kc|qc|jc|tc => \
+        name the suit before the rank, as in cards(%b2,clubs,a)
     In:cards Except:( ^ CapitalRanks => in small letters write \"%m0\"
     ^ CapitalWord => in small letters write \"%m0\"
     In:shape|pattern Except:( ^ Named:order|orders => \

@@ -7,6 +7,8 @@ pub(crate) const RULES: &str = "
     Value ^ Number + NoValue => for %n0 or more write: %v1>=%n0
     STARTS Number Suffix:+ Measure ( Seat ) ^ ENDS => for %b6 or more write: %b4(%b2)>=%b6
     STARTS Number Suffix:+ Measure ( Seat , Any ) ^ ENDS => for %b8 or more write: %b6(%b4,%b2)>=%b8
+    in Number - ^ Nothing => \
+        a range has two ends, as in hcp(north) in 12-15; for %b2 or less write: %v4<=%b2
     in|==|<=|< Number - ^ NoValue => for %b2 or less write: %v4<=%b2
     in|==|<=|< Number ^ - NoValue => for %b1 or less write: %v3<=%b1
     ^ = Number - NoValue => for %n1 or less write: %v1<=%n1

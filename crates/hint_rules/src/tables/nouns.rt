@@ -30,6 +30,12 @@ pub(crate) const RULES: &str = "
         for a suit's length write len, as in len(north,clubs)
     ^ Named:average|avg|mean|frequency|count|probability => \
         to count deals, or for an average: deals count --of
+    NotInCall ^ xor => \
+        for one of two alone write both ways, as in balanced(north) and not balanced(south) or not \
+        balanced(north) and balanced(south)
+    NotInCall ^ if => \
+        for a test that counts only then write \"not\" and \"or\", as in not balanced(north) or \
+        hcp(north)>=12
     or ^ so Nothing => numbers are exact: leave \"or so\" out
     InCall ( ^ Named:all|everyone|everybody|anyone|anybody|someone|somebody|any => \
         name the seat: north, east, south or west

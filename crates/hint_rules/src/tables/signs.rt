@@ -33,6 +33,11 @@ pub(crate) const RULES: &str = "
     ^ Begins:\u{A0} => for this sign write \" \"
     ^ Begins:QUOTES => in the shell write plain quotes, ' or \", around the whole condition
 
+    Call ^ / Number Relation Number => there is no \"/\": compare with %n1 times that number
+    ^ / Number => there is no \"/\": multiply the other side, as in 2*hcp(north)>=hcp(south)
+    ^ ? => \
+        for one test or another write both, as in balanced(north) and hcp(north)>=15 or not \
+        balanced(north) and hcp(north)>=12
     Seat ^ . => begin with what you ask of the seat, as in hcp(%b1)
     ^ / / => for a comment write \"#\"
     ^ \"|'|` => leave the quotes out

@@ -1,6 +1,15 @@
 //! Several suits where one is wanted, and a class of suits outside of any and every.
 
 pub(crate) const RULES: &str = "
+    longest|second|shortest ( Seat ) ==|!= ^ Suit => for this write: len(%b3,%n0)%b1%b5(%b3)
+    longest|second|shortest ( Seat ) ^ = Suit => for this write: len(%b2,%n1)==%b4(%b2)
+    longest|second|shortest ( Seat ) ^ is Suit => for this write: len(%b2,%n1)==%b4(%b2)
+    InMeasure NotIn:OTHERS Seat , Suit ^ , Suit ) => \
+        for both together write \"%w0(%b3,%b1)+%w0(%b3,%n1)\", for each a test of its own
+    In:stops Seat , Suit ^ , Suit ) => \
+        with one suit in each test write: stops(%b3,%b1) and stops(%b3,%n1)
+    InMeasure NotIn:OTHERS Seat , ^ all|each|every other|others => \
+        in the brackets of any suit write \"every other (%w0(%b2,other)%x3)\"
     Can:MajorClass Seat , ^ suit|suits => in these brackets write \"major\"
     Can:MinorClass Seat , ^ suit|suits => in these brackets write \"minor\"
     InMeasure NotIn:OTHERS Seat , ^ suit|major|minor ) <|<= => \
@@ -45,6 +54,8 @@ pub(crate) const RULES: &str = "
     InMeasure NotIn:longest|second|shortest Seat , Suit ^ JOINED Suit => \
         name one suit, and join two tests with \"or\"
     InMeasure ( Seat ^ Suit ) => with a comma write \"%w0(%b1,%n0)\"
+    Can:Suit InMeasure Seat , ^ other|others => \
+        other comes in the brackets of any other, as in any other (len(%b2,other)>=4)
     InCall ^ suit|suits|major|majors|minor|minors|other|others => \
         a class stands in the brackets of any or every, as in any suit (len(north,suit)>=5)
 ";

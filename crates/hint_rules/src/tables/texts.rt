@@ -1,13 +1,18 @@
 //! Texts that are no condition at all: nothing, what looks like a file's name, a call for help.
 
 pub(crate) const RULES: &str = "
-    Nothing ^ Nothing => for 15 points or more with North write: hcp(north)>=15
+    Nothing ^ Nothing => \
+        there is no condition here (is a file missing?); for 15 points or more with North write: \
+        hcp(north)>=15
     Nothing ^ @ => the condition itself stands here; from a file: --where \"$(cat FILE)\"
     Nothing ^ /|.|~ .|/ => the condition itself stands here; from a file: --where \"$(cat FILE)\"
     Nothing ^ /|\\ Word => the condition itself stands here; from a file: --where \"$(cat FILE)\"
     Nothing ^ Word .|/|\\ => the condition itself stands here; from a file: --where \"$(cat FILE)\"
     ^ Begins:\u{FEFF} => a byte order mark stands here: leave it out
     Nothing ^ help|usage => all that a condition can say: deals conditions
+    Nothing x ^ =|: => tests have no names: in place of a name write the test itself
+    Nothing hcp|controls|losers|longest|second|shortest ^ Nothing => \
+        say whose, in quotes, as in '%b1(north)': the shell takes ( and > for itself
     Nothing ^ condition|where|if Nothing => write the condition alone, as in hcp(north)>=15
     Nothing ^ condition|where|if => leave out \"%n0\", and write the condition alone
     Nothing any ^ Digits:4 + any Digits:4 Nothing => \

@@ -17,46 +17,61 @@ pub returns-then-eq-2 : goal.returns-then-eq-2
 returns-then-eq-2 c words at = at.conditions_too (sym c.if-eq-2.ensures)
 
 pub returns-then-eq-3 : goal.returns-then-eq-3
-returns-then-eq-3 c words at = at.seed_too (sym c.if-eq-3.ensures)
+returns-then-eq-3 c words at = c.lessons_request.ensures words (at.lessons_too (sym c.if-eq-3.ensures))
+
+pub returns-then-eq-4 : goal.returns-then-eq-4
+returns-then-eq-4 c words at = at.seed_too (sym c.if-eq-4.ensures)
 
 pub search_in-search-requires : goal.search_in-search-requires
-search_in-search-requires c = (c.requires.make (sym c.if-eq.ensures) (sym c.if-eq-2.ensures) (sym c.if-eq-3.ensures)).search
+search_in-search-requires c = (c.requires.make (sym c.if-eq.ensures) (sym c.if-eq-2.ensures) (sym c.if-eq-3.ensures) (sym c.if-eq-4.ensures)).search
 
 pub request_by-requires : goal.request_by-requires
-request_by-requires c = (c.requires.make (sym c.if-eq.ensures) (sym c.if-eq-2.ensures) (sym c.if-eq-3.ensures)).first_board
+request_by-requires c = (c.requires.make (sym c.if-eq.ensures) (sym c.if-eq-2.ensures) (sym c.if-eq-3.ensures) (sym c.if-eq-4.ensures)).first_board
 
 pub returns-in-Some : goal.returns-in-Some
 returns-in-Some c words at =
-    let asks = at.make (sym c.if-eq.ensures) (sym c.if-eq-2.ensures) (sym c.if-eq-3.ensures) in
+    let asks = at.make (sym c.if-eq.ensures) (sym c.if-eq-2.ensures) (sym c.if-eq-3.ensures) (sym c.if-eq-4.ensures) in
     let unknown = sym c.unknown_in.ensures ∙ ap is_some c.in-Some.is in
     (λ some. refused_asked words InvalidValue (asks.unknown unknown) some, refused_kind words InvalidValue c.written.result (asks.unknown unknown) (c.written.ensures InvalidValue c.invalid_value.ensures))
 
+pub returns-in-Some-no_lesson_in : goal.returns-in-Some-no_lesson_in
+returns-in-Some-no_lesson_in c words at =
+    let asks = at.make (sym c.if-eq.ensures) (sym c.if-eq-2.ensures) (sym c.if-eq-3.ensures) (sym c.if-eq-4.ensures) in
+    let known = sym c.unknown_in.ensures ∙ ap is_some c.in_default.is in
+    let none = sym c.no_lesson_in.ensures ∙ ap is_some c.in-Some-no_lesson_in.is in (
+      λ some. refused_asked words InvalidValue (asks.no_lesson known none) some,
+      refused_kind words InvalidValue c.written-in-Some-no_lesson_in.result (asks.no_lesson known none) (c.written-in-Some-no_lesson_in.ensures InvalidValue c.invalid_name.ensures),
+    )
+
 pub returns-in-Some-bad_workers_in : goal.returns-in-Some-bad_workers_in
 returns-in-Some-bad_workers_in c words at =
-    let asks = at.make (sym c.if-eq.ensures) (sym c.if-eq-2.ensures) (sym c.if-eq-3.ensures) in
+    let asks = at.make (sym c.if-eq.ensures) (sym c.if-eq-2.ensures) (sym c.if-eq-3.ensures) (sym c.if-eq-4.ensures) in
     let known = sym c.unknown_in.ensures ∙ ap is_some c.in_default.is in
+    let taught = sym c.no_lesson_in.ensures ∙ ap is_some c.in_default-no_lesson_in.is in
     let bad = sym c.bad_workers_in.ensures ∙ ap is_some c.in-Some-bad_workers_in.is in (
-      λ some. refused_asked words ValueValidation (asks.bad_workers known bad) some,
-      refused_kind words ValueValidation c.written-in-Some-bad_workers_in.result (asks.bad_workers known bad) (c.written-in-Some-bad_workers_in.ensures ValueValidation c.invalid_number.ensures),
+      λ some. refused_asked words ValueValidation (asks.bad_workers known taught bad) some,
+      refused_kind words ValueValidation c.written-in-Some-bad_workers_in.result (asks.bad_workers known taught bad) (c.written-in-Some-bad_workers_in.ensures ValueValidation c.invalid_number.ensures),
     )
 
 pub returns-in-Some-missing_of : goal.returns-in-Some-missing_of
 returns-in-Some-missing_of c words at =
-    let asks = at.make (sym c.if-eq.ensures) (sym c.if-eq-2.ensures) (sym c.if-eq-3.ensures) in
+    let asks = at.make (sym c.if-eq.ensures) (sym c.if-eq-2.ensures) (sym c.if-eq-3.ensures) (sym c.if-eq-4.ensures) in
     let known = sym c.unknown_in.ensures ∙ ap is_some c.in_default.is in
+    let taught = sym c.no_lesson_in.ensures ∙ ap is_some c.in_default-no_lesson_in.is in
     let counted = sym c.bad_workers_in.ensures ∙ ap is_some c.in_default-bad_workers_in.is in
     let rows = rows_of (found_of c.args.matches.now) in
     let lacks = ap (λ s. lacks_option c.args.name.now s rows) (sym c.search_in-search.ensures) ∙ sym c.missing_of.ensures ∙ ap is_some c.in-Some-missing_of.is in (
-      λ some. refused_asked words MissingRequiredArgument (asks.missing known counted lacks) some,
-      refused_kind words MissingRequiredArgument c.written-in-Some-missing_of.result (asks.missing known counted lacks) (c.written-in-Some-missing_of.ensures MissingRequiredArgument c.missing_option.ensures),
+      λ some. refused_asked words MissingRequiredArgument (asks.missing known taught counted lacks) some,
+      refused_kind words MissingRequiredArgument c.written-in-Some-missing_of.result (asks.missing known taught counted lacks) (c.written-in-Some-missing_of.ensures MissingRequiredArgument c.missing_option.ensures),
     )
 
 pub returns : goal.returns
 returns c words at =
-    let asks = at.make (sym c.if-eq.ensures) (sym c.if-eq-2.ensures) (sym c.if-eq-3.ensures) in
+    let asks = at.make (sym c.if-eq.ensures) (sym c.if-eq-2.ensures) (sym c.if-eq-3.ensures) (sym c.if-eq-4.ensures) in
     let known = sym c.unknown_in.ensures ∙ ap is_some c.in_default.is in
+    let taught = sym c.no_lesson_in.ensures ∙ ap is_some c.in_default-no_lesson_in.is in
     let counted = sym c.bad_workers_in.ensures ∙ ap is_some c.in_default-bad_workers_in.is in
     let rows = rows_of (found_of c.args.matches.now) in
     let lacks = ap (λ s. lacks_option c.args.name.now s rows) (sym c.search_in-search.ensures) ∙ sym c.missing_of.ensures ∙ ap is_some c.in_default-missing_of.is in
-    asks.ends known counted lacks ∙ ap (λ s. Some (made_by c.args.name.now s rows)) (sym c.search_in-search.ensures)
+    asks.ends known taught counted lacks ∙ ap (λ s. Some (made_by c.args.name.now s rows)) (sym c.search_in-search.ensures)
     ∙ ap (λ (w : Wish). Some w) (sym c.request_by.ensures)

@@ -15,8 +15,8 @@ returns-in-Ok-2-write_with_tricks-clause-serves g c w ready =
     tricks_unreported w c.in-WithTricks.job c.in-Ok-2-write_with_tricks.field-0 (g.I.Source.rest c.args.input.now) (g.I.Source.rest c.write_with_tricks.new.input) (g.O.Sink.bytes c.args.out.now) (g.O.Sink.bytes c.write_with_tricks.new.out)
     here c.in-Ok-2-write_with_tricks.ensures.ends c.if-wants_report.false
 
-pub returns-in-Err-write_with_tricks-clause-serves : goal.returns-in-Err-write_with_tricks-clause-serves
-returns-in-Err-write_with_tricks-clause-serves g c w ready =
+pub returns-in-WithTricks-clause-serves : goal.returns-in-WithTricks-clause-serves
+returns-in-WithTricks-clause-serves g c w ready =
     let here = subst (λ job. IsReady w job) c.in-WithTricks.is ready in
     tricks_fail w c.in-WithTricks.job c.in-Err-write_with_tricks.failure (g.I.Source.rest c.args.input.now) (g.I.Source.rest c.write_with_tricks.new.input) (g.O.Sink.bytes c.args.out.now) (g.O.Sink.bytes c.write_with_tricks.new.out)
     here c.in-Err-write_with_tricks.ensures.ends

@@ -1,13 +1,13 @@
 use Rattle.std.proofs.Common.{◌≡◌, false, rules}
 use Rattle.records.specs.Places.{is_in_tag}
-use Rattle.records.proofs.Steps.{at_end, behind_all}
+use Rattle.records.proofs.Steps.{at_end, after_all}
 use Rattle.records.proofs.reading.Reading.finish.Goals as goal
 
 pub returns-clause-ends : goal.returns-clause-ends
 returns-clause-ends c =
     let s = c.args.self.now in
     let off : is_in_tag s.line.part ≡ false = search rules in
-    behind_all s c.end_game.new.self c.end_game.result off c.end_game.ensures.ends
+    after_all s c.end_game.new.self c.end_game.result off c.end_game.ensures.ends
 
 pub returns-clause-refused : goal.returns-clause-refused
 returns-clause-refused c =

@@ -1,0 +1,16 @@
+use Rattle.std.proofs.Common.{◌≡◌, ◌<◌, ◌∙◌, [], List, ℕ, length, refl, sym, arith, rules, subst}
+use Rattle.std.specs.Prelude.{Err}
+use Rattle.told.specs.Told.{Tells, written_by}
+use Rattle.told.specs.internal.Telling.{ToldLast}
+use Rattle.told.proofs.Steps.{last_ends_at, last_missing}
+use Rattle.told.proofs.teller.end_last.Goals as goal
+
+pub returns-then-others-gt0-clause-ends : goal.returns-then-others-gt0-clause-ends
+returns-then-others-gt0-clause-ends g c plan numbers rest before after_it base count h =
+    let some : 0 < length rest = omega (arith, count, c.if-others-gt0.true) in
+    rw c.refused.ensures (last_missing (written_by c.args.printer.now) plan numbers rest c.args.lines before after_it base (g.S.Sink.bytes c.args.sink.now) some h)
+
+pub returns-clause-ends : goal.returns-clause-ends
+returns-clause-ends g c plan numbers rest before after_it base count h =
+    let none : length rest ≡ 0 = omega (arith, count, c.if-others-gt0.false) in
+    last_ends_at (written_by c.args.printer.now) plan numbers rest before after_it base (g.S.Sink.bytes c.args.sink.now) (g.S.Sink.bytes c.put_end.new.sink) c.args.lines c.put_end.result none h c.put_end.ensures.bytes
