@@ -12,6 +12,7 @@ import report
 import serving
 
 WIDTHS = (360, 768, 1280)
+NARROWEST = 320
 SECONDS = 20
 HERE = pathlib.Path(__file__).resolve().parent
 AUDIT = (HERE / "audit.js").read_text()
@@ -103,6 +104,18 @@ class Window:
         finally:
             self.driver.switch_to.default_content()
 
+    @contextlib.contextmanager
+    def other_tab(self):
+        """The tab that opened just now, which is closed at the end."""
+        self.until(lambda: len(self.driver.window_handles) == 2, "a tab")
+        first, second = self.driver.window_handles
+        self.driver.switch_to.window(second)
+        try:
+            yield
+        finally:
+            self.driver.close()
+            self.driver.switch_to.window(first)
+
     def is_seen(self, css):
         return self.driver.execute_script("return document.querySelector(arguments[0]).checkVisibility()", css)
 
@@ -155,13 +168,9 @@ def sheet(window, desk):
     window.go(desk.address)
     window.write("boards", "4")
     window.press("Sheet with tricks")
-    window.until(lambda: len(window.driver.window_handles) == 2, "a tab")
-    first, second = window.driver.window_handles
-    window.driver.switch_to.window(second)
-    window.until(lambda: "Par" in window.find("body").text, "the sheet")
-    yield "a sheet with par", len(window.all("section.board")) == 4
-    window.driver.close()
-    window.driver.switch_to.window(first)
+    with window.other_tab():
+        window.until(lambda: "Par" in window.find("body").text, "the sheet")
+        yield "a sheet with par", len(window.all("section.board")) == 4
 
 
 def lesson(window, desk):
@@ -183,13 +192,43 @@ def lesson(window, desk):
     yield "its address has all", "where=" in address and window.driver.current_url == address
 
 
+def handout(window, desk):
+    """A handout comes in a tab of its own, with the dealer's hand alone."""
+    window.go(f"{desk.address}/lesson?where=hcp(north)>%3D20&boards=2&seed=7")
+    window.press("Handout")
+    with window.other_tab():
+        window.until(lambda: "Board 2" in window.find("body").text, "the handout")
+        yield "a handout has a hand a board", len(window.all("section.board")) == 2 == window.find("body").text.count("\u2660")
+        yield from fits(window, "a handout")
+
+
+def two_tabs(window, desk):
+    """What another tab does with the night changes nothing in this one."""
+    window.go(desk.address)
+    seed = window.find("[name=seed]").get_attribute("value")
+    window.press("PBN")
+    before = window.downloaded("night.pbn")
+    first = window.driver.current_window_handle
+    window.driver.switch_to.new_window("tab")
+    window.go(desk.address)
+    yield "tabs: the same night", window.find("[name=seed]").get_attribute("value") == seed
+    window.write("event", "Second tab")
+    window.press("More boards")
+    window.until(lambda: window.find("[name=seed]").get_attribute("value") != seed, "another seed")
+    window.press("PBN")
+    yield "tabs: more boards", b"Second tab" in window.downloaded("night.pbn")
+    window.driver.close()
+    window.driver.switch_to.window(first)
+    window.press("PBN")
+    yield "tabs: the first's boards", window.downloaded("night.pbn") == before != b""
+
+
 def mistake(window, desk):
     window.go(f"{desk.address}/lesson")
     window.write("where", "hcp(nord) in 15-17")
     window.until(lambda: window.find(".refusal .mend").is_displayed(), "the refusal")
     yield from fits(window, "a mistake")
     yield "the fault is marked", window.find(".marks mark").get_attribute("textContent") == "nord"
-    yield "what could be there", True
     window.find(".refusal .mend").click()
     yield "it is mended", window.find("[name=where]").get_attribute("value") == "hcp(north) in 15-17"
     window.until(lambda: "One deal in" in window.find("[data-rarity]").text, "how rare they are")
@@ -282,11 +321,21 @@ def by_keyboard(window, desk):
     window.until(lambda: "Stopped" in window.find("[role=status]").text, "the end")
 
 
-WAYS = (tonight, sheet, lesson, mistake, hands, counted, searched, contracts, by_keyboard)
+WAYS = (tonight, sheet, lesson, handout, two_tabs, mistake, hands, counted, searched, contracts, by_keyboard)
 
 
 # The ways that need no scripts; a mistake is told without them too, when the form is sent.
-PLAIN = (tonight, sheet, lesson, hands, counted, searched, contracts, by_keyboard)
+PLAIN = (tonight, sheet, lesson, handout, two_tabs, hands, counted, searched, contracts, by_keyboard)
+
+
+def dark(window, desk):
+    """Each page fits the narrowest window, and can be read with dark colours."""
+    window.driver.execute_cdp_cmd(
+        "Emulation.setEmulatedMedia", {"features": [{"name": "prefers-color-scheme", "value": "dark"}]}
+    )
+    for path in ("/", "/lesson?where=hcp(nord)>3&boards=1&seed=7", "/count?of=hcp(north)", "/search?where=hcp(north)>30", "/help"):
+        window.go(desk.address + path)
+        yield from fits(window, f"dark, {path}")
 
 
 def plain_mistake(window, desk):
@@ -322,4 +371,5 @@ def ways():
     with serving.desk() as desk:
         for width in WIDTHS:
             yield from report.judged(gone(WAYS, width, desk))
+        yield from report.judged(gone([dark], NARROWEST, desk))
         yield from report.judged(gone([*PLAIN, plain_mistake], 1280, desk, has_scripts=False))

@@ -76,11 +76,11 @@ class Desk:
 
 
 @contextlib.contextmanager
-def desk(*words, program=DESK):
-    """A server, which ends at the end."""
+def desk(*words, program=DESK, before=()):
+    """A server, which ends at the end. `before` are words before its own, as of taskset."""
     settings = {**os.environ, "DEALS": str(harness.PROGRAM), "DEALS_TRICKS": str(TRICKS)}
     process = subprocess.Popen(
-        [PYTHON, program, "--port", "0", "--no-browser", *words], env=settings, stderr=subprocess.PIPE, text=True
+        [*before, PYTHON, program, "--port", "0", "--no-browser", *words], env=settings, stderr=subprocess.PIPE, text=True
     )
     try:
         line = process.stderr.readline()
