@@ -40,9 +40,9 @@ pub(crate) fn put_header(text: &mut TextBuffer, look: Look, heading: &Heading)
 
 /// Appends the style of a page that looks so and has this title.
 fn put_look(text: &mut TextBuffer, look: Look, title: &[u8])
-    requires { length text.old + 1_810 + 4 * length title.now ≤ CAPACITY }
+    requires { length text.old + 1_820 + 4 * length title.now ≤ CAPACITY }
     ensures text { text.new ≡ text.old ++ style_of look title.now }
-    ensures most { length text.new ≤ length text.old + 1_810 + 4 * length title.now }
+    ensures most { length text.new ≤ length text.old + 1_820 + 4 * length title.now }
 {
     match look {
         Look::Plain => put_style(text, title),
@@ -56,7 +56,7 @@ fn put_look(text: &mut TextBuffer, look: Look, title: &[u8])
 fn put_opening(text: &mut TextBuffer)
     requires { text.old ≡ [] }
     ensures text { text.new ≡ opening }
-    ensures most { length text.new ≤ 200 }
+    ensures most { length text.new ≤ 134 }
 {
     text.put(b"<!DOCTYPE html>\n<html lang=\"en\">\n<head>\n<meta charset=\"utf-8\">\n");
     text.put(b"<meta name=\"viewport\" content=\"width=device-width, initial-scale=1\">\n");
