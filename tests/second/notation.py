@@ -12,6 +12,7 @@ import model
 HERE = pathlib.Path(__file__).resolve().parent
 DOCS = HERE.parent.parent / "docs"
 STYLES = HERE / "styles"
+PAGES = ("html", "sheet", "slips")
 
 SEATS = ["North", "East", "South", "West"]
 SIGNS = "♠♥♦♣"
@@ -160,9 +161,18 @@ def small_section(number, dealer, sides, hands, tricks):
     return "".join(line + "\n" for line in [*lines, *table(tricks), "</section>"])
 
 
+def slips(number, dealer, sides, hands, _tricks):
+    """The sections of a board's slips, one for each hand that is shown."""
+    return "".join(
+        f'<section class="slip">\n<h2>{number} {seat}</h2>\n<p>Dealer {SEATS[dealer]}<br>Vul {sides}</p>\n<div>{held(hand)}</div>\n</section>\n'
+        for seat, hand in zip(SEATS, hands)
+        if hand is not None
+    )
+
+
 def styled(form, with_tricks):
     """The style of a page without labels."""
-    name = "sheet" if form == "sheet" else "tricks" if with_tricks else "page"
+    name = form if form != "html" else "tricks" if with_tricks else "page"
     return (STYLES / f"{name}.css").read_text()
 
 
@@ -183,7 +193,7 @@ def header(form, labels, with_tricks=False):
         return "% PBN 2.1\n"
     if form == "hands" and labels:
         return "".join(value + "\n" for _, value in labels) + "\n"
-    return frame(0, labels, form, with_tricks) if form in ("html", "sheet") else ""
+    return frame(0, labels, form, with_tricks) if form in PAGES else ""
 
 
 def text(seed, count, form="pbn", dealer=None, sides=None, rotate=False, accepts=None, first=0, first_board=1,
@@ -208,9 +218,9 @@ def text(seed, count, form="pbn", dealer=None, sides=None, rotate=False, accepts
         elif form == "json":
             parts.append(json_line(number, by, vulnerable, dealt, tricks, candidate))
         else:
-            write = {"hands": record, "lin": line, "html": section, "sheet": small_section}[form]
+            write = {"hands": record, "lin": line, "html": section, "sheet": small_section, "slips": slips}[form]
             parts.append(write(number, by, vulnerable, dealt, tricks))
         number += 1
-    if form in ("html", "sheet"):
+    if form in PAGES:
         parts.append(frame(1, ()))
     return "".join(parts).encode()

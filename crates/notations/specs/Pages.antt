@@ -217,7 +217,7 @@ abbrev pub tricks_text : TricksView → List ℕ
 tricks_text tricks =
     table_text tricks.digits
     ++ if_given (codes "<p class=\"par\">Par ") (marked_par tricks.score tricks.contract)
-        (codes "</p>\n")
+    (codes "</p>\n")
 
 -- ---- a board's section
 

@@ -8,6 +8,7 @@ ghost use Rattle.notations.specs.internal.Looks.{style_of};
 
 use crate::page::style::{put_style, put_style_with_tricks};
 use crate::sheet::put_sheet_style;
+use crate::slips::put_slip_style;
 use boards::{Date, Heading, Label, TextBuffer};
 
 /// How a page looks.
@@ -19,6 +20,8 @@ pub(crate) enum Look {
     Tricks,
     /// A sheet, with or without tricks.
     Sheet,
+    /// Slips.
+    Slips,
 }
 
 /// Writes the header into the empty buffer.
@@ -48,6 +51,7 @@ fn put_look(text: &mut TextBuffer, look: Look, title: &[u8])
         Look::Plain => put_style(text, title),
         Look::Tricks => put_style_with_tricks(text, title),
         Look::Sheet => put_sheet_style(text, title),
+        Look::Slips => put_slip_style(text, title),
     }
 }
 
