@@ -22,6 +22,8 @@ TABLE = {
     "lin": Format(rb"qx\|", b"\n"),
     "html": SECTION,
     "sheet": SECTION,
+    # A board has a slip for each hand.
+    "slips": Format(rb'<section class="slip">\n<h2>\d+ North', b"</section>\n"),
     "json": Format(rb'\{"board":', b"\n"),
 }
 FORMATS = tuple(TABLE)

@@ -16,7 +16,7 @@ import sheets
 import solver
 import viewer
 
-QUICK = [pages.checked, sheets.checked, solver.turned]
+QUICK = [pages.checked, sheets.checked, sheets.crowded, solver.turned]
 SLOW = [pages.shown, pages.printed, sheets.shown, sheets.printed, viewer.opened]
 
 

@@ -1,5 +1,6 @@
 """Sheets of `make --format sheet`, in a checker of HTML, in a browser, and on paper."""
 
+import random
 import re
 import subprocess
 
@@ -21,6 +22,22 @@ def tricks(count):
         west = [made - (made > 0 and board % 5 == 0) for made in theirs]
         digits = "".join(f"{made:x}" for made in (*ours, *south, *theirs, *west))
         lines.append(digits + ("", " NS 450", " EW 1430 6SX-E=,7NX-EW-2")[board % 3])
+    return "".join(line + "\n" for line in lines).encode()
+
+
+# How many random boards are measured, and pars that take much room and little.
+MANY = 200
+PARS = ("", " NS 0 pass", " NS 450 4H-NS+1", " EW 1430 6NT-E", " NS 300 4H*-EW-2,4S*-EW-2", " EW 1400 7NT*-NS-5,7S*-NS-5")
+
+
+def random_tricks(count):
+    """A line of tricks for each board, with numbers of one and two digits, and partners who make the same or don't."""
+    drawn = random.Random(20261129)
+    lines = []
+    for _ in range(count):
+        north, east = ([drawn.randrange(14) for _ in range(5)] for _ in "NE")
+        south, west = (drawn.choice([five, five[::-1]]) for five in (north, east))
+        lines.append("".join(f"{made:x}" for made in (*north, *south, *east, *west)) + drawn.choice(PARS))
     return "".join(line + "\n" for line in lines).encode()
 
 
@@ -74,6 +91,35 @@ def shown(make, folder):
         yield f"picture, sheet, {name}", None if picture.stat().st_size > 10_000 else "empty"
 
 
+def on_paper(text):
+    """A page that a screen shows as paper does."""
+    return text.replace(b"@media print{", b"@media all{")
+
+
+# How wide paper is between the margins of A4, in pixels, and how high a board may be there: eight and eighteen on a
+# sheet of Letter, which is the lowest.
+WIDE = 733
+LOOKS = {"page": (["--format", "html"], 226), "sheet": (["--format", "sheet"], 160), "handout": (["--format", "html", "--show", "dealer"], 226)}
+
+
+def crowded(make, folder):
+    """Of many boards nothing is cut or lies over something else, on a phone, a wide screen and paper; contracts of par
+    are broken nowhere."""
+    packages.need("chromium", "chromium")
+    for name, (words, height) in LOOKS.items():
+        tricks_too = ["--tricks"] if name != "handout" else []
+        words = ["--seed", "20261129", "--candidates", str(MANY), *words, *tricks_too]
+        text = make(*words, lines=random_tricks(MANY) if tricks_too else b"")
+        for screen, width, shown_text in (("phone", 360, text), ("desktop", 1280, text), ("paper", WIDE, on_paper(text))):
+            file = folder / "crowded.html"
+            file.write_bytes(shown_text)
+            found = pages.measured(folder, file, width)
+            faults = [fault for fault in ("cut", "overflows", "crowded", "broken") if found[fault]]
+            if screen == "paper" and found["tallest"] > height:
+                faults.append(f"a board of {found['tallest']} pixels")
+            yield f"many boards, {name}, {screen}", "; ".join(f"{fault}: {found.get(fault)}" for fault in faults) or None
+
+
 def faults_on_paper(pdf):
     """What is wrong with the sheets of 27 boards: 18 and 9, each whole, with the event, the number and letters of 8
     points."""
@@ -82,8 +128,8 @@ def faults_on_paper(pdf):
         yield f"{len(sheets)} sheets"
     for number, (text, boards) in enumerate(zip(sheets, (18, 9)), 1):
         parts = [len(re.findall(part, text)) for part in (r"Dealer\s", r"Vul\s", "♠", "♥", "♦", "♣")]
-        # Four hands and the head of the table of tricks.
-        if parts != [boards] * 2 + [5 * boards] * 4:
+        # Four hands, the head of the table of tricks, and six spades as par of each third board.
+        if parts != [boards] * 2 + [5 * boards + boards // 3] + [5 * boards] * 3:
             yield f"sheet {number} has {parts}"
         if "Pairs & <Teams>, Riverside Bridge Club, 2026.11.25" not in text.replace("\n", " "):
             yield f"sheet {number} without its title"

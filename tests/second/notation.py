@@ -9,7 +9,10 @@ import re
 
 import model
 
-DOCS = pathlib.Path(__file__).resolve().parent.parent.parent / "docs"
+HERE = pathlib.Path(__file__).resolve().parent
+DOCS = HERE.parent.parent / "docs"
+STYLES = HERE / "styles"
+PAGES = ("html", "sheet", "slips")
 
 SEATS = ["North", "East", "South", "West"]
 SIGNS = "♠♥♦♣"
@@ -111,6 +114,18 @@ def held(hand):
     return "<br>".join(sign + (suit or "–") for sign, suit in zip(PAGE_SIGNS, model.spelled(hand).split(".")))
 
 
+def marked(contracts):
+    """Contracts of par with signs: a denomination comes before the first hyphen, and what follows the second is a result."""
+    if not contracts:
+        return ""
+    told = []
+    for contract in contracts.split(","):
+        bid, *rest = contract.split("-", 1)
+        bid = re.sub("[SHDC]", lambda suit: PAGE_SIGNS["SHDC".index(suit[0])], bid)
+        told.append("-".join([bid, *(part.replace("-", "−") for part in rest)]).replace("*", "×"))
+    return " <span>" + ",</span><span>".join(told) + "</span>"
+
+
 def table(tricks):
     """The lines of a page's table of tricks, and of par."""
     lines = []
@@ -122,7 +137,7 @@ def table(tricks):
             for who, five in [(one[0] + other[0], one[1])] if alike else (one, other):
                 lines.append(f"<tr><th>{who}</th>" + "".join(f"<td>{count}</td>" for count in five) + "</tr>")
         lines.append("</table>")
-    return lines + ([f'<p class="par">Par {par(tricks)}</p>'] if tricks[1] else [])
+    return lines + ([f'<p class="par">Par {tricks[1]}{marked(tricks[2])}</p>'] if tricks[1] else [])
 
 
 def section(number, dealer, sides, hands, tricks):
@@ -146,17 +161,26 @@ def small_section(number, dealer, sides, hands, tricks):
     return "".join(line + "\n" for line in [*lines, *table(tricks), "</section>"])
 
 
+def slips(number, dealer, sides, hands, _tricks):
+    """The sections of a board's slips, one for each hand that is shown."""
+    return "".join(
+        f'<section class="slip">\n<h2>{number} {seat}</h2>\n<p>Dealer {SEATS[dealer]}<br>Vul {sides}</p>\n<div>{held(hand)}</div>\n</section>\n'
+        for seat, hand in zip(SEATS, hands)
+        if hand is not None
+    )
+
+
+def styled(form, with_tricks):
+    """The style of a page without labels."""
+    name = form if form != "html" else "tricks" if with_tricks else "page"
+    return (STYLES / f"{name}.css").read_text()
+
+
 def frame(part, labels, form="html", with_tricks=False):
-    """The header of a page, part 0, or its footer, part 1: as docs/FORMATS.md has it, under these labels. The sheet has
-    its own style, and the page more of it with tricks."""
+    """The header of a page, part 0, or its footer, part 1: as docs/FORMATS.md has it, under these labels."""
     page = (DOCS / "FORMATS.md").read_text()
     text = re.findall(r"^```html\n(.*?)^```$", page, re.M | re.S)[part]
-    sheet, more = re.findall(r"^```css\n(.*?)^```$", page, re.M | re.S)
-    before, _, after = text.partition("</style>\n")
-    if form == "sheet" and after:
-        text = before[: before.index("<style>\n") + 8] + sheet + "</style>\n" + after
-    elif with_tricks and after:
-        text = before + more + "</style>\n" + after
+    text = text.replace("<style>\n..\n", "<style>\n" + styled(form, with_tricks))
     title = ", ".join(value for _, value in labels if value.strip(" ")) or "Boards"
     escaped = html.escape(title, quote=False)
     first, *rest = text.split("Boards")
@@ -169,7 +193,7 @@ def header(form, labels, with_tricks=False):
         return "% PBN 2.1\n"
     if form == "hands" and labels:
         return "".join(value + "\n" for _, value in labels) + "\n"
-    return frame(0, labels, form, with_tricks) if form in ("html", "sheet") else ""
+    return frame(0, labels, form, with_tricks) if form in PAGES else ""
 
 
 def text(seed, count, form="pbn", dealer=None, sides=None, rotate=False, accepts=None, first=0, first_board=1,
@@ -194,9 +218,9 @@ def text(seed, count, form="pbn", dealer=None, sides=None, rotate=False, accepts
         elif form == "json":
             parts.append(json_line(number, by, vulnerable, dealt, tricks, candidate))
         else:
-            write = {"hands": record, "lin": line, "html": section, "sheet": small_section}[form]
+            write = {"hands": record, "lin": line, "html": section, "sheet": small_section, "slips": slips}[form]
             parts.append(write(number, by, vulnerable, dealt, tricks))
         number += 1
-    if form in ("html", "sheet"):
+    if form in PAGES:
         parts.append(frame(1, ()))
     return "".join(parts).encode()

@@ -10,13 +10,15 @@ import subprocess
 import formats
 import harness
 import notation
+import report
 
 HAND = r"[AKQJT2-9.]{16}"
 LINE = re.compile(
     r"(?P<tricks>-|[0-9a-dA-D]{20}(?: (?:NS|EW) [0-9]{1,4}(?: [A-Za-z0-9+*=,/-]{1,24})?)?)"
     rf"(?: (?P<deal>N:{HAND} {HAND} {HAND} {HAND}))?"
 )
-CASES = 400
+# In the gate, and by hand.
+CASES, MANY = 400, 2000
 
 
 def lines_of(text):
@@ -64,16 +66,16 @@ def random_text(rng, deals, others):
 def cases():
     """The words, the lines, and what has to be written and said."""
     rng = random.Random(15)
-    for _ in range(CASES):
+    for _ in range(MANY if report.has("many") else CASES):
         seed, count, rotate = rng.randrange(9), rng.randrange(5), rng.random() < 0.5
-        form, show = rng.choice(["json", "pbn", "hands", "html", "sheet"]), rng.choice(["all", "all", "north", "dealer"])
+        form, show = rng.choice(["json", "pbn", "hands", *notation.PAGES]), rng.choice(["all", "all", "north", "dealer"])
         boards = notation.text(seed, count, "json", rotate=rotate).decode().splitlines()
         deals = [json.loads(board)["deal"] for board in boards]
         others = [json.loads(board)["deal"] for board in notation.text(seed + 1, 5, "json").decode().splitlines()]
         text = random_text(rng, deals, others)
         tricks, refused = told(text, deals)
         wanted = notation.text(seed, len(tricks), form, rotate=rotate, show=show, lines=tricks)
-        if refused and form in ("html", "sheet"):
+        if refused and form in notation.PAGES:
             wanted = wanted.removesuffix(notation.frame(1, ()).encode())
         words = ["--seed", str(seed), "--candidates", str(count), "--format", form, "--show", show, "--tricks"]
         yield words + ["--rotate"] * rotate, text, wanted, refused

@@ -16,6 +16,8 @@ pub enum Format {
     Html,
     /// One page of HTML, eighteen boards on a sheet of paper.
     Sheet,
+    /// One page of HTML, with a slip to be cut out for each hand.
+    Slips,
     /// Lines of JSON, for programs.
     Json,
     /// The numbers of the candidates, which is what `find` prints.
@@ -29,11 +31,12 @@ pub const FORMATS: &[(&str, Format)] = &[
     ("lin", Format::Lin),
     ("html", Format::Html),
     ("sheet", Format::Sheet),
+    ("slips", Format::Slips),
     ("json", Format::Json),
 ];
 
 /// Their names, as help lists them.
-pub const FORMAT_WORDS: &str = "pbn, hands, lin, html, sheet, json";
+pub const FORMAT_WORDS: &str = "pbn, hands, lin, html, sheet, slips, json";
 
 impl Format {
     /// Whether the boards have numbers of their own.
@@ -42,7 +45,7 @@ impl Format {
     {
         match self {
             Format::Pbn | Format::Hands | Format::Lin => true,
-            Format::Html | Format::Sheet | Format::Json => true,
+            Format::Html | Format::Sheet | Format::Slips | Format::Json => true,
             Format::Numbers => false,
         }
     }

@@ -90,10 +90,10 @@ table [default: none]",
         "format: How the boards are written: pbn for dealing machines
 and bridge programs, hands for text to print, html
 for a page to look at and print, sheet for 18 boards
-on each page, lin for BBO, json for programs of your
-own [default: pbn]
+on each page, slips for hands to be cut out, lin for
+BBO, json for programs of your own [default: pbn]
 [possible values: pbn, hands, lin, html, sheet,
-json]
+slips, json]
 
 show: Which hands are written, for a page without the
 answers; dealer: the dealer's alone [default: all]

@@ -4,7 +4,7 @@ use Rattle.boards.specs.declared.board.Board.{Board}
 use Rattle.boards.specs.Headings.{HeadingView}
 use Rattle.boards.specs.Layouts.{EndsAlike, ends_with}
 use Rattle.boards.specs.declared.format.Format.{Format}
-use Rattle.boards.specs.declared.format.Format.TheVariants.{Pbn, Hands, Lin, Html, Sheet, Json, Numbers}
+use Rattle.boards.specs.declared.format.Format.TheVariants.{Pbn, Hands, Lin, Html, Sheet, Slips, Json, Numbers}
 use Rattle.boards.specs.declared.show.Show.{Show}
 use Rattle.boards.specs.declared.show.Show.TheVariants.{All, Dealer, North, East, South, West, NorthSouth, EastWest}
 use Rattle.notations.specs.Formats.{board_text, footer_of, header_of, layout_showing}
@@ -25,6 +25,7 @@ showing_header Hands show heading = refl
 showing_header Lin show heading = refl
 showing_header Html show heading = refl
 showing_header Sheet show heading = refl
+showing_header Slips show heading = refl
 showing_header Json show heading = refl
 showing_header Numbers show heading = refl
 
@@ -42,6 +43,7 @@ showing_board Hands show heading board = refl
 showing_board Lin show heading board = refl
 showing_board Html show heading board = refl
 showing_board Sheet show heading board = refl
+showing_board Slips show heading board = refl
 showing_board Json show heading board = refl
 showing_board Numbers show heading board = refl
 
@@ -59,6 +61,7 @@ showing_footer Hands show heading = refl
 showing_footer Lin show heading = refl
 showing_footer Html show heading = refl
 showing_footer Sheet show heading = refl
+showing_footer Slips show heading = refl
 showing_footer Json show heading = refl
 showing_footer Numbers show heading = refl
 

@@ -5,7 +5,7 @@ use Rattle.boards.specs.declared.board.Board.{Board}
 use Rattle.boards.specs.Layouts.{EndsAlike, Layout, ends_with}
 use Rattle.pbn_text.specs.Games.{HeadingView, header, pbn}
 use Rattle.boards.specs.declared.format.Format.{Format}
-use Rattle.boards.specs.declared.format.Format.TheVariants.{Pbn, Hands, Lin, Html, Sheet, Json}
+use Rattle.boards.specs.declared.format.Format.TheVariants.{Pbn, Hands, Lin, Html, Sheet, Slips, Json}
 use Rattle.boards.specs.declared.format.Format.TheVariants.{Numbers}
 use Rattle.boards.specs.declared.show.Show.{Show}
 use Rattle.boards.specs.declared.show.Show.TheVariants.{All}
@@ -17,6 +17,8 @@ use Rattle.notations.specs.Pages as pages
 use Rattle.notations.specs.Records as records
 use Rattle.notations.specs.SheetStyle.{sheet_style}
 use Rattle.notations.specs.Sheets.{section_text}
+use Rattle.notations.specs.SlipStyle.{slip_style}
+use Rattle.notations.specs.Slips.{slips_text}
 use Rattle.notations.specs.Style.{style, style_with_tricks}
 use Rattle.boards.specs.TricksLines.{TricksView, nothing_known}
 
@@ -28,6 +30,7 @@ header_of Pbn heading = header
 header_of Hands heading = records.header_text heading
 header_of Html heading = pages.header_text style heading
 header_of Sheet heading = pages.header_text sheet_style heading
+header_of Slips heading = pages.header_text slip_style heading
 header_of _ heading = []
 
 -- the same before boards with tricks: the page has a style for these
@@ -42,6 +45,7 @@ board_text Hands show heading tricks board = records.record_text show tricks boa
 board_text Lin show heading tricks board = lin_line show board
 board_text Html show heading tricks board = pages.board_text show tricks board
 board_text Sheet show heading tricks board = section_text show tricks board
+board_text Slips show heading tricks board = slips_text show board
 board_text Json show heading tricks board = json_line show tricks board
 board_text Numbers show heading tricks board = number_line board
 
@@ -49,6 +53,7 @@ board_text Numbers show heading tricks board = number_line board
 abbrev pub footer_of : Format → List ℕ
 footer_of Html = pages.footer_text
 footer_of Sheet = pages.footer_text
+footer_of Slips = pages.footer_text
 footer_of _ = []
 
 -- ---- layouts
@@ -98,6 +103,7 @@ ends_alike Hands heading boards m n = refl
 ends_alike Lin heading boards m n = refl
 ends_alike Html heading boards m n = refl
 ends_alike Sheet heading boards m n = refl
+ends_alike Slips heading boards m n = refl
 ends_alike Json heading boards m n = refl
 ends_alike Numbers heading boards m n = refl
 

@@ -11,5 +11,7 @@ pub mod Style
 pub mod Pages
 pub mod SheetStyle
 pub mod Sheets
+pub mod SlipStyle
+pub mod Slips
 pub mod Formats
 pub mod internal

@@ -1,7 +1,7 @@
 -- One page of HTML that needs nothing else: a header with the title and the style, a section for
 -- each board, and a footer that closes what the header opened.
-use Rattle.std.specs.Prelude.{ℕ, ◌==◌, Bool, List, [], ◌∷◌, ◌++◌, Option, Some, None, bytes_eq}
-use Rattle.std.specs.Prelude.{codes, decimal, flat_map, if◌then◌else◌}
+use Rattle.std.specs.Prelude.{ℕ, ◌==◌, ◌||◌, Bool, false, List, [], ◌∷◌, ◌++◌, Option, Some, None}
+use Rattle.std.specs.Prelude.{bytes_eq, codes, decimal, flat_map, if◌then◌else◌}
 use Rattle.std.specs.List.{list_all}
 use Rattle.cards.specs.declared.seat.Seat.{Seat}
 use Rattle.cards.specs.declared.seat.Seat.TheVariants.{North, East, South, West}
@@ -15,7 +15,7 @@ use Rattle.pbn_text.specs.Games.{HeadingView, dealer_text}
 use Rattle.boards.specs.declared.show.Show.{Show}
 use Rattle.notations.specs.Names.{seat_name, vulnerable_name}
 use Rattle.boards.specs.Show.{hand_in}
-use Rattle.notations.specs.Tricks.{five_of, if_given, number_of, par_text}
+use Rattle.notations.specs.Tricks.{five_of, if_given, number_of}
 use Rattle.boards.specs.TricksLines.{TricksView}
 
 -- ---- the title
@@ -166,11 +166,58 @@ table_text (x ∷ digits) =
     ++ side_rows East West (x ∷ digits)
     ++ codes "</table>\n"
 
+-- A contract of par is a level, a denomination, perhaps `*`, a hyphen, who plays it, and what it
+-- makes, as in 4S*-EW-3; a comma is before another. `played` says that its first hyphen has come.
+
+-- the letter of a suit is its sign
+unfoldable pub suit_mark : ℕ → List ℕ
+suit_mark letter =
+    if letter == 0x53 then sign Spades
+    else if letter == 0x48 then sign Hearts
+    else if letter == 0x44 then sign Diamonds
+    else if letter == 0x43 then sign Clubs
+    else letter ∷ []
+
+-- the hyphen before how many tricks lack is minus, −
+unfoldable pub result_mark : ℕ → List ℕ
+result_mark letter = if letter == 0x2D then 0xE2 ∷ 0x88 ∷ 0x92 ∷ [] else letter ∷ []
+
+-- a letter of a contract as it is written; a double is ×, and a comma ends what isn't broken
+unfoldable pub mark : Bool → ℕ → List ℕ
+mark played letter =
+    if letter == 0x2A then 0xC3 ∷ 0x97 ∷ []
+    else if letter == 0x2C then codes ",</span><span>"
+    else if played then result_mark letter
+    else suit_mark letter
+
+-- whether it is played after this letter
+abbrev pub played_after : Bool → ℕ → Bool
+played_after played letter =
+    if letter == 0x2C then false else (letter == 0x2D || played)
+
+-- the letters and signs of contracts
+abbrev pub marks : Bool → List ℕ → List ℕ
+marks played [] = []
+marks played (letter ∷ contract) =
+    mark played letter ++ marks (played_after played letter) contract
+
+-- contracts, if there are any, after a space
+unfoldable pub marked_contract : List ℕ → List ℕ
+marked_contract [] = []
+marked_contract (letter ∷ contract) =
+    codes " <span>" ++ marks false (letter ∷ contract) ++ codes "</span>"
+
+-- the score of par and its contracts, or nothing where it isn't known
+abbrev pub marked_par : List ℕ → List ℕ → List ℕ
+marked_par [] contract = []
+marked_par (letter ∷ score) contract = (letter ∷ score) ++ marked_contract contract
+
 -- the table, and par
 abbrev pub tricks_text : TricksView → List ℕ
 tricks_text tricks =
     table_text tricks.digits
-    ++ if_given (codes "<p class=\"par\">Par ") (par_text tricks) (codes "</p>\n")
+    ++ if_given (codes "<p class=\"par\">Par ") (marked_par tricks.score tricks.contract)
+    (codes "</p>\n")
 
 -- ---- a board's section
 

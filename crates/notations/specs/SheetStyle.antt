@@ -7,17 +7,17 @@ use Rattle.notations.specs.Style.{vulnerable_style}
 unfoldable pub section_style : List ℕ
 section_style =
     codes "*{box-sizing:border-box}\n"
-    ++ codes ".board{display:grid;grid-template:auto auto auto/1fr auto 1fr;"
+    ++ codes ".board{display:grid;grid-template:auto auto auto/7fr auto 9fr;"
     ++ codes "gap:.4rem;padding:.6rem;border:1px solid #bbb;break-inside:avoid}\n"
     ++ codes ".board>div{overflow-wrap:anywhere}\n"
     ++ codes "h2{grid-area:1/1;font-size:1.6em;line-height:1}\n"
-    ++ codes "p{grid-area:1/1;margin-top:1.65em}\n"
+    ++ codes "p{grid-area:1/1;margin-top:1.85em;white-space:nowrap}\n"
 
 -- the table in the middle has the points
 unfoldable pub middle_style : List ℕ
 middle_style =
-    codes ".middle{grid-area:2/2;display:grid;place-content:space-evenly;width:5em;height:4.5em;"
-    ++ codes "border:.25em solid #2e7d4f;text-align:center}\n"
+    codes ".middle{grid-area:2/2;display:grid;place-content:space-evenly;width:5em;height:4.3em;"
+    ++ codes "border:.1em solid #2e7d4f;text-align:center}\n"
 
 -- the hands are around it, and the points within, each in its seat
 unfoldable pub seat_style : List ℕ
@@ -31,8 +31,7 @@ seat_style =
 unfoldable pub corner_style : List ℕ
 corner_style =
     codes "table{grid-area:1/3;place-self:start end}\n"
-    ++ codes "table i,table b{width:auto}\n"
-    ++ codes ".par{grid-area:3/3}\n"
+    ++ codes ".par{grid-area:3/3;place-self:end;margin:0;text-align:right}\n"
     ++ codes "@media screen{p,table,.middle{font-size:.9em}}\n"
 
 -- on paper, A4 or Letter, three boards are side by side, eighteen on a sheet

@@ -19,16 +19,15 @@ board_style =
     ++ codes "padding:.75rem;border:1px solid #bbb;border-radius:.5rem;box-sizing:border-box;"
     ++ codes "white-space:nowrap;overflow:auto;break-inside:avoid}\n"
     ++ codes "h2{grid-area:2/2;place-self:center;min-width:4rem;padding:.7rem .3rem;"
-    ++ codes "font-size:1.25rem;text-align:center;border:.3rem solid #2e7d4f;background:#e8f3ec;"
+    ++ codes "font-size:1.25rem;text-align:center;border:.1rem solid #2e7d4f;background:#e8f3ec;"
     ++ codes "print-color-adjust:exact}\n"
     ++ codes "p{grid-area:1/1;font-size:.9rem}\n"
 
--- the table's sides are red where they are vulnerable
+-- the table's sides are red and thick where they are vulnerable
 unfoldable pub vulnerable_style : List ℕ
 vulnerable_style =
-    codes ".NS{border-block-color:#c8102e}\n"
-    ++ codes ".EW{border-inline-color:#c8102e}\n"
-    ++ codes ".All{border-color:#c8102e}\n"
+    codes ".NS,.All{border-block:.35rem solid #c8102e}\n"
+    ++ codes ".EW,.All{border-inline:.35rem solid #c8102e}\n"
 
 -- the hands are around the table, each in its seat
 unfoldable pub hand_style : List ℕ
@@ -81,25 +80,41 @@ number_style =
 unfoldable pub first_style : List ℕ
 first_style = codes "@page:first{@top-left{content:\"\"}}\n"
 
--- that of a page with this title
-unfoldable pub style : List ℕ → List ℕ
-style title =
+-- a hand alone is large, and in the middle
+unfoldable pub alone_style : List ℕ
+alone_style =
+    codes ".board:has(div:only-of-type) h2{grid-area:1/3;place-self:start end;"
+    ++ codes "padding:.2rem .5rem;font-size:1rem}\n"
+    ++ codes ".board:has(div:only-of-type) div{grid-area:2/1/4/4;place-self:center;"
+    ++ codes "font-size:1.6rem}\n"
+
+-- what pages with this title share
+unfoldable pub shared_style : List ℕ → List ℕ
+shared_style title =
     page_style ++ board_style ++ vulnerable_style ++ hand_style ++ sign_style
     ++ title_style title ++ number_style ++ first_style ++ paper_style
 
--- numbers of tricks are below one another, and par is set right
+-- that of a page with this title
+unfoldable pub style : List ℕ → List ℕ
+style title = shared_style title ++ alone_style
+
+-- numbers of tricks are below one another, in columns of one width, and par is broken between its
+-- contracts
 unfoldable pub table_style : List ℕ
 table_style =
     codes "table{border-spacing:0;text-align:right}\n"
     ++ codes "th{font-weight:400;color:#555}\n"
-    ++ codes "td,th{padding:0 0 0 .2em;min-width:1.2em}\n"
-    ++ codes ".par{place-self:end;text-align:right;text-wrap:balance;"
-    ++ codes "overflow-wrap:anywhere;white-space:normal}\n"
+    ++ codes "td,th{padding:0;width:1.7em}\n"
+    ++ codes "table i,table b,.par i,.par b{width:auto}\n"
+    ++ codes ".par{white-space:normal}\n"
+    ++ codes ".par span{display:inline-block}\n"
 
--- they are below the hands
-unfoldable pub below_style : List ℕ
-below_style = codes "table,.par{grid-area:4/1/5/4;font-size:.9rem;max-width:50%}\n"
+-- they are on the left of the hands, below and above
+unfoldable pub beside_style : List ℕ
+beside_style =
+    codes "table{grid-area:3/1;place-self:end start;font-size:.8rem}\n"
+    ++ codes ".par{padding-top:2.5em}\n"
 
 -- that of a page with this title and with tricks
 unfoldable pub style_with_tricks : List ℕ → List ℕ
-style_with_tricks title = style title ++ table_style ++ below_style
+style_with_tricks title = shared_style title ++ table_style ++ beside_style

@@ -1,10 +1,10 @@
 //! Bridge deals in the formats that a program can be asked for: games of Portable Bridge Notation
-//! (the crate `pbn_text`), hand records, LIN, a page of HTML, a club's sheet, JSON, and the numbers
-//! of candidates.
+//! (the crate `pbn_text`), hand records, LIN, a page of HTML, a club's sheet, slips, JSON, and the
+//! numbers of candidates.
 //!
 //! A format is a `Format`, and an `AnyPrinter` prints boards in it, with the hands that a `Show`
 //! asks for, and with tricks. A file has what one format writes: `pbn.rt`, `hands.rt`, `lin.rt`,
-//! `page.rt`, `sheet.rt`, `json.rt` and `numbers.rt`.
+//! `page.rt`, `sheet.rt`, `slips.rt`, `json.rt` and `numbers.rt`.
 #![tactic(auto)]
 
 mod dotted;
@@ -21,6 +21,7 @@ mod printer;
 mod results;
 mod sheet;
 mod shown;
+mod slips;
 mod table;
 
 pub use boards::{FORMAT_WORDS, FORMATS, Format, SHOW_WORDS, SHOWS, Show};

@@ -13,6 +13,7 @@ ghost use Rattle.boards.specs.Show.{hand_in};
 ghost use Rattle.notations.specs.Tricks.{or_nothing};
 
 mod header;
+mod par;
 mod parts;
 mod style;
 mod table;

@@ -6,7 +6,7 @@ ghost use Rattle.notations.specs.Formats.{board_text, footer_of};
 ghost use Rattle.notations.specs.Tricks.{or_nothing};
 ghost use Rattle.notations.specs.internal.Pens.{IsPlain, IsUnder, Writes, format_of, text_of};
 
-use crate::{hands, json, lin, numbers, page, pbn, sheet};
+use crate::{hands, json, lin, numbers, page, pbn, sheet, slips};
 use boards::{Board, Format, Heading, Show, SuitLetters, TextBuffer, Tricks};
 use pbn_text::Printer;
 use std::alloc::{AllocError, Global};
@@ -22,6 +22,7 @@ pub(crate) enum Pen {
     Lin(SuitLetters),
     Html(SuitLetters),
     Sheet(SuitLetters),
+    Slips(SuitLetters),
     Json(SuitLetters),
     Numbers,
 }
@@ -47,6 +48,7 @@ impl Pen {
             Format::Lin => Ok(Pen::Lin(SuitLetters::new(alloc)?)),
             Format::Html => Ok(Pen::Html(SuitLetters::new(alloc)?)),
             Format::Sheet => Ok(Pen::Sheet(SuitLetters::new(alloc)?)),
+            Format::Slips => Ok(Pen::Slips(SuitLetters::new(alloc)?)),
             Format::Json => Ok(Pen::Json(SuitLetters::new(alloc)?)),
             Format::Numbers => Ok(Pen::Numbers),
         }
@@ -77,6 +79,7 @@ impl Pen {
             Pen::Lin(letters) => lin::put_line(text, letters, show, board),
             Pen::Html(letters) => page::put_board(text, letters, show, tricks, board),
             Pen::Sheet(letters) => sheet::put_section(text, letters, show, tricks, board),
+            Pen::Slips(letters) => slips::put_slips(text, letters, show, board),
             Pen::Json(letters) => json::put_line(text, letters, show, tricks, board),
             Pen::Numbers => numbers::put_line(text, board),
         }
@@ -98,7 +101,7 @@ impl Pen {
         ensures { result.now ≡ footer_of (format_of self.now) }
     {
         match self {
-            Pen::Html(_) | Pen::Sheet(_) => page::FOOTER,
+            Pen::Html(_) | Pen::Sheet(_) | Pen::Slips(_) => page::FOOTER,
             Pen::Games(_) | Pen::Pbn(_) | Pen::Hands(_) | Pen::Lin(_) => b"",
             Pen::Json(_) | Pen::Numbers => b"",
         }

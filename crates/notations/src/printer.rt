@@ -232,6 +232,7 @@ fn put_header(text: &mut TextBuffer, format: Format, heading: &Heading)
         Format::Hands => hands::put_header(text, heading),
         Format::Html => page::put_header(text, Look::Plain, heading),
         Format::Sheet => page::put_header(text, Look::Sheet, heading),
+        Format::Slips => page::put_header(text, Look::Slips, heading),
         Format::Lin | Format::Json | Format::Numbers => {}
     }
 }

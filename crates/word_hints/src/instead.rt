@@ -25,7 +25,7 @@ const ROWS: &str = "
     option --average --mean --frequency --stats --statistics => \
         deals count tells how often each number comes, and the mean: --of 'hcp(north)'
     option --pbn --html --lin --json --hands --pdf --type => \
-        boards are PBN, or what --format says: --format hands, lin, html, sheet or json
+        boards are PBN, or what --format says: --format hands, lin, html, sheet, slips or json
     option --title --name --tournament => write --event 'Club night' for the name of the event
     option --place --location --club => write --site 'Bridge club' for the club or the place
     option --threads --jobs --cores --parallel -j -t => write --workers 3 for three threads
@@ -48,7 +48,8 @@ const ROWS: &str = "
     option --hide --only --handout --handouts => \
         write --show north, or dealer, east, south, west, ns or ew
     option --print --printer => \
-        for pages to print write --format html, or --format sheet for the hand records
+        for pages to print write --format html, --format sheet for the hand records, or --format \
+        slips for hands to be cut out
     option --numbers => \
         numbers come from the input, one a line: printf '1\\n4\\n' | deals pick --seed 7
     option --hcp --points --balanced --len --length --shape => \
@@ -80,7 +81,7 @@ const ROWS: &str = "
     command examples example => deals conditions has examples, and deals make --help commands
 
     word pbn hands lin html json pdf => \
-        boards are PBN, or what --format says: --format hands, lin, html, sheet or json
+        boards are PBN, or what --format says: --format hands, lin, html, sheet, slips or json
     word help => write deals --help, or deals make --help
 ";
 

@@ -34,6 +34,7 @@ const SPELLINGS: &str = "
     --show all every everything both => all
     --show dealer opener d pupil pupils handout => dealer
     --format sheet sheets records-sheet => sheet
+    --format slips slip curtain curtains curtain-cards curtaincards cards => slips
     --workers auto all max cores many => auto
 
     count table text txt plain => table
@@ -60,7 +61,7 @@ const WISHES: &str = "
 
     count json jsonl ndjson => \
         for programs write --format csv; deals make --format json writes boards
-    count pbn lin bbo hands sheet => deals count writes a table of numbers; deals make writes boards
+    count pbn lin bbo hands sheet slips => deals count writes a table of numbers; deals make writes boards
 ";
 
 const ONE_FORMAT: &str = "one format a run: run it again with the same seed for the other";

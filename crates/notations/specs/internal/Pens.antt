@@ -5,7 +5,7 @@ use Rattle.boards.specs.Headings.{HeadingView}
 use Rattle.notations.specs.declared.pen.Pen.{Pen}
 use Rattle.notations.specs.declared.pen.Pen.TheVariants as pen
 use Rattle.boards.specs.declared.format.Format.{Format}
-use Rattle.boards.specs.declared.format.Format.TheVariants.{Pbn, Hands, Lin, Html, Sheet, Json}
+use Rattle.boards.specs.declared.format.Format.TheVariants.{Pbn, Hands, Lin, Html, Sheet, Slips, Json}
 use Rattle.boards.specs.declared.format.Format.TheVariants.{Numbers}
 use Rattle.boards.specs.declared.show.Show.{Show}
 use Rattle.boards.specs.declared.show.Show.TheVariants.{All}
@@ -19,6 +19,7 @@ format_of (pen.Hands letters) = Hands
 format_of (pen.Lin letters) = Lin
 format_of (pen.Html letters) = Html
 format_of (pen.Sheet letters) = Sheet
+format_of (pen.Slips letters) = Slips
 format_of (pen.Json letters) = Json
 format_of pen.Numbers = Numbers
 

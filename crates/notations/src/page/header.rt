@@ -8,6 +8,7 @@ ghost use Rattle.notations.specs.internal.Looks.{style_of};
 
 use crate::page::style::{put_style, put_style_with_tricks};
 use crate::sheet::put_sheet_style;
+use crate::slips::put_slip_style;
 use boards::{Date, Heading, Label, TextBuffer};
 
 /// How a page looks.
@@ -19,6 +20,8 @@ pub(crate) enum Look {
     Tricks,
     /// A sheet, with or without tricks.
     Sheet,
+    /// Slips.
+    Slips,
 }
 
 /// Writes the header into the empty buffer.
@@ -40,14 +43,15 @@ pub(crate) fn put_header(text: &mut TextBuffer, look: Look, heading: &Heading)
 
 /// Appends the style of a page that looks so and has this title.
 fn put_look(text: &mut TextBuffer, look: Look, title: &[u8])
-    requires { length text.old + 1_810 + 4 * length title.now ≤ CAPACITY }
+    requires { length text.old + 1_820 + 4 * length title.now ≤ CAPACITY }
     ensures text { text.new ≡ text.old ++ style_of look title.now }
-    ensures most { length text.new ≤ length text.old + 1_810 + 4 * length title.now }
+    ensures most { length text.new ≤ length text.old + 1_820 + 4 * length title.now }
 {
     match look {
         Look::Plain => put_style(text, title),
         Look::Tricks => put_style_with_tricks(text, title),
         Look::Sheet => put_sheet_style(text, title),
+        Look::Slips => put_slip_style(text, title),
     }
 }
 
@@ -56,7 +60,7 @@ fn put_look(text: &mut TextBuffer, look: Look, title: &[u8])
 fn put_opening(text: &mut TextBuffer)
     requires { text.old ≡ [] }
     ensures text { text.new ≡ opening }
-    ensures most { length text.new ≤ 200 }
+    ensures most { length text.new ≤ 134 }
 {
     text.put(b"<!DOCTYPE html>\n<html lang=\"en\">\n<head>\n<meta charset=\"utf-8\">\n");
     text.put(b"<meta name=\"viewport\" content=\"width=device-width, initial-scale=1\">\n");

@@ -2,9 +2,9 @@
 
 ghost use Rattle.std.specs.Prelude.{◌≡◌, ◌≤◌, ◌+◌, ◌*◌, ◌++◌, length};
 ghost use Rattle.boards.specs.declared.buffer.TheConstants.{CAPACITY};
-ghost use Rattle.notations.specs.Style.{below_style, board_style, css_byte, css_string};
-ghost use Rattle.notations.specs.Style.{first_style, hand_style, number_style, page_style};
-ghost use Rattle.notations.specs.Style.{paper_style, sign_style, style, style_with_tricks};
+ghost use Rattle.notations.specs.Style.{alone_style, beside_style, board_style, css_byte};
+ghost use Rattle.notations.specs.Style.{css_string, first_style, hand_style, number_style, page_style};
+ghost use Rattle.notations.specs.Style.{paper_style, shared_style, sign_style, style, style_with_tricks};
 ghost use Rattle.notations.specs.Style.{table_style, title_style, vulnerable_style};
 
 use boards::TextBuffer;
@@ -12,8 +12,31 @@ use boards::TextBuffer;
 /// Appends the style of a page with this title.
 #[tactic(auto, unfolding(crate::specs::Style::style))]
 pub(crate) fn put_style(text: &mut TextBuffer, title: &[u8])
-    requires { length text.old + 1_500 + 4 * length title.now ≤ CAPACITY }
+    requires { length text.old + 1_690 + 4 * length title.now ≤ CAPACITY }
     ensures text { text.new ≡ text.old ++ style title.now }
+    ensures most { length text.new ≤ length text.old + 1_690 + 4 * length title.now }
+{
+    put_shared_style(text, title);
+    text.put(alone_style());
+}
+
+/// Appends the style of a page with this title and with tricks.
+#[tactic(auto, unfolding(crate::specs::Style::style_with_tricks))]
+pub(crate) fn put_style_with_tricks(text: &mut TextBuffer, title: &[u8])
+    requires { length text.old + 1_790 + 4 * length title.now ≤ CAPACITY }
+    ensures text { text.new ≡ text.old ++ style_with_tricks title.now }
+    ensures most { length text.new ≤ length text.old + 1_790 + 4 * length title.now }
+{
+    put_shared_style(text, title);
+    text.put(table_style());
+    text.put(beside_style());
+}
+
+/// Appends what the styles of pages with this title share.
+#[tactic(auto, unfolding(crate::specs::Style::shared_style))]
+fn put_shared_style(text: &mut TextBuffer, title: &[u8])
+    requires { length text.old + 1_500 + 4 * length title.now ≤ CAPACITY }
+    ensures text { text.new ≡ text.old ++ shared_style title.now }
     ensures most { length text.new ≤ length text.old + 1_500 + 4 * length title.now }
 {
     text.put(page_style());
@@ -25,18 +48,6 @@ pub(crate) fn put_style(text: &mut TextBuffer, title: &[u8])
     text.put(number_style());
     text.put(first_style());
     text.put(paper_style());
-}
-
-/// Appends the style of a page with this title and with tricks.
-#[tactic(auto, unfolding(crate::specs::Style::style_with_tricks))]
-pub(crate) fn put_style_with_tricks(text: &mut TextBuffer, title: &[u8])
-    requires { length text.old + 1_810 + 4 * length title.now ≤ CAPACITY }
-    ensures text { text.new ≡ text.old ++ style_with_tricks title.now }
-    ensures most { length text.new ≤ length text.old + 1_810 + 4 * length title.now }
-{
-    put_style(text, title);
-    text.put(table_style());
-    text.put(below_style());
 }
 
 /// Boards are side by side, as many as there is room for, below the heading.
@@ -63,20 +74,19 @@ fn board_style() -> &'static [u8]
     border:1px solid #bbb;border-radius:.5rem;box-sizing:border-box;white-space:nowrap;\
     overflow:auto;break-inside:avoid}\n\
     h2{grid-area:2/2;place-self:center;min-width:4rem;padding:.7rem .3rem;font-size:1.25rem;\
-    text-align:center;border:.3rem solid #2e7d4f;background:#e8f3ec;\
+    text-align:center;border:.1rem solid #2e7d4f;background:#e8f3ec;\
     print-color-adjust:exact}\n\
     p{grid-area:1/1;font-size:.9rem}\n"
 }
 
-/// The table's sides are red where they are vulnerable.
+/// The table's sides are red and thick where they are vulnerable.
 #[tactic(auto, unfolding(crate::specs::Style::vulnerable_style))]
 pub(crate) fn vulnerable_style() -> &'static [u8]
     ensures value { result.now ≡ vulnerable_style }
-    ensures most { length result.now ≤ 92 }
+    ensures most { length result.now ≤ 89 }
 {
-    b".NS{border-block-color:#c8102e}\n\
-    .EW{border-inline-color:#c8102e}\n\
-    .All{border-color:#c8102e}\n"
+    b".NS,.All{border-block:.35rem solid #c8102e}\n\
+    .EW,.All{border-inline:.35rem solid #c8102e}\n"
 }
 
 /// The hands are around the table, each in its seat.
@@ -175,24 +185,38 @@ fn paper_style() -> &'static [u8]
     }\n"
 }
 
-/// Numbers of tricks are below one another, and par is set right.
+/// Numbers of tricks are below one another, in columns of one width, and par is broken between its
+/// contracts.
 #[tactic(auto, unfolding(crate::specs::Style::table_style))]
 pub(crate) fn table_style() -> &'static [u8]
     ensures value { result.now ≡ table_style }
-    ensures most { length result.now ≤ 212 }
+    ensures most { length result.now ≤ 200 }
 {
     b"table{border-spacing:0;text-align:right}\n\
     th{font-weight:400;color:#555}\n\
-    td,th{padding:0 0 0 .2em;min-width:1.2em}\n\
-    .par{place-self:end;text-align:right;text-wrap:balance;overflow-wrap:anywhere;\
-    white-space:normal}\n"
+    td,th{padding:0;width:1.7em}\n\
+    table i,table b,.par i,.par b{width:auto}\n\
+    .par{white-space:normal}\n\
+    .par span{display:inline-block}\n"
 }
 
-/// They are below the hands.
-#[tactic(auto, unfolding(crate::specs::Style::below_style))]
-fn below_style() -> &'static [u8]
-    ensures value { result.now ≡ below_style }
-    ensures most { length result.now ≤ 60 }
+/// They are on the left of the hands, below and above.
+#[tactic(auto, unfolding(crate::specs::Style::beside_style))]
+fn beside_style() -> &'static [u8]
+    ensures value { result.now ≡ beside_style }
+    ensures most { length result.now ≤ 82 }
 {
-    b"table,.par{grid-area:4/1/5/4;font-size:.9rem;max-width:50%}\n"
+    b"table{grid-area:3/1;place-self:end start;font-size:.8rem}\n\
+    .par{padding-top:2.5em}\n"
+}
+
+/// A hand alone is large, and in the middle.
+#[tactic(auto, unfolding(crate::specs::Style::alone_style))]
+fn alone_style() -> &'static [u8]
+    ensures value { result.now ≡ alone_style }
+    ensures most { length result.now ≤ 190 }
+{
+    b".board:has(div:only-of-type) h2{grid-area:1/3;place-self:start end;padding:.2rem .5rem;\
+    font-size:1rem}\n\
+    .board:has(div:only-of-type) div{grid-area:2/1/4/4;place-self:center;font-size:1.6rem}\n"
 }

@@ -9,16 +9,17 @@ ghost use Rattle.pbn_text.specs.Games.{dealer_text};
 ghost use Rattle.notations.specs.Tricks.{or_nothing};
 
 use crate::dotted::seat_letter;
-use crate::results::{five_of, number_of, put_par};
+use crate::page::par::put_par;
+use crate::results::{five_of, number_of};
 use boards::{TextBuffer, Tricks};
 use cards::Seat;
 
 /// Appends what is known of the tricks.
 #[tactic(auto, unfolding(crate::specs::Pages::table_text))]
 pub(crate) fn put_tricks(text: &mut TextBuffer, tricks: Option<&Tricks>)
-    requires { length text.old + 1_300 ≤ CAPACITY }
+    requires { length text.old + 1_700 ≤ CAPACITY }
     ensures text { text.new ≡ text.old ++ tricks_text (or_nothing (option_copied tricks.entry)) }
-    ensures most { length text.new ≤ length text.old + 1_300 }
+    ensures most { length text.new ≤ length text.old + 1_700 }
 {
     if let Some(tricks) = tricks {
         put_table(text, tricks.digits());

@@ -13,9 +13,9 @@ use boards::TextBuffer;
 /// Appends the style of a sheet with this title.
 #[tactic(auto, unfolding(crate::specs::SheetStyle::sheet_style))]
 pub(crate) fn put_sheet_style(text: &mut TextBuffer, title: &[u8])
-    requires { length text.old + 1_810 + 4 * length title.now ≤ CAPACITY }
+    requires { length text.old + 1_820 + 4 * length title.now ≤ CAPACITY }
     ensures text { text.new ≡ text.old ++ sheet_style title.now }
-    ensures most { length text.new ≤ length text.old + 1_810 + 4 * length title.now }
+    ensures most { length text.new ≤ length text.old + 1_820 + 4 * length title.now }
 {
     text.put(page_style());
     text.put(section_style());
@@ -34,24 +34,24 @@ pub(crate) fn put_sheet_style(text: &mut TextBuffer, title: &[u8])
 #[tactic(auto, unfolding(crate::specs::SheetStyle::section_style))]
 fn section_style() -> &'static [u8]
     ensures value { result.now ≡ section_style }
-    ensures most { length result.now ≤ 271 }
+    ensures most { length result.now ≤ 290 }
 {
     b"*{box-sizing:border-box}\n\
-    .board{display:grid;grid-template:auto auto auto/1fr auto 1fr;gap:.4rem;padding:.6rem;\
+    .board{display:grid;grid-template:auto auto auto/7fr auto 9fr;gap:.4rem;padding:.6rem;\
     border:1px solid #bbb;break-inside:avoid}\n\
     .board>div{overflow-wrap:anywhere}\n\
     h2{grid-area:1/1;font-size:1.6em;line-height:1}\n\
-    p{grid-area:1/1;margin-top:1.65em}\n"
+    p{grid-area:1/1;margin-top:1.85em;white-space:nowrap}\n"
 }
 
 /// The table in the middle has the points.
 #[tactic(auto, unfolding(crate::specs::SheetStyle::middle_style))]
 fn middle_style() -> &'static [u8]
     ensures value { result.now ≡ middle_style }
-    ensures most { length result.now ≤ 131 }
+    ensures most { length result.now ≤ 130 }
 {
-    b".middle{grid-area:2/2;display:grid;place-content:space-evenly;width:5em;height:4.5em;\
-    border:.25em solid #2e7d4f;text-align:center}\n"
+    b".middle{grid-area:2/2;display:grid;place-content:space-evenly;width:5em;height:4.3em;\
+    border:.1em solid #2e7d4f;text-align:center}\n"
 }
 
 /// The hands are around it, and the points within, each in its seat.
@@ -70,11 +70,10 @@ fn seat_style() -> &'static [u8]
 #[tactic(auto, unfolding(crate::specs::SheetStyle::corner_style))]
 fn corner_style() -> &'static [u8]
     ensures value { result.now ≡ corner_style }
-    ensures most { length result.now ≤ 137 }
+    ensures most { length result.now ≤ 150 }
 {
     b"table{grid-area:1/3;place-self:start end}\n\
-    table i,table b{width:auto}\n\
-    .par{grid-area:3/3}\n\
+    .par{grid-area:3/3;place-self:end;margin:0;text-align:right}\n\
     @media screen{p,table,.middle{font-size:.9em}}\n"
 }
 
