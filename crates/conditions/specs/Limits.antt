@@ -1,5 +1,6 @@
--- The limits that every condition keeps: how many values a sum adds up, and how large a number is.
+-- The limits that every condition keeps: how many atoms a value adds up, and how large a number is.
 use Rattle.std.specs.Prelude.{ℕ, ◌+◌, ◌≤◌, All}
+use Rattle.conditions.specs.declared.limits.TheConstants.{MOST_PARTS}
 use Rattle.conditions.specs.Form.{Amount, sum, number, counted, times, Form, any_of, all_of, negation, compare, within, balanced, shape, pattern, loose_shape, loose_pattern, stops, number_of}
 
 -- the atoms of a value: each part that isn't a sum is one
@@ -46,5 +47,5 @@ HasNumbersUpTo m (stops q s) = Unit {0}
 
 -- the limits of a condition
 pub record IsWithinLimits (tree : Form) : Type 0 where
-  pub few : HasAtMostAtoms 1024 tree
+  pub few : HasAtMostAtoms MOST_PARTS tree
   pub small : HasNumbersUpTo 9999 tree

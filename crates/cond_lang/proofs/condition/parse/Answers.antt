@@ -1,5 +1,6 @@
 use Rattle.std.proofs.Common.{ap, ◌∙◌, arith, Err}
 use Rattle.std.proofs.lemmas.Result.{err_from_is_err_and}
+use Rattle.conditions.specs.declared.limits.TheConstants.{MOST_PARTS}
 use Rattle.conditions.specs.Form.{form_of}
 use Rattle.cond_lang.specs.Text.{kinds}
 use Rattle.cond_lang.proofs.Texts.{piece_too_long, piece_refused, piece_fault, piece_spelled, no_tokens, one_text_tree, its_tokens_spell, few_kinds}
@@ -43,7 +44,7 @@ of_tree-requires c =
     let tree = form_of c.in_ok-tree.tree in
     let few = few_kinds tokens read 1024 c.as_slice.ensures.value c.in_ok-tokens.ensures.few in
     record {
-      few = few_atoms 1024 (kinds read) tree few c.in_ok-tree.ensures.spelled;
+      few = few_atoms MOST_PARTS (kinds read) tree (omega (arith, few)) c.in_ok-tree.ensures.spelled;
       small = small_numbers text tokens read tree c.in_ok-tokens.ensures.tokens c.as_slice.ensures.value c.in_ok-tree.ensures.spelled;
     }
 

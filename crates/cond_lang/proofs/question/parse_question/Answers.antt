@@ -1,5 +1,6 @@
-use Rattle.std.proofs.Common.{◌∙◌, ap, sym, Err}
+use Rattle.std.proofs.Common.{◌∙◌, ap, arith, sym, Err}
 use Rattle.std.proofs.lemmas.Result.{err_from_is_err_and}
+use Rattle.conditions.specs.declared.limits.TheConstants.{MOST_PARTS}
 use Rattle.conditions.specs.Form.{amount_of, form_of}
 use Rattle.conditions.specs.Questions.{asks_condition, asks_value}
 use Rattle.cond_lang.specs.Text.{kinds}
@@ -30,7 +31,7 @@ of_value-requires c =
     let spelled = rw c.in-Some.is at c.in_ok-value.ensures.value in
     let few = few_kinds tokens read 1024 c.as_slice.ensures.value c.in_ok-tokens.ensures.few in
     record {
-      few = few_atoms_of_value 1024 (kinds read) value few spelled;
+      few = few_atoms_of_value MOST_PARTS (kinds read) value (omega (arith, few)) spelled;
       small = small_value_numbers text tokens read value c.in_ok-tokens.ensures.tokens c.as_slice.ensures.value spelled;
     }
 
@@ -76,7 +77,7 @@ of_tree-requires c =
     let tree = form_of c.in_ok-tree.tree in
     let few = few_kinds tokens read 1024 c.as_slice-2.ensures.value c.in_ok-tokens.ensures.few in
     record {
-      few = few_atoms 1024 (kinds read) tree few c.in_ok-tree.ensures.spelled;
+      few = few_atoms MOST_PARTS (kinds read) tree (omega (arith, few)) c.in_ok-tree.ensures.spelled;
       small = small_numbers text tokens read tree c.in_ok-tokens.ensures.tokens c.as_slice-2.ensures.value c.in_ok-tree.ensures.spelled;
     }
 
