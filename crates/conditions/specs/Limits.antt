@@ -10,6 +10,21 @@ atoms_of (number n) = 1
 atoms_of (counted c) = 1
 atoms_of (times n c) = 1
 
+-- the parts of a tree: the atoms of its values, and each test of a hand. A range has those of the
+-- value that it tests: its two ends are none
+abbrev pub parts_of : Form → ℕ
+parts_of (any_of a b) = parts_of a + parts_of b
+parts_of (all_of a b) = parts_of a + parts_of b
+parts_of (negation a) = parts_of a
+parts_of (compare a o b) = atoms_of a + atoms_of b
+parts_of (within a l m) = atoms_of a
+parts_of (balanced q) = 1
+parts_of (shape q ns) = 1
+parts_of (pattern q ns) = 1
+parts_of (loose_shape q items) = 1
+parts_of (loose_pattern q items) = 1
+parts_of (stops q s) = 1
+
 -- each value in the tree has at most this many atoms
 abbrev pub HasAtMostAtoms : ℕ → Form → Type 0
 HasAtMostAtoms n (any_of a b) = HasAtMostAtoms n a × HasAtMostAtoms n b

@@ -4,7 +4,7 @@ use Rattle.cards.specs.declared.seat.Seat.{Seat}
 use Rattle.conditions.specs.declared.limits.TheConstants.{MOST_PARTS}
 use Rattle.conditions.specs.Bounds.{greatest_of}
 use Rattle.conditions.specs.Form.{Amount, Form}
-use Rattle.conditions.specs.Limits.{AddsNumbersUpTo, IsWithinLimits, atoms_of}
+use Rattle.conditions.specs.Limits.{AddsNumbersUpTo, IsWithinLimits, atoms_of, parts_of}
 use Rattle.conditions.specs.Meaning.{holds, value_in}
 
 pub data Question : Type 0 where
@@ -19,6 +19,11 @@ is_condition (asks_value value) = false
 abbrev pub answer : Question → List Seat → ℕ
 answer (asks_condition tree) deal = cond (holds tree deal) 1 0
 answer (asks_value value) deal = value_in deal value
+
+-- the parts of a question
+abbrev pub parts_asked : Question → ℕ
+parts_asked (asks_condition tree) = parts_of tree
+parts_asked (asks_value value) = atoms_of value
 
 -- the greatest answer that a deal can give
 abbrev pub greatest_answer : Question → ℕ
