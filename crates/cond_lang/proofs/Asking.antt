@@ -1,11 +1,12 @@
 -- Questions: what a list asks, that it asks one thing at most, and that lists go wrong as questions where they do as
 -- conditions.
-use Rattle.std.proofs.Common.{◌≡◌, ℕ, ◌+◌, ◌*◌, ◌⊎◌, drop, take-append-drop, List, [], ◌∷◌, ◌++◌, length, take, Option, Some, None, Result, Ok, Err, IfErr, refl, sym, ap, ◌∙◌, subst, inl, inr, append_assoc, append-nil, arith}
+use Rattle.std.proofs.Common.{◌≡◌, ℕ, ◌+◌, ◌*◌, ◌<◌, ◌⊎◌, drop, take-append-drop, List, [], ◌∷◌, ◌++◌, length, take, Option, Some, None, Result, Ok, Err, IfErr, refl, sym, ap, ◌∙◌, subst, inl, inr, append_assoc, append-nil, arith}
 use Rattle.std.specs.Prelude.{◌↔◌, IsTrue, Bool, true, false, MatchOption}
 use Rattle.std.specs.Prelude.{IfOk, is_some}
 use Rattle.std.proofs.lemmas.Bool.{false≢true}
 use Rattle.conditions.specs.declared.error.CondError.{CondError}
-use Rattle.conditions.specs.declared.error.CondError.TheVariants.{Syntax, Memory}
+use Rattle.conditions.specs.declared.error.CondError.TheVariants.{Syntax, TooManyParts, Memory}
+use Rattle.conditions.specs.declared.limits.TheConstants.{MOST_PARTS}
 use Rattle.conditions.specs.declared.tree.Op.TheVariants.{Equal}
 use Rattle.cond_lang.specs.declared.scanner.Placed.{Placed}
 use Rattle.cond_lang.specs.declared.scanner.Token.{Token}
@@ -13,7 +14,8 @@ use Rattle.cond_lang.specs.declared.scanner.Token.TheVariants.{Number, Relation}
 use Rattle.cond_lang.specs.declared.words.Kind.{Kind}
 use Rattle.cond_lang.specs.declared.words.Kind.TheVariants.{End}
 use Rattle.conditions.specs.Form.{Amount, Form, number, compare}
-use Rattle.conditions.specs.Questions.{Question, asks_condition, asks_value}
+use Rattle.conditions.specs.Limits.{parts_of}
+use Rattle.conditions.specs.Questions.{Question, asks_condition, asks_value, parts_asked}
 use Rattle.cond_lang.specs.Asking.{Asks, SpellsQuestion, IsAskViable, IsFirstAskFault, IsDueQuestion, HasAskFault, CanFollowAsking, IsAskBeginning}
 use Rattle.cond_lang.specs.Classes.{unbound}
 use Rattle.cond_lang.specs.Continuations.{CanFollow, IsBeginning, IsLongestViable, IsLongestViableIn}
@@ -220,11 +222,11 @@ end_of_condition T k v b i e w x = (
 )
 
 -- whether some value was found says whether there is one
-pub some_value : {V : Type 0} (T : List Token) (amount : V → Amount) (found : Option V) (b : Bool) → b ≡ is_some found
-    → MatchOption found ((a : Amount) → SpellsValue unbound T a → ⊥) (λ v. SpellsValue unbound T (amount v))
+pub some_value : {V : Type 0} (T : List Token) (keeps : V → Amount → Type 0) (found : Option V) (b : Bool) → b ≡ is_some found
+    → MatchOption found ((a : Amount) → SpellsValue unbound T a → ⊥) (λ v. (a : Amount) × keeps v a × SpellsValue unbound T a)
     → IsTrue b ↔ IsAValue T
-some_value T amount (Some v) b e h = (λ p. (amount v, h), λ a. e)
-some_value T amount None b e h = (λ p. absurd (false≢true (sym e ∙ p)), λ a. absurd (h a.0 a.1))
+some_value T keeps (Some v) b e h = (λ p. (h.0, h.2), λ a. e)
+some_value T keeps None b e h = (λ p. absurd (false≢true (sym e ∙ p)), λ a. absurd (h a.0 a.1))
 
 -- ---- one fault, or one question
 
@@ -281,15 +283,22 @@ pub no_value_of : (xs ys : List Placed) → xs ≡ ys → ((a : Amount) → Spel
 no_value_of xs ys e none a s = none a (subst (λ zs. SpellsValue unbound (kinds zs) a) (sym e) s)
 
 -- what is no value is refused as a condition, unless memory ran out
-pub tree_found : (T : List Token) (q : Question) (e : CondError) → ((a : Amount) → SpellsValue unbound T a → ⊥) → ((t : Form) → Spells T t → e ≡ Memory) → Asks T q → e ≡ Memory
+pub tree_found :
+    (T : List Token) (q : Question) (e : CondError) → ((a : Amount) → SpellsValue unbound T a → ⊥)
+    → ((t : Form) → Spells T t → (e ≡ Memory) ⊎ ((e ≡ TooManyParts) × (MOST_PARTS < parts_of t)))
+    → Asks T q → (e ≡ Memory) ⊎ ((e ≡ TooManyParts) × (MOST_PARTS < parts_asked q))
 tree_found T (asks_condition t) e none found s = found t s
 tree_found T (asks_value a) e none found s = absurd (none a s)
 
 pub tree_refused :
     (text : List ℕ) (xs ys : List Placed) (r : Result Question CondError) (e : CondError) → r ≡ Err e → HasTokens text xs → ys ≡ xs
     → ((a : Amount) → SpellsValue unbound (kinds ys) a → ⊥)
-    → (e ≡ Memory) ⊎ ((at : ℕ) × (e ≡ Syntax at))
+    → (e ≡ Memory) ⊎ ((e ≡ TooManyParts) ⊎ ((at : ℕ) × (e ≡ Syntax at)))
     → ((at : ℕ) → e ≡ Syntax at → IsPlace ys (length text) at)
+    → (e ≡ TooManyParts → (t : Form) × Spells (kinds ys) t × (MOST_PARTS < parts_of t))
     → IfErr r (λ e. IsDueQuestion text e)
-tree_refused text xs ys r e i h same none (inl m) place = rw (i, m) tt
-tree_refused text xs ys r e i h same none (inr s) place = rw (i, s.1) (place_of_question text xs ys s.0 h same none (place s.0 s.1))
+tree_refused text xs ys r e i h same none (inl m) place many = rw (i, m) tt
+tree_refused text xs ys r e i h same none (inr (inl m)) place many =
+    let more = many m in
+    rw (i, m) (record { tokens = ys; cut = rw same h; spelled = asks_condition more.0; spells = more.1; more = more.2 })
+tree_refused text xs ys r e i h same none (inr (inr s)) place many = rw (i, s.1) (place_of_question text xs ys s.0 h same none (place s.0 s.1))

@@ -1,11 +1,10 @@
 -- What a text tells, it tells once.
-use Rattle.std.proofs.Common.{◌≡◌, ℕ, ◌≤◌, ◌<◌, List, length, Result, Err, Some, IfErr, MatchResult, sym, ap, ◌∙◌, subst, arith}
-use Rattle.std.proofs.lemmas.List.{length-map}
+use Rattle.std.proofs.Common.{◌≡◌, ℕ, ◌≤◌, ◌<◌, List, length, Result, Err, Some, IfErr, sym, ap, ◌∙◌, subst, arith}
 use Rattle.cond_lang.specs.declared.scanner.Placed.{Placed}
 use Rattle.cond_lang.specs.declared.scanner.Piece.{Piece}
 use Rattle.cond_lang.specs.declared.scanner.Piece.TheVariants.{Separator, Token as TokenPiece, StrayByte, UnknownWord, LongNumber}
 use Rattle.conditions.specs.declared.error.CondError.{CondError}
-use Rattle.conditions.specs.declared.error.CondError.TheVariants.{TooLong, Byte, Word, Number, Syntax, Memory}
+use Rattle.conditions.specs.declared.error.CondError.TheVariants.{TooLong, Byte, Word, Number, Syntax, TooManyParts, Memory}
 use Rattle.conditions.specs.Form.{Form}
 use Rattle.cond_lang.specs.Grammar.{Spells}
 use Rattle.cond_lang.specs.Text.{kinds}
@@ -67,6 +66,7 @@ due text (Byte at) h k = h
 due text (Word at) h k = h
 due text (Number at) h k = h
 due text (Syntax at) h k = absurd k
+due text TooManyParts h k = absurd k
 due text Memory h k = tt
 
 -- A piece's fault is a reason to refuse the text.
@@ -92,14 +92,6 @@ piece_refused text r e i h = rw i (fault_due text e h)
 pub piece_fault : {A : Type 0} (text : List ℕ) (r : Result A CondError) (e f : CondError) → r ≡ Err e → HasFault text e → HasFault text f → r ≡ Err f
 piece_fault {A} text r e f i h k = i ∙ ap (λ x. Err x) (one_fault text e f h k)
 
-pub piece_spelled :
-    (text : List ℕ) (r : Result Form CondError) (e : CondError) (t : Form) → HasFault text e → SpellsTree text t
-    → MatchResult r (λ c. c ≡ t) (λ e. e ≡ Memory)
-piece_spelled text r e t h s = absurd (no_tokens text e s.tokens h s.cut)
-
 -- the tokens of a text that spells a tree spell it
 pub its_tokens_spell : (text : List ℕ) (xs ys : List Placed) (t : Form) → HasTokens text xs → ys ≡ xs → SpellsTree text t → Spells (kinds ys) t
 its_tokens_spell text xs ys t h i s = subst (λ zs. Spells (kinds zs) t) (one_tokens text s.tokens xs s.cut h ∙ sym i) s.spells
-
-pub few_kinds : (xs ys : List Placed) (n : ℕ) → ys ≡ xs → length xs ≤ n → length (kinds ys) ≤ n
-few_kinds xs ys n i h = omega (arith, length-map ys (λ (p : Placed). p.token), ap length i)

@@ -5,7 +5,7 @@ use Rattle.cond_lang.specs.declared.scanner.Placed.{Placed}
 use Rattle.cond_lang.specs.declared.scanner.Token.{Token}
 use Rattle.cond_lang.specs.declared.words.Kind.{Kind}
 use Rattle.conditions.specs.declared.error.CondError.{CondError}
-use Rattle.conditions.specs.Questions.{Question, asks_condition, asks_value}
+use Rattle.conditions.specs.Questions.{Question, asks_condition, asks_value, parts_asked}
 use Rattle.cond_lang.specs.Classes.{unbound}
 use Rattle.cond_lang.specs.Continuations.{CanFollowIn, IsBeginningIn}
 use Rattle.cond_lang.specs.Cut.{HasTokens}
@@ -38,7 +38,7 @@ HasAskFault text at = HasSyntaxFaultIn Asks text at
 
 -- a question is refused only when that is due
 abbrev pub IsDueQuestion : List ℕ → CondError → Type 0
-IsDueQuestion text e = IsDueIn Asks text e
+IsDueQuestion text e = IsDueIn Asks parts_asked text e
 
 -- after T the list may end, since T is a question, or some token of the kind goes on to one
 abbrev pub CanFollowAsking : List Token → Kind → Type 0

@@ -5,7 +5,9 @@ use Rattle.cond_lang.specs.declared.scanner.Token.{Token}
 use Rattle.cond_lang.specs.declared.scanner.Placed.{Placed}
 use Rattle.cond_lang.specs.declared.scanner.Piece.{Piece}
 use Rattle.conditions.specs.declared.error.CondError.{CondError}
-use Rattle.conditions.specs.declared.error.CondError.TheVariants.{TooLong, Byte, Word, Number, Syntax, Memory}
+use Rattle.conditions.specs.declared.error.CondError.TheVariants.{TooLong, Byte, Word, Number, Syntax, TooManyParts, Memory}
+use Rattle.conditions.specs.declared.limits.TheConstants.{MOST_PARTS}
+use Rattle.conditions.specs.Limits.{parts_of}
 use Rattle.cond_lang.specs.Cut.{Pieces, IsCut, IsSound, fault_at, HasTokens}
 use Rattle.cond_lang.specs.Grammar.{Spells}
 use Rattle.cond_lang.specs.Text.{kinds}
@@ -69,14 +71,27 @@ pub record HasSyntaxFaultIn {A : Type 0} (S : List Token → A → Type 0) (text
   pub cut : HasTokens text tokens
   pub place : IsPlaceIn S tokens (length text) at
 
+-- ---- texts of too many parts
+
+-- the text has no fault: by the rules S it spells something, which has more parts than the limit
+pub record HasTooManyIn {A : Type 0} (S : List Token → A → Type 0) (parts : A → ℕ)
+    (text : List ℕ) : Type 0 where
+  pub tokens : List Placed
+  pub cut : HasTokens text tokens
+  pub spelled : A
+  pub spells : S (kinds tokens) spelled
+  pub more : MOST_PARTS < parts spelled
+
 -- a refusal is given only when it is due; memory can run out at any text
-abbrev pub IsDueIn : {A : Type 0} → (List Token → A → Type 0) → List ℕ → CondError → Type 0
-IsDueIn S text TooLong = 1024 < length text
-IsDueIn S text (Byte at) = HasFault text (Byte at)
-IsDueIn S text (Word at) = HasFault text (Word at)
-IsDueIn S text (Number at) = HasFault text (Number at)
-IsDueIn S text (Syntax at) = HasSyntaxFaultIn S text at
-IsDueIn S text Memory = Unit {0}
+abbrev pub IsDueIn :
+    {A : Type 0} → (List Token → A → Type 0) → (A → ℕ) → List ℕ → CondError → Type 0
+IsDueIn S parts text TooLong = 1024 < length text
+IsDueIn S parts text (Byte at) = HasFault text (Byte at)
+IsDueIn S parts text (Word at) = HasFault text (Word at)
+IsDueIn S parts text (Number at) = HasFault text (Number at)
+IsDueIn S parts text (Syntax at) = HasSyntaxFaultIn S text at
+IsDueIn S parts text TooManyParts = HasTooManyIn S parts text
+IsDueIn S parts text Memory = Unit {0}
 
 -- The same of conditions: at is the offset of the first token that no condition goes on with, or
 -- the end.
@@ -87,4 +102,4 @@ abbrev pub HasSyntaxFault : List ℕ → ℕ → Type 0
 HasSyntaxFault text at = HasSyntaxFaultIn Spells text at
 
 abbrev pub IsDue : List ℕ → CondError → Type 0
-IsDue text e = IsDueIn Spells text e
+IsDue text e = IsDueIn Spells parts_of text e

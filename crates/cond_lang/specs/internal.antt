@@ -1,3 +1,4 @@
 -- What only bodies and lemmas use: no public clause names any of it.
+pub mod Growing
 pub mod Reading
 pub mod Scanning

@@ -1,19 +1,20 @@
 //! The parser: it reads the tokens from the left, with one token in sight, and builds the tree as
 //! it goes.
 
-ghost use Rattle.std.specs.Prelude.{◌≡◌, ◌≢◌, ◌≤◌, ℕ, List, ◌∷◌, length, option_map, IfOk};
+ghost use Rattle.std.specs.Prelude.{◌≡◌, ◌≤◌, ℕ, List, Option, ◌∷◌, length, IfOk};
 ghost use Rattle.cond_lang.specs.declared.scanner.Token.{Token as AToken};
-ghost use Rattle.conditions.specs.Form.{amount_of, form_of, any_of, all_of};
-ghost use Rattle.conditions.specs.Form.{negation, sum};
-ghost use Rattle.cond_lang.specs.Grammar.{joined};
+ghost use Rattle.conditions.specs.Form.{Form, amount_of};
+ghost use Rattle.conditions.specs.Limits.{atoms_of};
 ghost use Rattle.cond_lang.specs.Text.{kinds};
+ghost use Rattle.cond_lang.specs.internal.Growing.{AreGrown, GivesBy, IsGrown, IsGrownValue};
 ghost use Rattle.cond_lang.specs.internal.Reading.{Gives, front, rest_of_measure, rest_of_cards};
 ghost use Rattle.cond_lang.specs.internal.Reading.{count_of, rest_of_number, suit_and_ranks};
 ghost use Rattle.cond_lang.specs.internal.Reading.{suit_count};
 ghost use Rattle.cond_lang.specs.internal.Reading.{atom_of, reading, a_value, comparing_by};
 ghost use Rattle.cond_lang.specs.internal.Reading.{test_by, a_unit, a_both, a_cond};
-ghost use Rattle.cond_lang.specs.internal.Reading.{whole, behind, with_choice_by, quantified_by};
+ghost use Rattle.cond_lang.specs.internal.Reading.{whole, with_choice_by, quantified_by};
 
+mod grown;
 mod lists;
 mod terminals;
 
@@ -21,6 +22,7 @@ use crate::classes::{Bound, Choice, Class, Quantifier};
 use crate::scanner::{Placed, Token};
 use cards::{Measure, Seat};
 use conditions::{Count, Tree, Value};
+use grown::{Grown, GrownValue};
 pub(crate) use lists::{parse_tokens, read_as_far, read_value};
 use std::alloc::{AllocFailed, Global};
 use std::marker::Model;
@@ -99,6 +101,7 @@ impl<'a> Parser<'a> {
     #[tactic(auto, unfolding(crate::specs::internal::Reading::atom_of))]
     fn atom(&mut self, bound: Bound) -> Result<Value, Refusal>
         ensures gives { Gives amount_of result self.new (atom_of bound self.old) }
+        ensures one { IfOk result (λ v. atoms_of (amount_of v) ≡ 1) }
         ensures shorter { length self.new ≤ length self.old }
     {
         match self.peek() {
@@ -113,6 +116,7 @@ impl<'a> Parser<'a> {
     /// Nothing, or `* counted`, after a number
     fn rest_of_number(&mut self, bound: Bound, number: u16) -> Result<Value, Refusal>
         ensures gives { Gives amount_of result self.new (rest_of_number bound number self.old) }
+        ensures one { IfOk result (λ v. atoms_of (amount_of v) ≡ 1) }
         ensures shorter { length self.new ≤ length self.old }
     {
         if let Some(Token::Star) = self.peek() {
@@ -214,46 +218,39 @@ impl<'a> Parser<'a> {
     }
 
     /// Atoms with `+` between them.
-    fn value(&mut self, bound: Bound) -> Result<Value, Refusal>
-        ensures gives { Gives amount_of result self.new (reading bound a_value self.old) }
+    fn value(&mut self, bound: Bound) -> Result<GrownValue, Refusal>
+        ensures gives { GivesBy IsGrownValue result self.new (reading bound a_value self.old) }
         ensures shorter { length self.new ≤ length self.old }
     {
-        let mut left = self.atom(bound)?;
+        let mut left = GrownValue::one(self.atom(bound)?);
         while let Some(Token::Plus) = self.peek() {
             self.advance();
-            let right = self.atom(bound)?;
-            left = self.sum(left, right)?;
+            let right = GrownValue::one(self.atom(bound)?);
+            left = GrownValue::sum(self.alloc, left, right)?;
         }
         Ok(left)
     }
 
-    /// The sum of the two.
-    fn sum(&self, left: Value, right: Value) -> Result<Value, Refusal>
-        ensures ok { IfOk result (λ v. amount_of v ≡ sum (amount_of left) (amount_of right)) }
-        ensures err { result ≢ Err Refusal.Syntax }
-    {
-        Ok(Value::Sum(Box::new(self.alloc, left)?, Box::new(self.alloc, right)?))
-    }
-
     /// A value, and `in number - number` or `op value`.
-    fn comparison(&mut self, bound: Bound) -> Result<Tree, Refusal>
-        ensures gives { Gives form_of result self.new (comparing_by reading bound self.old) }
+    fn comparison(&mut self, bound: Bound) -> Result<Grown, Refusal>
+        ensures gives { GivesBy IsGrown result self.new (comparing_by reading bound self.old) }
         ensures shorter { length self.new ≤ length self.old }
     {
         let left = self.value(bound)?;
         if let Some(Token::In) = self.peek() {
             self.advance();
             let (least, most) = self.range()?;
-            return Ok(Tree::Within(left, least, most));
+            return Grown::within(self.alloc, left, least, most);
         }
         let op = self.relation()?;
         let right = self.value(bound)?;
-        Ok(Tree::Compare { left, op, right })
+        Grown::compare(self.alloc, left, op, right)
     }
 
     /// One test with no `not`, no bracket and no quantifier before it.
-    fn test(&mut self, bound: Bound) -> Result<Tree, Refusal>
-        ensures gives { Gives form_of result self.new (test_by reading bound self.old) }
+    #[inline(never)]
+    fn test(&mut self, bound: Bound) -> Result<Grown, Refusal>
+        ensures gives { GivesBy IsGrown result self.new (test_by reading bound self.old) }
         ensures shorter { length self.new ≤ length self.old }
     {
         match self.peek() {
@@ -261,86 +258,24 @@ impl<'a> Parser<'a> {
                 self.advance();
                 let seat = self.open_seat(bound)?;
                 self.close()?;
-                Ok(Tree::Balanced(seat))
+                Grown::one(self.alloc, Tree::Balanced(seat))
             }
             Some(Token::Shape) => {
                 self.advance();
                 let (seat, items) = self.seat_and_items(bound)?;
-                Ok(Tree::shape(seat, items))
+                Grown::one(self.alloc, Tree::shape(seat, items))
             }
             Some(Token::Pattern) => {
                 self.advance();
                 let (seat, items) = self.seat_and_items(bound)?;
-                Ok(Tree::pattern(seat, items))
+                Grown::one(self.alloc, Tree::pattern(seat, items))
             }
             Some(Token::Stops) => {
                 self.advance();
                 let (seat, suit) = self.seat_and_suit(bound)?;
-                Ok(Tree::Stops(seat, suit))
+                Grown::one(self.alloc, Tree::Stops(seat, suit))
             }
             _ => self.comparison(bound),
-        }
-    }
-
-    /// The same on the heap.
-    #[inline(never)]
-    fn boxed_test(&mut self, bound: Bound) -> Result<Box<Tree>, Refusal>
-        ensures gives { Gives (λ b. form_of b.value) result self.new
-            (test_by reading bound self.old) }
-        ensures shorter { length self.new ≤ length self.old }
-    {
-        let tree = self.test(bound)?;
-        Ok(Box::new(self.alloc, tree)?)
-    }
-
-    /// The tree's negation.
-    #[inline(never)]
-    fn negation(&self, inner: Box<Tree>) -> Result<Box<Tree>, Refusal>
-        ensures ok { IfOk result (λ b. form_of b.value ≡ negation (form_of inner.value)) }
-        ensures err { result ≢ Err Refusal.Syntax }
-    {
-        Ok(Box::new(self.alloc, Tree::Negation(inner))?)
-    }
-
-    /// Both trees.
-    #[inline(never)]
-    fn all_of(&self, left: Box<Tree>, right: Box<Tree>) -> Result<Box<Tree>, Refusal>
-        ensures ok { IfOk result (λ b.
-            form_of b.value ≡ all_of (form_of left.value) (form_of right.value)) }
-        ensures err { result ≢ Err Refusal.Syntax }
-    {
-        Ok(Box::new(self.alloc, Tree::AllOf(left, right))?)
-    }
-
-    /// One of the two trees, or both.
-    #[inline(never)]
-    fn any_of(&self, left: Box<Tree>, right: Box<Tree>) -> Result<Box<Tree>, Refusal>
-        ensures ok { IfOk result (λ b.
-            form_of b.value ≡ any_of (form_of left.value) (form_of right.value)) }
-        ensures err { result ≢ Err Refusal.Syntax }
-    {
-        Ok(Box::new(self.alloc, Tree::AnyOf(left, right))?)
-    }
-
-    /// The tree joined to the one before it, if there is one.
-    #[inline(never)]
-    fn behind(
-        &self,
-        quantifier: Quantifier,
-        left: Option<Box<Tree>>,
-        tree: Box<Tree>,
-    ) -> Result<Box<Tree>, Refusal>
-        ensures ok { IfOk result (λ b.
-            form_of b.value
-            ≡ behind quantifier (option_map (λ b. form_of b.value) left) (form_of tree.value)) }
-        ensures err { result ≢ Err Refusal.Syntax }
-    {
-        let Some(left) = left else {
-            return Ok(tree);
-        };
-        match quantifier {
-            Quantifier::Any => self.any_of(left, tree),
-            Quantifier::Every => self.all_of(left, tree),
         }
     }
 
@@ -350,8 +285,8 @@ impl<'a> Parser<'a> {
 
     /// One test.
     #[cycle(conditions)]
-    fn unit(&mut self, bound: Bound) -> Result<Box<Tree>, Refusal>
-        ensures gives { Gives (λ b. form_of b.value) result self.new
+    fn unit(&mut self, bound: Bound) -> Result<Grown, Refusal>
+        ensures gives { GivesBy IsGrown result self.new
             (reading bound a_unit self.old) }
         ensures shorter { length self.new ≤ length self.old }
     {
@@ -359,7 +294,7 @@ impl<'a> Parser<'a> {
             Some(Token::Not) => {
                 self.advance();
                 let inner = self.unit(bound)?;
-                self.negation(inner)
+                Grown::negation(self.alloc, inner)
             }
             Some(Token::Open) => {
                 self.advance();
@@ -368,14 +303,14 @@ impl<'a> Parser<'a> {
                 Ok(inner)
             }
             Some(Token::Quantifier(_)) => self.quantified(bound),
-            _ => self.boxed_test(bound),
+            _ => self.test(bound),
         }
     }
 
     /// Tests with `and` between them.
     #[cycle(conditions)]
-    fn both(&mut self, bound: Bound) -> Result<Box<Tree>, Refusal>
-        ensures gives { Gives (λ b. form_of b.value) result self.new
+    fn both(&mut self, bound: Bound) -> Result<Grown, Refusal>
+        ensures gives { GivesBy IsGrown result self.new
             (reading bound a_both self.old) }
         ensures shorter { length self.new ≤ length self.old }
     {
@@ -383,15 +318,15 @@ impl<'a> Parser<'a> {
         while let Some(Token::And) = self.peek() {
             self.advance();
             let right = self.unit(bound)?;
-            left = self.all_of(left, right)?;
+            left = Grown::joined(self.alloc, Quantifier::Every, left, right)?;
         }
         Ok(left)
     }
 
     /// What `and` joins, with `or` between.
     #[cycle(conditions)]
-    fn cond(&mut self, bound: Bound) -> Result<Box<Tree>, Refusal>
-        ensures gives { Gives (λ b. form_of b.value) result self.new
+    fn cond(&mut self, bound: Bound) -> Result<Grown, Refusal>
+        ensures gives { GivesBy IsGrown result self.new
             (reading bound a_cond self.old) }
         ensures shorter { length self.new ≤ length self.old }
     {
@@ -399,7 +334,7 @@ impl<'a> Parser<'a> {
         while let Some(Token::Or) = self.peek() {
             self.advance();
             let right = self.both(bound)?;
-            left = self.any_of(left, right)?;
+            left = Grown::joined(self.alloc, Quantifier::Any, left, right)?;
         }
         Ok(left)
     }
@@ -408,8 +343,8 @@ impl<'a> Parser<'a> {
     /// seat of the class, from the same token on. At most seven quantifiers enclose each other.
     #[cycle(conditions)]
     #[inline(never)]
-    fn quantified(&mut self, bound: Bound) -> Result<Box<Tree>, Refusal>
-        ensures gives { Gives (λ b. form_of b.value) result self.new
+    fn quantified(&mut self, bound: Bound) -> Result<Grown, Refusal>
+        ensures gives { GivesBy IsGrown result self.new
             (quantified_by reading bound self.old) }
         ensures shorter { length self.new ≤ length self.old }
     {
@@ -440,12 +375,12 @@ impl<'a> Parser<'a> {
         quantifier: Quantifier,
         class: Class,
         choice: Choice,
-        left: Option<Box<Tree>>,
-    ) -> Result<Option<Box<Tree>>, Refusal>
+        left: Option<Grown>,
+    ) -> Result<Option<Grown>, Refusal>
         requires { length self.old ≤ length start.now }
-        ensures gives { Gives (option_map (λ b. form_of b.value)) result self.new
-            (with_choice_by reading bound quantifier class (kinds start.entry.now) choice
-            (option_map (λ b. form_of b.value) left) self.old) }
+        ensures gives { (t : Option Form) → AreGrown left t
+            → GivesBy AreGrown result self.new (with_choice_by reading bound quantifier class
+            (kinds start.entry.now) choice t self.old) }
         ensures shorter { length self.new ≤ length start.entry.now }
     {
         if !bound.is_member(class, choice) {
@@ -453,19 +388,19 @@ impl<'a> Parser<'a> {
         }
         self.rest = start;
         let tree = self.cond(bound.with(class, choice))?;
-        Ok(Some(self.behind(quantifier, left, tree)?))
+        Ok(Some(Grown::behind(self.alloc, quantifier, left, tree)?))
     }
 
     /// One condition, and no more.
     #[tactic(auto, unfolding(crate::specs::internal::Reading::whole))]
-    pub(crate) fn whole(&mut self) -> Result<Tree, Refusal>
-        ensures gives { Gives form_of result self.new (whole self.old) }
+    pub(crate) fn whole(&mut self) -> Result<Grown, Refusal>
+        ensures gives { GivesBy IsGrown result self.new (whole self.old) }
         ensures shorter { length self.new ≤ length self.old }
     {
         let tree = self.cond(Bound::none())?;
         if self.peek().is_some() {
             return Err(Refusal::Syntax);
         }
-        Ok(Box::into_inner(tree))
+        Ok(tree)
     }
 }

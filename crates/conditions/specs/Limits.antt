@@ -1,5 +1,6 @@
--- The limits that every condition keeps: how many values a sum adds up, and how large a number is.
+-- The limits that every condition keeps: how many atoms a value adds up, and how large a number is.
 use Rattle.std.specs.Prelude.{ℕ, ◌+◌, ◌≤◌, All}
+use Rattle.conditions.specs.declared.limits.TheConstants.{MOST_PARTS}
 use Rattle.conditions.specs.Form.{Amount, sum, number, counted, times, Form, any_of, all_of, negation, compare, within, balanced, shape, pattern, loose_shape, loose_pattern, stops, number_of}
 
 -- the atoms of a value: each part that isn't a sum is one
@@ -8,6 +9,21 @@ atoms_of (sum a b) = atoms_of a + atoms_of b
 atoms_of (number n) = 1
 atoms_of (counted c) = 1
 atoms_of (times n c) = 1
+
+-- the parts of a tree: the atoms of its values, and each test of a hand. A range has those of the
+-- value that it tests: its two ends are none
+abbrev pub parts_of : Form → ℕ
+parts_of (any_of a b) = parts_of a + parts_of b
+parts_of (all_of a b) = parts_of a + parts_of b
+parts_of (negation a) = parts_of a
+parts_of (compare a o b) = atoms_of a + atoms_of b
+parts_of (within a l m) = atoms_of a
+parts_of (balanced q) = 1
+parts_of (shape q ns) = 1
+parts_of (pattern q ns) = 1
+parts_of (loose_shape q items) = 1
+parts_of (loose_pattern q items) = 1
+parts_of (stops q s) = 1
 
 -- each value in the tree has at most this many atoms
 abbrev pub HasAtMostAtoms : ℕ → Form → Type 0
@@ -46,5 +62,5 @@ HasNumbersUpTo m (stops q s) = Unit {0}
 
 -- the limits of a condition
 pub record IsWithinLimits (tree : Form) : Type 0 where
-  pub few : HasAtMostAtoms 1024 tree
+  pub few : HasAtMostAtoms MOST_PARTS tree
   pub small : HasNumbersUpTo 9999 tree

@@ -1,6 +1,7 @@
 //! The least and the greatest number that a value of any deal is.
 
 ghost use Rattle.std.specs.Prelude.{◌≡◌, ◌*◌, ◌≤◌, sum};
+ghost use Rattle.conditions.specs.declared.limits.TheConstants.{MOST_PARTS};
 ghost use Rattle.conditions.specs.Bounds.{greatest_count, greatest_of, least_count, least_of};
 ghost use Rattle.conditions.specs.Bounds.{least_weight, most_in, most_of, rank_count};
 ghost use Rattle.conditions.specs.Form.{amount_of};
@@ -11,29 +12,29 @@ use cards::{Honours, Measure};
 
 impl Value {
     /// The least that the value can be: no deal has less, and some values never come down to it.
-    pub fn least(&self) -> u32
-        requires { atoms_of (amount_of self.now) ≤ 1024 }
+    pub fn least(&self) -> u64
+        requires { atoms_of (amount_of self.now) ≤ MOST_PARTS }
         ensures value { result ≡ least_of (amount_of self.now) }
         ensures most { result ≤ 2621400 * atoms_of (amount_of self.now) }
     {
         match self {
             Value::Sum(left, right) => left.least() + right.least(),
-            Value::Number(number) => u32::from(*number),
-            Value::Count(count) => count.least(),
+            Value::Number(number) => u64::from(*number),
+            Value::Count(count) => u64::from(count.least()),
             Value::Times(factor, count) => times(*factor, count.least()),
         }
     }
 
     /// The greatest that the value can be: no deal has more, and some values never reach it.
-    pub fn greatest(&self) -> u32
-        requires { atoms_of (amount_of self.now) ≤ 1024 }
+    pub fn greatest(&self) -> u64
+        requires { atoms_of (amount_of self.now) ≤ MOST_PARTS }
         ensures value { result ≡ greatest_of (amount_of self.now) }
         ensures most { result ≤ 2621400 * atoms_of (amount_of self.now) }
     {
         match self {
             Value::Sum(left, right) => left.greatest() + right.greatest(),
-            Value::Number(number) => u32::from(*number),
-            Value::Count(count) => count.greatest(),
+            Value::Number(number) => u64::from(*number),
+            Value::Count(count) => u64::from(count.greatest()),
             Value::Times(factor, count) => times(*factor, count.greatest()),
         }
     }
@@ -71,12 +72,12 @@ impl Count {
 }
 
 /// That many times a count.
-pub(crate) fn times(factor: u16, count: u32) -> u32
+pub(crate) fn times(factor: u16, count: u32) -> u64
     requires { count ≤ 40 }
     ensures value { result ≡ factor * count }
     ensures most { result ≤ 2621400 }
 {
-    u32::from(factor) * count
+    u64::from(factor) * u64::from(count)
 }
 
 /// The most that a hand counts by the measure. Of the sixteen honours it lacks three.

@@ -1,6 +1,7 @@
 //! A condition: made of a tree, cloned, and asked whether it holds of a deal.
 
 ghost use Rattle.std.specs.Prelude.{◌≡◌, IfOk};
+ghost use Rattle.conditions.specs.declared.limits.TheConstants.{MOST_PARTS};
 ghost use Rattle.conditions.specs.declared.tree.Op.TheVariants.{Equal};
 ghost use Rattle.conditions.specs.Form.{all_of, form_of, compare, number};
 ghost use Rattle.conditions.specs.Limits.{IsWithinLimits, HasAtMostAtoms, HasNumbersUpTo};
@@ -16,8 +17,8 @@ use std::marker::Model;
 
 /// A condition on a deal, which contracts see as its tree's form.
 ///
-/// Each of its values adds up at most 1,024 numbers, points and lengths, so that a sum is a `u32`,
-/// and each of its numbers is at most 9,999.
+/// Each of its values adds up at most 16,384 numbers and counts, and each of its numbers is at most
+/// 9,999, so that a sum is a `u64`.
 pub struct Cond {
     alloc: Global,
     tree: Tree,
@@ -116,11 +117,11 @@ impl Cond {
         meaning::holds(&self.tree, deal)
     }
 
-    /// The tree of the condition: each of its values has at most 1,024 atoms, and each number is at
-    /// most 9,999.
+    /// The tree of the condition: each of its values has at most 16,384 atoms, and each number is
+    /// at most 9,999.
     pub fn tree(&self) -> &Tree
         ensures form { form_of result.now ≡ self.now }
-        ensures few { HasAtMostAtoms 1024 self.now }
+        ensures few { HasAtMostAtoms MOST_PARTS self.now }
         ensures small { HasNumbersUpTo 9999 self.now }
     {
         &self.tree

@@ -8,11 +8,13 @@ mod bounds;
 mod condition;
 mod error;
 pub mod laws;
+mod limits;
 mod meaning;
 mod question;
 mod tree;
 
 pub use condition::Cond;
 pub use error::CondError;
+pub use limits::MOST_PARTS;
 pub use question::Question;
 pub use tree::{Count, Item, Op, Tree, Value};

@@ -74,8 +74,8 @@ impl Question {
     }
 
     /// How many rows a table of the answers can have: 1 more than the greatest answer, so at most
-    /// 409,559,041.
-    pub fn rows(&self) -> u32
+    /// 6,552,944,641.
+    pub fn rows(&self) -> u64
         ensures value { result ≡ rows_of self.now }
         ensures few { result ≤ most_answer + 1 }
     {
@@ -86,12 +86,12 @@ impl Question {
     }
 
     /// The answer of the deal, which is less than `rows`.
-    pub fn answer(&self, deal: &Deal) -> u32
+    pub fn answer(&self, deal: &Deal) -> u64
         ensures value { result ≡ answer self.now deal.now }
         ensures within { result < rows_of self.now }
     {
         match &self.asked {
-            Asked::Condition(condition) => u32::from(condition.holds(deal)),
+            Asked::Condition(condition) => u64::from(condition.holds(deal)),
             Asked::Value(value) => {
                 // A hand's contract tells that the deal is a partition.
                 let _hand = deal.hand(Seat::North);

@@ -3,7 +3,7 @@ use Rattle.std.specs.Prelude.{◌≡◌, ◌⊎◌, ◌↔◌, ℕ, Bool, IsTrue
 use Rattle.std.specs.Prelude.{length, map}
 use Rattle.conditions.specs.declared.error.CondError.{CondError}
 use Rattle.conditions.specs.declared.error.CondError.TheVariants.{TooLong, Byte, Word, Number}
-use Rattle.conditions.specs.declared.error.CondError.TheVariants.{Syntax, Memory}
+use Rattle.conditions.specs.declared.error.CondError.TheVariants.{Syntax, TooManyParts, Memory}
 use Rattle.cond_lang.specs.declared.words.Kind.{Kind}
 use Rattle.cond_lang.specs.declared.scanner.Token.{Token}
 use Rattle.cond_lang.specs.Faults.{HasFault}
@@ -66,6 +66,7 @@ ExplainsAs asked text (Byte at) written = Shows Nothing text at written
 ExplainsAs asked text (Word at) written = Shows Nothing text at written
 ExplainsAs asked text (Number at) written = Shows Nothing text at written
 ExplainsAs asked text (Syntax at) written = Shows (MayTell asked text) text at written
+ExplainsAs asked text TooManyParts written = Nothing written
 ExplainsAs asked text Memory written = Nothing written
 
 -- the same of a condition

@@ -3,6 +3,7 @@
 ghost use Rattle.std.specs.Prelude.{◌≡◌, ◌||◌, nat_lt, List, IsTrue, false, sum};
 ghost use Rattle.cards.specs.Deals.{IsPartition};
 ghost use Rattle.cards.specs.declared.seat.Seat.{Seat};
+ghost use Rattle.conditions.specs.declared.limits.TheConstants.{MOST_PARTS};
 ghost use Rattle.cond_lang.specs.Form.{form_of};
 ghost use Rattle.cond_lang.specs.Limits.{HasAtMostAtoms};
 ghost use Rattle.cond_lang.specs.Meaning.{holds};
@@ -26,7 +27,7 @@ pub fn is_never(condition: &Cond) -> bool
 
 /// Whether no deal meets the tree.
 pub(crate) fn is_never_met(tree: &Tree) -> bool
-    requires { HasAtMostAtoms 1024 (form_of tree.now) }
+    requires { HasAtMostAtoms MOST_PARTS (form_of tree.now) }
     ensures { result ≡ is_never (form_of tree.now) }
 {
     match tree {
@@ -43,8 +44,8 @@ pub(crate) fn is_never_met(tree: &Tree) -> bool
             is_never_within(
                 value.least(),
                 value.greatest(),
-                u32::from(*first),
-                u32::from(*last),
+                u64::from(*first),
+                u64::from(*last),
             )
         }
         Tree::Shape(_, lengths) | Tree::Pattern(_, lengths) => total(lengths) != 13,
@@ -54,7 +55,7 @@ pub(crate) fn is_never_met(tree: &Tree) -> bool
 }
 
 /// Whether the relation holds of no two numbers, the left from a to b and the right from c to d.
-fn is_never_related(op: Op, a: u32, b: u32, c: u32, d: u32) -> bool
+fn is_never_related(op: Op, a: u64, b: u64, c: u64, d: u64) -> bool
     ensures { result ≡ is_never_related op a b c d }
 {
     match op {
@@ -68,7 +69,7 @@ fn is_never_related(op: Op, a: u32, b: u32, c: u32, d: u32) -> bool
 }
 
 /// Whether no number from a to b is from m to n.
-fn is_never_within(a: u32, b: u32, m: u32, n: u32) -> bool
+fn is_never_within(a: u64, b: u64, m: u64, n: u64) -> bool
     ensures { result ≡ (nat_lt n m || (nat_lt b m || nat_lt n a)) }
 {
     n < m || b < m || n < a

@@ -23,8 +23,8 @@ use std::alloc::{AllocError, Global};
 /// They are the line of the text that has the fault, cut to 72 columns around it, and carets below
 /// the fault; for a syntax fault what may come there; and a hint, if a rule gives one. Bytes
 /// that would disturb a terminal, or aren't ASCII, are shown as `?`, and a tab as a space. For a
-/// text that is too long the hint alone tells how long it is, and where memory runs out there is
-/// nothing to say.
+/// text that is too long the hint alone tells how long it is, and of one of too many parts, or
+/// where memory runs out, there is nothing to say.
 ///
 /// # Errors
 /// `AllocError` if an allocation failed.
@@ -61,7 +61,7 @@ fn explain_as(
             put_piece(alloc, &mut out, text, at)?
         }
         CondError::Syntax { at } => put_syntax(alloc, &mut out, asked, text, at)?,
-        CondError::Memory => {}
+        CondError::TooManyParts | CondError::Memory => {}
     }
     Ok(out)
 }
@@ -107,7 +107,9 @@ fn beginning_of(alloc: Global, text: &[u8]) -> Result<Option<Beginning>, AllocEr
         Err(CondError::Byte { .. }) => Ok(None),
         Err(CondError::Word { .. }) => Ok(None),
         Err(CondError::Number { .. }) => Ok(None),
-        Err(CondError::Syntax { .. } | CondError::Memory) => Err(AllocError),
+        Err(CondError::Syntax { .. } | CondError::TooManyParts | CondError::Memory) => {
+            Err(AllocError)
+        }
     }
 }
 

@@ -1,7 +1,8 @@
 //! Tests of one value of a hand that leave it no number.
 
-ghost use Rattle.std.specs.Prelude.{◌≡◌, ◌≤◌};
+ghost use Rattle.std.specs.Prelude.{◌≡◌, ◌*◌, ◌≤◌};
 ghost use Rattle.cards.specs.Hands.{is_same};
+ghost use Rattle.conditions.specs.declared.limits.TheConstants.{MOST_PARTS};
 ghost use Rattle.cond_lang.specs.Form.{amount_of, form_of};
 ghost use Rattle.cond_lang.specs.Limits.{HasAtMostAtoms, atoms_of};
 ghost use Rattle.cond_lang.specs.Bounds.{greatest_of};
@@ -12,8 +13,8 @@ use cond_lang::{Count, Op, Tree, Value};
 
 /// Whether the tree leaves no number to a value that a part of it tests.
 pub(crate) fn is_torn(tree: &Tree, part: &Tree) -> bool
-    requires tree { HasAtMostAtoms 1024 (form_of tree.now) }
-    requires part { HasAtMostAtoms 1024 (form_of part.now) }
+    requires tree { HasAtMostAtoms MOST_PARTS (form_of tree.now) }
+    requires part { HasAtMostAtoms MOST_PARTS (form_of part.now) }
     ensures { result ≡ is_torn (form_of tree.now) (form_of part.now) }
 {
     match part {
@@ -27,16 +28,16 @@ pub(crate) fn is_torn(tree: &Tree, part: &Tree) -> bool
 
 /// Whether the tree leaves no number to the value.
 fn is_torn_at(tree: &Tree, value: &Value) -> bool
-    requires tree { HasAtMostAtoms 1024 (form_of tree.now) }
-    requires value { atoms_of (amount_of value.now) ≤ 1024 }
+    requires tree { HasAtMostAtoms MOST_PARTS (form_of tree.now) }
+    requires value { atoms_of (amount_of value.now) ≤ MOST_PARTS }
     ensures { result ≡ is_torn_at (form_of tree.now) (amount_of value.now) }
 {
     greatest_with(tree, value) < least_with(tree, value)
 }
 
 /// The least that the value is in a deal that meets the tree.
-fn least_with(tree: &Tree, value: &Value) -> u32
-    requires { HasAtMostAtoms 1024 (form_of tree.now) }
+fn least_with(tree: &Tree, value: &Value) -> u64
+    requires { HasAtMostAtoms MOST_PARTS (form_of tree.now) }
     ensures { result ≡ least_with (form_of tree.now) (amount_of value.now) }
 {
     match tree {
@@ -51,23 +52,23 @@ fn least_with(tree: &Tree, value: &Value) -> u32
                 0
             }
         }
-        Tree::Within(tested, first, _) if is_same_value(tested, value) => u32::from(*first),
+        Tree::Within(tested, first, _) if is_same_value(tested, value) => u64::from(*first),
         _ => 0,
     }
 }
 
 /// The greatest that the value is in a deal that meets the tree.
-fn greatest_with(tree: &Tree, value: &Value) -> u32
-    requires tree { HasAtMostAtoms 1024 (form_of tree.now) }
-    requires value { atoms_of (amount_of value.now) ≤ 1024 }
+fn greatest_with(tree: &Tree, value: &Value) -> u64
+    requires tree { HasAtMostAtoms MOST_PARTS (form_of tree.now) }
+    requires value { atoms_of (amount_of value.now) ≤ MOST_PARTS }
     ensures { result ≡ greatest_with (form_of tree.now) (amount_of value.now) }
 {
     greatest_up_to(tree, value, value.greatest())
 }
 
 /// The greatest that the value is in a deal that meets the tree, if it is `most` in any deal.
-fn greatest_up_to(tree: &Tree, value: &Value, most: u32) -> u32
-    requires tree { HasAtMostAtoms 1024 (form_of tree.now) }
+fn greatest_up_to(tree: &Tree, value: &Value, most: u64) -> u64
+    requires tree { HasAtMostAtoms MOST_PARTS (form_of tree.now) }
     requires most { most ≡ greatest_of (amount_of value.now) }
     ensures { result ≡ greatest_with (form_of tree.now) (amount_of value.now) }
 {
@@ -87,7 +88,7 @@ fn greatest_up_to(tree: &Tree, value: &Value, most: u32) -> u32
                 most
             }
         }
-        Tree::Within(tested, _, last) if is_same_value(tested, value) => u32::from(*last),
+        Tree::Within(tested, _, last) if is_same_value(tested, value) => u64::from(*last),
         _ => most,
     }
 }
@@ -106,8 +107,8 @@ fn turned(op: Op) -> Op
 }
 
 /// The least that is in the relation to a number that is at least c.
-fn least_related(op: Op, c: u32) -> u32
-    requires { c ≤ 2684313600 }
+fn least_related(op: Op, c: u64) -> u64
+    requires { c ≤ 2621400 * MOST_PARTS }
     ensures { result ≡ least_related op c }
 {
     match op {
@@ -119,7 +120,7 @@ fn least_related(op: Op, c: u32) -> u32
 
 /// The greatest that is in the relation to a number that is at most d, where nothing is above
 /// g.
-fn greatest_related(op: Op, d: u32, g: u32) -> u32
+fn greatest_related(op: Op, d: u64, g: u64) -> u64
     ensures { result ≡ greatest_related op d g }
 {
     match op {

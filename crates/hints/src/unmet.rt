@@ -2,6 +2,7 @@
 
 ghost use Rattle.std.specs.Prelude.{◌≡◌, ◌++◌, IfOk, MatchOption, OnOk};
 ghost use Rattle.std.specs.Prelude.{false, string_bytes, true};
+ghost use Rattle.conditions.specs.declared.limits.TheConstants.{MOST_PARTS};
 ghost use Rattle.cond_lang.specs.Form.{form_of};
 ghost use Rattle.cond_lang.specs.Limits.{HasAtMostAtoms};
 ghost use Rattle.hints.specs.Never.{is_never};
@@ -32,7 +33,7 @@ pub fn note(alloc: Global, condition: &Cond) -> Result<Option<String>, AllocErro
 
 /// The ends of the first range that are turned, and for which no deal meets the tree.
 fn turned_range(tree: &Tree) -> Option<(u16, u16)>
-    requires { HasAtMostAtoms 1024 (form_of tree.now) }
+    requires { HasAtMostAtoms MOST_PARTS (form_of tree.now) }
     ensures { result ≡ turned_range (form_of tree.now) }
 {
     match tree {

@@ -5,7 +5,7 @@ use Rattle.std.proofs.lemmas.Bool.{eqb-false, ltb-true, ltb-false}
 use Rattle.cond_lang.specs.Faults.{IsDue}
 use Rattle.cond_lang.specs.Form.{Form}
 use Rattle.conditions.specs.declared.error.CondError.{CondError}
-use Rattle.conditions.specs.declared.error.CondError.TheVariants.{TooLong, Byte, Word, Number, Syntax, Memory as no_memory}
+use Rattle.conditions.specs.declared.error.CondError.TheVariants.{TooLong, Byte, Word, Number, Syntax, TooManyParts, Memory as no_memory}
 use Rattle.plans.specs.declared.cause.Cause.{Cause}
 use Rattle.plans.specs.declared.cause.Cause.TheVariants as cause
 use Rattle.plans.specs.Refusals.{refusal_of}
@@ -133,6 +133,7 @@ unread o text bytes e given same due = by_error e due
     by_error (Word at) due = inr (Word at, refl, because (Word at) due (λ bad. cc))
     by_error (Number at) due = inr (Number at, refl, because (Number at) due (λ bad. cc))
     by_error (Syntax at) due = inr (Syntax at, refl, because (Syntax at) due (λ bad. cc))
+    by_error TooManyParts due = inr (TooManyParts, refl, because TooManyParts due (λ bad. cc))
     by_error no_memory due = inl refl
 
 pub condition_due : (s : Search) (l : Look) (f : Failure) → IsPlanned s l → IsConditionFailure s f → IsMakeDue s l f

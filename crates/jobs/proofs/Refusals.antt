@@ -2,9 +2,11 @@
 use Rattle.std.proofs.Common.{◌≡◌, ◌≤◌, ◌⊎◌, ℕ, List, length, Option, Some, refl, ap, sym, subst, inl, inr, option_map, arith}
 use Rattle.std.specs.Borrow.{Bor}
 use Rattle.cond_lang.specs.Form.{Form}
+use Rattle.cond_lang.specs.Limits.{parts_of}
+use Rattle.conditions.specs.declared.limits.TheConstants.{MOST_PARTS}
 use Rattle.cond_lang.specs.Text.{SpellsTree}
 use Rattle.conditions.specs.declared.error.CondError.{CondError}
-use Rattle.conditions.specs.declared.error.CondError.TheVariants.{TooLong, Byte, Word, Number, Syntax, Memory}
+use Rattle.conditions.specs.declared.error.CondError.TheVariants.{TooLong, Byte, Word, Number, Syntax, TooManyParts, Memory}
 use Rattle.jobs.specs.Failures.{failure_of, status_of}
 use Rattle.jobs.specs.Makings.{TextMeans}
 use Rattle.jobs.specs.Statuses.{IsStatusWithInput}
@@ -18,15 +20,16 @@ refused_status (Byte at) = inr refl
 refused_status (Word at) = inr refl
 refused_status (Number at) = inr refl
 refused_status (Syntax at) = inr refl
+refused_status TooManyParts = inr refl
 refused_status Memory = inl refl
 
 -- a text that means something is refused only where memory ran out
 pub meant_status : (o : Option (Bor (List ℕ))) (text : Bor (List ℕ)) (bytes : List ℕ) (e : CondError) → o ≡ Some text → bytes ≡ text.now
-    → ((t : Form) → length bytes ≤ 1024 → SpellsTree bytes t → e ≡ Memory) → (f : Form) → TextMeans (option_map (λ s. s.now) o) f → status_of (failure_of e) ≡ 5
+    → ((t : Form) → length bytes ≤ 1024 → SpellsTree bytes t → parts_of t ≤ MOST_PARTS → e ≡ Memory) → (f : Form) → TextMeans (option_map (λ s. s.now) o) f → status_of (failure_of e) ≡ 5
 meant_status o text bytes e given same memory f means =
     let here : TextMeans (Some text.now) f = subst (λ (x : Option (Bor (List ℕ))). TextMeans (option_map (λ s. s.now) x) f) given means in
     let at : TextMeans (Some bytes) f = subst (λ (b : List ℕ). TextMeans (Some b) f) (sym same) here in
-    ap (λ x. status_of (failure_of x)) (memory f at.0 at.1)
+    ap (λ x. status_of (failure_of x)) (memory f at.0 at.1 at.2)
 
 -- a failure's status is one of the program's
 pub status_of-status : (f : Failure) → IsStatusWithInput (status_of f)

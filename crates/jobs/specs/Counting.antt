@@ -2,6 +2,8 @@
 use Rattle.std.specs.Prelude.{◌≡◌, ◌≤◌, ◌^◌, ℕ, List, length, map}
 use Rattle.cond_lang.specs.Asking.{SpellsQuestion}
 use Rattle.cond_lang.specs.Form.{Form}
+use Rattle.cond_lang.specs.Questions.{parts_asked}
+use Rattle.conditions.specs.declared.limits.TheConstants.{MOST_PARTS}
 use Rattle.plans.specs.Plans.{Planned, candidate_of}
 use Rattle.plans.specs.Text.{accepted, end_of}
 use Rattle.request_types.specs.Requests.{Questions, no_question, one_question, two_questions}
@@ -9,10 +11,11 @@ use Rattle.statistics.specs.Counting.{Asked, Subject, by_one, by_two, cells_of, 
 use Rattle.statistics.specs.Counting.{deals_alone, title_of}
 use Rattle.boards.specs.declared.style.Style.{Style}
 
--- the text asks this question, and is its title if it fits
+-- the text asks this question, which has no more parts than the limit, and is its title if it fits
 pub record IsQuestion (text : List ℕ) (asked : Asked) : Type 0 where
   pub short : length text ≤ 1024
   pub spells : SpellsQuestion text asked.question
+  pub few : parts_asked asked.question ≤ MOST_PARTS
   pub title : asked.title ≡ title_of text
 
 -- the texts ask this of the deals

@@ -36,20 +36,25 @@ hand_line seat.East = codes "hand refused: east\n"
 hand_line seat.South = codes "hand refused: south\n"
 hand_line seat.West = codes "hand refused: west\n"
 
--- a text of the language is refused at a byte, counted from 0: how the line begins, and the line
--- of one that is too long
-abbrev pub text_line : (at_byte too_long : List ℕ) → CondError → List ℕ
-text_line at_byte too_long cond.TooLong = too_long
-text_line at_byte too_long (cond.Byte at) = at_byte ++ decimal at ++ codes ": unexpected byte\n"
-text_line at_byte too_long (cond.Word at) = at_byte ++ decimal at ++ codes ": unknown word\n"
-text_line at_byte too_long (cond.Number at) = at_byte ++ decimal at ++ codes ": number too long\n"
-text_line at_byte too_long (cond.Syntax at) = at_byte ++ decimal at ++ codes ": syntax\n"
-text_line at_byte too_long cond.Memory = codes "out of memory\n"
+-- a text of the language is refused at a byte, counted from 0: how the line begins, and the lines
+-- of one that is too long and of one of too many parts
+abbrev pub text_line : (at_byte too_long too_many : List ℕ) → CondError → List ℕ
+text_line at_byte too_long too_many cond.TooLong = too_long
+text_line at_byte too_long too_many (cond.Byte at) =
+    at_byte ++ decimal at ++ codes ": unexpected byte\n"
+text_line at_byte too_long too_many (cond.Word at) =
+    at_byte ++ decimal at ++ codes ": unknown word\n"
+text_line at_byte too_long too_many (cond.Number at) =
+    at_byte ++ decimal at ++ codes ": number too long\n"
+text_line at_byte too_long too_many (cond.Syntax at) = at_byte ++ decimal at ++ codes ": syntax\n"
+text_line at_byte too_long too_many cond.TooManyParts = too_many
+text_line at_byte too_long too_many cond.Memory = codes "out of memory\n"
 
 abbrev pub condition_line : CondError → List ℕ
 condition_line =
     text_line (codes "condition refused at byte ")
     (codes "condition refused: longer than 1024 bytes\n")
+    (codes "condition refused: more than 16384 parts\n")
 
 abbrev pub cells_line : QuestionName → List ℕ
 cells_line Of = codes "of refused: more than 1048576 cells\n"
@@ -58,8 +63,10 @@ cells_line By = codes "by refused: more than 1048576 cells\n"
 abbrev pub question_line : QuestionName → CondError → List ℕ
 question_line Of =
     text_line (codes "of refused at byte ") (codes "of refused: longer than 1024 bytes\n")
+    (codes "of refused: more than 16384 parts\n")
 question_line By =
     text_line (codes "by refused at byte ") (codes "by refused: longer than 1024 bytes\n")
+    (codes "by refused: more than 16384 parts\n")
 
 abbrev pub cause_line : Cause → List ℕ
 cause_line cause.Memory = codes "out of memory\n"

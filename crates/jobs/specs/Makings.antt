@@ -3,7 +3,9 @@ use Rattle.std.specs.Prelude.{◌≡◌, ◌≤◌, ◌<◌, ◌^◌, ◌+◌, �
 use Rattle.boards.specs.Headings.{HeadingView}
 use Rattle.boards.specs.declared.setting.Setting.{Setting}
 use Rattle.cond_lang.specs.Form.{Form, all_of, compare, number}
+use Rattle.cond_lang.specs.Limits.{parts_of}
 use Rattle.cond_lang.specs.Text.{SpellsTree}
+use Rattle.conditions.specs.declared.limits.TheConstants.{MOST_PARTS}
 use Rattle.conditions.specs.declared.tree.Op.TheVariants.{Equal}
 use Rattle.request_types.specs.PredealtHands.{first_refused, fixed_of}
 use Rattle.boards.specs.Labels.{IsDate, IsLabel}
@@ -71,10 +73,11 @@ pub record IsPlanned (s : Search) (l : Look) : Type 0 where
   pub labels : HasLabels l
   pub hands : HasHands s
 
--- the text of a condition means this tree; without a text every deal is accepted
+-- the text of a condition means this tree, which has no more parts than the limit; without a text
+-- every deal is accepted
 abbrev pub TextMeans : Option (List ℕ) → Form → Type 0
 TextMeans None form = form ≡ compare (number 0) Equal (number 0)
-TextMeans (Some t) form = (length t ≤ 1024) × SpellsTree t form
+TextMeans (Some t) form = (length t ≤ 1024) × SpellsTree t form × (parts_of form ≤ MOST_PARTS)
 
 -- the text of a lesson's condition and that of a condition are read each on its own: with both a
 -- deal has to meet both

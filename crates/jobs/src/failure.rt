@@ -108,9 +108,15 @@ fn of_hand(seat: Seat) -> &'static str
 }
 
 /// The line of a text of the language that is refused: how it begins if the fault has a place, and
-/// what it is if the text is too long.
-fn of_text(at_byte: &'static str, too_long: &'static str, error: CondError) -> Message<'static>
-    ensures { text_of result ≡ text_line at_byte.entry.now too_long.entry.now error }
+/// what it is if the text is too long or has too many parts.
+fn of_text(
+    at_byte: &'static str,
+    too_long: &'static str,
+    too_many: &'static str,
+    error: CondError,
+) -> Message<'static>
+    ensures { text_of result
+        ≡ text_line at_byte.entry.now too_long.entry.now too_many.entry.now error }
 {
     match error {
         CondError::TooLong => Message::plain(too_long),
@@ -118,6 +124,7 @@ fn of_text(at_byte: &'static str, too_long: &'static str, error: CondError) -> M
         CondError::Word { at } => Message::with(at_byte, at as u64, ": unknown word\n"),
         CondError::Number { at } => Message::with(at_byte, at as u64, ": number too long\n"),
         CondError::Syntax { at } => Message::with(at_byte, at as u64, ": syntax\n"),
+        CondError::TooManyParts => Message::plain(too_many),
         CondError::Memory => Message::plain(OUT_OF_MEMORY),
     }
 }
@@ -128,6 +135,7 @@ fn of_condition(error: CondError) -> Message<'static>
     of_text(
         "condition refused at byte ",
         "condition refused: longer than 1024 bytes\n",
+        "condition refused: more than 16384 parts\n",
         error,
     )
 }
@@ -148,11 +156,13 @@ fn of_question(name: QuestionName, error: CondError) -> Message<'static>
         QuestionName::Of => of_text(
             "of refused at byte ",
             "of refused: longer than 1024 bytes\n",
+            "of refused: more than 16384 parts\n",
             error,
         ),
         QuestionName::By => of_text(
             "by refused at byte ",
             "by refused: longer than 1024 bytes\n",
+            "by refused: more than 16384 parts\n",
             error,
         ),
     }

@@ -7,6 +7,7 @@
 ghost use Rattle.std.specs.Prelude.{◌≡◌, ℕ, ◌*◌, ◌<◌, ◌≤◌, None, slice_index, slice_index_or};
 ghost use Rattle.std.specs.List.{sum_by};
 ghost use Rattle.cards.specs.Shuffle.{pack};
+ghost use Rattle.conditions.specs.declared.limits.TheConstants.{MOST_PARTS};
 ghost use Rattle.conditions.specs.Form.{amount_of};
 ghost use Rattle.conditions.specs.Limits.{atoms_of};
 ghost use Rattle.screens.specs.internal.Shares.{open_weight, weight_at};
@@ -21,7 +22,7 @@ use conditions::Value;
 #[derive(Drop)]
 pub(crate) struct Estimate {
     /// What the value is beside its cards, and what is taken for each card of the pack.
-    pub(crate) total: u32,
+    pub(crate) total: u64,
     /// What is taken for each card.
     pub(crate) taken: [u32; 52],
     /// What each card counts in West's hand.
@@ -33,7 +34,7 @@ pub(crate) struct Estimate {
 impl Estimate {
     /// The estimate of the value.
     pub(crate) fn of(value: &Value, bound: Bound, stage: Stage, fixed: &Fixed) -> Estimate
-        requires { atoms_of (amount_of value.now) ≤ 1024 }
+        requires { atoms_of (amount_of value.now) ≤ MOST_PARTS }
         ensures { IsEstimate bound stage fixed.now (amount_of value.now) result }
     {
         let taken = open_weights(value, bound, stage, fixed);
@@ -42,7 +43,7 @@ impl Estimate {
             Stage::TwoHands => held_weights(value, Seat::South),
         };
         Estimate {
-            total: beside(value, bound) + total_of(&taken),
+            total: beside(value, bound) + u64::from(total_of(&taken)),
             taken,
             west: held_weights(value, Seat::West),
             south,
@@ -52,7 +53,7 @@ impl Estimate {
 
 /// What each card counts if the seat has it.
 fn held_weights(value: &Value, seat: Seat) -> [u32; 52]
-    requires { atoms_of (amount_of value.now) ≤ 1024 }
+    requires { atoms_of (amount_of value.now) ≤ MOST_PARTS }
     ensures { (c : ℕ) → c < 52 → slice_index result c ≡ weight_at (amount_of value.now) c seat }
 {
     let mut weights = [0; 52];
@@ -64,10 +65,10 @@ fn held_weights(value: &Value, seat: Seat) -> [u32; 52]
 
 /// What is taken for each card as long as it is in no known hand.
 fn open_weights(value: &Value, bound: Bound, stage: Stage, fixed: &Fixed) -> [u32; 52]
-    requires { atoms_of (amount_of value.now) ≤ 1024 }
+    requires { atoms_of (amount_of value.now) ≤ MOST_PARTS }
     ensures each { (c : ℕ) → c < 52 → slice_index result c
         ≡ open_weight bound stage (amount_of value.now) c (slice_index_or fixed.now c None) }
-    ensures most { (c : ℕ) → c < 52 → slice_index result c ≤ 3825 * 1024 }
+    ensures most { (c : ℕ) → c < 52 → slice_index result c ≤ 3825 * MOST_PARTS }
 {
     let seats = fixed.as_array();
     let mut weights = [0; 52];
@@ -79,9 +80,9 @@ fn open_weights(value: &Value, bound: Bound, stage: Stage, fixed: &Fixed) -> [u3
 
 /// The weights of all cards together.
 fn total_of(weights: &[u32; 52]) -> u32
-    requires { (c : ℕ) → c < 52 → slice_index weights.now c ≤ 3825 * 1024 }
+    requires { (c : ℕ) → c < 52 → slice_index weights.now c ≤ 3825 * MOST_PARTS }
     ensures value { result ≡ sum_by (λ c. slice_index weights.now c) pack }
-    ensures most { result ≤ 52 * 3825 * 1024 }
+    ensures most { result ≤ 52 * 3825 * MOST_PARTS }
 {
     let mut total = 0;
     for card in 0..weights.len() {

@@ -2,6 +2,7 @@
 //! for a condition.
 
 ghost use Rattle.std.specs.Prelude.{◌≡◌, ℕ, ◌≤◌, ◌&&◌, ◌||◌, Bool, List, IfOk, IsTrue, nat_le, not};
+ghost use Rattle.conditions.specs.declared.limits.TheConstants.{MOST_PARTS};
 ghost use Rattle.conditions.specs.Form.{amount_of, form_of};
 ghost use Rattle.conditions.specs.Limits.{HasAtMostAtoms, atoms_of};
 ghost use Rattle.conditions.specs.Meaning.{holds, is_related, value_in};
@@ -21,15 +22,15 @@ pub(crate) enum Test {
     /// It excludes nothing.
     Never,
     /// West's cards weigh more than this.
-    WestAbove(CardWeights, u32),
+    WestAbove(CardWeights, u64),
     /// West's cards weigh less than this.
-    WestBelow(CardWeights, u32),
+    WestBelow(CardWeights, u64),
     /// South's cards weigh more than this.
-    SouthAbove(CardWeights, u32),
+    SouthAbove(CardWeights, u64),
     /// South's cards weigh less than this.
-    SouthBelow(CardWeights, u32),
+    SouthBelow(CardWeights, u64),
     /// West's cards by the first weights and South's by the second weigh more than this.
-    BothAbove(CardWeights, CardWeights, u32),
+    BothAbove(CardWeights, CardWeights, u64),
     /// A gap is open.
     Opens(Box<Gap>),
     /// One of the two excludes.
@@ -50,7 +51,7 @@ impl Test {
         stage: Stage,
         fixed: &Fixed,
     ) -> Result<Test, AllocError>
-        requires { HasAtMostAtoms 1024 (form_of tree.now) }
+        requires { HasAtMostAtoms MOST_PARTS (form_of tree.now) }
         ensures { IfOk result (λ test. Refutes stage fixed.now
             (λ deal. has_truth truth (holds (form_of tree.now) deal)) test) }
     {
@@ -96,8 +97,8 @@ impl Test {
         stage: Stage,
         fixed: &Fixed,
     ) -> Result<Test, AllocError>
-        requires left { atoms_of (amount_of left.now) ≤ 1024 }
-        requires right { atoms_of (amount_of right.now) ≤ 1024 }
+        requires left { atoms_of (amount_of left.now) ≤ MOST_PARTS }
+        requires right { atoms_of (amount_of right.now) ≤ MOST_PARTS }
         ensures { IfOk result (λ test. Refutes stage fixed.now (λ deal. is_related op
             (value_in deal (amount_of left.now)) (value_in deal (amount_of right.now))) test) }
     {
@@ -128,7 +129,7 @@ impl Test {
         stage: Stage,
         fixed: &Fixed,
     ) -> Result<Test, AllocError>
-        requires { atoms_of (amount_of value.now) ≤ 1024 }
+        requires { atoms_of (amount_of value.now) ≤ MOST_PARTS }
         ensures { IfOk result (λ test. Refutes stage fixed.now (λ deal. has_truth truth
             (nat_le least (value_in deal (amount_of value.now))
             && nat_le (value_in deal (amount_of value.now)) most)) test) }
@@ -159,8 +160,8 @@ impl Test {
         stage: Stage,
         fixed: &Fixed,
     ) -> Result<Test, AllocError>
-        requires left { atoms_of (amount_of left.now) ≤ 1024 }
-        requires right { atoms_of (amount_of right.now) ≤ 1024 }
+        requires left { atoms_of (amount_of left.now) ≤ MOST_PARTS }
+        requires right { atoms_of (amount_of right.now) ≤ MOST_PARTS }
         ensures { IfOk result (λ test. Refutes stage fixed.now (λ deal. not (is_below or_equal
             (value_in deal (amount_of left.now)) (value_in deal (amount_of right.now)))) test) }
     {
@@ -252,10 +253,10 @@ impl Test {
         ensures { result ≡ excludes self.now west.now south.now }
     {
         match self {
-            Test::WestAbove(weights, most) => weights.weigh(west) > *most,
-            Test::WestBelow(weights, least) => weights.weigh(west) < *least,
+            Test::WestAbove(weights, most) => u64::from(weights.weigh(west)) > *most,
+            Test::WestBelow(weights, least) => u64::from(weights.weigh(west)) < *least,
             Test::BothAbove(of_west, of_south, most) => {
-                of_west.weigh(west) + of_south.weigh(south) > *most
+                u64::from(of_west.weigh(west) + of_south.weigh(south)) > *most
             }
             _ => self.excludes_by_parts(west, south),
         }
@@ -267,12 +268,12 @@ impl Test {
     {
         match self {
             Test::Never => false,
-            Test::WestAbove(weights, most) => weights.weigh(west) > *most,
-            Test::WestBelow(weights, least) => weights.weigh(west) < *least,
-            Test::SouthAbove(weights, most) => weights.weigh(south) > *most,
-            Test::SouthBelow(weights, least) => weights.weigh(south) < *least,
+            Test::WestAbove(weights, most) => u64::from(weights.weigh(west)) > *most,
+            Test::WestBelow(weights, least) => u64::from(weights.weigh(west)) < *least,
+            Test::SouthAbove(weights, most) => u64::from(weights.weigh(south)) > *most,
+            Test::SouthBelow(weights, least) => u64::from(weights.weigh(south)) < *least,
             Test::BothAbove(of_west, of_south, most) => {
-                of_west.weigh(west) + of_south.weigh(south) > *most
+                u64::from(of_west.weigh(west) + of_south.weigh(south)) > *most
             }
             Test::Opens(gap) => gap.is_open(west, south),
             Test::Either(left, right) => {

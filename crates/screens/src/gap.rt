@@ -13,9 +13,9 @@ use cards::{CardWeights, Hand};
 #[derive(Drop)]
 pub(crate) struct Gap {
     /// The most that one value can be.
-    pub(crate) low: u32,
+    pub(crate) low: u64,
     /// The least that the other can be, or one more than that.
-    pub(crate) high: u32,
+    pub(crate) high: u64,
     /// What West's cards put on the two sides.
     pub(crate) west: Shift,
     /// What South's cards put on the two sides: nothing where that hand isn't known.
@@ -50,7 +50,7 @@ impl Gap {
         let south = Shift::between(&most.south, &most.taken, &least.south, &least.taken)?;
         Ok(Gap {
             low: most.total,
-            high: least.total.saturating_add(u32::from(or_equal)),
+            high: least.total.saturating_add(u64::from(or_equal)),
             west,
             south,
         })
@@ -94,10 +94,10 @@ impl Shift {
 
 /// Whether the low side with its loss is less than the high one with its gain.
 #[inline]
-fn is_less(low: u32, loss: u32, high: u32, gain: u32) -> bool
+fn is_less(low: u64, loss: u32, high: u64, gain: u32) -> bool
     ensures { result ≡ nat_lt (low + loss) (high + gain) }
 {
-    u64::from(low) + u64::from(loss) < u64::from(high) + u64::from(gain)
+    u128::from(low) + u128::from(loss) < u128::from(high) + u128::from(gain)
 }
 
 /// What the hand weighs, or 0 if nothing weighs anything.

@@ -4,6 +4,7 @@
 ghost use Rattle.std.specs.Prelude.{◌≡◌, ◌==◌, ◌+◌, ◌*◌, ◌≤◌, ◌<◌, cond};
 ghost use Rattle.cards.specs.Counts.{has_honour};
 ghost use Rattle.cards.specs.Pack.{is_in_suit, rank_of, seat_number};
+ghost use Rattle.conditions.specs.declared.limits.TheConstants.{MOST_PARTS};
 ghost use Rattle.conditions.specs.Form.{amount_of, times};
 ghost use Rattle.conditions.specs.Limits.{atoms_of};
 ghost use Rattle.screens.specs.internal.Shares.{beside, card_weight, count_beside, farther};
@@ -16,7 +17,7 @@ use conditions::{Count, Value};
 
 /// What the card counts in the value if the seat has it.
 pub(crate) fn weight_at(value: &Value, card: usize, seat: Seat) -> u32
-    requires { atoms_of (amount_of value.now) ≤ 1024 }
+    requires { atoms_of (amount_of value.now) ≤ MOST_PARTS }
     ensures value { result ≡ weight_at (amount_of value.now) card seat }
     ensures most { result ≤ 3825 * atoms_of (amount_of value.now) }
 {
@@ -70,8 +71,8 @@ fn card_weight(count: Count, card: usize, seat: Seat) -> u32
 }
 
 /// The least or the greatest of what isn't counted card by card.
-pub(crate) fn beside(value: &Value, bound: Bound) -> u32
-    requires { atoms_of (amount_of value.now) ≤ 1024 }
+pub(crate) fn beside(value: &Value, bound: Bound) -> u64
+    requires { atoms_of (amount_of value.now) ≤ MOST_PARTS }
     ensures value { result ≡ beside bound (amount_of value.now) }
     ensures most { result ≤ 2621400 * atoms_of (amount_of value.now) }
 {
@@ -81,21 +82,21 @@ pub(crate) fn beside(value: &Value, bound: Bound) -> u32
     }
 }
 
-fn greatest_beside(value: &Value) -> u32
-    requires { atoms_of (amount_of value.now) ≤ 1024 }
+fn greatest_beside(value: &Value) -> u64
+    requires { atoms_of (amount_of value.now) ≤ MOST_PARTS }
     ensures value { result ≡ greatest_beside (amount_of value.now) }
     ensures most { result ≤ 2621400 * atoms_of (amount_of value.now) }
 {
     match value {
         Value::Sum(left, right) => greatest_beside(left) + greatest_beside(right),
-        Value::Number(number) => u32::from(*number),
-        Value::Count(count) => count_beside(*count),
+        Value::Number(number) => u64::from(*number),
+        Value::Count(count) => u64::from(count_beside(*count)),
         Value::Times(factor, count) => times_beside(*factor, *count),
     }
 }
 
 /// The same of that many times a count.
-fn times_beside(factor: u16, count: Count) -> u32
+fn times_beside(factor: u16, count: Count) -> u64
     ensures value { result ≡ greatest_beside (times factor count) }
     ensures most { result ≤ 2621400 }
 {
@@ -104,7 +105,7 @@ fn times_beside(factor: u16, count: Count) -> u32
     } else {
         count.greatest()
     };
-    u32::from(factor) * whole
+    u64::from(factor) * u64::from(whole)
 }
 
 /// The same of a count.
@@ -131,7 +132,7 @@ pub(crate) fn open_weight(
     card: usize,
     fixed: Option<Seat>,
 ) -> u32
-    requires { atoms_of (amount_of value.now) ≤ 1024 }
+    requires { atoms_of (amount_of value.now) ≤ MOST_PARTS }
     ensures value { result ≡ open_weight bound stage (amount_of value.now) card fixed }
     ensures most { result ≤ 3825 * atoms_of (amount_of value.now) }
 {

@@ -94,7 +94,7 @@ impl One {
         ensures within { result < length self.now.counts }
     {
         let _ = &self.counts;
-        self.asked.question.answer(deal)
+        self.asked.question.answer(deal) as u32
     }
 
     /// How many rows a table can have.

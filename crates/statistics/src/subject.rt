@@ -71,9 +71,9 @@ impl Subject {
     {
         match self {
             Subject::DealsAlone => false,
-            Subject::ByOne(asked) => u64::from(asked.question.rows()) > MAX_CELLS,
+            Subject::ByOne(asked) => asked.question.rows() > MAX_CELLS,
             Subject::ByTwo(of, by) => {
-                u64::from(of.question.rows()) * u64::from(by.question.rows()) > MAX_CELLS
+                of.question.rows().saturating_mul(by.question.rows()) > MAX_CELLS
             }
         }
     }

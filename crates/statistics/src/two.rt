@@ -141,7 +141,7 @@ impl Two {
         ensures within { result < length self.now.column_deals }
     {
         let _ = &self.cells;
-        self.by.question.answer(deal)
+        self.by.question.answer(deal) as u32
     }
 
     /// Adds a deal of the row and the column.

@@ -1,31 +1,42 @@
 //! What a whole list of tokens is: a condition, a value, or the beginning of a condition.
 
-ghost use Rattle.std.specs.Prelude.{◌≡◌, ◌⊎◌, ◌↔◌, ℕ, IfOk, IfErr, Err, IsTrue, MatchOption};
-ghost use Rattle.conditions.specs.Form.{Amount, Form, amount_of, form_of};
+ghost use Rattle.std.specs.Prelude.{◌≡◌, ◌<◌, ◌≤◌, ◌⊎◌, ◌↔◌, ℕ, IfOk, IfErr, Err, IsTrue};
+ghost use Rattle.std.specs.Prelude.{MatchOption};
+ghost use Rattle.conditions.specs.declared.limits.TheConstants.{MOST_PARTS};
+ghost use Rattle.conditions.specs.Form.{Amount, Form, form_of};
+ghost use Rattle.conditions.specs.Limits.{parts_of};
 ghost use Rattle.cond_lang.specs.Classes.{unbound};
 ghost use Rattle.cond_lang.specs.Grammar.{Spells, SpellsValue};
 ghost use Rattle.cond_lang.specs.Text.{kinds};
 ghost use Rattle.cond_lang.specs.Continuations.{IsLongestViable};
 ghost use Rattle.cond_lang.specs.Faults.{offset_of, IsPlace};
+ghost use Rattle.cond_lang.specs.internal.Growing.{IsGrownValue};
 
+use super::grown::GrownValue;
 use super::{Parser, Refusal};
 use crate::classes::Bound;
 use crate::scanner::Placed;
-use conditions::{CondError, Tree, Value};
+use conditions::{CondError, Tree};
 use std::alloc::Global;
 
 /// The tree that the tokens spell, which are those of a text of `end` bytes.
 pub(crate) fn parse_tokens(alloc: Global, tokens: &[Placed], end: usize) -> Result<Tree, CondError>
-    ensures spelled { IfOk result (λ t. Spells (kinds tokens.now) (form_of t)) }
-    ensures found { (t : Form)
-        → Spells (kinds tokens.now) t → IfErr result (λ e. e ≡ CondError.Memory) }
+    ensures spelled { IfOk result (λ t.
+        Spells (kinds tokens.now) (form_of t) × (parts_of (form_of t) ≤ MOST_PARTS)) }
+    ensures found { (t : Form) → Spells (kinds tokens.now) t → IfErr result (λ e.
+        (e ≡ CondError.Memory) ⊎ ((e ≡ CondError.TooManyParts) × (MOST_PARTS < parts_of t))) }
     ensures place { (at : ℕ) → result ≡ Err (CondError.Syntax at) → IsPlace tokens.now end at }
-    ensures errors { IfErr result (λ e.
-        (e ≡ CondError.Memory) ⊎ ((at : ℕ) × (e ≡ CondError.Syntax at))) }
+    ensures many { result ≡ Err CondError.TooManyParts
+        → (t : Form) × Spells (kinds tokens.now) t × (MOST_PARTS < parts_of t) }
+    ensures errors { IfErr result (λ e. (e ≡ CondError.Memory)
+        ⊎ ((e ≡ CondError.TooManyParts) ⊎ ((at : ℕ) × (e ≡ CondError.Syntax at)))) }
 {
     let mut parser = Parser::new(alloc, tokens);
     match parser.whole() {
-        Ok(tree) => Ok(tree),
+        Ok(grown) => match grown.tree {
+            Some(tree) => Ok(Box::into_inner(tree)),
+            None => Err(CondError::TooManyParts),
+        },
         Err(Refusal::Memory) => Err(CondError::Memory),
         Err(Refusal::Syntax) => {
             let index = tokens.len() - parser.left();
@@ -37,10 +48,10 @@ pub(crate) fn parse_tokens(alloc: Global, tokens: &[Placed], end: usize) -> Resu
 }
 
 /// The value that the tokens are, if they are one and no more. The only error is `Memory`.
-pub(crate) fn read_value(alloc: Global, tokens: &[Placed]) -> Result<Option<Value>, CondError>
+pub(crate) fn read_value(alloc: Global, tokens: &[Placed]) -> Result<Option<GrownValue>, CondError>
     ensures value { IfOk result (λ found. MatchOption found
         ((a : Amount) → SpellsValue unbound (kinds tokens.now) a → ⊥)
-        (λ v. SpellsValue unbound (kinds tokens.now) (amount_of v))) }
+        (λ v. (a : Amount) × IsGrownValue v a × SpellsValue unbound (kinds tokens.now) a)) }
     ensures memory { IfErr result (λ e. e ≡ CondError.Memory) }
 {
     let mut parser = Parser::new(alloc, tokens);

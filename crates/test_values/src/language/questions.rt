@@ -5,7 +5,7 @@ use super::*;
 use cond_lang::{Beginning, Kind, parse_question};
 
 /// Texts, whether they are conditions, and how many rows a table of their answers can have.
-const QUESTIONS: [(&str, bool, u32); 6] = [
+const QUESTIONS: [(&str, bool, u64); 6] = [
     ("hcp(north)", false, 38),
     ("7", false, 8),
     ("0==0", true, 2),

@@ -1,6 +1,9 @@
 use Rattle.std.proofs.lemmas.Grind.{common_steps}
-use Rattle.std.proofs.Common.{arith}
+use Rattle.std.proofs.Common.{◌≡◌, None, Some, arith, rules}
+use Rattle.cond_lang.specs.Text.{kinds}
+use Rattle.cond_lang.specs.internal.Reading.{behind, got, quantified_by, reading, with_choice_by}
 use Rattle.cond_lang.proofs.Enough.{reads}
+use Rattle.cond_lang.proofs.Growing.{some_grown}
 use Rattle.cond_lang.proofs.parser.Parser.+conditions.Goals as goal
 
 pub both-returns-in_err-left-clause-gives : goal.both-returns-in_err-left-clause-gives
@@ -98,3 +101,20 @@ with_choice-returns-in_err-behind-clause-shorter t c = grind (arith, common_step
 
 pub with_choice-returns-clause-shorter : goal.with_choice-returns-clause-shorter
 with_choice-returns-clause-shorter t c = grind (arith, common_steps)
+
+pub quantified-returns-clause-gives : goal.quantified-returns-clause-gives
+quantified-returns-clause-gives t c =
+    let first = c.in_ok-first.ensures.gives None tt in
+    let second = c.in_ok-second.ensures.gives first.0 first.1 in
+    let third = c.in_ok-third.ensures.gives second.0 second.1 in
+    let last = c.in_ok-last.ensures.gives third.0 third.1 in
+    let found = some_grown c.in_ok-last.last c.in-Some.tree last.0 c.in-Some.is last.1 in
+    let read : quantified_by reading c.args.bound c.args.self.now ≡ got found.0 c.close.new.self = search rules in
+    (found.0, found.1, read)
+
+pub with_choice-returns-clause-gives : goal.with_choice-returns-clause-gives
+with_choice-returns-clause-gives t c = λ before held.
+    let tree = c.in_ok-tree.ensures.gives in
+    let read : with_choice_by reading c.args.bound c.args.quantifier c.args.class (kinds c.args.start.now) c.args.choice before c.args.self.now
+    ≡ got (Some (behind c.args.quantifier before tree.0)) c.cond.new.self = search rules in
+    (Some (behind c.args.quantifier before tree.0), c.in_ok-behind.ensures.ok before tree.0 held tree.1, read)

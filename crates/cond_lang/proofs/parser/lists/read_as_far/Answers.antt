@@ -6,7 +6,7 @@ use Rattle.cond_lang.proofs.parser.lists.read_as_far.Goals.{in-Ok, in-Err-Syntax
 pub returns-clause-count : goal.returns-clause-count
 returns-clause-count c =
     elim c.match-whole.branch [
-      | in-Ok w ↦ rw w.result-is (read_whole c.args.tokens.now _ _ _ c.new-parser.ensures w.in-Ok.ensures.gives)
+      | in-Ok w ↦ rw w.result-is (read_whole c.args.tokens.now _ _ _ c.new-parser.ensures w.in-Ok.ensures.gives.2)
       | in-Err-Syntax w ↦
           let g = rw w.in-Err-Syntax.field-0-is at w.in-Err-Syntax.ensures.gives in
           rw w.result-is (read_to_fault c.args.tokens.now _ _ _ c.new-parser.ensures g w.left.ensures)
@@ -18,7 +18,7 @@ returns-clause-whole c =
     elim c.match-whole.branch [
       | in-Ok w ↦
           rw w.result-is
-          (λ e. is_spelled c.args.tokens.now _ _ _ c.new-parser.ensures w.in-Ok.ensures.gives, λ s. refl)
+          (λ e. is_spelled c.args.tokens.now _ _ _ c.new-parser.ensures w.in-Ok.ensures.gives.2, λ s. refl)
       | in-Err-Syntax w ↦
           let g = rw w.in-Err-Syntax.field-0-is at w.in-Err-Syntax.ensures.gives in
           rw w.result-is (λ e. absurd (cc), λ s. absurd (none_spelled c.args.tokens.now _ _ c.new-parser.ensures g s))
