@@ -8,6 +8,7 @@ use Rattle.plans.specs.declared.refusal.RefusedLine.{RefusedLine}
 use Rattle.picking.specs.declared.fault.PickFault.TheVariants.{Refused}
 use Rattle.jobs.specs.Failures.{status_of}
 use Rattle.deals_cli.specs.Interruptions.{EndsAtRecord, EndsFor}
+use Rattle.records.specs.Games.{game_says}
 use Rattle.records.specs.Texts.{spelled}
 use Rattle.records.specs.declared.fault.RefusedRecord.{RefusedRecord}
 use Rattle.request_types.specs.Requests.{Wish, conditions, count, draw, lessons, make, make_with_tricks, pick, show, stream}
@@ -35,7 +36,7 @@ no_line_ended (stream seed n) line old new other e = e
 no_line_ended (show l hints) line old new other e = e
 
 no_record : (line : RefusedRecord) → (spelled []).refused ≡ Some line → ⊥
-unfolding spelled
+unfolding spelled game_says
 no_record line is = cc
 
 no_record_ended : (w : Wish) (line : RefusedRecord) (old new : Option (List ℕ)) → EndsAtRecord w line (Some []) (Some []) old new → ⊥

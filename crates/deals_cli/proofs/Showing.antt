@@ -1,5 +1,5 @@
 -- From how boards of the input were shown to what is promised of a `show`.
-use Rattle.std.proofs.Common.{◌≡◌, ◌⊎◌, ◌+◌, ℕ, List, Option, None, Some, Result, Ok, Err, refl, inl, inr}
+use Rattle.std.proofs.Common.{◌≡◌, ◌∙◌, ◌⊎◌, ◌+◌, ℕ, List, Option, None, Some, Result, Ok, Err, refl, inl, inr}
 use Rattle.plans.specs.declared.cause.Cause.TheVariants.{Memory, Spawn, Output, Stopped, Unclosed}
 use Rattle.jobs.specs.Jobs.{IsReady}
 use Rattle.jobs.specs.declared.failure.Failure.{Failure}
@@ -9,7 +9,32 @@ use Rattle.jobs.specs.declared.job.Job.TheVariants as a_job
 use Rattle.jobs.proofs.Statuses.{failed_input, no_memory, served}
 use Rattle.request_types.specs.Requests.{Wish, conditions, count, draw, lessons, make, make_with_tricks, pick, show, stream}
 use Rattle.deals_cli.specs.Served.{Serves}
-use Rattle.deals_cli.specs.internal.Ends.{EndsShowing}
+use Rattle.records.specs.Readers.{InputFaults}
+use Rattle.records.specs.Shown.{MoreFaults}
+use Rattle.records.specs.declared.reader.Next.{Next}
+use Rattle.records.specs.declared.reader.ReadFault.{ReadFault}
+use Rattle.records.specs.declared.reader.ReadFault.TheVariants as read
+use Rattle.records.specs.declared.shown.ShowFault.{ShowFault}
+use Rattle.records.specs.declared.shown.ShowFault.TheVariants as fault
+use Rattle.deals_cli.specs.internal.Ends.{CountsShown, EndsShowing}
+
+-- ---- how often the input failed
+
+pub counts_shown : (first : Result Next ReadFault) (r : Result ℕ ShowFault) (old mid new : ℕ) → InputFaults first old mid → MoreFaults first r mid new → CountsShown r old new
+counts_shown (Ok next) (Ok boards) old mid new h more = more ∙ h
+counts_shown (Ok next) (Err (fault.Refused line)) old mid new h more = more ∙ h
+counts_shown (Ok next) (Err fault.Input) old mid new h more = rw h at more
+counts_shown (Ok next) (Err fault.Output) old mid new h more = inl (more ∙ h)
+counts_shown (Err read.Input) (Ok boards) old mid new h more = absurd more.1
+counts_shown (Err read.Input) (Err (fault.Refused line)) old mid new h more = let bad = more.1 in cc
+counts_shown (Err read.Input) (Err fault.Input) old mid new h more = more.0 ∙ h
+counts_shown (Err read.Input) (Err fault.Output) old mid new h more = inr (more.0 ∙ h)
+counts_shown (Err (read.Refused line)) (Ok boards) old mid new h more = absurd more.1
+counts_shown (Err (read.Refused line)) (Err (fault.Refused other)) old mid new h more = more.0 ∙ h
+counts_shown (Err (read.Refused line)) (Err fault.Input) old mid new h more = let bad = more.1 in cc
+counts_shown (Err (read.Refused line)) (Err fault.Output) old mid new h more = inl (more.0 ∙ h)
+
+-- ---- of a wish
 
 pub shown : {T : Type 0} (w : Wish) (job : ShowJob) (value : T) (before after old new : Option (List ℕ)) → IsReady w (a_job.Show job) → EndsShowing {T = T} job (Ok value) before after old new
     → Serves w (Ok None) before after old new

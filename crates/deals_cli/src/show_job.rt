@@ -1,9 +1,11 @@
 //! The job of a `show`: the boards of the games that the input has.
 
-ghost use Rattle.std.specs.Prelude.{◌≡◌, ◌-◌, ◌+◌, ◌^◌, ◌<◌, IfErr};
+ghost use Rattle.std.specs.Prelude.{◌≡◌, ◌-◌, ◌+◌, ◌^◌, ◌<◌, [], IfErr};
 ghost use Rattle.jobs.specs.Failures.{CountsInput, faults_in, status_of};
-ghost use Rattle.deals_cli.specs.internal.Ends.{EndsShowing};
+ghost use Rattle.records.specs.Shown.{FaultsOf, Shows};
+ghost use Rattle.deals_cli.specs.internal.Ends.{CountsShown, EndsShowing};
 
+use boards::Notation;
 use jobs::{Failure, ShowJob};
 use notations::AnyPrinter;
 use picking::Source;
@@ -11,6 +13,25 @@ use plans::Cause;
 use records::{BoardReader, ShowFault, show};
 use sinks::Sink;
 use std::alloc::Global;
+
+/// Writes the boards of the input by a notation that has printed nothing.
+fn show_by<N: Notation, I: Source, O: Sink>(
+    notation: &mut N,
+    input: &mut I,
+    out: &mut O,
+) -> Result<u64, ShowFault>
+    requires output { O.faults out.old < 2 ^ 64 - 1 }
+    requires input { I.faults input.old < 2 ^ 64 - 1 }
+    requires printed { N.has_printed notation.old [] }
+    ensures shows { Shows (N.layout notation.old) result (I.rest input.old) (I.rest input.new)
+        (O.bytes out.old) (O.bytes out.new) }
+    ensures faults { FaultsOf result (O.faults out.old) (O.faults out.new) }
+    ensures input { CountsShown result (I.faults input.old) (I.faults input.new) }
+{
+    let mut reader = BoardReader::new();
+    let first = reader.next(input);
+    show(&mut reader, first, notation, input, out)
+}
 
 /// Writes the boards of the input. What was written before a fault of the input is passed on.
 // Not in line, so that no other job takes its stack.
@@ -30,9 +51,7 @@ pub(crate) fn show_boards<I: Source, O: Sink>(
     ensures flushed { IfErr result (λ e. status_of e ≡ 7 → O.is_flushed out.new) }
 {
     let mut printer = AnyPrinter::showing(alloc, job.format, job.show, &job.heading)?;
-    let mut reader = BoardReader::new();
-    let first = reader.next(input);
-    let shown = show(&mut reader, first, &mut printer, input, out);
+    let shown = show_by(&mut printer, input, out);
     drop(printer);
     match shown {
         Ok(_) => Ok(()),

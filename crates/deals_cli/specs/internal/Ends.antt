@@ -1,5 +1,5 @@
 -- How the parts of a job end.
-use Rattle.std.specs.Prelude.{◌≡◌, ◌⊎◌, ◌≤◌, ◌<◌, ◌^◌, ℕ, All, length, List, [], Option, Some}
+use Rattle.std.specs.Prelude.{◌≡◌, ◌⊎◌, ◌≤◌, ◌<◌, ◌^◌, ℕ, ◌+◌, All, length, List, [], Option, Some}
 use Rattle.std.specs.Prelude.{Result, Ok, Err}
 use Rattle.dealrun.specs.Headline.{WritesTextIn}
 use Rattle.dealrun.specs.Interrupted.{FaultsAfter}
@@ -142,6 +142,12 @@ EndsPicking job (Err failure) before after old new = ⊥
 -- how the boards are laid out that the input has
 abbrev pub layout_for : ShowJob → Layout
 layout_for job = layout_showing job.format job.show job.heading
+
+-- the input failed once if that ended it; where the output failed, it may have failed before
+abbrev pub CountsShown : Result ℕ ShowFault → (old new : ℕ) → Type 0
+CountsShown (Err shown.Input) old new = new ≡ old + 1
+CountsShown (Err shown.Output) old new = (new ≡ old) ⊎ (new ≡ old + 1)
+CountsShown _ old new = new ≡ old
 
 -- showing wrote all boards, or ended with a fault. The output may also fail where what is before
 -- a fault of the input is passed on
