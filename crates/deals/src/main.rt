@@ -116,8 +116,10 @@ fn answer<R: Threads + Wait + Clone + Send + 'static>(
         output: out.reason(),
         input: reason.get(),
     };
-    say_more(without_board(rt.alloc(), read, &ended, seen.get()), err);
-    tell(rt, words, read, ended, reasons, err)
+    let note = without_board(rt.alloc(), read, &ended, seen.get());
+    let status = tell(rt, words, read, ended, reasons, err);
+    say_more(note, err);
+    status
 }
 
 fn main(rt: HostRuntime) -> ExitCode {
