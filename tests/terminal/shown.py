@@ -19,7 +19,7 @@ BOARDS = ["make", "--seed", "0", "--boards", "6"]
 
 # The first deal of seed 0, which POSIX's drand48 draws, as a game of PBN.
 DEAL = b'[Deal "N:72.AT64.75.AT872 AK985.85.A6.Q654 QJ43.Q732.QT3.K9 T6.KJ9.KJ9842.J3"]\n'
-LINE = b"qx|o1|md|3SQJ43HQ732DQT3CK9,ST6HKJ9DKJ9842CJ3,S72HAT64D75CAT872,|sv|o|ah|Board 1|pg||\n"
+LINE = b"qx|o1|md|3SQJ43HQ732DQT3CK9,ST6HKJ9DKJ9842CJ3,S72HAT64D75CAT872,SAK985H85DA6CQ654|sv|o|ah|Board 1|pg||\n"
 OTHER = LINE.replace(b"o1", b"o2").replace(b"md|3", b"md|4").replace(b"sv|o", b"sv|n").replace(b"Board 1", b"Board 2")
 
 # An input, the status, what is written in LIN, and what is said.
