@@ -8,7 +8,9 @@ ADVICE="./check program proves and builds it"
 
 # Whether the program reads its input for these words.
 reads_input() {
-    [ "${1-}" != pick ] || return 0
+    case ${1-} in
+        pick | show) return 0 ;;
+    esac
     local word
     for word; do
         [ "$word" != --tricks ] || return 0

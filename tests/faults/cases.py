@@ -109,6 +109,20 @@ def of_pick():
     yield Case("pick, a refused line", words, 7, model.games(7, 2), refused, given=b"0\n1\ntwo\n")
 
 
+def of_show():
+    words = ["show"]
+    yield Case("show, nothing", words, out=model.games(7, 0))
+    yield Case("show, three", words, out=model.games(7, 3), given=model.games(7, 3))
+    yield Case("show, many", words, out=model.games(7, 3000), given=model.games(7, 3000))
+    yield Case("show, hands", [*words, "--format", "hands"], out=None, given=model.games(7, 40))
+    refused = b"input refused at line 7: not a deal\n"
+    given = model.games(7, 1) + b'[Deal "N:"]\n'
+    yield Case("show, a refused line", words, 7, model.games(7, 1), refused, given=given)
+    advice = f'  --event "a"b": {LABEL}\n  hint: write a\'b\n'
+    said = b"label refused: event\n" + advice.encode()
+    yield Case("show, a label", [*words, "--event", 'a"b', *HINTS], 2, err=said, line=b"label refused: event\n")
+
+
 def of_tricks():
     words = ["make", "--seed", "7", "--candidates", "3", "--tricks", "--workers", "1"]
     yield Case("tricks, three", words, out=model.games(7, 3), workers=1, given=b"-\n-\r\n-")
@@ -278,5 +292,5 @@ def of_count():
 
 
 def every(is_all):
-    chosen = [*of_texts(), *of_make(), *of_find(), *of_count(), *of_pick(), *of_tricks(), *of_refusals()]
+    chosen = [*of_texts(), *of_make(), *of_find(), *of_count(), *of_pick(), *of_show(), *of_tricks(), *of_refusals()]
     return [*chosen, *of_more()] if is_all else chosen

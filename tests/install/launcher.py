@@ -25,7 +25,7 @@ import report
 TOP = harness.TOP
 PATIENCE = 60
 SCRIPTS = ["deals", "check", *(f"tools/{name}.bash" for name in ("sources", "rooms", "unproved", "build"))]
-# Prints each word and its end; with `pick` or `cat` as the first word its input too, with `end` it ends with status 41,
+# Prints each word and its end; with `pick`, `show` or `cat` as the first word its input too, with `end` it ends with status 41,
 # with `err` it says something of its own.
 SHOWN = r"""
 #include <stdio.h>
@@ -33,7 +33,7 @@ SHOWN = r"""
 int main(int count, char **words) {
     const char *first = count > 1 ? words[1] : "";
     for (int at = 0; at < count; at++) fwrite(words[at], 1, strlen(words[at]) + 1, stdout);
-    if (!strcmp(first, "cat") || !strcmp(first, "pick") || (count > 2 && !strcmp(words[2], "--tricks")))
+    if (!strcmp(first, "cat") || !strcmp(first, "pick") || !strcmp(first, "show") || (count > 2 && !strcmp(words[2], "--tricks")))
         for (int byte; (byte = getchar()) != EOF;) putchar(byte);
     if (!strcmp(first, "err")) fputs("said\nraces: its own\n", stderr);
     return !strcmp(first, "end") ? 41 : 0;
@@ -227,7 +227,7 @@ class Checks:
             yield "what the program says itself", it.call("err") == (0, shown("err"), own)
             yield "no file is left", it.is_clean() and not os.path.exists(it.path("crates/deals/out"))
             given = b"1\n2\n\x00\xff" * 40000
-            for words in (["pick"], ["make", "--tricks"]):
+            for words in (["pick"], ["show"], ["make", "--tricks"]):
                 right = (0, shown(*words) + given, FIRST_LINE)
                 yield f"the input of {words}", it.call(*words, given=given) == right
             process = it.start("stream")

@@ -27,6 +27,7 @@ CALLS = [
     (["find", *SEARCH, "--report"], b""),
     (["count", "--seed", "7", "--candidates", "3000", "--of", "hcp(north)"], b""),
     (["pick", "--seed", "7", "--format", "json"], NUMBERS),
+    (["show", "--format", "hands"], b'[Deal "N:AKQJT98765432... .AKQJT98765432.. ..AKQJT98765432. ...AKQJT98765432"]\n'),
     (["make", "--seed", "7", "--boards", "2", "--format", "json", "--tricks"], TRICKS),
     (["make", "--seed", "7", "--boards", "2", "--where", "hcp(north)=>15"], b""),
     (["make", "--sed", "7", "--boards", "2"], b""),

@@ -94,7 +94,7 @@ def fault_of_hints(words, given, said):
         return f"said {said!r}, and on a terminal {shown!r}"
     if re.search("^  hint: ", said, flags=re.M) or (not said.startswith("error: ") and said.count("\n") != 1):
         return f"said {said!r} to a program"
-    if words.split()[0] in ("make", "find", "pick") and "--format" != words.split()[-1]:
+    if words.split()[0] in ("make", "find", "pick", "show") and "--format" != words.split()[-1]:
         always = run(f"{words} --hints always", given).stderr.decode()
         if always.replace(" --hints <WHEN>", "") != shown:
             return f"said {always!r} with --hints always, and on a terminal {shown!r}"

@@ -4,6 +4,7 @@ use crate::advice::advise;
 use crate::rewritten;
 use jobs::Failure;
 use plans::{Cause, LineFault, RefusedLine};
+use records::{RecordFault, RefusedRecord};
 use request_types::{QuestionName, Request};
 use std::alloc::Global;
 use std::io;
@@ -44,6 +45,7 @@ pub fn help(
         Failure::Interrupted(Cause::Output) => reason_of_output(alloc, reasons),
         Failure::Input => reason_of_input(alloc, reasons),
         Failure::Line(line) => String::from_str(alloc, line_help(*line)).ok(),
+        Failure::Record(line) => String::from_str(alloc, record_help(*line)?).ok(),
         Failure::Condition(_) | Failure::Question(..) => None,
         Failure::Interrupted(_) | Failure::EndOfInput => None,
     }
@@ -86,5 +88,21 @@ fn line_help(line: RefusedLine) -> &'static str {
         LineFault::NotANumber | LineFault::NotBelow | LineFault::TooMany => {
             "  hint: a line has the number of a candidate, as deals find writes it\n"
         }
+    }
+}
+
+/// What helps with a line of games that is refused.
+fn record_help(line: RefusedRecord) -> Option<&'static str> {
+    match line.fault {
+        RecordFault::NotADeal => Some(
+            "  hint: a deal has all 52 cards, thirteen at each seat: [Deal \"N:AK.. .. .. ..\"]\n",
+        ),
+        RecordFault::NotANumber => Some("  hint: boards have numbers from 1 to 1099511627776\n"),
+        RecordFault::NotADealer => Some("  hint: the dealer is N, E, S or W\n"),
+        RecordFault::NotAVulnerability => Some("  hint: None, NS, EW or All is vulnerable\n"),
+        RecordFault::NotATag => Some(
+            "  hint: a tag is a name and a text in quotes: [Board \"1\"]\n",
+        ),
+        RecordFault::TooLong => None,
     }
 }

@@ -14,5 +14,5 @@ mod rewritten;
 
 pub use advice::advise;
 pub use failures::{Reasons, help};
-pub use notes::dealt_again;
+pub use notes::{dealt_again, no_board};
 pub use raw_words::{hints_among, not_utf8};

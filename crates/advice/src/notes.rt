@@ -39,3 +39,42 @@ fn boards_from(alloc: Global, board: u64, search: &Search<'_>) -> Option<String>
     }
     format!(in alloc; "{board} to {last}").ok()
 }
+
+/// The mark that some editors put before a text in UTF-8.
+const MARK: &[u8] = b"\xEF\xBB\xBF";
+
+/// What is told of an input without a board, by how it begins; else the last row.
+static BEGINNINGS: [(&[u8], &str); 8] = [
+    (b"{", "it looks like JSON"),
+    (b"qx|", "it looks like LIN"),
+    (b"md|", "it looks like LIN"),
+    (b"pn|", "it looks like LIN"),
+    (b"vg|", "it looks like LIN"),
+    (b"<", "it looks like a page"),
+    (b"PK", "it is a packed file"),
+    (b"", "no line of it begins with [Deal"),
+];
+
+/// Returns the note on an input that begins so and has no board, as a line; none if it may have
+/// one, or if memory runs out.
+pub fn no_board(alloc: Global, first: &[u8], has_deal: bool) -> Option<String> {
+    if first.starts_with(MARK) && first.ends_with(b"[") {
+        return String::from_str(alloc, MARKED).ok();
+    }
+    if has_deal {
+        return None;
+    }
+    if first.is_empty() {
+        return String::from_str(alloc, EMPTY).ok();
+    }
+    let (_, why) = BEGINNINGS
+        .iter()
+        .find(|row| first.starts_with(row.0))?;
+    format!(in alloc; "note: the input has no board: deals show reads PBN, and {why}\n").ok()
+}
+
+const MARKED: &str =
+    "note: the first line counts for nothing, since a byte order mark stands before it: leave it out\n";
+
+const EMPTY: &str =
+    "note: the input is empty: the boards of a file are written by deals show < FILE\n";

@@ -17,9 +17,9 @@ use Rattle.clap.specs.declared.parser.matches.ArgMatches.{ArgMatches}
 use Rattle.clap.specs.declared.parser.matches.ArgMatches.TheViews.{out-ArgMatches, out-SubCommand}
 use Rattle.clap.specs.declared.parser.matches.SubCommand.{SubCommand}
 use Rattle.command_line.specs.Commands.{deals}
-use Rattle.command_line.specs.CommandLine.{asked, asks_page, further_kinds, has_bad_workers, has_unknown, is_no_lesson, kinds_by, kinds_for, lacks_option, lessons_wish, made_by, missing_kinds, read_kinds, search_in, unless_fault, wish_by, wish_in}
+use Rattle.command_line.specs.CommandLine.{asked, asks_page, further_kinds, has_bad_workers, has_unknown, is_no_lesson, kinds_by, kinds_for, lacks_option, lessons_wish, made_by, missing_kinds, read_kinds, search_in, show_wish, unless_fault, wish_by, wish_in}
 use Rattle.request_types.specs.Requests.{Wish, conditions}
-use Rattle.command_line.specs.internal.Asking.{AsksLessons, AsksMake, Chosen, IsRefused}
+use Rattle.command_line.specs.internal.Asking.{AsksLessons, AsksMake, AsksShow, Chosen, IsRefused}
 use Rattle.command_line.proofs.OptionValues.{Makes, Reads, each_reads, read_by}
 use Rattle.command_line.proofs.Entered.{enters}
 
@@ -142,7 +142,7 @@ asks_make words name rows makes f is = record {
     wish = Some (made_by name (search_in rows) rows)
 
     wishes : unless_fault (kinds_by found) (Some (wish_by found)) ≡ unless_fault (kinds_by found) wish
-    wishes = rw (makes.0, makes.1, makes.2, makes.3) refl
+    wishes = rw (makes.0, makes.1, makes.2, makes.3, makes.4) refl
 
     -- the kinds where each word is one of its option's values, and the lesson is one
     further : Kinds
@@ -152,7 +152,7 @@ asks_make words name rows makes f is = record {
     with_lesson = if is_no_lesson (codes "lesson") rows then InvalidValue ∷ [] else further
 
     known : {b : Bool} → has_unknown name rows ≡ b → kinds_by found ≡ (if b then InvalidValue ∷ [] else with_lesson)
-    known {b} u = rw (makes.0, makes.1, makes.2, makes.3) (ap (λ (x : Bool). if x then InvalidValue ∷ [] else with_lesson) u)
+    known {b} u = rw (makes.0, makes.1, makes.2, makes.3, makes.4) (ap (λ (x : Bool). if x then InvalidValue ∷ [] else with_lesson) u)
 
     taught : {b : Bool} → is_no_lesson (codes "lesson") rows ≡ b → with_lesson ≡ (if b then InvalidValue ∷ [] else further)
     taught {b} n = ap (λ (x : Bool). if x then InvalidValue ∷ [] else further) n
@@ -181,6 +181,24 @@ asks_lessons words rows f is = record {
     kinds : {b : Bool} → is_no_lesson (codes "name") rows ≡ b → kinds_by found ≡ (if b then InvalidValue ∷ [] else [])
     kinds {b} n = ap (λ (x : Bool). if x then InvalidValue ∷ [] else []) n
 
+asks_show : (words : List Text) (rows : List Row) → IsRead words → subcommand_of deals words ≡ Some (codes "show", rows) → AsksShow words rows
+asks_show words rows f is = record {
+  known = λ u. by_wish words found f is ∙ ap (λ (k : Kinds). unless_fault k wish) (kinds u);
+  unknown = λ u. record {
+    asked_is = by_wish words found f is ∙ ap (λ (k : Kinds). unless_fault k wish) (kinds u);
+    kinds_are = by_kinds words found f is ∙ kinds u;
+  };
+}
+  where
+    found : Text × List Row
+    found = (codes "show", rows)
+
+    wish : Option Wish
+    wish = Some (show_wish rows)
+
+    kinds : {b : Bool} → has_unknown (codes "show") rows ≡ b → kinds_by found ≡ (if b then InvalidValue ∷ [] else [])
+    kinds {b} u = ap (λ (x : Bool). if x then InvalidValue ∷ [] else []) u
+
 abbrev of_pair : List Text → Bor Text × Bor ArgMatches → Type 0
 of_pair words p = Chosen words p.0.now (rows_of (found_of p.1.now))
 
@@ -189,24 +207,27 @@ never e = absurd cc
 
 chosen_by : (words : List Text) (name : Text) (rows : List Row) → IsRead words → subcommand_of deals words ≡ Some (name, rows) → Reads (name, rows) → Chosen words name rows
 chosen_by words name rows f is (inl (makes, values)) = record {
-  values = record { stream = λ e. no_stream e; make = λ e c l d. values };
+  values = record { stream = λ e. no_stream e; make = λ e c l d s. values };
   stream = λ e. no_stream e;
   conditions_too = λ e. never (sym makes.1 ∙ e);
   lessons_too = λ e. never (sym makes.2 ∙ e);
   seed_too = λ e. never (sym makes.3 ∙ e);
-  make = λ e c l d. asks_make words name rows makes f is;
+  show_too = λ e. never (sym makes.4 ∙ e);
+  make = λ e c l d s. asks_make words name rows makes f is;
 }
   where
     no_stream : {X : Type 0} → bytes_eq name (codes "stream") ≡ true → X
     no_stream e = never (sym makes.0 ∙ e)
 chosen_by words name rows f is (inr (inl same)) = subst (λ (n : Text). subcommand_of deals words ≡ Some (n, rows) → Chosen words n rows) (sym same)
-    (λ at. record { values = record { stream = λ e. never e; make = λ e c l d. never (sym c) }; stream = λ e. never e; conditions_too = λ e. by_wish words (codes "conditions", rows) f at; lessons_too = λ e. never e; seed_too = λ e. never e; make = λ e c l d. never (sym c) }) is
+    (λ at. record { values = record { stream = λ e. never e; make = λ e c l d s. never (sym c) }; stream = λ e. never e; conditions_too = λ e. by_wish words (codes "conditions", rows) f at; lessons_too = λ e. never e; seed_too = λ e. never e; show_too = λ e. never e; make = λ e c l d s. never (sym c) }) is
 chosen_by words name rows f is (inr (inr (inl same))) = subst (λ (n : Text). subcommand_of deals words ≡ Some (n, rows) → Chosen words n rows) (sym same)
-    (λ at. record { values = record { stream = λ e. never e; make = λ e c l d. never (sym l) }; stream = λ e. never e; conditions_too = λ e. never e; lessons_too = λ e. asks_lessons words rows f at; seed_too = λ e. never e; make = λ e c l d. never (sym l) }) is
+    (λ at. record { values = record { stream = λ e. never e; make = λ e c l d s. never (sym l) }; stream = λ e. never e; conditions_too = λ e. never e; lessons_too = λ e. asks_lessons words rows f at; seed_too = λ e. never e; show_too = λ e. never e; make = λ e c l d s. never (sym l) }) is
 chosen_by words name rows f is (inr (inr (inr (inl same)))) = subst (λ (n : Text). subcommand_of deals words ≡ Some (n, rows) → Chosen words n rows) (sym same)
-    (λ at. record { values = record { stream = λ e. never e; make = λ e c l d. never (sym d) }; stream = λ e. never e; conditions_too = λ e. never e; lessons_too = λ e. never e; seed_too = λ e. by_wish words (codes "seed", rows) f at; make = λ e c l d. never (sym d) }) is
-chosen_by words name rows f is (inr (inr (inr (inr (same, values))))) = subst (λ (n : Text). subcommand_of deals words ≡ Some (n, rows) → Chosen words n rows) (sym same)
-    (λ at. record { values = record { stream = λ e. values; make = λ e c l d. never (sym e) }; stream = λ e. by_wish words (codes "stream", rows) f at; conditions_too = λ e. never e; lessons_too = λ e. never e; seed_too = λ e. never e; make = λ e c l d. never (sym e) }) is
+    (λ at. record { values = record { stream = λ e. never e; make = λ e c l d s. never (sym d) }; stream = λ e. never e; conditions_too = λ e. never e; lessons_too = λ e. never e; seed_too = λ e. by_wish words (codes "seed", rows) f at; show_too = λ e. never e; make = λ e c l d s. never (sym d) }) is
+chosen_by words name rows f is (inr (inr (inr (inr (inl same))))) = subst (λ (n : Text). subcommand_of deals words ≡ Some (n, rows) → Chosen words n rows) (sym same)
+    (λ at. record { values = record { stream = λ e. never e; make = λ e c l d s. never (sym s) }; stream = λ e. never e; conditions_too = λ e. never e; lessons_too = λ e. never e; seed_too = λ e. never e; show_too = λ e. asks_show words rows f at; make = λ e c l d s. never (sym s) }) is
+chosen_by words name rows f is (inr (inr (inr (inr (inr (same, values)))))) = subst (λ (n : Text). subcommand_of deals words ≡ Some (n, rows) → Chosen words n rows) (sym same)
+    (λ at. record { values = record { stream = λ e. values; make = λ e c l d s. never (sym e) }; stream = λ e. by_wish words (codes "stream", rows) f at; conditions_too = λ e. never e; lessons_too = λ e. never e; seed_too = λ e. never e; show_too = λ e. never e; make = λ e c l d s. never (sym e) }) is
 
 from_met : (words : List Text) (sub : Option (Bor Text × Bor ArgMatches)) (p : Bor Text × Bor ArgMatches) (name : Text) (rows : List Row) → sub ≡ Some p → Met sub name rows
     → Chosen words name rows → of_pair words p

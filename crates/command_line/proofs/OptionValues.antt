@@ -35,20 +35,27 @@ count_built = first_shape (rest_of (rest_of (built deals).subs))
 abbrev pick_built : Shape
 pick_built = first_shape (rest_of (rest_of (rest_of (built deals).subs)))
 
+-- those after it
+abbrev later_built : List Shape
+later_built = rest_of (rest_of (rest_of (rest_of (built deals).subs)))
+
+abbrev show_built : Shape
+show_built = first_shape later_built
+
 abbrev conditions_built : Shape
-conditions_built = first_shape (rest_of (rest_of (rest_of (rest_of (built deals).subs))))
+conditions_built = first_shape (rest_of later_built)
 
 abbrev lessons_built : Shape
-lessons_built = first_shape (rest_of (rest_of (rest_of (rest_of (rest_of (built deals).subs)))))
+lessons_built = first_shape (rest_of (rest_of later_built))
 
 abbrev draw_built : Shape
-draw_built = first_shape (rest_of (rest_of (rest_of (rest_of (rest_of (rest_of (built deals).subs))))))
+draw_built = first_shape (rest_of (rest_of (rest_of later_built)))
 
 abbrev stream_built : Shape
-stream_built = first_shape (rest_of (rest_of (rest_of (rest_of (rest_of (rest_of (rest_of (built deals).subs)))))))
+stream_built = first_shape (rest_of (rest_of (rest_of (rest_of later_built))))
 
 abbrev help_built : Shape
-help_built = first_shape (rest_of (rest_of (rest_of (rest_of (rest_of (rest_of (rest_of (rest_of (built deals).subs))))))))
+help_built = first_shape (rest_of (rest_of (rest_of (rest_of (rest_of later_built)))))
 
 -- ---- numbers
 
@@ -148,12 +155,14 @@ deal_values s plain negates seed (candidates, first, lane, boards, first_board) 
 abbrev pub Makes : Text → Type 0
 Makes name =
     (bytes_eq name (codes "stream") ≡ false) × (bytes_eq name (codes "conditions") ≡ false) × (bytes_eq name (codes "lessons") ≡ false)
-    × (bytes_eq name (codes "seed") ≡ false)
+    × (bytes_eq name (codes "seed") ≡ false) × (bytes_eq name (codes "show") ≡ false)
 
--- a subcommand that deals, with the options of `make` or some of them; the page of the language; lessons; a seed that is drawn; or the
--- values of a seed
+-- a subcommand that deals, with the options of `make` or some of them; the page of the language; lessons; a seed that is drawn; boards
+-- that are shown; or the values of a seed
 abbrev pub Reads : Text × List Row → Type 0
-Reads p = (Makes p.0 × MakeValues p.1) ⊎ ((p.0 ≡ codes "conditions") ⊎ ((p.0 ≡ codes "lessons") ⊎ ((p.0 ≡ codes "seed") ⊎ ((p.0 ≡ codes "stream") × StreamValues p.1))))
+Reads p =
+    (Makes p.0 × MakeValues p.1)
+    ⊎ ((p.0 ≡ codes "conditions") ⊎ ((p.0 ≡ codes "lessons") ⊎ ((p.0 ≡ codes "seed") ⊎ ((p.0 ≡ codes "show") ⊎ ((p.0 ≡ codes "stream") × StreamValues p.1)))))
 
 -- so does this one where its words have no fault
 abbrev ReadsBy : Shape → Type 0
@@ -187,16 +196,19 @@ read_by (x ∷ shapes) (first, rest) s (inr later) = read_by shapes rest s later
 -- the subcommands, and clap's `help`. `find` and `count` have no option of the first board, and `pick` none of which candidates are
 -- tried, nor of how
 make_reads : ReadsBy make_built
-make_reads = deals_by make_built (refl, refl, refl, refl) (plain_of make_built.rules refl) refl (inl refl) (inl refl, inl refl, inl refl, inl refl, inl refl)
+make_reads = deals_by make_built (refl, refl, refl, refl, refl) (plain_of make_built.rules refl) refl (inl refl) (inl refl, inl refl, inl refl, inl refl, inl refl)
 
 find_reads : ReadsBy find_built
-find_reads = deals_by find_built (refl, refl, refl, refl) (plain_of find_built.rules refl) refl (inl refl) (inl refl, inl refl, inl refl, inl refl, inr refl)
+find_reads = deals_by find_built (refl, refl, refl, refl, refl) (plain_of find_built.rules refl) refl (inl refl) (inl refl, inl refl, inl refl, inl refl, inr refl)
 
 count_reads : ReadsBy count_built
-count_reads = deals_by count_built (refl, refl, refl, refl) (plain_of count_built.rules refl) refl (inl refl) (inl refl, inl refl, inl refl, inl refl, inr refl)
+count_reads = deals_by count_built (refl, refl, refl, refl, refl) (plain_of count_built.rules refl) refl (inl refl) (inl refl, inl refl, inl refl, inl refl, inr refl)
 
 pick_reads : ReadsBy pick_built
-pick_reads = deals_by pick_built (refl, refl, refl, refl) (plain_of pick_built.rules refl) refl (inl refl) (inr refl, inr refl, inr refl, inr refl, inl refl)
+pick_reads = deals_by pick_built (refl, refl, refl, refl, refl) (plain_of pick_built.rules refl) refl (inl refl) (inr refl, inr refl, inr refl, inr refl, inl refl)
+
+show_reads : ReadsBy show_built
+show_reads word rest answers other f = inr (inr (inr (inr (inl refl))))
 
 conditions_reads : ReadsBy conditions_built
 conditions_reads word rest answers other f = inr (inl refl)
@@ -208,11 +220,11 @@ draw_reads : ReadsBy draw_built
 draw_reads word rest answers other f = inr (inr (inr (inl refl)))
 
 stream_reads : ReadsBy stream_built
-stream_reads word rest answers other f = inr (inr (inr (inr (refl, stream_values rest f))))
+stream_reads word rest answers other f = inr (inr (inr (inr (inr (refl, stream_values rest f)))))
 
 help_reads : ReadsBy help_built
 help_reads word rest answers other f = absurd (no_help word answers other)
 
 -- in the order in which they stand
 pub each_reads : EachReads (built deals).subs
-each_reads = (make_reads, (find_reads, (count_reads, (pick_reads, (conditions_reads, (lessons_reads, (draw_reads, (stream_reads, (help_reads, tt)))))))))
+each_reads = (make_reads, (find_reads, (count_reads, (pick_reads, (show_reads, (conditions_reads, (lessons_reads, (draw_reads, (stream_reads, (help_reads, tt))))))))))

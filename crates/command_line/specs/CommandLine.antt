@@ -17,7 +17,7 @@ use Rattle.cards.specs.declared.seat.Seat.TheVariants.{North, East, South, West}
 use Rattle.request_types.specs.PredealtHands.{GivenHands}
 use Rattle.request_types.specs.Requests.{Look, Questions, Search, Wish, conditions, count, draw}
 use Rattle.lessons.specs.Lessons.{Lesson, lesson_named}
-use Rattle.request_types.specs.Requests.{lessons, look_as, make, make_with_tricks, no_question, one_question, pick, stream, two_questions}
+use Rattle.request_types.specs.Requests.{lessons, look_as, make, make_with_tricks, no_question, one_question, pick, plain_look, show, stream, two_questions}
 use Rattle.request_types.specs.declared.request.Notices.{Notices}
 use Rattle.boards.specs.Formats.{formats}
 use Rattle.boards.specs.declared.format.Format.{Format}
@@ -163,6 +163,16 @@ is_turned rows =
     || (is_some (first_of (codes "lesson") rows)
     && not (is_some (first_of (codes "dealer") rows)))
 
+-- what the options of `show` were given, or their defaults
+abbrev pub shown_look : List Row → Look
+shown_look rows = record plain_look {
+  format = unwrap_or (choice_in formats (codes "format") rows) Pbn;
+  show = unwrap_or (choice_in shows (codes "show") rows) All;
+  event = first_of (codes "event") rows;
+  site = first_of (codes "site") rows;
+  date = first_of (codes "date") rows;
+}
+
 -- what options of the boards' look were given, or their defaults
 abbrev pub look_in : List Row → Look
 look_in rows = record {
@@ -179,6 +189,9 @@ look_in rows = record {
 
 abbrev pub when_in : Text → List Row → When
 when_in id rows = unwrap_or (choice_in times id rows) Auto
+
+abbrev pub show_wish : List Row → Wish
+show_wish rows = show (shown_look rows) (when_in (codes "hints") rows)
 
 abbrev pub notices_in : List Row → Notices
 notices_in rows = record {
@@ -222,7 +235,8 @@ wish_by p =
     else (if bytes_eq p.0 (codes "conditions") then conditions
     else (if bytes_eq p.0 (codes "lessons") then lessons_wish p.1
     else (if bytes_eq p.0 (codes "seed") then draw
-    else made_by p.0 (search_in p.1) p.1)))
+    else (if bytes_eq p.0 (codes "show") then show_wish p.1
+    else made_by p.0 (search_in p.1) p.1))))
 
 -- the wish of the subcommand that the words name, by clap's function of the words
 abbrev pub wish_in : List Text → Option Wish
@@ -257,13 +271,17 @@ make_kinds name rows =
 abbrev pub lessons_kinds : List Row → Kinds
 lessons_kinds rows = if is_no_lesson (codes "name") rows then InvalidValue ∷ [] else []
 
+abbrev pub show_kinds : List Row → Kinds
+show_kinds rows = if has_unknown (codes "show") rows then InvalidValue ∷ [] else []
+
 -- by the subcommand's name and what its options were given
 abbrev pub kinds_by : Text × List Row → Kinds
 kinds_by p =
     if bytes_eq p.0 (codes "stream") then []
     else (if bytes_eq p.0 (codes "conditions") then []
     else (if bytes_eq p.0 (codes "lessons") then lessons_kinds p.1
-    else (if bytes_eq p.0 (codes "seed") then [] else make_kinds p.0 p.1)))
+    else (if bytes_eq p.0 (codes "seed") then []
+    else (if bytes_eq p.0 (codes "show") then show_kinds p.1 else make_kinds p.0 p.1))))
 
 -- the kinds of error in words that clap takes
 abbrev pub further_kinds : List Text → Kinds

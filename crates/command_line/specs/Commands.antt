@@ -129,6 +129,15 @@ abbrev pub pick_app : App
 pick_app = command_with (codes "pick") (
     seed_rule ∷ hand_rules ++ format_rule ∷ show_rule ∷ look_rules ++ hints_rule ∷ help_flag ∷ [])
 
+-- `deals show` and its options
+abbrev pub show_app : App
+show_app = command_with (codes "show") (
+    format_rule ∷ show_rule
+    ∷ option_rule (codes "event") parsed.String
+    ∷ option_rule (codes "site") parsed.String
+    ∷ option_rule (codes "date") parsed.String
+    ∷ hints_rule ∷ help_flag ∷ [])
+
 -- `deals conditions`, without options
 abbrev pub conditions_app : App
 conditions_app = command_with (codes "conditions") (help_flag ∷ [])
@@ -154,8 +163,8 @@ deals_top = on_top (λ s. record s { has_version = true; subcommand_required = t
 -- the subcommands, in the order of the help
 abbrev pub subcommands : List App
 subcommands =
-    make_app ∷ find_app ∷ count_app ∷ pick_app ∷ conditions_app ∷ lessons_app ∷ seed_app
-    ∷ stream_app ∷ []
+    make_app ∷ find_app ∷ count_app ∷ pick_app ∷ show_app ∷ conditions_app ∷ lessons_app
+    ∷ seed_app ∷ stream_app ∷ []
 
 abbrev pub deals : App
 deals = fold with_subcommand deals_top (map (λ a. a.top) subcommands)

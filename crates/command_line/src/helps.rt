@@ -6,7 +6,7 @@
 
 use crate::texts::{
     CONDITIONS_EXAMPLES, COUNT_EXAMPLES, FIND_EXAMPLES, LESSONS_EXAMPLES, MAKE_EXAMPLES,
-    PICK_EXAMPLES, SEED_EXAMPLES, STREAM_EXAMPLES,
+    PICK_EXAMPLES, SEED_EXAMPLES, SHOW_EXAMPLES, STREAM_EXAMPLES,
 };
 
 /// What help says of an option: the heading that it is under, and the text.
@@ -23,6 +23,8 @@ find: Prints the numbers of the deals that make would write
 count: Counts deals: how often something comes, and how much on average
 
 pick: Writes the boards of the deals whose numbers it reads
+
+show: Writes the boards of a PBN file in another format
 
 conditions: Explains all that --where understands, with ten examples
 
@@ -178,6 +180,17 @@ const OF_PICK: &[Section] = &[
     ),
 ];
 
+const OF_SHOW: &[Section] = &[(
+    LOOK,
+    "event: The event, at most 100 characters of ASCII without
+\" and \\ [default: that of the first board]
+
+site: The place, like the event
+
+date: The date, as 2024.05.01 [default: that of the first
+board]",
+)];
+
 const OF_STREAM: &[Section] = &[(
     OPTIONS,
     "seed: The seed, 0 to 4294967295
@@ -204,6 +217,7 @@ fn own_sections(name: &str) -> &'static [Section] {
     match name {
         "count" => OF_COUNT,
         "pick" => OF_PICK,
+        "show" => OF_SHOW,
         "stream" => OF_STREAM,
         "lessons" => OF_LESSONS,
         "find" => OF_FIND,
@@ -243,6 +257,7 @@ pub(crate) fn examples_of(name: &str) -> &'static str {
         "find" => FIND_EXAMPLES,
         "count" => COUNT_EXAMPLES,
         "pick" => PICK_EXAMPLES,
+        "show" => SHOW_EXAMPLES,
         "conditions" => CONDITIONS_EXAMPLES,
         "lessons" => LESSONS_EXAMPLES,
         "seed" => SEED_EXAMPLES,

@@ -10,7 +10,7 @@ ghost use Rattle.clap.specs.declared.error.kind.ErrorKind.TheVariants.{ValueVali
 ghost use Rattle.command_line.specs.CommandLine.{asked, kinds_for};
 ghost use Rattle.request_types.specs.PredealtHands.{none_given};
 ghost use Rattle.request_types.specs.Requests.{conditions, count, draw, make, make_with_tricks};
-ghost use Rattle.request_types.specs.Requests.{lessons, numbers_look, pick};
+ghost use Rattle.request_types.specs.Requests.{lessons, numbers_look, pick, show};
 ghost use Rattle.request_types.specs.Requests.{plain_look, plain_notices, plain_search, stream};
 ghost use Rattle.request_types.specs.Requests.{two_questions};
 ghost use Rattle.boards.specs.declared.format.Format.TheVariants.{Hands};
@@ -98,6 +98,26 @@ pub fn example_of_hands()
           north = Some (codes "KQ432.A93.AJ.JT8");
           south = Some (codes "A985.KJ742.KQ32.");
         }) (record plain_look { format = Hands }) Auto) }
+{}
+
+/// `deals show --format hands --show dealer --event Club` asks for hand records of the boards that
+/// the input has, with the dealers' hands alone. A seed is refused, since nothing is dealt, and so is
+/// a word that is no format.
+pub fn example_of_show()
+    ensures asked { asked
+        (codes "deals" ∷ codes "show" ∷ codes "--format" ∷ codes "hands"
+        ∷ codes "--show" ∷ codes "dealer" ∷ codes "--event" ∷ codes "Club" ∷ [])
+        ≡ Some (show (record plain_look {
+          format = Hands;
+          show = Dealer;
+          event = Some (codes "Club");
+        }) Auto) }
+    ensures seed { kinds_for
+        (codes "deals" ∷ codes "show" ∷ codes "--seed" ∷ codes "7" ∷ [])
+        ≡ UnknownArgument ∷ [] }
+    ensures refused { kinds_for
+        (codes "deals" ∷ codes "show" ∷ codes "--format" ∷ codes "dup" ∷ [])
+        ≡ InvalidValue ∷ [] }
 {}
 
 /// `deals find --seed 7 --candidates 1000 --first 5 --where 'hcp(north)>=15' --progress never

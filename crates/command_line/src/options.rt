@@ -265,6 +265,8 @@ pub(crate) const PICK: &[Row] = &[
     SITE, DATE, HINTS, HELP,
 ];
 
+pub(crate) const SHOWN: &[Row] = &[FORMAT, SHOW, EVENT, SITE, DATE, HINTS, HELP];
+
 /// The options of a command that needs none.
 pub(crate) const ALONE: &[Row] = &[HELP];
 
@@ -285,7 +287,7 @@ pub(crate) struct Subcommand {
 }
 
 /// The subcommands, in the order of the help.
-static SUBCOMMANDS: [Subcommand; 8] = [
+static SUBCOMMANDS: [Subcommand; 9] = [
     Subcommand {
         name: "make",
         in_full: "deals make",
@@ -305,6 +307,11 @@ static SUBCOMMANDS: [Subcommand; 8] = [
         name: "pick",
         in_full: "deals pick",
         rows: PICK,
+    },
+    Subcommand {
+        name: "show",
+        in_full: "deals show",
+        rows: SHOWN,
     },
     Subcommand {
         name: "conditions",
@@ -329,7 +336,7 @@ static SUBCOMMANDS: [Subcommand; 8] = [
 ];
 
 /// The subcommands: the table stands in one function alone, since a proof reads all of it.
-fn subcommands() -> &'static [Subcommand; 8]
+fn subcommands() -> &'static [Subcommand; 9]
     ensures { map top_for result.now ≡ map (λ a. a.top) subcommands }
 {
     &SUBCOMMANDS
@@ -348,17 +355,18 @@ fn command_of<'a>(alloc: Global, sub: &Subcommand) -> Result<Command<'a>, AllocE
     with_rows(alloc, sub.name, command, sub.rows)
 }
 
-/// The command `make`, or `find`, `count`, `pick` or `lessons` if it has that name, as `clap` names
-/// it in a refusal.
+/// The command `make`, or `find`, `count`, `pick`, `show` or `lessons` if it has that name, as
+/// `clap` names it in a refusal.
 ///
 /// # Errors
 /// `AllocError` if an allocation failed.
 pub fn named_command<'a>(alloc: Global, name: &str) -> Result<Command<'a>, AllocError> {
-    let [make, find, count, pick, _, lessons, ..] = subcommands();
+    let [make, find, count, pick, show, _, lessons, ..] = subcommands();
     let sub = match name {
         "find" => find,
         "count" => count,
         "pick" => pick,
+        "show" => show,
         "lessons" => lessons,
         _ => make,
     };

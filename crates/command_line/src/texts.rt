@@ -50,6 +50,15 @@ pub(crate) const PICK_EXAMPLES: &str = "Examples:
 Reads the numbers of deals, as find prints them, from standard input, one per
 line; lines without any are skipped.";
 
+pub(crate) const SHOW_EXAMPLES: &str = "Examples:
+  Hand records of boards that another program dealt, as sheets to print:
+    deals show --format sheet < boards.pbn > records.html
+  The same boards for BBO:
+    deals show --format lin < boards.pbn > boards.lin
+
+Reads boards in PBN from standard input, and deals none. Their numbers, dealers
+and vulnerabilities stay, and so do tricks and par.";
+
 pub(crate) const CONDITIONS_EXAMPLES: &str = "Examples:
   Page by page:
     deals conditions | less

@@ -9,9 +9,9 @@ ghost use Rattle.clap.specs.declared.error.kind.ErrorKind.{ErrorKind};
 ghost use Rattle.command_line.specs.CommandLine.{asks_page, hands_in, has_by_alone, has_no_end};
 ghost use Rattle.command_line.specs.CommandLine.{is_set, is_turned, lacks_option, look_in, made_by};
 ghost use Rattle.command_line.specs.CommandLine.{notices_in, number_in, number_or, questions_in};
-ghost use Rattle.command_line.specs.CommandLine.{search_in};
+ghost use Rattle.command_line.specs.CommandLine.{search_in, shown_look, when_in};
 ghost use Rattle.command_line.specs.Reading.{AreRead};
-ghost use Rattle.command_line.specs.internal.Asking.{AsksLessons, Chosen, HasValues};
+ghost use Rattle.command_line.specs.internal.Asking.{AsksLessons, AsksShow, Chosen, HasValues};
 ghost use Rattle.command_line.specs.internal.Readings.{MayGive32, MayGive64, SearchValues};
 ghost use Rattle.command_line.specs.internal.Readings.{StreamValues};
 ghost use Rattle.lessons.specs.Lessons.{lesson_of};
@@ -148,6 +148,26 @@ fn look_in<'a>(matches: &ArgMatches<'a>) -> Look<'a>
     }
 }
 
+/// What the options of `show` were given, or their defaults.
+fn shown_look<'a>(matches: &ArgMatches<'a>) -> Look<'a>
+    ensures { look_of result ≡ shown_look (rows_of (found_of matches.now)) }
+{
+    Look {
+        show: SHOW.given(matches).unwrap_or(Show::All),
+        event: text_in(matches, "event"),
+        site: text_in(matches, "site"),
+        date: text_in(matches, "date"),
+        ..Look::plain(FORMAT.given(matches).unwrap_or(Format::Pbn))
+    }
+}
+
+/// When hints are said, by the option.
+fn hints_in(matches: &ArgMatches) -> When
+    ensures { result ≡ when_in (codes "hints") (rows_of (found_of matches.now)) }
+{
+    HINTS.given(matches).unwrap_or(When::Auto)
+}
+
 /// What the options of notices were given, or their defaults.
 fn notices_in(matches: &ArgMatches) -> Notices
     ensures { result ≡ notices_in (rows_of (found_of matches.now)) }
@@ -155,7 +175,7 @@ fn notices_in(matches: &ArgMatches) -> Notices
     Notices {
         report: is_set(matches, "report"),
         progress: PROGRESS.given(matches).unwrap_or(When::Auto),
-        hints: HINTS.given(matches).unwrap_or(When::Auto),
+        hints: hints_in(matches),
     }
 }
 
@@ -284,6 +304,20 @@ fn lessons_request<'a>(alloc: Global, matches: &ArgMatches<'a>) -> Result<Reques
     Ok(Request::Lessons(lesson_in(matches, "name")))
 }
 
+/// What the words ask for that name `show` and give its options these values.
+fn show_request<'a>(alloc: Global, matches: &ArgMatches<'a>) -> Result<Request<'a>, Error>
+    ensures { (words : List Text) → AsksShow words (rows_of (found_of matches.now))
+        → AreRead words result }
+{
+    if let Some(unknown) = unknown_in("show", matches) {
+        return Err(written(invalid_value(alloc, "show", &unknown)));
+    }
+    Ok(Request::Show {
+        look: shown_look(matches),
+        hints: hints_in(matches),
+    })
+}
+
 /// What the words ask for that name this subcommand and give its options these values.
 fn request_of<'a>(alloc: Global, name: &str, matches: &ArgMatches<'a>) -> Result<Request<'a>, Error>
     requires { HasValues name.now (rows_of (found_of matches.now)) }
@@ -301,6 +335,9 @@ fn request_of<'a>(alloc: Global, name: &str, matches: &ArgMatches<'a>) -> Result
     }
     if name == "seed" {
         return Ok(Request::Seed);
+    }
+    if name == "show" {
+        return show_request(alloc, matches);
     }
     if let Some(unknown) = unknown_in(name, matches) {
         return Err(written(invalid_value(alloc, name, &unknown)));

@@ -8,6 +8,7 @@
 mod endings;
 mod help;
 mod notes;
+mod seen;
 mod streams;
 mod unread;
 
@@ -16,7 +17,8 @@ ghost use Rattle.command_line.specs.Reading.{AreRead};
 
 use crate::endings::{cut_off, for_person, say_more};
 use crate::help::help;
-use crate::notes::{put_note, put_notes};
+use crate::notes::{put_note, put_notes, without_board};
+use crate::seen::Seen;
 use crate::streams::{Given, Output, Said, hints_of, is_time, open};
 use advice::Reasons;
 use clap::Error;
@@ -98,7 +100,8 @@ fn answer<R: Threads + Wait + Clone + Send + 'static>(
 {
     let hints = is_time(rt, hints_of(words, read));
     let reason = Cell::new(None);
-    let mut input = Reader::new(Given::new(rt, read, &reason));
+    let seen = Cell::new(Seen::nothing());
+    let mut input = Reader::new(Given::new(rt, read, &reason, &seen));
     let ended = match noted(rt, words, read, hints) {
         Ok(task) => perform(threads, rt.alloc(), task, &mut input, out),
         Err(failure) => Err(failure),
@@ -113,7 +116,10 @@ fn answer<R: Threads + Wait + Clone + Send + 'static>(
         output: out.reason(),
         input: reason.get(),
     };
-    tell(rt, words, read, ended, reasons, err)
+    let note = without_board(rt.alloc(), read, &ended, seen.get());
+    let status = tell(rt, words, read, ended, reasons, err);
+    say_more(note, err);
+    status
 }
 
 fn main(rt: HostRuntime) -> ExitCode {

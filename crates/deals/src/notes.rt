@@ -1,8 +1,9 @@
 //! What is noted for a person before a run begins.
 
-use advice::dealt_again;
+use crate::seen::Seen;
+use advice::{dealt_again, no_board};
 use clap::Error;
-use deals_cli::{Job, Request, Task};
+use deals_cli::{Failure, Job, Report, Request, Task};
 use hint_rules::slip;
 use sinks::{Piped, put_all};
 use std::alloc::Global;
@@ -52,14 +53,32 @@ pub fn put_note(rt: &HostRuntime, text: Option<String>) {
     }
 }
 
-/// Where the tricks are read from, if that is the keyboard.
+/// Where the tricks or the boards are read from, if that is the keyboard.
 fn typed(rt: &HostRuntime, job: &Job) -> Option<String> {
-    let Job::WithTricks(_) = job else {
-        return None;
+    let text = match job {
+        Job::WithTricks(_) => {
+            "note: the tricks are read from the keyboard: for a file write --tricks < FILE\n"
+        }
+        Job::Show(_) => {
+            "note: the boards are read from the keyboard: for a file write deals show < FILE\n"
+        }
+        _ => return None,
     };
     if !rt.stdin().is_terminal() {
         return None;
     }
-    let text = "note: the tricks are read from the keyboard: for a file write --tricks < FILE\n";
     String::from_str(rt.alloc(), text).ok()
+}
+
+/// What there is to note where boards were to be shown and the input had none.
+pub fn without_board(
+    alloc: Global,
+    read: &Result<Request<'_>, Error>,
+    ended: &Result<Option<Report>, Failure>,
+    seen: Seen,
+) -> Option<String> {
+    match (read, ended) {
+        (Ok(Request::Show { .. }), Ok(_)) => no_board(alloc, seen.first(), seen.has_deal()),
+        _ => None,
+    }
 }

@@ -2,6 +2,7 @@
 
 ghost use Rattle.std.specs.Prelude.{◌≡◌, IfOk};
 
+use crate::seen::Seen;
 use advice::hints_among;
 use clap::Error;
 use console::{Counts, Drawn, GATHERED_MILLIS, OverLine, Prompt, Style, millis};
@@ -39,20 +40,39 @@ pub struct Given<'a> {
     origin: Origin,
     /// The number of the system's error, once reading failed.
     reason: &'a Cell<Option<i32>>,
+    /// What was seen of boards.
+    seen: Option<&'a Cell<Seen>>,
 }
 
 impl<'a> Given<'a> {
-    /// The input of this request, which notes there why it couldn't be read.
+    /// The input of this request, which notes there why it couldn't be read, and what was seen of
+    /// boards.
     pub fn new(
         rt: &HostRuntime,
         read: &Result<Request<'_>, Error>,
         reason: &'a Cell<Option<i32>>,
+        seen: &'a Cell<Seen>,
     ) -> Given<'a> {
         let origin = match read {
             Ok(Request::Seed) => random(rt, reason),
             _ => Origin::Stdin(rt.stdin()),
         };
-        Given { origin, reason }
+        let seen = match read {
+            Ok(Request::Show { .. }) => Some(seen),
+            _ => None,
+        };
+        Given {
+            origin,
+            reason,
+            seen,
+        }
+    }
+
+    /// Notes what is seen in a piece of which this much was read.
+    fn look(&self, piece: &[u8], count: usize) {
+        if let Some(cell) = self.seen {
+            cell.set(cell.get().with(piece.get(..count).unwrap_or(&[])));
+        }
     }
 }
 
@@ -82,8 +102,9 @@ impl Read for Given<'_> {
             Origin::Random(file) => file.read(piece),
             Origin::Missing => return Err(missing()),
         };
-        if let Err(error) = &ended {
-            self.reason.set(error.raw_os_error());
+        match &ended {
+            Ok(count) => self.look(piece, *count),
+            Err(error) => self.reason.set(error.raw_os_error()),
         }
         ended
     }
@@ -134,11 +155,11 @@ fn counts_of(
     Counts::new(rt.alloc(), rt.stderr(), drawn, style, all, now)
 }
 
-/// For how many milliseconds boards are gathered: not at all where numbers are read, since the next
-/// one may come much later.
+/// For how many milliseconds boards are gathered: not at all where numbers or boards are read, since
+/// the next one may come much later.
 fn gathered_millis(read: &Result<Request<'_>, Error>) -> u64 {
     match read {
-        Ok(Request::Pick { .. }) => 0,
+        Ok(Request::Pick { .. } | Request::Show { .. }) => 0,
         _ => GATHERED_MILLIS,
     }
 }

@@ -7,7 +7,7 @@ use Rattle.plans.specs.declared.report.Report.{Report}
 use Rattle.jobs.specs.Failures.{CountsInput, faults_in, is_untouched, status_in, status_of}
 use Rattle.jobs.specs.Statuses.{IsStatusWithInput}
 use Rattle.jobs.specs.declared.failure.Failure.{Failure}
-use Rattle.jobs.specs.declared.failure.Failure.TheVariants.{CommandLine, Plan, Label, Hand, Condition, Question, Cells, Interrupted, Line, Input, EndOfInput}
+use Rattle.jobs.specs.declared.failure.Failure.TheVariants.{CommandLine, Plan, Label, Hand, Condition, Question, Cells, Interrupted, Line, Record, Input, EndOfInput}
 use Rattle.jobs.proofs.Refusals.{status_of-status}
 use Rattle.request_types.specs.Requests.{Wish, make, make_with_tricks}
 use Rattle.command_line.specs.CommandLine.{asked}
@@ -32,6 +32,7 @@ no_zero (Interrupted cause.Spawn) is = cc
 no_zero (Interrupted (cause.Stopped worker)) is = cc
 no_zero (Interrupted (cause.Unclosed worker)) is = cc
 no_zero (Line line) is = cc
+no_zero (Record line) is = cc
 no_zero Input is = cc
 no_zero EndOfInput is = cc
 
@@ -53,6 +54,7 @@ untouched_by (Interrupted cause.Spawn) h = refl
 untouched_by (Interrupted (cause.Stopped worker)) h = elim h [ inl a ↦ cc | inr (inl a) ↦ cc | inr (inr a) ↦ cc ]
 untouched_by (Interrupted (cause.Unclosed worker)) h = elim h [ inl a ↦ cc | inr (inl a) ↦ cc | inr (inr a) ↦ cc ]
 untouched_by (Line line) h = elim h [ inl a ↦ cc | inr (inl a) ↦ cc | inr (inr a) ↦ cc ]
+untouched_by (Record line) h = elim h [ inl a ↦ cc | inr (inl a) ↦ cc | inr (inr a) ↦ cc ]
 untouched_by Input h = elim h [ inl a ↦ cc | inr (inl a) ↦ cc | inr (inr a) ↦ cc ]
 untouched_by EndOfInput h = refl
 
@@ -71,6 +73,7 @@ faults_by_status (Err (Interrupted cause.Spawn)) = refl
 faults_by_status (Err (Interrupted (cause.Stopped worker))) = refl
 faults_by_status (Err (Interrupted (cause.Unclosed worker))) = refl
 faults_by_status (Err (Line line)) = refl
+faults_by_status (Err (Record line)) = refl
 faults_by_status (Err Input) = refl
 faults_by_status (Err EndOfInput) = refl
 
@@ -122,6 +125,7 @@ input_kept (Err (Interrupted cause.Spawn)) s old new is h four seven = h
 input_kept (Err (Interrupted (cause.Stopped worker))) s old new is h four seven = h
 input_kept (Err (Interrupted (cause.Unclosed worker))) s old new is h four seven = h
 input_kept (Err (Line line)) s old new is h four seven = h
+input_kept (Err (Record line)) s old new is h four seven = h
 input_kept (Err Input) s old new is h four seven = absurd (seven is)
 input_kept (Err EndOfInput) s old new is h four seven = h
 

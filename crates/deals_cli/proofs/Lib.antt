@@ -1,4 +1,5 @@
 pub mod Serving
+pub mod Showing
 pub mod Reports
 pub mod Counted
 pub mod OtherWorkers

@@ -7,10 +7,13 @@ use Rattle.picking.specs.NumberTexts.{said}
 use Rattle.plans.specs.declared.refusal.RefusedLine.{RefusedLine}
 use Rattle.picking.specs.declared.fault.PickFault.TheVariants.{Refused}
 use Rattle.jobs.specs.Failures.{status_of}
-use Rattle.deals_cli.specs.Interruptions.{EndsFor}
-use Rattle.request_types.specs.Requests.{Wish, conditions, count, draw, lessons, make, make_with_tricks, pick, stream}
+use Rattle.deals_cli.specs.Interruptions.{EndsAtRecord, EndsFor}
+use Rattle.records.specs.Games.{game_says}
+use Rattle.records.specs.Texts.{spelled}
+use Rattle.records.specs.declared.fault.RefusedRecord.{RefusedRecord}
+use Rattle.request_types.specs.Requests.{Wish, conditions, count, draw, lessons, make, make_with_tricks, pick, show, stream}
 use Rattle.jobs.specs.declared.failure.Failure.{Failure}
-use Rattle.jobs.specs.declared.failure.Failure.TheVariants.{CommandLine, Plan, Label, Hand, Condition, Question, Cells, Interrupted, Line, Input, EndOfInput}
+use Rattle.jobs.specs.declared.failure.Failure.TheVariants.{CommandLine, Plan, Label, Hand, Condition, Question, Cells, Interrupted, Line, Record, Input, EndOfInput}
 use Rattle.jobs.specs.Statuses.{IsStatus, IsStatusWithInput}
 use Rattle.deals_cli.specs.Program.{IsStatusOfNone, MayFail, MayLeave, NeedsBytes, TellsWhy, TellsWhyFrom}
 
@@ -30,6 +33,24 @@ no_line_ended conditions line old new other e = e
 no_line_ended (lessons lesson) line old new other e = e
 no_line_ended (count s q style notices) line old new other e = e
 no_line_ended (stream seed n) line old new other e = e
+no_line_ended (show l hints) line old new other e = e
+
+no_record : (line : RefusedRecord) → (spelled []).refused ≡ Some line → ⊥
+unfolding spelled game_says
+no_record line is = cc
+
+no_record_ended : (w : Wish) (line : RefusedRecord) (old new : Option (List ℕ)) → EndsAtRecord w line (Some []) (Some []) old new → ⊥
+no_record_ended (show l hints) line old new e =
+    let none : e.given ≡ [] = sym (e.consumed ∙ append-nil e.given) in
+    no_record line (subst (λ (t : List ℕ). (spelled t).refused ≡ Some line) none e.written.0)
+no_record_ended (pick seed hands l hints) line old new e = e
+no_record_ended (make s l notices) line old new e = e
+no_record_ended (make_with_tricks s l notices) line old new e = e
+no_record_ended draw line old new e = e
+no_record_ended conditions line old new e = e
+no_record_ended (lessons lesson) line old new e = e
+no_record_ended (count s q style notices) line old new e = e
+no_record_ended (stream seed n) line old new e = e
 
 -- nor does it end before what such words ask for
 no_end : (w : Wish) → (NeedsBytes w → ⊥) → MayFail w EndOfInput → ⊥
@@ -43,6 +64,7 @@ no_end (lessons lesson) other (inr (inl due)) = cc
 no_end (lessons lesson) other (inr (inr due)) = cc
 no_end (count s q style notices) other (inr due) = due
 no_end (stream seed n) other (inr due) = cc
+no_end (show l hints) other (inr due) = due
 
 no_seven : (w : Wish) (f : Failure) (old new : Option (List ℕ)) → (NeedsBytes w → ⊥) → MayFail w f → MayLeave w f (Some []) (Some []) old new → (f ≡ Input → ⊥) → status_of f ≡ 7 → ⊥
 no_seven w (CommandLine text) old new other due may sound is = cc
@@ -59,6 +81,8 @@ no_seven w (Interrupted (cause.Stopped worker)) old new other due may sound is =
 no_seven w (Interrupted (cause.Unclosed worker)) old new other due may sound is = cc
 no_seven w (Line line) old new other due (inl leaves) sound is = no_line_ended w line old new other leaves
 no_seven w (Line line) old new other due (inr flushed) sound is = let bad = flushed.0 in cc
+no_seven w (Record line) old new other due (inl leaves) sound is = no_record_ended w line old new leaves
+no_seven w (Record line) old new other due (inr flushed) sound is = let bad = flushed.0 in cc
 no_seven w Input old new other due may sound is = sound refl
 no_seven w EndOfInput old new other due may sound is = no_end w other due
 

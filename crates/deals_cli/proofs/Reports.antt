@@ -6,7 +6,7 @@ use Rattle.sinks.specs.Appended.{AppendsAll, append_known}
 use Rattle.jobs.specs.Makings.{plan_of}
 use Rattle.deals_cli.specs.Reported.{Counts, Reports, ReportsFor, wants_report}
 use Rattle.plans.specs.Reports.{next_line, report_line, report_of}
-use Rattle.request_types.specs.Requests.{Look, Search, Wish, conditions, count, draw, lessons, make, make_with_tricks, pick, stream}
+use Rattle.request_types.specs.Requests.{Look, Search, Wish, conditions, count, draw, lessons, make, make_with_tricks, pick, show, stream}
 use Rattle.request_types.specs.declared.request.Notices.{Notices}
 use Rattle.boards.specs.declared.format.Format.{Format}
 use Rattle.plans.specs.declared.report.Report.{Report}
@@ -33,6 +33,7 @@ none_made (Some conditions) r some none quiet = let bad : Some r ≡ None = some
 none_made (Some (lessons lesson)) r some none quiet = let bad : Some r ≡ None = some (lessons lesson) refl in cc
 none_made (Some draw) r some none quiet = let bad : Some r ≡ None = some draw refl in cc
 none_made (Some (make_with_tricks s l notices)) r some none quiet = let is = (some (make_with_tricks s l notices) refl).0 in let bad : true ≡ false = sym is ∙ quiet in cc
+none_made (Some (show l hints)) r some none quiet = let bad : Some r ≡ None = some (show l hints) refl in cc
 none_made (Some (pick seed hands l hints)) r some none quiet = let bad : Some r ≡ None = some (pick seed hands l hints) refl in cc
 none_made (Some (make s l notices)) r some none quiet = let is = (some (make s l notices) refl).0 in let bad : true ≡ false = sym is ∙ quiet in cc
 

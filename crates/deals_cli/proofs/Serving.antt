@@ -9,10 +9,10 @@ use Rattle.jobs.specs.Failures.{is_untouched}
 use Rattle.deals_cli.specs.Interruptions.{EndsTold, InterruptsCount, InterruptsMake, LeavesFrom}
 use Rattle.jobs.specs.Jobs.{IsReady}
 use Rattle.deals_cli.specs.Served.{Serves}
-use Rattle.request_types.specs.Requests.{Look, Questions, Search, Wish, conditions, count, draw, lessons, make, make_with_tricks, pick, stream}
+use Rattle.request_types.specs.Requests.{Look, Questions, Search, Wish, conditions, count, draw, lessons, make, make_with_tricks, pick, show, stream}
 use Rattle.deals_cli.specs.Wishes.{language_page}
 use Rattle.jobs.specs.declared.failure.Failure.{Failure}
-use Rattle.jobs.specs.declared.failure.Failure.TheVariants.{CommandLine, Plan, Label, Hand, Condition, Question, Cells, Interrupted, Line, Input, EndOfInput}
+use Rattle.jobs.specs.declared.failure.Failure.TheVariants.{CommandLine, Plan, Label, Hand, Condition, Question, Cells, Interrupted, Line, Record, Input, EndOfInput}
 use Rattle.jobs.specs.declared.boards_job.BoardsJob.{BoardsJob}
 use Rattle.jobs.specs.declared.count_job.CountJob.{CountJob}
 use Rattle.jobs.specs.declared.job.PickJob.{PickJob}
@@ -53,6 +53,7 @@ run_text (make_with_tricks s l notices) job report r before after old new ready 
 run_text draw job report r before after old new ready ends asked = absurd ready
 run_text (count s q style notices) job report r before after old new ready ends asked = absurd ready
 run_text (stream seed n) job report r before after old new ready ends asked = absurd ready
+run_text (show l hints) job report r before after old new ready ends asked = absurd ready
 
 pub reported : (w : Wish) (job : BoardsJob) (report : Report) (before after old new : Option (List ℕ)) → IsReady w (Boards job) → EndsBoards job (Ok report) old new → job.report ≡ true
     → Serves w (Ok (Some report)) before after old new
@@ -89,6 +90,7 @@ interrupts (make_with_tricks s l notices) job c before after old new ready ends 
 interrupts draw job c before after old new ready ends = absurd ready
 interrupts (count s q style notices) job c before after old new ready ends = absurd ready
 interrupts (stream seed n) job c before after old new ready ends = absurd ready
+interrupts (show l hints) job c before after old new ready ends = absurd ready
 
 -- ---- a count
 
@@ -110,6 +112,7 @@ counted T (lessons lesson) job value before after old new ready ends = absurd re
 counted T (make_with_tricks s l notices) job value before after old new ready ends = absurd ready
 counted T draw job value before after old new ready ends = absurd ready
 counted T (stream seed n) job value before after old new ready ends = absurd ready
+counted T (show l hints) job value before after old new ready ends = absurd ready
 
 count_leaves : (s : Search) (q : Questions) (style : _) (notices : _) (c : Cause) (before after old new : Option (List ℕ)) → InterruptsCount s q style c old new
     → LeavesFrom (count s q style notices) (Interrupted c) before after old new × (is_untouched (Interrupted c) ≡ true → new ≡ old)
@@ -139,6 +142,7 @@ count_interrupts T (lessons lesson) job c before after old new ready ends = absu
 count_interrupts T (make_with_tricks s l notices) job c before after old new ready ends = absurd ready
 count_interrupts T draw job c before after old new ready ends = absurd ready
 count_interrupts T (stream seed n) job c before after old new ready ends = absurd ready
+count_interrupts T (show l hints) job c before after old new ready ends = absurd ready
 
 -- ---- a pick
 
@@ -158,6 +162,7 @@ picked (make_with_tricks s l notices) job value before after old new ready ends 
 picked draw job value before after old new ready ends = absurd ready
 picked (count s q style notices) job value before after old new ready ends = absurd ready
 picked (stream seed n) job value before after old new ready ends = absurd ready
+picked (show l hints) job value before after old new ready ends = absurd ready
 
 pub pick_fails : (T : Type 0) (w : Wish) (job : PickJob) (f : Failure) (before after old new : Option (List ℕ)) → IsReady w (Pick job) → EndsPicking {T = T} job (Err f) before after old new → Serves w (Err f) before after old new
 pick_fails T (pick seed hands l hints) job (Interrupted Memory) before after old new (planned, plan_is, format_is, show_is) ends = record {
@@ -192,6 +197,7 @@ pick_fails T (pick seed hands l hints) job Input before after old new (planned, 
   stands = rw (plan_is, format_is, show_is) at ends;
   due = planned;
 }
+pick_fails T (pick seed hands l hints) job (Record line) before after old new ready ends = absurd ends
 pick_fails T (pick seed hands l hints) job EndOfInput before after old new ready ends = absurd ends
 pick_fails T (pick seed hands l hints) job (CommandLine text) before after old new ready ends = absurd ends
 pick_fails T (pick seed hands l hints) job (Plan error) before after old new ready ends = absurd ends
@@ -210,6 +216,7 @@ pick_fails T (make_with_tricks s l notices) job f before after old new ready end
 pick_fails T draw job f before after old new ready ends = absurd ready
 pick_fails T (count s q style notices) job f before after old new ready ends = absurd ready
 pick_fails T (stream seed n) job f before after old new ready ends = absurd ready
+pick_fails T (show l hints) job f before after old new ready ends = absurd ready
 
 -- ---- the page of the language, and values
 
@@ -222,6 +229,7 @@ page_written (make s l notices) before after old new ready text = absurd ready
 page_written (count s q style notices) before after old new ready text = absurd ready
 page_written (pick seed hands l hints) before after old new ready text = absurd ready
 page_written (stream seed n) before after old new ready text = absurd ready
+page_written (show l hints) before after old new ready text = absurd ready
 
 pub page_breaks : (w : Wish) (before after old new : Option (List ℕ)) → IsReady w Conditions → AppendsPart old new language_page → Serves w (Err (Interrupted Output)) before after old new
 page_breaks conditions before after old new ready part = record { text = tt; report = tt; status = served conditions 4 (inr refl) tt tt; untouched = λ bad. absurd cc; stands = part; due = refl }
@@ -232,6 +240,7 @@ page_breaks (make s l notices) before after old new ready part = absurd ready
 page_breaks (count s q style notices) before after old new ready part = absurd ready
 page_breaks (pick seed hands l hints) before after old new ready part = absurd ready
 page_breaks (stream seed n) before after old new ready part = absurd ready
+page_breaks (show l hints) before after old new ready part = absurd ready
 
 pub values_written : (w : Wish) (r : StreamRequest) (before after old new : Option (List ℕ)) → IsReady w (Stream r) → AppendsAll old new (lines r.seed r.count) → Serves w (Ok None) before after old new
 values_written (stream seed n) r before after old new (seed_is, count_is) text = record { text = rw (seed_is, count_is) at text; report = refl; status = served (stream seed n) 0 (inl refl) tt tt; untouched = tt; stands = tt; due = tt }
@@ -242,6 +251,7 @@ values_written draw r before after old new ready text = absurd ready
 values_written (count s q style notices) r before after old new ready text = absurd ready
 values_written (make s l notices) r before after old new ready text = absurd ready
 values_written (pick seed hands l hints) r before after old new ready text = absurd ready
+values_written (show l hints) r before after old new ready text = absurd ready
 
 pub values_break : (w : Wish) (r : StreamRequest) (before after old new : Option (List ℕ)) → IsReady w (Stream r) → AppendsPart old new (lines r.seed r.count) → Serves w (Err (Interrupted Output)) before after old new
 values_break (stream seed n) r before after old new (seed_is, count_is) part = record { text = tt; report = tt; status = served (stream seed n) 4 (inr refl) tt tt; untouched = λ bad. absurd cc; stands = rw (seed_is, count_is) at part; due = refl }
@@ -252,6 +262,7 @@ values_break draw r before after old new ready part = absurd ready
 values_break (count s q style notices) r before after old new ready part = absurd ready
 values_break (make s l notices) r before after old new ready part = absurd ready
 values_break (pick seed hands l hints) r before after old new ready part = absurd ready
+values_break (show l hints) r before after old new ready part = absurd ready
 
 -- ---- lessons
 
@@ -264,6 +275,7 @@ lessons_written (make s l notices) page before after old new ready text = absurd
 lessons_written (count s q style notices) page before after old new ready text = absurd ready
 lessons_written (pick seed hands l hints) page before after old new ready text = absurd ready
 lessons_written (stream seed n) page before after old new ready text = absurd ready
+lessons_written (show l hints) page before after old new ready text = absurd ready
 
 pub lessons_break : (w : Wish) (page : _) (before after old new : Option (List ℕ)) → IsReady w (Lessons page) → AppendsPart old new (string_bytes page) → Serves w (Err (Interrupted Output)) before after old new
 lessons_break (lessons lesson) page before after old new ready part = record { text = tt; report = tt; status = served (lessons lesson) 4 (inr refl) tt tt; untouched = λ bad. absurd cc; stands = rw ready at part; due = inl refl }
@@ -274,6 +286,7 @@ lessons_break (make s l notices) page before after old new ready part = absurd r
 lessons_break (count s q style notices) page before after old new ready part = absurd ready
 lessons_break (pick seed hands l hints) page before after old new ready part = absurd ready
 lessons_break (stream seed n) page before after old new ready part = absurd ready
+lessons_break (show l hints) page before after old new ready part = absurd ready
 
 -- ---- boards with tricks
 
@@ -298,6 +311,7 @@ tricks_text (lessons lesson) job report r before after old new ready ends asked 
 tricks_text draw job report r before after old new ready ends asked = absurd ready
 tricks_text (count s q style notices) job report r before after old new ready ends asked = absurd ready
 tricks_text (stream seed n) job report r before after old new ready ends asked = absurd ready
+tricks_text (show l hints) job report r before after old new ready ends asked = absurd ready
 
 pub tricks_reported : (w : Wish) (job : BoardsJob) (report : Report) (before after old new : Option (List ℕ)) → IsReady w (WithTricks job) → EndsReady job (Ok report) before after old new → job.report ≡ true
     → Serves w (Ok (Some report)) before after old new
@@ -373,6 +387,7 @@ tricks_fail (make_with_tricks s l notices) job Input before after old new ready 
   stands = (job.condition, ready.means, ends.ends s l notices ready);
   due = (ready.planned, (job.condition, ready.means));
 }
+tricks_fail (make_with_tricks s l notices) job (Record line) before after old new ready ends = absurd (ends.ends s l notices ready)
 tricks_fail (make_with_tricks s l notices) job EndOfInput before after old new ready ends = absurd (ends.ends s l notices ready)
 tricks_fail (make_with_tricks s l notices) job (CommandLine text) before after old new ready ends = absurd (ends.ends s l notices ready)
 tricks_fail (make_with_tricks s l notices) job (Plan error) before after old new ready ends = absurd (ends.ends s l notices ready)
@@ -388,6 +403,7 @@ tricks_fail (lessons lesson) job f before after old new ready ends = absurd read
 tricks_fail draw job f before after old new ready ends = absurd ready
 tricks_fail (count s q style notices) job f before after old new ready ends = absurd ready
 tricks_fail (stream seed n) job f before after old new ready ends = absurd ready
+tricks_fail (show l hints) job f before after old new ready ends = absurd ready
 
 -- ---- a seed
 
@@ -400,6 +416,7 @@ drawn conditions value before after old new ready ends = absurd ready
 drawn (lessons lesson) value before after old new ready ends = absurd ready
 drawn (count s q style notices) value before after old new ready ends = absurd ready
 drawn (stream seed n) value before after old new ready ends = absurd ready
+drawn (show l hints) value before after old new ready ends = absurd ready
 
 pub draw_fails : (T : Type 0) (w : Wish) (f : Failure) (before after old new : Option (List ℕ)) → IsReady w Seed → EndsDraw {T = T} (Err f) before after old new → Serves w (Err f) before after old new
 draw_fails T draw (Interrupted Output) before after old new ready ends = record { text = tt; report = tt; status = served draw 4 (inr refl) tt tt; untouched = λ bad. absurd cc; stands = ends; due = tt }
@@ -410,6 +427,7 @@ draw_fails T draw (Interrupted Spawn) before after old new ready ends = absurd e
 draw_fails T draw (Interrupted (Stopped worker)) before after old new ready ends = absurd ends
 draw_fails T draw (Interrupted (Unclosed worker)) before after old new ready ends = absurd ends
 draw_fails T draw (Line line) before after old new ready ends = absurd ends
+draw_fails T draw (Record line) before after old new ready ends = absurd ends
 draw_fails T draw (CommandLine text) before after old new ready ends = absurd ends
 draw_fails T draw (Plan error) before after old new ready ends = absurd ends
 draw_fails T draw (Label name) before after old new ready ends = absurd ends
@@ -424,3 +442,4 @@ draw_fails T conditions f before after old new ready ends = absurd ready
 draw_fails T (lessons lesson) f before after old new ready ends = absurd ready
 draw_fails T (count s q style notices) f before after old new ready ends = absurd ready
 draw_fails T (stream seed n) f before after old new ready ends = absurd ready
+draw_fails T (show l hints) f before after old new ready ends = absurd ready

@@ -10,17 +10,22 @@ use Rattle.picking.specs.declared.fault.PickFault.TheVariants as picks
 use Rattle.sinks.specs.Appended.{AppendsPart}
 use Rattle.dealrun.specs.Values.{lines}
 use Rattle.jobs.specs.Counting.{IsAsked}
-use Rattle.deals_cli.specs.Formats.{layout_in}
+use Rattle.records.specs.Shown.{Shows}
+use Rattle.records.specs.declared.fault.RefusedRecord.{RefusedRecord}
+use Rattle.records.specs.declared.shown.ShowFault.{ShowFault}
+use Rattle.records.specs.declared.shown.ShowFault.TheVariants as shown
+use Rattle.deals_cli.specs.Formats.{layout_in, layout_shown}
 use Rattle.jobs.specs.Makings.{AreWorkers, Means, plan_of}
 use Rattle.request_types.specs.Requests.{Look, Questions, Search, Wish, conditions, count, draw, make}
 use Rattle.lessons.specs.Lessons.{lessons_text}
 use Rattle.request_types.specs.Requests.{lessons, make_with_tricks, no_search, numbers_look}
-use Rattle.request_types.specs.Requests.{pick, stream}
+use Rattle.request_types.specs.Requests.{pick, show, stream}
 pub use Rattle.deals_cli.specs.Runs.{InterruptsRun}
 use Rattle.deals_cli.specs.WithTricks.{BreaksTold, FailsTold, StopsAtLine}
 use Rattle.deals_cli.specs.Wishes.{IsDrawn, language_page, seed_text}
 use Rattle.jobs.specs.declared.failure.Failure.{Failure}
-use Rattle.jobs.specs.declared.failure.Failure.TheVariants.{EndOfInput, Interrupted, Line, Input}
+use Rattle.jobs.specs.declared.failure.Failure.TheVariants.{EndOfInput, Interrupted, Line, Record}
+use Rattle.jobs.specs.declared.failure.Failure.TheVariants.{Input}
 use Rattle.statistics.specs.Counting.{Subject, counting}
 use Rattle.boards.specs.declared.style.Style.{Style}
 
@@ -52,6 +57,10 @@ abbrev pub EndsPick : Search → Look → PickFault → (before after old new : 
 EndsPick s l fault before after old new =
     Picks (layout_in s l) (plan_of s l) (Err fault) before after old new
 
+-- showing ended with this fault
+abbrev pub EndsShow : Look → ShowFault → (before after old new : Option (List ℕ)) → Type 0
+EndsShow l fault before after old new = Shows (layout_shown l) (Err fault) before after old new
+
 -- a `make` with tricks was ended by this fault of its input
 abbrev pub EndsTold : Search → Look → PickFault → (before after old new : Option (List ℕ)) → Type 0
 EndsTold s l (picks.Refused line) before after old new =
@@ -61,7 +70,7 @@ EndsTold s l picks.Input before after old new =
 EndsTold s l picks.Output before after old new = ⊥
 
 -- a wish was broken off for this cause: of a text that needs no run a proper prefix is written. The
--- output of a `pick` or of a `make` with tricks may also fail where it passes on what is before
+-- output of a `pick`, a `show` or a `make` with tricks may also fail where it passes on what is before
 -- a fault of its input
 abbrev pub BreaksOff : Wish → Cause → (before after old new : Option (List ℕ)) → Type 0
 BreaksOff (stream seed n) cause before after old new = AppendsPart old new (lines seed n)
@@ -78,6 +87,8 @@ BreaksOff (count s questions style notices) cause before after old new =
     InterruptsCount s questions style cause old new
 BreaksOff (pick seed hands l hints) cause before after old new =
     (fault : PickFault) × EndsPick (no_search seed hands) l fault before after old new
+BreaksOff (show l hints) cause before after old new =
+    (fault : ShowFault) × EndsShow l fault before after old new
 
 -- a wish was ended by this fault of its input; of a `draw` nothing is written then
 abbrev pub EndsFor : Wish → PickFault → (before after old new : Option (List ℕ)) → Type 0
@@ -85,8 +96,16 @@ EndsFor (pick seed hands l hints) fault before after old new =
     EndsPick (no_search seed hands) l fault before after old new
 EndsFor (make_with_tricks s l notices) fault before after old new =
     EndsTold s l fault before after old new
+EndsFor (show l hints) picks.Input before after old new =
+    EndsShow l shown.Input before after old new
 EndsFor draw picks.Input before after old new = new ≡ old
 EndsFor w fault before after old new = ⊥
+
+-- a `show` was ended by this line of its input
+abbrev pub EndsAtRecord : Wish → RefusedRecord → (before after old new : Option (List ℕ)) → Type 0
+EndsAtRecord (show l hints) line before after old new =
+    EndsShow l (shown.Refused line) before after old new
+EndsAtRecord w line before after old new = ⊥
 
 -- what a wish leaves that fails so: nothing, unless it was broken off. `before` and `after` are
 -- what the input had to give before and after it; it has ended too soon for a seed if it had fewer
@@ -96,6 +115,7 @@ LeavesFrom w (Interrupted Memory) before after old new = new ≡ old
 LeavesFrom w (Interrupted cause) before after old new = BreaksOff w cause before after old new
 LeavesFrom w (Line line) before after old new =
     EndsFor w (picks.Refused line) before after old new
+LeavesFrom w (Record line) before after old new = EndsAtRecord w line before after old new
 LeavesFrom w Input before after old new = EndsFor w picks.Input before after old new
 LeavesFrom w EndOfInput before after old new = (new ≡ old) × EndsBefore 4 before after
 LeavesFrom w failure before after old new = new ≡ old

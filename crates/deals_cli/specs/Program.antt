@@ -77,7 +77,8 @@ abbrev pub IsTaskFor : List Text → Task → Type 0
 IsTaskFor words (Show text) = (asked words ≡ None) × MayShow words
 IsTaskFor words (Do job) = (w : Wish) × (asked words ≡ Some w) × IsReady w job
 
--- the task reads the input, and the words ask for what does: a `pick`, a seed, boards with tricks
+-- the task reads the input, and the words ask for what does: a `pick`, a `show`, a seed, boards
+-- with tricks
 abbrev pub ReadsTask : Task → Type 0
 ReadsTask (Show text) = ⊥
 ReadsTask (Do job) = ReadsInput job

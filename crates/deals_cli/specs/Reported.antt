@@ -11,7 +11,7 @@ use Rattle.jobs.specs.declared.failure.Failure.{Failure}
 use Rattle.sinks.specs.Appended.{AppendsAll}
 use Rattle.boards.specs.declared.format.Format.{Format}
 use Rattle.request_types.specs.Requests.{Look, Search, Wish, conditions, count, draw, make}
-use Rattle.request_types.specs.Requests.{lessons, make_with_tricks, pick, stream}
+use Rattle.request_types.specs.Requests.{lessons, make_with_tricks, pick, show, stream}
 use Rattle.request_types.specs.declared.request.Notices.{Notices}
 use Rattle.plans.specs.declared.report.Report.{Report}
 
@@ -40,6 +40,7 @@ ReportsFor (make_with_tricks s l notices) report = ReportsOf s l notices report
 ReportsFor draw report = report ≡ None
 ReportsFor (count s questions style notices) report = report ≡ None
 ReportsFor (pick seed hands l hints) report = report ≡ None
+ReportsFor (show l hints) report = report ≡ None
 
 abbrev pub wants_report : Option Wish → Bool
 wants_report (Some (make s l notices)) = notices.report

@@ -22,7 +22,7 @@ pub record Serves (w : Wish) (r : Result (Option Report) Failure)
   -- nothing was written if something is refused, memory ran out or a thread wasn't started
   pub untouched : IfErr r (λ e. is_untouched e ≡ true → new ≡ old)
   -- what a failure leaves: of a text without a run a proper prefix, of a run what it took, of a
-  -- `pick` and of boards with tricks those up to the fault
+  -- `pick`, of a `show` and of boards with tricks those up to the fault
   pub stands : IfErr r (λ e. LeavesFrom w e before after old new)
   -- the failure that is told is the first that is due
   pub due : IfErr r (IsDueFor w)

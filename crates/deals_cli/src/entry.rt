@@ -21,7 +21,7 @@ use std::alloc::Global;
 use std::sync::Wait;
 use std::thread::Threads;
 
-/// Does what the words ask for. `pick`, `seed` and `make --tricks` alone read the input.
+/// Does what the words ask for. `pick`, `show`, `seed` and `make --tricks` alone read the input.
 fn answer<R: Threads + Wait + Clone + Send + 'static, I: Source, O: Sink>(
     rt: &R,
     alloc: Global,
@@ -46,8 +46,8 @@ fn answer<R: Threads + Wait + Clone + Send + 'static, I: Source, O: Sink>(
     }
 }
 
-/// Runs the program over an input, and returns its exit status. `pick`, `seed` and `make --tricks`
-/// alone read the input.
+/// Runs the program over an input, and returns its exit status. `pick`, `show`, `seed` and
+/// `make --tricks` alone read the input.
 ///
 /// The statuses are those of `program`, and one more. 7: a line of the input is refused, or the
 /// input couldn't be read; what is on `out` is flushed. It may wait for its workers and its

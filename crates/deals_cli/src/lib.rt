@@ -10,6 +10,7 @@ mod entry;
 pub mod laws;
 mod seed_job;
 mod service;
+mod show_job;
 mod task;
 mod tricks_job;
 mod workers;
@@ -18,7 +19,7 @@ mod written;
 pub use command_line::{laws as examples, read_words};
 pub use ending::conclude;
 pub use entry::{program, program_with_input};
-pub use jobs::{BoardsJob, CountJob, Failure, Job, PickJob, planned};
+pub use jobs::{BoardsJob, CountJob, Failure, Job, PickJob, ShowJob, planned};
 pub use plans::Report;
 pub use request_types::{
     Format, LabelName, Look, Notices, QuestionName, Questions, Request, Search, Show,

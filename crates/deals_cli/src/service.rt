@@ -10,6 +10,7 @@ ghost use Rattle.deals_cli.specs.internal.Ends.{EndsBoards, EndsCount, EndsPicki
 ghost use Rattle.sinks.specs.Sinks.{AppendsOrBreaksOff, CountsFault};
 
 use crate::seed_job::draw;
+use crate::show_job::show_boards;
 use crate::tricks_job::write_with_tricks;
 use crate::workers::worked;
 use crate::written::write_plan;
@@ -137,14 +138,14 @@ fn put_language<O: Sink>(out: &mut O) -> Result<(), SinkFault>
 }
 
 /// Does the job, and returns its report if one is asked for. It may wait for its workers, and for
-/// its input: only a `pick`, boards with tricks and the drawing of a seed read it.
+/// its input: only a `pick`, a `show`, boards with tricks and the drawing of a seed read it.
 ///
 /// # Errors
 ///
 /// `Interrupted`: the output failed, memory ran out, a thread wasn't started, or a worker ended too
-/// soon. `Line`, with the first line of the input that is refused, or `Input`, if it couldn't be
-/// read: the boards up to there were written and passed on. `EndOfInput`: there are not as many
-/// bytes as a seed is drawn from.
+/// soon. `Line` or `Record`, with the first line of the input that is refused, or `Input`, if it
+/// couldn't be read: the boards up to there were written and passed on. `EndOfInput`: there are not
+/// as many bytes as a seed is drawn from.
 pub fn serve<R: Threads + Wait + Clone + Send + 'static, I: Source, O: Sink>(
     rt: &R,
     alloc: Global,
@@ -187,6 +188,10 @@ pub fn serve<R: Threads + Wait + Clone + Send + 'static, I: Source, O: Sink>(
             Err(cause) => Err(Failure::Interrupted(cause)),
         },
         Job::Pick(job) => match pick_boards(alloc, &job, input, out) {
+            Ok(()) => Ok(None),
+            Err(failure) => Err(failure),
+        },
+        Job::Show(job) => match show_boards(alloc, &job, input, out) {
             Ok(()) => Ok(None),
             Err(failure) => Err(failure),
         },

@@ -104,8 +104,8 @@ fn write<R: Threads + Wait + Clone + Send + 'static, I: Source, O: Sink>(
 }
 
 /// Does the task and flushes the output, unless it failed. Returns the report, if one was asked
-/// for. `pick`, `seed` and `make --tricks` alone read the input. It may wait for its workers and
-/// its input.
+/// for. `pick`, `show`, `seed` and `make --tricks` alone read the input. It may wait for its
+/// workers and its input.
 ///
 /// # Errors
 ///

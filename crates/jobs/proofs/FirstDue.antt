@@ -12,10 +12,10 @@ use Rattle.plans.specs.Refusals.{refusal_of}
 use Rattle.plans.specs.declared.plan.PlanError.{PlanError}
 use Rattle.plans.specs.declared.plan.PlanError.TheVariants.{Range, Workers, Capacity, Boards, FirstBoard}
 use Rattle.jobs.specs.Failures.{failure_of, is_refusal, status_of}
-use Rattle.jobs.specs.FirstRefusal.{AreRefused, HasCondition, IsCountDue, IsDueFor, IsFirstHand, IsFirstOf, IsMakeDue, IsPickDue, IsPlanDue, IsTextDue, IsTricksDue, Meets, of_labels, of_numbers}
+use Rattle.jobs.specs.FirstRefusal.{AreRefused, HasCondition, IsCountDue, IsDueFor, IsFirstHand, IsFirstOf, IsMakeDue, IsPickDue, IsPlanDue, IsShowDue, IsTextDue, IsTricksDue, Meets, of_labels, of_numbers}
 use Rattle.request_types.specs.Defaults.{candidates_of, workers_in}
 use Rattle.jobs.specs.Makings.{HasLabels, HasNumbers, IsPlanned, Means}
-use Rattle.request_types.specs.Requests.{Look, Questions, Search, Wish, conditions, count, draw, lessons, make, make_with_tricks, no_search, numbers_look, pick, stream}
+use Rattle.request_types.specs.Requests.{Look, Questions, Search, Wish, conditions, count, draw, lessons, make, make_with_tricks, no_search, numbers_look, pick, plain_search, show, stream}
 use Rattle.jobs.specs.Jobs.{IsRefused}
 use Rattle.jobs.specs.Statuses.{HasMeaning, HasPlan, IsStatusOf}
 use Rattle.jobs.proofs.Statuses.{no_memory as out_of_memory, refused_meaning, refused_plan}
@@ -23,7 +23,7 @@ use Rattle.request_types.specs.declared.request.Notices.{Notices}
 use Rattle.request_types.specs.declared.when.When.{When}
 use Rattle.request_types.specs.PredealtHands.{GivenHands}
 use Rattle.jobs.specs.declared.failure.Failure.{Failure}
-use Rattle.jobs.specs.declared.failure.Failure.TheVariants.{CommandLine, Plan, Label, Hand, Condition, Question, Cells, Interrupted, Line, Input, EndOfInput}
+use Rattle.jobs.specs.declared.failure.Failure.TheVariants.{CommandLine, Plan, Label, Hand, Condition, Question, Cells, Interrupted, Line, Record, Input, EndOfInput}
 use Rattle.request_types.specs.declared.names.LabelName.TheVariants.{Event, Site, Date}
 use Rattle.request_types.specs.declared.names.QuestionName.TheVariants.{Of, By}
 use Rattle.jobs.specs.Counting.{IsAsked}
@@ -109,6 +109,7 @@ hands_due s l (Question name error) n t h = absurd h
 hands_due s l (Cells name) n t h = absurd h
 hands_due s l (Interrupted cause) n t h = absurd h
 hands_due s l (Line line) n t h = absurd h
+hands_due s l (Record line) n t h = absurd h
 hands_due s l Input n t h = absurd h
 hands_due s l EndOfInput n t h = absurd h
 
@@ -159,6 +160,7 @@ output_due (make_with_tricks s l notices) status = status.accepted (inl refl)
 output_due draw status = tt
 output_due (count s questions style notices) status = let all = status.accepted (inl refl) in (all.0, all.1.0, all.1.1)
 output_due (pick seed hands l hints) status = (status.accepted (inl refl)).0
+output_due (show l hints) status = (status.accepted (inl refl)).0
 
 -- a refused plan is due for a `make` and for a `pick`
 pub make_plan_due : (s : Search) (l : Look) (f : Failure) → IsPlanDue s l f → IsMakeDue s l f
@@ -171,6 +173,7 @@ make_plan_due s l (Question name error) h = absurd h
 make_plan_due s l (Cells name) h = absurd h
 make_plan_due s l (Interrupted c) h = absurd h
 make_plan_due s l (Line line) h = absurd h
+make_plan_due s l (Record line) h = absurd h
 make_plan_due s l Input h = absurd h
 make_plan_due s l EndOfInput h = absurd h
 
@@ -189,6 +192,7 @@ tricks_due s l (Interrupted cause.Spawn) before h = h
 tricks_due s l (Interrupted (cause.Stopped worker)) before h = h
 tricks_due s l (Interrupted (cause.Unclosed worker)) before h = h
 tricks_due s l (Line line) before h = absurd cc
+tricks_due s l (Record line) before h = absurd cc
 tricks_due s l Input before h = absurd cc
 tricks_due s l EndOfInput before h = absurd cc
 
@@ -202,6 +206,7 @@ pick_plan_due s l (Question name error) h = absurd h
 pick_plan_due s l (Cells name) h = absurd h
 pick_plan_due s l (Interrupted c) h = absurd h
 pick_plan_due s l (Line line) h = absurd h
+pick_plan_due s l (Record line) h = absurd h
 pick_plan_due s l Input h = absurd h
 pick_plan_due s l EndOfInput h = absurd h
 
@@ -215,6 +220,7 @@ count_plan_due s q (Question name error) h = absurd h
 count_plan_due s q (Cells name) h = absurd h
 count_plan_due s q (Interrupted c) h = absurd h
 count_plan_due s q (Line line) h = absurd h
+count_plan_due s q (Record line) h = absurd h
 count_plan_due s q Input h = absurd h
 count_plan_due s q EndOfInput h = absurd h
 
@@ -234,6 +240,7 @@ questions_due s q (Question By error) plan condition h = (plan, condition, h)
 questions_due s q (Cells name) plan condition h = (plan, condition, h)
 questions_due s q (Interrupted c) plan condition h = absurd h
 questions_due s q (Line line) plan condition h = absurd h
+questions_due s q (Record line) plan condition h = absurd h
 questions_due s q Input plan condition h = absurd h
 questions_due s q EndOfInput plan condition h = absurd h
 
@@ -248,6 +255,7 @@ questions_refusal q (Question By error) h = refl
 questions_refusal q (Cells name) h = refl
 questions_refusal q (Interrupted c) h = absurd h
 questions_refusal q (Line line) h = absurd h
+questions_refusal q (Record line) h = absurd h
 questions_refusal q Input h = absurd h
 questions_refusal q EndOfInput h = absurd h
 
@@ -270,6 +278,7 @@ plan_refusal s l (Question name error) h = refl
 plan_refusal s l (Cells name) h = refl
 plan_refusal s l (Interrupted c) h = absurd h
 plan_refusal s l (Line line) h = absurd h
+plan_refusal s l (Record line) h = absurd h
 plan_refusal s l Input h = absurd h
 plan_refusal s l EndOfInput h = absurd h
 
@@ -288,6 +297,20 @@ pick_refused seed hands l hints f refused due = record {
   due = pick_plan_due (no_search seed hands) l f due;
   status = refused_plan (pick seed hands l hints) (status_of f) refused.0 refused.1;
   nothing_done = plan_refusal (no_search seed hands) l f due;
+}
+
+-- of the labels alone
+show_labels_due : (l : Look) (f : Failure) → IsFirstOf of_labels (plain_search 0) l f → IsShowDue l f × (is_refusal f ≡ true)
+show_labels_due l f (inl h) = rw h.0 (inl (refl, h.1), refl)
+show_labels_due l f (inr (event, inl h)) = rw h.0 (inr (event, inl (refl, h.1)), refl)
+show_labels_due l f (inr (event, inr (site, inl h))) = rw h.0 (inr (event, inr (site, inl (refl, h.1))), refl)
+show_labels_due l f (inr (event, inr (site, inr h))) = absurd h.1
+
+pub show_refused : (l : Look) (hints : When) (f : Failure) → (status_of f ≡ 2) × (HasLabels l → ⊥) → IsFirstOf of_labels (plain_search 0) l f → IsRefused (show l hints) f
+show_refused l hints f refused due = record {
+  due = (show_labels_due l f due).0;
+  status = refused_plan (show l hints) (status_of f) refused.0 refused.1;
+  nothing_done = (show_labels_due l f due).1;
 }
 
 pub count_refused : (s : Search) (q : Questions) (style : Style) (notices : Notices) (f : Failure) → (status_of f ≡ 2) × (IsPlanned s numbers_look → ⊥) → IsPlanDue s numbers_look f
@@ -376,6 +399,7 @@ refusal_status (Interrupted cause.Spawn) before h = omega (arith, h)
 refusal_status (Interrupted (cause.Stopped worker)) before h = omega (arith, h)
 refusal_status (Interrupted (cause.Unclosed worker)) before h = omega (arith, h)
 refusal_status (Line line) before h = cc
+refusal_status (Record line) before h = cc
 refusal_status Input before h = cc
 refusal_status EndOfInput before h = cc
 

@@ -6,7 +6,7 @@ use Rattle.plans.specs.declared.cause.Cause.TheVariants as cause
 use Rattle.jobs.specs.declared.failure.Failure.{Failure}
 use Rattle.jobs.specs.declared.failure.Failure.TheVariants.{CommandLine, Plan, Label, Hand}
 use Rattle.jobs.specs.declared.failure.Failure.TheVariants.{Condition, Question, Cells, Interrupted}
-use Rattle.jobs.specs.declared.failure.Failure.TheVariants.{Line, Input, EndOfInput}
+use Rattle.jobs.specs.declared.failure.Failure.TheVariants.{Line, Record, Input, EndOfInput}
 use Rattle.request_types.specs.declared.names.QuestionName.{QuestionName}
 
 -- the exit status of a failure
@@ -24,6 +24,7 @@ status_of (Interrupted cause.Spawn) = 6
 status_of (Interrupted (cause.Stopped worker)) = 6
 status_of (Interrupted (cause.Unclosed worker)) = 6
 status_of (Line line) = 7
+status_of (Record line) = 7
 status_of Input = 7
 status_of EndOfInput = 7
 
@@ -58,6 +59,7 @@ is_untouched (Interrupted cause.Output) = false
 is_untouched (Interrupted (cause.Stopped worker)) = false
 is_untouched (Interrupted (cause.Unclosed worker)) = false
 is_untouched (Line line) = false
+is_untouched (Record line) = false
 is_untouched Input = false
 is_untouched _ = true
 

@@ -18,11 +18,12 @@ use Rattle.request_types.specs.Defaults.{lane_of, workers_in}
 use Rattle.request_types.specs.Requests.{Look, Questions, Search, Wish, conditions, count, draw}
 use Rattle.request_types.specs.Requests.{lessons}
 use Rattle.request_types.specs.Requests.{make, make_with_tricks, no_question, no_search, numbers_look, one_question}
-use Rattle.request_types.specs.Requests.{pick, stream, two_questions}
+use Rattle.request_types.specs.Requests.{pick, plain_search, show, stream, two_questions}
 use Rattle.jobs.specs.declared.failure.Failure.{Failure}
 use Rattle.jobs.specs.declared.failure.Failure.TheVariants.{Plan, Label, Hand}
 use Rattle.jobs.specs.declared.failure.Failure.TheVariants.{Cells, Condition, Question}
-use Rattle.jobs.specs.declared.failure.Failure.TheVariants.{Interrupted, Line, Input, EndOfInput}
+use Rattle.jobs.specs.declared.failure.Failure.TheVariants.{Interrupted, Line, Record, Input}
+use Rattle.jobs.specs.declared.failure.Failure.TheVariants.{EndOfInput}
 use Rattle.request_types.specs.declared.names.LabelName.TheVariants.{Event, Site, Date}
 use Rattle.request_types.specs.declared.names.QuestionName.{QuestionName}
 use Rattle.request_types.specs.declared.names.QuestionName.TheVariants.{Of, By}
@@ -143,6 +144,16 @@ IsPickDue s l (Line line) = IsPlanned s l
 IsPickDue s l Input = IsPlanned s l
 IsPickDue s l failure = IsPlanDue s l failure
 
+-- why a `show` fails: a label is refused, the first; else memory ran out, the output, a line of the
+-- input, or the input
+abbrev pub IsShowDue : Look → Failure → Type 0
+IsShowDue l (Label label) = IsFirstOf of_labels (plain_search 0) l (Label label)
+IsShowDue l (Interrupted Memory) = HasLabels l
+IsShowDue l (Interrupted Output) = HasLabels l
+IsShowDue l (Record line) = HasLabels l
+IsShowDue l Input = HasLabels l
+IsShowDue l _ = ⊥
+
 -- why a `make` with tricks fails: as without; else a line of the input is refused, or the input
 -- failed
 abbrev pub IsTricksDue : Search → Look → Failure → Type 0
@@ -168,3 +179,4 @@ IsDueFor (make_with_tricks s l notices) failure = IsTricksDue s l failure
 IsDueFor draw failure = IsDrawDue failure
 IsDueFor (count s questions style notices) failure = IsCountDue s questions failure
 IsDueFor (pick seed hands l hints) failure = IsPickDue (no_search seed hands) l failure
+IsDueFor (show l hints) failure = IsShowDue l failure

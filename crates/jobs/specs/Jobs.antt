@@ -4,16 +4,16 @@ use Rattle.lessons.specs.Lessons.{lessons_text}
 use Rattle.jobs.specs.Counting.{IsAsked}
 use Rattle.jobs.specs.Failures.{is_refusal, status_of}
 use Rattle.jobs.specs.FirstRefusal.{IsDueFor}
-use Rattle.jobs.specs.Makings.{IsPlanned, Means, plan_of}
+use Rattle.jobs.specs.Makings.{HasLabels, IsPlanned, Means, heading_of, plan_of}
 use Rattle.jobs.specs.Statuses.{IsStatusOf}
 use Rattle.jobs.specs.declared.boards_job.BoardsJob.{BoardsJob}
 use Rattle.jobs.specs.declared.failure.Failure.{Failure}
 use Rattle.jobs.specs.declared.job.Job.{Job}
 use Rattle.jobs.specs.declared.job.Job.TheVariants.{Boards, Conditions, Count, Lessons, Pick, Seed}
-use Rattle.jobs.specs.declared.job.Job.TheVariants.{Stream, WithTricks}
+use Rattle.jobs.specs.declared.job.Job.TheVariants.{Show, Stream, WithTricks}
 use Rattle.request_types.specs.Requests.{Look, Search, Wish, conditions, count, draw, make}
 use Rattle.request_types.specs.Requests.{lessons, make_with_tricks, no_search, numbers_look}
-use Rattle.request_types.specs.Requests.{pick, stream}
+use Rattle.request_types.specs.Requests.{pick, show, stream}
 use Rattle.request_types.specs.declared.request.Notices.{Notices}
 use Rattle.statistics.specs.Subjects.{subject_of}
 
@@ -39,6 +39,8 @@ IsReady (count s questions style notices) (Count job) =
 IsReady (pick seed hands l hints) (Pick job) =
     IsPlanned (no_search seed hands) l × (job.plan ≡ plan_of (no_search seed hands) l)
     × (job.format ≡ l.format) × (job.show ≡ l.show)
+IsReady (show l hints) (Show job) =
+    HasLabels l × (job.format ≡ l.format) × (job.show ≡ l.show) × (job.heading ≡ heading_of l)
 IsReady conditions Conditions = Unit {0}
 IsReady (lessons l) (Lessons text) = string_bytes text ≡ lessons_text l
 IsReady (stream seed n) (Stream r) = (r.seed ≡ seed) × (r.count ≡ n)
@@ -48,6 +50,7 @@ IsReady _ _ = ⊥
 abbrev pub ReadsInput : Job → Type 0
 ReadsInput (Pick job) = Unit {0}
 ReadsInput (WithTricks job) = Unit {0}
+ReadsInput (Show job) = Unit {0}
 ReadsInput Seed = Unit {0}
 ReadsInput _ = ⊥
 

@@ -13,6 +13,9 @@ use Rattle.plans.specs.declared.plan.PlanError.{PlanError}
 use Rattle.plans.specs.declared.plan.PlanError.TheVariants as plan
 use Rattle.jobs.specs.declared.failure.Failure.{Failure}
 use Rattle.jobs.specs.declared.failure.Failure.TheVariants as failure
+use Rattle.records.specs.declared.fault.RecordFault.{RecordFault}
+use Rattle.records.specs.declared.fault.RecordFault.TheVariants as record_fault
+use Rattle.records.specs.declared.fault.RefusedRecord.{RefusedRecord}
 use Rattle.request_types.specs.declared.names.QuestionName.{QuestionName}
 use Rattle.request_types.specs.declared.names.QuestionName.TheVariants.{Of, By}
 use Rattle.request_types.specs.declared.names.LabelName.{LabelName}
@@ -89,6 +92,19 @@ abbrev pub input_line : RefusedLine → List ℕ
 input_line refused =
     codes "input refused at line " ++ decimal refused.line ++ fault_text refused.fault
 
+abbrev pub record_fault_text : RecordFault → List ℕ
+record_fault_text record_fault.NotADeal = codes ": not a deal\n"
+record_fault_text record_fault.NotANumber = codes ": not a board's number\n"
+record_fault_text record_fault.NotADealer = codes ": not a dealer\n"
+record_fault_text record_fault.NotAVulnerability = codes ": not a vulnerability\n"
+record_fault_text record_fault.NotATag = codes ": not a tag\n"
+record_fault_text record_fault.TooLong = codes ": longer than 4096 bytes\n"
+
+-- the same of a line of games
+abbrev pub record_line : RefusedRecord → List ℕ
+record_line refused =
+    codes "input refused at line " ++ decimal refused.line ++ record_fault_text refused.fault
+
 -- one line but for clap's texts
 abbrev pub line_of : Failure → List ℕ
 line_of (failure.CommandLine text) = string_bytes text
@@ -100,5 +116,6 @@ line_of (failure.Question name error) = question_line name error
 line_of (failure.Cells name) = cells_line name
 line_of (failure.Interrupted cause) = cause_line cause
 line_of (failure.Line refused) = input_line refused
+line_of (failure.Record refused) = record_line refused
 line_of failure.Input = codes "input failed\n"
 line_of failure.EndOfInput = codes "input failed\n"

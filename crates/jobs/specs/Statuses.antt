@@ -2,9 +2,9 @@
 use Rattle.std.specs.Prelude.{◌≡◌, ◌⊎◌, ℕ, [], ◌∷◌, Contains}
 use Rattle.cond_lang.specs.Form.{Form}
 use Rattle.jobs.specs.Counting.{IsAsked}
-use Rattle.jobs.specs.Makings.{IsPlanned, Means}
+use Rattle.jobs.specs.Makings.{HasLabels, IsPlanned, Means}
 use Rattle.request_types.specs.Requests.{Wish, conditions, count, draw, make, make_with_tricks}
-use Rattle.request_types.specs.Requests.{lessons, no_search, numbers_look, pick, stream}
+use Rattle.request_types.specs.Requests.{lessons, no_search, numbers_look, pick, show, stream}
 use Rattle.statistics.specs.Counting.{Subject}
 
 -- the words of a wish have to be accepted, so far as they are neither a condition nor a question
@@ -17,6 +17,7 @@ HasPlan (make_with_tricks s l notices) = IsPlanned s l
 HasPlan draw = Unit {0}
 HasPlan (count s questions style notices) = IsPlanned s numbers_look
 HasPlan (pick seed hands l hints) = IsPlanned (no_search seed hands) l
+HasPlan (show l hints) = HasLabels l
 
 -- the condition of a wish and its questions have to be accepted
 abbrev pub HasMeaning : Wish → Type 0
@@ -29,6 +30,7 @@ HasMeaning draw = Unit {0}
 HasMeaning (count s questions style notices) =
     ((form : Form) × Means s form) × ((subject : Subject) × IsAsked questions subject)
 HasMeaning (pick seed hands l hints) = Unit {0}
+HasMeaning (show l hints) = Unit {0}
 
 -- a wish that is served by threads
 abbrev pub HasRun : Wish → Type 0
@@ -40,6 +42,7 @@ HasRun (make_with_tricks s l notices) = Unit {0}
 HasRun draw = ⊥
 HasRun (count s questions style notices) = Unit {0}
 HasRun (pick seed hands l hints) = ⊥
+HasRun (show l hints) = ⊥
 
 -- a wish that reads the input
 abbrev pub HasInput : Wish → Type 0
@@ -51,6 +54,7 @@ HasInput (make_with_tricks s l notices) = Unit {0}
 HasInput draw = Unit {0}
 HasInput (count s questions style notices) = ⊥
 HasInput (pick seed hands l hints) = Unit {0}
+HasInput (show l hints) = Unit {0}
 
 -- a status of the program, and of that with an input
 abbrev pub IsStatus : ℕ → Type 0

@@ -7,13 +7,15 @@ ghost use Rattle.plans.specs.declared.cause.Cause.TheVariants.{Memory, Output};
 ghost use Rattle.jobs.specs.Failures.{failure_of, question_failure, status_of};
 ghost use Rattle.jobs.specs.Lines.{cause_line, condition_line, fault_text, hand_line};
 ghost use Rattle.jobs.specs.Lines.{input_line, label_line, line_of, plan_line};
-ghost use Rattle.jobs.specs.Lines.{cells_line, question_line, text_line};
+ghost use Rattle.jobs.specs.Lines.{cells_line, question_line, record_fault_text, record_line};
+ghost use Rattle.jobs.specs.Lines.{text_line};
 ghost use Rattle.jobs.specs.declared.failure.Failure.TheVariants.{Interrupted};
 ghost use Rattle.sinks.specs.Messages.{text_of};
 
 use cards::Seat;
 use cond_lang::CondError;
 use plans::{Cause, LineFault, PlanError, RefusedLine};
+use records::{RecordFault, RefusedRecord};
 use request_types::{LabelName, QuestionName};
 use sinks::{Message, Sink, SinkFault};
 use std::alloc::AllocError;
@@ -38,6 +40,8 @@ pub enum Failure {
     Interrupted(Cause),
     /// A line of the input is refused.
     Line(RefusedLine),
+    /// A line of the games that the input has is refused.
+    Record(RefusedRecord),
     /// The input couldn't be read.
     Input,
     /// The input ended too soon.
@@ -205,6 +209,29 @@ fn of_line(refused: RefusedLine) -> Message<'static>
     )
 }
 
+fn of_record_fault(fault: RecordFault) -> &'static str
+    ensures { result.now ≡ record_fault_text fault }
+{
+    match fault {
+        RecordFault::NotADeal => ": not a deal\n",
+        RecordFault::NotANumber => ": not a board's number\n",
+        RecordFault::NotADealer => ": not a dealer\n",
+        RecordFault::NotAVulnerability => ": not a vulnerability\n",
+        RecordFault::NotATag => ": not a tag\n",
+        RecordFault::TooLong => ": longer than 4096 bytes\n",
+    }
+}
+
+fn of_record(refused: RefusedRecord) -> Message<'static>
+    ensures { text_of result ≡ record_line refused }
+{
+    Message::with(
+        "input refused at line ",
+        refused.line,
+        of_record_fault(refused.fault),
+    )
+}
+
 impl Failure {
     /// The failure of a question whose text is refused so.
     pub(crate) fn of_question(name: QuestionName, error: CondError) -> Failure
@@ -229,7 +256,8 @@ impl Failure {
                 Cause::Memory => 5,
                 Cause::Spawn | Cause::Stopped { .. } | Cause::Unclosed { .. } => 6,
             },
-            Failure::Line(_) | Failure::Input | Failure::EndOfInput => 7,
+            Failure::Line(_) | Failure::Record(_) => 7,
+            Failure::Input | Failure::EndOfInput => 7,
         }
     }
 
@@ -246,6 +274,7 @@ impl Failure {
             Failure::Cells(name) => Message::plain(of_cells(*name)),
             Failure::Interrupted(cause) => of_cause(*cause),
             Failure::Line(refused) => of_line(*refused),
+            Failure::Record(refused) => of_record(*refused),
             Failure::Input => Message::plain("input failed\n"),
             Failure::EndOfInput => Message::plain("input failed\n"),
         }

@@ -10,8 +10,8 @@ use crate::boards_job::BoardsJob;
 use crate::count_job::CountJob;
 use crate::failure::Failure;
 use crate::questions::read_subject;
-use crate::search::{planned, read_condition};
-use boards::{Format, Show, Style};
+use crate::search::{planned, read_condition, read_heading};
+use boards::{Format, Heading, Show, Style};
 use lessons::page;
 use plans::Plan;
 use request_types::{Look, Notices, Questions, Request, Search, StreamRequest};
@@ -25,6 +25,7 @@ pub enum Job {
     WithTricks(BoardsJob),
     Count(CountJob),
     Pick(PickJob),
+    Show(ShowJob),
     Conditions,
     /// The text of what is told of a lesson, or of all.
     Lessons(String),
@@ -38,6 +39,14 @@ pub struct PickJob {
     pub plan: Plan,
     pub format: Format,
     pub show: Show,
+}
+
+/// The boards of the games that the input has, under these labels.
+#[derive(Clone, Copy)]
+pub struct ShowJob {
+    pub format: Format,
+    pub show: Show,
+    pub heading: Heading,
 }
 
 /// Returns the job of a request.
@@ -87,6 +96,15 @@ pub fn prepare(alloc: Global, request: &Request<'_>) -> Result<Job, Failure>
             let plan = planned(&Search::none(*seed, *hands), look)?;
             let Look { format, show, .. } = *look;
             Ok(Job::Pick(PickJob { plan, format, show }))
+        }
+        Request::Show { look, .. } => {
+            let heading = read_heading(look)?;
+            let Look { format, show, .. } = *look;
+            Ok(Job::Show(ShowJob {
+                format,
+                show,
+                heading,
+            }))
         }
         Request::Conditions => Ok(Job::Conditions),
         Request::Lessons(lesson) => Ok(Job::Lessons(page(alloc, *lesson)?)),

@@ -16,5 +16,5 @@ mod search;
 pub use boards_job::BoardsJob;
 pub use count_job::CountJob;
 pub use failure::Failure;
-pub use job::{Job, PickJob, prepare};
+pub use job::{Job, PickJob, ShowJob, prepare};
 pub use search::planned;

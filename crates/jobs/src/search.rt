@@ -58,7 +58,7 @@ pub(crate) fn read_condition(alloc: Global, search: &Search<'_>) -> Result<Cond,
 }
 
 /// Returns the labels. The first one that can't be written is refused.
-fn read_heading(look: &Look<'_>) -> Result<Heading, Failure>
+pub(crate) fn read_heading(look: &Look<'_>) -> Result<Heading, Failure>
     ensures made { IfOk result (λ h. h ≡ heading_of (look_of look.now)) }
     ensures sound { IfOk result (λ _. HasLabels (look_of look.now)) }
     ensures refused { IfErr result (λ e.

@@ -8,6 +8,9 @@ use Rattle.boards.specs.Layouts.{Layout}
 use Rattle.plans.specs.Text.{text_of_boards}
 use Rattle.records.specs.Texts.{Spelled, after, spelled}
 use Rattle.records.specs.declared.fault.RefusedRecord.{RefusedRecord}
+use Rattle.records.specs.declared.reader.Next.{Next}
+use Rattle.records.specs.declared.reader.ReadFault.{ReadFault}
+use Rattle.records.specs.declared.reader.ReadFault.TheVariants as read
 use Rattle.records.specs.declared.shown.ShowFault.{ShowFault}
 use Rattle.records.specs.declared.shown.ShowFault.TheVariants.{Refused, Input, Output}
 use Rattle.sinks.specs.Appended.{AppendsAll, AppendsPart}
@@ -67,7 +70,14 @@ Puts result boards old new text = MatchResult result
     (λ n. (n ≡ boards) × AppendsAll old new text)
     (λ fault. (fault ≡ Output) × AppendsPart old new text)
 
--- the input may fail after the first read, if a board was read first
-abbrev pub MoreFaults : {T U : Type 0} → Result T U → Result ℕ ShowFault → (old new : ℕ) → Type 0
+-- the first read failed so: that ends it, unless the output fails
+abbrev pub EndsBy : ReadFault → Result ℕ ShowFault → Type 0
+EndsBy fault (Ok boards) = ⊥
+EndsBy fault (Err (Refused line)) = fault ≡ read.Refused line
+EndsBy fault (Err Input) = fault ≡ read.Input
+EndsBy fault (Err Output) = Unit {0}
+
+-- the input may fail after the first read, unless that failed
+abbrev pub MoreFaults : Result Next ReadFault → Result ℕ ShowFault → (old new : ℕ) → Type 0
 MoreFaults (Ok next) result old new = InputFaultsOf result old new
-MoreFaults (Err fault) result old new = new ≡ old
+MoreFaults (Err fault) result old new = (new ≡ old) × EndsBy fault result

@@ -146,7 +146,7 @@ pub fn show<N: Notation, I: Source, S: Sink>(
     sink: &mut S,
 ) -> Result<u64, ShowFault>
     requires output { S.faults sink.old < 2 ^ 64 - 1 }
-    requires input { I.faults input.old < 2 ^ 64 - 1 }
+    requires input { OnBoard first (I.faults input.old < 2 ^ 64 - 1) }
     requires ready { OnBoard first (IsReady reader.old) }
     requires fed { OnBoard first (IsFed reader.old (I.given input.old)) }
     requires printed { N.has_printed notation.old [] }

@@ -16,6 +16,7 @@ use Rattle.request_types.specs.declared.questions.Questions.{Questions as GivenQ
 use Rattle.request_types.specs.declared.questions.Questions.TheVariants as questions
 use Rattle.request_types.specs.declared.request.Request.TheVariants.{Conditions, Count, Find, Lessons, Make, Pick}
 use Rattle.request_types.specs.declared.request.Request.TheVariants.{Seed, Stream}
+use Rattle.request_types.specs.declared.request.Request.TheVariants as request
 use Rattle.request_types.specs.declared.search.Search as asked
 use Rattle.request_types.specs.declared.workers.Workers.{Workers}
 use Rattle.request_types.specs.declared.workers.Workers.TheVariants.{Number}
@@ -118,6 +119,9 @@ pub data Wish : Type 0 where
   draw : Wish
   -- the boards of the candidates of a seed, around these hands, whose numbers the input gives
   pick : ℕ → GivenHands → Look → When → Wish
+  -- the boards of the games that the input has: nothing is dealt, and of the look the format, the
+  -- hands that are written and the labels count
+  show : Look → When → Wish
   -- the first values of a seed: the seed, and how many
   stream : ℕ → ℕ → Wish
 
@@ -161,6 +165,7 @@ wish_of (Find search format notices) = make (search_of search) (look_as format) 
 wish_of (Count search asked style notices) =
     count (search_of search) (questions_of asked) style notices
 wish_of (Pick seed hands look hints) = pick seed (given_by hands) (look_of look) hints
+wish_of (request.Show look hints) = show (look_of look) hints
 wish_of Conditions = conditions
 wish_of (Lessons lesson) = lessons (option_map lesson_of lesson)
 wish_of Seed = draw

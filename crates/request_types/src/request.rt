@@ -62,6 +62,9 @@ pub enum Request<'a> {
         look: Look<'a>,
         hints: When,
     },
+    /// The boards of the games that the input has. Of the look the format, the hands that are
+    /// written and the labels count.
+    Show { look: Look<'a>, hints: When },
     /// The page of the language.
     Conditions,
     /// What is told of a lesson, or without one the list of all.
@@ -72,7 +75,8 @@ pub enum Request<'a> {
 }
 
 impl<'a> Request<'a> {
-    /// Returns the search and the look that a plan is made of, if the request has one.
+    /// Returns the search and the look of the request, if it has a look: the search tries no
+    /// candidates where none is asked for.
     pub fn plans(&self) -> Option<(Search<'a>, Look<'a>)> {
         match self {
             Request::Make { search, look, .. } => Some((*search, *look)),
@@ -84,6 +88,9 @@ impl<'a> Request<'a> {
                 look,
                 ..
             } => Some((Search::none(*seed, *hands), *look)),
+            Request::Show { look, .. } => {
+                Some((Search::none(0, PredealtHands::none()), *look))
+            }
             Request::Conditions | Request::Lessons(_) | Request::Seed | Request::Stream(_) => None,
         }
     }
@@ -102,7 +109,7 @@ impl<'a> Request<'a> {
             Request::Make { notices, .. }
             | Request::Find { notices, .. }
             | Request::Count { notices, .. } => notices.hints,
-            Request::Pick { hints, .. } => *hints,
+            Request::Pick { hints, .. } | Request::Show { hints, .. } => *hints,
             Request::Conditions | Request::Lessons(_) | Request::Seed | Request::Stream(_) => {
                 When::Auto
             }

@@ -4,7 +4,7 @@ use crate::table::find;
 
 /// Commands, and options that they don't take.
 const ROWS: &str = "
-    make|find|pick --of --by => \
+    make|find|pick|show --of --by => \
         deals count tells how often each number comes, and the mean: --of 'hcp(north)'
     find|pick --tricks => deals make takes --tricks
     find --show --dealer --vulnerable --rotate --first-board --event --site --date --format => \
@@ -15,6 +15,13 @@ const ROWS: &str = "
         deals count writes a table: deals make writes boards
     pick --lesson --where --boards --candidates --first --workers --lane --report --progress => \
         deals pick reads the numbers of deals: deals find searches for them
+    show --tricks => \
+        tricks come with the boards: deals-tricks --add < boards.pbn | deals show
+    show --dealer --vulnerable --rotate --first-board => \
+        deals show keeps what the boards say of number, dealer and vulnerability
+    show --seed --lesson --where --boards --candidates --first --north --east --south --west \
+        --workers --lane --report --progress --count => \
+        deals show deals nothing, it writes the boards of a file: deals show < boards.pbn
     lessons * => deals lessons prints the names of lessons, and deals lessons NAME tells of one
     seed * => deals seed draws a seed, and takes no options
     conditions * => deals conditions prints the language, and takes no options

@@ -20,6 +20,8 @@ const ROWS: &str = "
     option --condition --conditions --filter --if --accept --constraint => \
         a condition comes after --where, in quotes: --where 'hcp(north)>=15'
     option --script --where-file => write --where \"$(cat FILE)\" for a condition in a file
+    option --input --in --infile --in-file -i => \
+        boards of a file come from standard input: deals show < boards.pbn
     option --count --number --deals --deal --num --amount --limit -n -c => \
         --boards 36 says how many boards, --candidates 1000 how many deals are tried
     option --average --mean --frequency --stats --statistics => \
@@ -67,6 +69,9 @@ const ROWS: &str = "
 
     command deal deals generate gen create new run boards hands shuffle write print => \
         write deals make --seed 7 --boards 36
+    command convert reformat translate export import read format records => \
+        deals show writes the boards of a file in another format: deals show --format hands < \
+        boards.pbn
     command lesson teach stayman => \
         deals lessons prints the lessons, and deals make --lesson NAME deals one
     command stats stat statistics average mean frequency probability odds howoften how-often \
@@ -102,5 +107,10 @@ pub(crate) fn of_word(command: &str, word: &str) -> &'static str {
             HOW_MANY
         };
     }
-    find(ROWS, "word", word).unwrap_or(BEHIND_OPTIONS)
+    known_word(word).unwrap_or(BEHIND_OPTIONS)
+}
+
+/// What to write in the place of this word, if it is one that people try.
+pub(crate) fn known_word(word: &str) -> Option<&'static str> {
+    find(ROWS, "word", word)
 }

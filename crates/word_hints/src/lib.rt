@@ -23,6 +23,8 @@ pub use tips::without_far_tips;
 
 const COMMAND_FIRST: &str = "the command comes first: deals make --seed 7 --boards 36";
 
+const SHOWN_FILE: &str = "boards of a file come from standard input: deals show < ";
+
 /// How a line of help begins.
 const HINT: &str = "  hint: ";
 
@@ -46,7 +48,7 @@ fn hint_for(alloc: Global, words: &[String], refused: Refused<'_>) -> Option<Str
     let (word, option) = (refused.word, refused.option);
     match refused.what {
         What::Argument => of_argument(alloc, words, command, word),
-        What::Command => told(alloc, instead::of(alloc, "command", word)),
+        What::Command => of_command(alloc, word),
         What::Value => of_value(alloc, command, option, word),
         What::NoValue => missing::of_value(alloc, option),
         What::Twice => missing::of_repeat(alloc, option),
@@ -90,7 +92,26 @@ fn of_argument(alloc: Global, words: &[String], command: &str, word: &str) -> Op
     if is_behind_tricks(words, word) {
         return joined(alloc, &["the lines come from its input: --tricks < ", word]);
     }
+    if command == "show" {
+        return of_file(alloc, word);
+    }
     joined(alloc, &[instead::of_word(command, word)])
+}
+
+/// What helps with a word of `show` that may be the name of a file.
+fn of_file(alloc: Global, word: &str) -> Option<String> {
+    match instead::known_word(word) {
+        Some(text) => joined(alloc, &[text]),
+        None => joined(alloc, &[SHOWN_FILE, word]),
+    }
+}
+
+/// What helps with a command that isn't there.
+fn of_command(alloc: Global, word: &str) -> Option<String> {
+    if word.ends_with(".pbn") {
+        return joined(alloc, &[SHOWN_FILE, word]);
+    }
+    told(alloc, instead::of(alloc, "command", word))
 }
 
 /// Whether the word is after the flag `--tricks`, as if that took a file.

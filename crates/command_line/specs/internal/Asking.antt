@@ -4,7 +4,7 @@ use Rattle.std.specs.Str.{bytes_eq}
 use Rattle.clap.specs.Walk.{Row, Text}
 use Rattle.clap.specs.declared.error.kind.ErrorKind.{ErrorKind}
 use Rattle.clap.specs.declared.error.kind.ErrorKind.TheVariants.{InvalidValue, MissingRequiredArgument, ValueValidation}
-use Rattle.command_line.specs.CommandLine.{asked, has_bad_workers, has_unknown, is_no_lesson, lacks_option, kinds_for, lessons_wish, made_by, search_in, stream_wish}
+use Rattle.command_line.specs.CommandLine.{asked, has_bad_workers, has_unknown, is_no_lesson, lacks_option, kinds_for, lessons_wish, made_by, search_in, show_wish, stream_wish}
 use Rattle.command_line.specs.internal.Readings.{MakeValues, StreamValues}
 use Rattle.request_types.specs.Requests.{conditions, draw}
 
@@ -18,6 +18,12 @@ pub record IsRefused (words : List Text) (kind : ErrorKind) : Type 0 where
 pub record AsksLessons (words : List Text) (rows : List Row) : Type 0 where
   pub found : is_no_lesson (codes "name") rows ≡ false → asked words ≡ Some (lessons_wish rows)
   pub unknown : is_no_lesson (codes "name") rows ≡ true → IsRefused words InvalidValue
+
+-- words that name `show` ask for it if each word is one of its option's values, and else they are
+-- refused
+pub record AsksShow (words : List Text) (rows : List Row) : Type 0 where
+  pub known : has_unknown (codes "show") rows ≡ false → asked words ≡ Some (show_wish rows)
+  pub unknown : has_unknown (codes "show") rows ≡ true → IsRefused words InvalidValue
 
 -- words that name `make` or one of its kind ask for it if each word is one of its option's values,
 -- the lesson is one, the workers are a number or `auto` and no option is missing, and else they are
@@ -40,7 +46,7 @@ pub record HasValues (name : Text) (rows : List Row) : Type 0 where
   pub stream : bytes_eq name (codes "stream") ≡ true → StreamValues rows
   pub make : bytes_eq name (codes "stream") ≡ false → bytes_eq name (codes "conditions") ≡ false
       → bytes_eq name (codes "lessons") ≡ false → bytes_eq name (codes "seed") ≡ false
-      → MakeValues rows
+      → bytes_eq name (codes "show") ≡ false → MakeValues rows
 
 -- what the words ask for, by the name of the subcommand that was met
 pub record Chosen (words : List Text) (name : Text) (rows : List Row) : Type 0 where
@@ -49,6 +55,7 @@ pub record Chosen (words : List Text) (name : Text) (rows : List Row) : Type 0 w
   pub conditions_too : bytes_eq name (codes "conditions") ≡ true → asked words ≡ Some conditions
   pub lessons_too : bytes_eq name (codes "lessons") ≡ true → AsksLessons words rows
   pub seed_too : bytes_eq name (codes "seed") ≡ true → asked words ≡ Some draw
+  pub show_too : bytes_eq name (codes "show") ≡ true → AsksShow words rows
   pub make : bytes_eq name (codes "stream") ≡ false → bytes_eq name (codes "conditions") ≡ false
       → bytes_eq name (codes "lessons") ≡ false → bytes_eq name (codes "seed") ≡ false
-      → AsksMake words name rows
+      → bytes_eq name (codes "show") ≡ false → AsksMake words name rows

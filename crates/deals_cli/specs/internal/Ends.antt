@@ -1,5 +1,5 @@
 -- How the parts of a job end.
-use Rattle.std.specs.Prelude.{◌≡◌, ◌⊎◌, ◌≤◌, ◌<◌, ◌^◌, ℕ, All, length, List, [], Option, Some}
+use Rattle.std.specs.Prelude.{◌≡◌, ◌⊎◌, ◌≤◌, ◌<◌, ◌^◌, ℕ, ◌+◌, All, length, List, [], Option, Some}
 use Rattle.std.specs.Prelude.{Result, Ok, Err}
 use Rattle.dealrun.specs.Headline.{WritesTextIn}
 use Rattle.dealrun.specs.Interrupted.{FaultsAfter}
@@ -22,6 +22,9 @@ use Rattle.picking.specs.FourBytes.{EndsBefore}
 use Rattle.picking.specs.Outcomes.{Picks}
 use Rattle.picking.specs.declared.fault.PickFault.{PickFault}
 use Rattle.picking.specs.declared.fault.PickFault.TheVariants as picks
+use Rattle.records.specs.Shown.{Shows}
+use Rattle.records.specs.declared.shown.ShowFault.{ShowFault}
+use Rattle.records.specs.declared.shown.ShowFault.TheVariants as shown
 use Rattle.jobs.specs.Counting.{table_by}
 use Rattle.deals_cli.specs.Formats.{text_showing}
 use Rattle.jobs.specs.Jobs.{IsReadyRun}
@@ -30,9 +33,11 @@ use Rattle.request_types.specs.declared.request.Notices.{Notices}
 use Rattle.deals_cli.specs.Reported.{Counts}
 use Rattle.jobs.specs.declared.failure.Failure.{Failure}
 use Rattle.jobs.specs.declared.failure.Failure.TheVariants.{EndOfInput, Input, Interrupted, Line}
+use Rattle.jobs.specs.declared.failure.Failure.TheVariants.{Record}
 use Rattle.jobs.specs.declared.boards_job.BoardsJob.{BoardsJob}
 use Rattle.jobs.specs.declared.count_job.CountJob.{CountJob}
 use Rattle.jobs.specs.declared.job.PickJob.{PickJob}
+use Rattle.jobs.specs.declared.job.ShowJob.{ShowJob}
 use Rattle.plans.specs.declared.report.Report.{Report}
 use Rattle.deals_cli.specs.declared.written.Written.{Written}
 use Rattle.sinks.specs.Appended.{AppendsAll, AppendsPart}
@@ -133,6 +138,31 @@ EndsPicking job (Err Input) before after old new =
     Picks (layout_showing job.format job.show job.plan.heading) job.plan (Err picks.Input)
     before after old new
 EndsPicking job (Err failure) before after old new = ⊥
+
+-- how the boards are laid out that the input has
+abbrev pub layout_for : ShowJob → Layout
+layout_for job = layout_showing job.format job.show job.heading
+
+-- the input failed once if that ended it; where the output failed, it may have failed before
+abbrev pub CountsShown : Result ℕ ShowFault → (old new : ℕ) → Type 0
+CountsShown (Err shown.Input) old new = new ≡ old + 1
+CountsShown (Err shown.Output) old new = (new ≡ old) ⊎ (new ≡ old + 1)
+CountsShown _ old new = new ≡ old
+
+-- showing wrote all boards, or ended with a fault. The output may also fail where what is before
+-- a fault of the input is passed on
+abbrev pub EndsShowing : {T : Type 0} → ShowJob → Result T Failure
+    → (before after old new : Option (List ℕ)) → Type 0
+EndsShowing job (Ok value) before after old new =
+    (boards : ℕ) × Shows (layout_for job) (Ok boards) before after old new
+EndsShowing job (Err (Interrupted Memory)) before after old new = new ≡ old
+EndsShowing job (Err (Interrupted Output)) before after old new =
+    (fault : ShowFault) × Shows (layout_for job) (Err fault) before after old new
+EndsShowing job (Err (Record line)) before after old new =
+    Shows (layout_for job) (Err (shown.Refused line)) before after old new
+EndsShowing job (Err Input) before after old new =
+    Shows (layout_for job) (Err shown.Input) before after old new
+EndsShowing job (Err failure) before after old new = ⊥
 
 -- a run over boards with tricks ended after its lines were read, for a wish of this search and look
 abbrev pub EndsTricks : Search → Look → Form → Result Report Failure

@@ -22,21 +22,24 @@ returns-then-eq-3 c words at = c.lessons_request.ensures words (at.lessons_too (
 pub returns-then-eq-4 : goal.returns-then-eq-4
 returns-then-eq-4 c words at = at.seed_too (sym c.if-eq-4.ensures)
 
+pub returns-then-eq-5 : goal.returns-then-eq-5
+returns-then-eq-5 c words at = c.show_request.ensures words (at.show_too (sym c.if-eq-5.ensures))
+
 pub search_in-search-requires : goal.search_in-search-requires
-search_in-search-requires c = (c.requires.make (sym c.if-eq.ensures) (sym c.if-eq-2.ensures) (sym c.if-eq-3.ensures) (sym c.if-eq-4.ensures)).search
+search_in-search-requires c = (c.requires.make (sym c.if-eq.ensures) (sym c.if-eq-2.ensures) (sym c.if-eq-3.ensures) (sym c.if-eq-4.ensures) (sym c.if-eq-5.ensures)).search
 
 pub request_by-requires : goal.request_by-requires
-request_by-requires c = (c.requires.make (sym c.if-eq.ensures) (sym c.if-eq-2.ensures) (sym c.if-eq-3.ensures) (sym c.if-eq-4.ensures)).first_board
+request_by-requires c = (c.requires.make (sym c.if-eq.ensures) (sym c.if-eq-2.ensures) (sym c.if-eq-3.ensures) (sym c.if-eq-4.ensures) (sym c.if-eq-5.ensures)).first_board
 
 pub returns-in-Some : goal.returns-in-Some
 returns-in-Some c words at =
-    let asks = at.make (sym c.if-eq.ensures) (sym c.if-eq-2.ensures) (sym c.if-eq-3.ensures) (sym c.if-eq-4.ensures) in
+    let asks = at.make (sym c.if-eq.ensures) (sym c.if-eq-2.ensures) (sym c.if-eq-3.ensures) (sym c.if-eq-4.ensures) (sym c.if-eq-5.ensures) in
     let unknown = sym c.unknown_in.ensures ∙ ap is_some c.in-Some.is in
     (λ some. refused_asked words InvalidValue (asks.unknown unknown) some, refused_kind words InvalidValue c.written.result (asks.unknown unknown) (c.written.ensures InvalidValue c.invalid_value.ensures))
 
 pub returns-in-Some-no_lesson_in : goal.returns-in-Some-no_lesson_in
 returns-in-Some-no_lesson_in c words at =
-    let asks = at.make (sym c.if-eq.ensures) (sym c.if-eq-2.ensures) (sym c.if-eq-3.ensures) (sym c.if-eq-4.ensures) in
+    let asks = at.make (sym c.if-eq.ensures) (sym c.if-eq-2.ensures) (sym c.if-eq-3.ensures) (sym c.if-eq-4.ensures) (sym c.if-eq-5.ensures) in
     let known = sym c.unknown_in.ensures ∙ ap is_some c.in_default.is in
     let none = sym c.no_lesson_in.ensures ∙ ap is_some c.in-Some-no_lesson_in.is in (
       λ some. refused_asked words InvalidValue (asks.no_lesson known none) some,
@@ -45,7 +48,7 @@ returns-in-Some-no_lesson_in c words at =
 
 pub returns-in-Some-bad_workers_in : goal.returns-in-Some-bad_workers_in
 returns-in-Some-bad_workers_in c words at =
-    let asks = at.make (sym c.if-eq.ensures) (sym c.if-eq-2.ensures) (sym c.if-eq-3.ensures) (sym c.if-eq-4.ensures) in
+    let asks = at.make (sym c.if-eq.ensures) (sym c.if-eq-2.ensures) (sym c.if-eq-3.ensures) (sym c.if-eq-4.ensures) (sym c.if-eq-5.ensures) in
     let known = sym c.unknown_in.ensures ∙ ap is_some c.in_default.is in
     let taught = sym c.no_lesson_in.ensures ∙ ap is_some c.in_default-no_lesson_in.is in
     let bad = sym c.bad_workers_in.ensures ∙ ap is_some c.in-Some-bad_workers_in.is in (
@@ -55,7 +58,7 @@ returns-in-Some-bad_workers_in c words at =
 
 pub returns-in-Some-missing_of : goal.returns-in-Some-missing_of
 returns-in-Some-missing_of c words at =
-    let asks = at.make (sym c.if-eq.ensures) (sym c.if-eq-2.ensures) (sym c.if-eq-3.ensures) (sym c.if-eq-4.ensures) in
+    let asks = at.make (sym c.if-eq.ensures) (sym c.if-eq-2.ensures) (sym c.if-eq-3.ensures) (sym c.if-eq-4.ensures) (sym c.if-eq-5.ensures) in
     let known = sym c.unknown_in.ensures ∙ ap is_some c.in_default.is in
     let taught = sym c.no_lesson_in.ensures ∙ ap is_some c.in_default-no_lesson_in.is in
     let counted = sym c.bad_workers_in.ensures ∙ ap is_some c.in_default-bad_workers_in.is in
@@ -67,7 +70,7 @@ returns-in-Some-missing_of c words at =
 
 pub returns : goal.returns
 returns c words at =
-    let asks = at.make (sym c.if-eq.ensures) (sym c.if-eq-2.ensures) (sym c.if-eq-3.ensures) (sym c.if-eq-4.ensures) in
+    let asks = at.make (sym c.if-eq.ensures) (sym c.if-eq-2.ensures) (sym c.if-eq-3.ensures) (sym c.if-eq-4.ensures) (sym c.if-eq-5.ensures) in
     let known = sym c.unknown_in.ensures ∙ ap is_some c.in_default.is in
     let taught = sym c.no_lesson_in.ensures ∙ ap is_some c.in_default-no_lesson_in.is in
     let counted = sym c.bad_workers_in.ensures ∙ ap is_some c.in_default-bad_workers_in.is in

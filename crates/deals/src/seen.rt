@@ -1,0 +1,63 @@
+//! What was seen of an input of boards, for a note where none is in it.
+
+/// How a tag begins that every board has.
+const DEAL: &[u8] = b"[Deal";
+
+/// How many bytes of the beginning are kept.
+const FIRST: usize = 4;
+
+/// The first bytes of an input, and how much of the beginning of a Deal tag came last, or all of it
+/// once it came.
+#[derive(Clone, Copy)]
+pub struct Seen {
+    first: [u8; FIRST],
+    length: usize,
+    matched: usize,
+}
+
+impl Seen {
+    /// Nothing was seen.
+    pub fn nothing() -> Seen {
+        Seen {
+            first: [0; FIRST],
+            length: 0,
+            matched: 0,
+        }
+    }
+
+    /// Whether a Deal tag began.
+    pub fn has_deal(&self) -> bool {
+        self.matched >= DEAL.len()
+    }
+
+    /// The first bytes.
+    pub fn first(&self) -> &[u8] {
+        self.first.get(..self.length).unwrap_or(&[])
+    }
+
+    /// What was seen with these bytes more.
+    pub fn with(self, bytes: &[u8]) -> Seen {
+        let mut seen = self;
+        for byte in bytes {
+            if seen.has_deal() {
+                return seen;
+            }
+            seen = seen.with_byte(*byte);
+        }
+        seen
+    }
+
+    fn with_byte(self, byte: u8) -> Seen {
+        let mut seen = self;
+        if seen.length < FIRST {
+            seen.first[seen.length] = byte;
+            seen.length += 1;
+        }
+        seen.matched = if DEAL.get(seen.matched) == Some(&byte) {
+            seen.matched.saturating_add(1)
+        } else {
+            usize::from(byte == b'[')
+        };
+        seen
+    }
+}

@@ -1,0 +1,111 @@
+-- From how boards of the input were shown to what is promised of a `show`.
+use Rattle.std.proofs.Common.{◌≡◌, ◌∙◌, ◌⊎◌, ◌+◌, ℕ, List, Option, None, Some, Result, Ok, Err, refl, inl, inr}
+use Rattle.plans.specs.declared.cause.Cause.TheVariants.{Memory, Spawn, Output, Stopped, Unclosed}
+use Rattle.jobs.specs.Jobs.{IsReady}
+use Rattle.jobs.specs.declared.failure.Failure.{Failure}
+use Rattle.jobs.specs.declared.failure.Failure.TheVariants.{CommandLine, Plan, Label, Hand, Condition, Question, Cells, Interrupted, Line, Record, Input, EndOfInput}
+use Rattle.jobs.specs.declared.job.ShowJob.{ShowJob}
+use Rattle.jobs.specs.declared.job.Job.TheVariants as a_job
+use Rattle.jobs.proofs.Statuses.{failed_input, no_memory, served}
+use Rattle.request_types.specs.Requests.{Wish, conditions, count, draw, lessons, make, make_with_tricks, pick, show, stream}
+use Rattle.deals_cli.specs.Served.{Serves}
+use Rattle.records.specs.Readers.{InputFaults}
+use Rattle.records.specs.Shown.{MoreFaults}
+use Rattle.records.specs.declared.reader.Next.{Next}
+use Rattle.records.specs.declared.reader.ReadFault.{ReadFault}
+use Rattle.records.specs.declared.reader.ReadFault.TheVariants as read
+use Rattle.records.specs.declared.shown.ShowFault.{ShowFault}
+use Rattle.records.specs.declared.shown.ShowFault.TheVariants as fault
+use Rattle.deals_cli.specs.internal.Ends.{CountsShown, EndsShowing}
+
+-- ---- how often the input failed
+
+pub counts_shown : (first : Result Next ReadFault) (r : Result ℕ ShowFault) (old mid new : ℕ) → InputFaults first old mid → MoreFaults first r mid new → CountsShown r old new
+counts_shown (Ok next) (Ok boards) old mid new h more = more ∙ h
+counts_shown (Ok next) (Err (fault.Refused line)) old mid new h more = more ∙ h
+counts_shown (Ok next) (Err fault.Input) old mid new h more = rw h at more
+counts_shown (Ok next) (Err fault.Output) old mid new h more = inl (more ∙ h)
+counts_shown (Err read.Input) (Ok boards) old mid new h more = absurd more.1
+counts_shown (Err read.Input) (Err (fault.Refused line)) old mid new h more = let bad = more.1 in cc
+counts_shown (Err read.Input) (Err fault.Input) old mid new h more = more.0 ∙ h
+counts_shown (Err read.Input) (Err fault.Output) old mid new h more = inr (more.0 ∙ h)
+counts_shown (Err (read.Refused line)) (Ok boards) old mid new h more = absurd more.1
+counts_shown (Err (read.Refused line)) (Err (fault.Refused other)) old mid new h more = more.0 ∙ h
+counts_shown (Err (read.Refused line)) (Err fault.Input) old mid new h more = let bad = more.1 in cc
+counts_shown (Err (read.Refused line)) (Err fault.Output) old mid new h more = inl (more.0 ∙ h)
+
+-- ---- of a wish
+
+pub shown : {T : Type 0} (w : Wish) (job : ShowJob) (value : T) (before after old new : Option (List ℕ)) → IsReady w (a_job.Show job) → EndsShowing {T = T} job (Ok value) before after old new
+    → Serves w (Ok None) before after old new
+shown (show l hints) job value before after old new (labels, format_is, show_is, heading_is) ends = record {
+  text = rw (format_is, show_is, heading_is) at ends;
+  report = refl;
+  status = served (show l hints) 0 (inl refl) labels tt;
+  untouched = tt;
+  stands = tt;
+  due = tt;
+}
+shown (make s l notices) job value before after old new ready ends = absurd ready
+shown (pick seed hands l hints) job value before after old new ready ends = absurd ready
+shown conditions job value before after old new ready ends = absurd ready
+shown (lessons lesson) job value before after old new ready ends = absurd ready
+shown (make_with_tricks s l notices) job value before after old new ready ends = absurd ready
+shown draw job value before after old new ready ends = absurd ready
+shown (count s q style notices) job value before after old new ready ends = absurd ready
+shown (stream seed n) job value before after old new ready ends = absurd ready
+
+pub show_fails : (T : Type 0) (w : Wish) (job : ShowJob) (f : Failure) (before after old new : Option (List ℕ)) → IsReady w (a_job.Show job) → EndsShowing {T = T} job (Err f) before after old new
+    → Serves w (Err f) before after old new
+show_fails T (show l hints) job (Interrupted Memory) before after old new (labels, format_is, show_is, heading_is) ends = record {
+  text = tt;
+  report = tt;
+  status = no_memory (show l hints) 5 refl;
+  untouched = λ _. ends;
+  stands = ends;
+  due = labels;
+}
+show_fails T (show l hints) job (Interrupted Output) before after old new (labels, format_is, show_is, heading_is) ends = record {
+  text = tt;
+  report = tt;
+  status = served (show l hints) 4 (inr refl) labels tt;
+  untouched = λ bad. absurd cc;
+  stands = rw (format_is, show_is, heading_is) at ends;
+  due = labels;
+}
+show_fails T (show l hints) job (Record line) before after old new (labels, format_is, show_is, heading_is) ends = record {
+  text = tt;
+  report = tt;
+  status = failed_input (show l hints) 7 refl labels tt tt;
+  untouched = λ bad. absurd cc;
+  stands = rw (format_is, show_is, heading_is) at ends;
+  due = labels;
+}
+show_fails T (show l hints) job Input before after old new (labels, format_is, show_is, heading_is) ends = record {
+  text = tt;
+  report = tt;
+  status = failed_input (show l hints) 7 refl labels tt tt;
+  untouched = λ bad. absurd cc;
+  stands = rw (format_is, show_is, heading_is) at ends;
+  due = labels;
+}
+show_fails T (show l hints) job EndOfInput before after old new ready ends = absurd ends
+show_fails T (show l hints) job (Line line) before after old new ready ends = absurd ends
+show_fails T (show l hints) job (CommandLine text) before after old new ready ends = absurd ends
+show_fails T (show l hints) job (Plan error) before after old new ready ends = absurd ends
+show_fails T (show l hints) job (Label name) before after old new ready ends = absurd ends
+show_fails T (show l hints) job (Hand seat) before after old new ready ends = absurd ends
+show_fails T (show l hints) job (Condition error) before after old new ready ends = absurd ends
+show_fails T (show l hints) job (Question name error) before after old new ready ends = absurd ends
+show_fails T (show l hints) job (Cells name) before after old new ready ends = absurd ends
+show_fails T (show l hints) job (Interrupted Spawn) before after old new ready ends = absurd ends
+show_fails T (show l hints) job (Interrupted (Stopped worker)) before after old new ready ends = absurd ends
+show_fails T (show l hints) job (Interrupted (Unclosed worker)) before after old new ready ends = absurd ends
+show_fails T (make s l notices) job f before after old new ready ends = absurd ready
+show_fails T (pick seed hands l hints) job f before after old new ready ends = absurd ready
+show_fails T conditions job f before after old new ready ends = absurd ready
+show_fails T (lessons lesson) job f before after old new ready ends = absurd ready
+show_fails T (make_with_tricks s l notices) job f before after old new ready ends = absurd ready
+show_fails T draw job f before after old new ready ends = absurd ready
+show_fails T (count s q style notices) job f before after old new ready ends = absurd ready
+show_fails T (stream seed n) job f before after old new ready ends = absurd ready
