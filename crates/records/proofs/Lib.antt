@@ -3,6 +3,8 @@ pub mod DealTexts
 pub mod Steps
 pub mod Scanning
 pub mod Rooms
+pub mod Tags
+pub mod Passing
 pub mod Unread
 pub mod Filling
 pub mod Written
