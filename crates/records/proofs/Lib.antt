@@ -1,4 +1,5 @@
 pub mod Partitions
+pub mod Ranks
 pub mod DealTexts
 pub mod Steps
 pub mod Scanning
