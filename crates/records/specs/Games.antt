@@ -1,5 +1,5 @@
 -- What the tags of a game say, and the board that the game is.
-use Rattle.std.specs.Prelude.{ℕ, zero, suc, ◌+◌, ◌==◌, ◌&&◌, Bool, true, false, not}
+use Rattle.std.specs.Prelude.{ℕ, zero, suc, ◌+◌, ◌^◌, ◌==◌, ◌&&◌, Bool, true, false, not}
 use Rattle.std.specs.Prelude.{is_none, is_some}
 use Rattle.std.specs.Prelude.{List, Option, None, Some, Result, Ok, Err, unwrap_or, if◌then◌else◌}
 use Rattle.boards.specs.declared.board.Board.{Board as ABoard}
@@ -89,11 +89,11 @@ or_next last (suc n) = suc n
 abbrev pub number_of : ℕ → Game → ℕ
 number_of last g = or_next last (unwrap_or g.number 0)
 
--- Law 2 gives the dealer and the vulnerability that aren't known. There is no candidate
+-- Law 2 gives the dealer and the vulnerability that aren't known. No candidate has this number
 abbrev pub board_of : ℕ → Game → List Seat → ABoard
 board_of last g deal = record {
   number = number_of last g;
-  candidate = 0;
+  candidate = 2 ^ 40;
   dealer = unwrap_or (unwrap_or g.dealer None) (dealer_of (number_of last g));
   vulnerable = unwrap_or (unwrap_or g.vulnerable None) (vulnerable_of (number_of last g));
   deal = deal;

@@ -12,6 +12,9 @@ use crate::values::{dealer_in, is_unknown, number_in, vulnerable_in};
 use boards::{Board, Vul, dealer, vulnerable};
 use cards::{Deal, Seat};
 
+/// No candidate has this number.
+const NO_CANDIDATE: u64 = 1 << 40;
+
 /// What the tags of a game say, each if the game has it: the number of its board, or 0 if it is
 /// none; the dealer and the vulnerability, or `None` if they aren't known; the deal; and the first
 /// fault of a tag.
@@ -166,7 +169,7 @@ impl Game {
         let number = self.number(last);
         Board {
             number,
-            candidate: 0,
+            candidate: NO_CANDIDATE,
             dealer: self.dealer.unwrap_or(None).unwrap_or(dealer(number)),
             vulnerable: self
                 .vulnerable

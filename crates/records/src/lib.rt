@@ -14,6 +14,7 @@ mod reader;
 mod reading;
 mod scanner;
 mod shown;
+mod tag;
 mod values;
 
 pub use fault::{RecordFault, RefusedRecord};

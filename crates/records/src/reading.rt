@@ -1,11 +1,12 @@
 //! What was read of a text, up to a byte within a line or the end of one.
 
 ghost use Rattle.std.specs.Prelude.{◌≡◌, ◌≢◌, ◌+◌, ◌-◌, ◌<◌, ◌≤◌, ◌^◌, ℕ, IfErr, IfOk, None, OnOk};
-ghost use Rattle.std.specs.Prelude.{unwrap_or};
+ghost use Rattle.std.specs.Prelude.{false, length, true, unwrap_or};
 ghost use Rattle.records.specs.Texts.{InRoom, Spelled, after, begin_text, after_line, ends_game};
 ghost use Rattle.records.specs.Texts.{ends_line, list_of, reads_byte, refused_with, takes_tag};
 ghost use Rattle.records.specs.Texts.{nothing_more, with_last_tag};
 ghost use Rattle.records.specs.Kinds.{kind_of};
+ghost use Rattle.records.specs.internal.TagTexts.{IsStart, after_tag, with_place};
 
 use crate::fault::{RecordFault, RefusedRecord};
 use crate::game::Game;
@@ -109,6 +110,60 @@ impl Reading {
             }
             Err(line) => Err(line),
         }
+    }
+
+    /// Takes a tag at the beginning of a line, before which a game ends that has such a tag.
+    /// Returns its board.
+    ///
+    /// # Errors
+    /// The line that is refused, whatever comes after.
+    pub(crate) fn take_whole_tag(
+        &mut self,
+        name: &[u8],
+        value: &[u8],
+    ) -> Result<Option<Board>, RefusedRecord>
+        requires room { InRoom self.old (2 ^ 62) }
+        requires start { IsStart self.old.line }
+        requires fits { length name.now + length value.now + 5 ≤ 4096 }
+        ensures takes { IfOk result (λ board. (next : Reading → Spelled)
+            → takes_tag (kind_of name.now) (with_place (after_tag name.now value.now) self.old) next
+            ≡ after (list_of board) (next self.new)) }
+        ensures refused { IfErr result (λ e. (next : Reading → Spelled)
+            → takes_tag (kind_of name.now) (with_place (after_tag name.now value.now) self.old) next
+            ≡ refused_with e) }
+        ensures room { (n : ℕ) → InRoom self.old n → OnOk result (InRoom self.new (n + 1)) }
+    {
+        self.line.take_tag(name, value);
+        self.take_tag()
+    }
+
+    /// Takes the next byte of a line where any byte only goes on with it. Returns whether it did.
+    pub(crate) fn pass(&mut self, byte: u8) -> bool
+        ensures passed { result ≡ true → (next : Reading → Spelled)
+            → reads_byte self.old byte next ≡ next self.new }
+        ensures kept { result ≡ false → self.new ≡ self.old }
+        ensures room { (n : ℕ) → InRoom self.old n → InRoom self.new n }
+    {
+        if self.line.column() == MOST_BYTES || !self.line.is_free() {
+            return false;
+        }
+        let _on = self.line.take(byte);
+        true
+    }
+
+    /// Takes the end of a line that ends no game. Returns whether it did.
+    pub(crate) fn pass_end(&mut self) -> bool
+        requires { InRoom self.old (2 ^ 62) }
+        ensures passed { result ≡ true → (next : Reading → Spelled)
+            → ends_line self.old next ≡ next self.new }
+        ensures kept { result ≡ false → self.new ≡ self.old }
+        ensures room { (n : ℕ) → InRoom self.old n → InRoom self.new (n + 1) }
+    {
+        if self.line.is_in_tag() || self.line.is_empty() {
+            return false;
+        }
+        self.leave_line();
+        true
     }
 
     /// Takes the next byte of a line, and returns the board of the game that it ends.
