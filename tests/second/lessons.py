@@ -2,6 +2,7 @@
 hundred may be wrong. North deals, East and South bid after it.
 """
 
+import pathlib
 import re
 import sys
 
@@ -13,6 +14,9 @@ sys.path.append(str(harness.TOP / "companion" / "desk"))
 from deals_desk import starts  # noqa: E402
 
 BOARDS, MANY_BOARDS = 200, 1_000
+CANDIDATES, MANY_CANDIDATES = "30000000", "60000000"
+# How many of many boards are others than the lesson says, which the docs tell.
+SHARES = pathlib.Path(__file__).resolve().parent / "shares.txt"
 # Lessons and conditions that are asked for together.
 JOINED = ("strong-notrump", "five-card-major", "stayman")
 OTHERS = ("hcp(south)>=10 or hcp(east)<4", "any suit (len(north,suit)==5)", "hcp(north)==16")
@@ -82,8 +86,8 @@ def auction(deal, calls):
 
 def judged(lesson, *asked):
     """What is wrong with a lesson's boards, which these words ask for, if anything is."""
-    boards = MANY_BOARDS if report.has("many") else BOARDS
-    words = ["--seed", SEED, "--boards", str(boards), "--candidates", "30000000", "--workers", "auto", "--dealer", "N"]
+    boards, candidates = (MANY_BOARDS, MANY_CANDIDATES) if report.has("many") else (BOARDS, CANDIDATES)
+    words = ["--seed", SEED, "--boards", str(boards), "--candidates", candidates, "--workers", "auto", "--dealer", "N"]
     made = harness.deals("make", *words, *asked)
     if made.returncode:
         return made.stderr.decode()
@@ -93,7 +97,12 @@ def judged(lesson, *asked):
     wanted = CALLS.get(lesson.name, [])
     wrong = [deal for deal in deals if wanted and any(
         call not in calls.split() for call, calls in zip(auction(deal, len(wanted)), wanted, strict=True))]
-    return None if 50 * len(wrong) <= len(deals) else f"{len(wrong)} of {len(deals)} boards, as {wrong[0]}"
+    if 50 * len(wrong) > len(deals):
+        return f"{len(wrong)} of {len(deals)} boards, as {wrong[0]}"
+    row = f"{lesson.name} {len(wrong)} {len(deals)}\n"
+    if report.has("many") and wanted and "--lesson" in asked and row not in SHARES.read_text():
+        return f"{SHARES.name} has no row {row}"
+    return None
 
 
 def numbers(*asked):

@@ -6,7 +6,7 @@ pub(crate) const PART_SCORES: &[Row] = &[
     (
         "part-score",
         "A fight for the part score",
-        "Both sides have a fit and about half of the points. On five of six neither side has a \
+        "Both sides have a fit and about half of the points. On nine of ten neither side has a \
          game.",
         "hcp(north)+hcp(south) in 19-21 and losers(north)+losers(south) in 15-18 and \
          losers(east)+losers(west) in 15-18 and any suit (len(north,suit)+len(south,suit)==8) \

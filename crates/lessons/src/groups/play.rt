@@ -15,17 +15,20 @@ pub(crate) const PLAY: &[Row] = &[
     (
         "major-game",
         "Game in a major",
-        "North and South have a fit in a major, and points and losers for game.",
+        "North and South have a fit in a major, and points and losers for game. It makes on nine of \
+         ten.",
         "any major (len(north,major)>=5 and len(south,major)>=3) and hcp(north)+hcp(south) in \
          25-27 and losers(north)+losers(south) in 13-14",
     ),
     (
         "moysian",
         "A fit of four and three",
-        "North has four hearts and South three, and no stopper in spades for notrump.",
+        "North has four hearts and South three, with the honours, and spades are open for notrump. \
+         Four hearts make on four of five.",
         "hcp(north)+hcp(south) in 25-28 and len(north,hearts)==4 and len(south,hearts)==3 and \
-         every suit (len(north,suit)+len(south,suit)<8) and not stops(north,spades) and not \
-         stops(south,spades)",
+         cards(north,hearts,akq)+cards(south,hearts,akq)==3 and not stops(north,spades) and not \
+         stops(south,spades) and len(south,spades)<3 and losers(north)+losers(south)<=14 and every \
+         ew (len(ew,hearts)<5)",
     ),
     (
         "king-onside",
