@@ -35,8 +35,11 @@ WORDS = {
 SYMBOLS = {**{sign: sign for sign in "(),-+*"}, **dict.fromkeys(["==", "!=", "<=", ">=", "<", ">"], "relation")}
 PIECE = re.compile(rb"[ \t\r\n]+|#[^\n]*|(?P<word>[a-z]+)|(?P<number>[0-9]+)|(?P<symbol>[<>=!]=|[<>]|[(),+*-])")
 MOST_BYTES = 1024
+MOST_PARTS = 16_384
 
 VALUES = {"number", "measure", "cards", "len", "longest"}
+# Each of these is a part, but for a number in a range, a shape or a pattern, or one that is a factor.
+PARTS = VALUES | {"balanced", "shape", "stops"}
 # All that begins a condition, and all that begins a value.
 INNERMOST = VALUES | {"balanced", "shape", "stops", "not", "("}
 BEGINNING = {
@@ -112,6 +115,8 @@ class Machine:
     named: str = ""
     # The classes around what comes next, each with how many brackets were open before its own.
     around: list = dataclasses.field(default_factory=list)
+    # How many parts there are so far, with the classes written out.
+    parts: int = 0
 
     def free(self):
         """The classes that may be bound here."""
@@ -150,6 +155,7 @@ class Machine:
         if self.owed:
             self.pay(kind)
             return
+        self.parts += ways([name for name, _ in self.around]) * ((kind in PARTS) - (kind == "*"))
         self.depth += {"(": 1, ")": -1}.get(kind, 0)
         if kind == ")" and self.around and self.around[-1][1] == self.depth:
             self.around.pop()
@@ -182,6 +188,17 @@ class Machine:
             self.owed = "s)"
         elif code == "e" and kind != "ranks":
             self.owed = ",r)"
+
+
+def ways(around, taken=frozenset()):
+    """In how many ways the classes around a part, the outermost first, can stand for suits and seats."""
+    if not around:
+        return 1
+    name, *inner = [kind.removeprefix("class ") for kind in around]
+    if name in language.SIDES:
+        return len(language.SIDES[name]) * ways(inner, taken)
+    suits = [suit for suit in language.CLASSES[name] if name != "other" or suit not in taken]
+    return sum(ways(inner, taken | {suit}) for suit in suits)
 
 
 def said(kinds):
@@ -232,4 +249,4 @@ def refusal(text):
         if kind not in machine.kinds():
             return f"at byte {at}: syntax", said(machine.allowed())
         machine.take(kind)
-    return None, None
+    return f"more than {MOST_PARTS} parts" if machine.parts > MOST_PARTS else None, None

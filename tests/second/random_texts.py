@@ -42,6 +42,16 @@ def pieces(dice):
     return "".join(f"{dice.choice(PIECES)} " for _ in range(dice.randrange(most)))
 
 
+def large(dice):
+    """Classes around a sum, with about as many parts as a condition may have; in one text of four it goes wrong."""
+    names = dice.sample(["suit", "major", "minor", "other", "seat", "ns", "ew"], dice.choice([5, 6, 6, 7, 7]))
+    most = grammar.MOST_PARTS // grammar.ways(names) + dice.randrange(-1, 3)
+    total = "+".join(dice.choice(["0", "1", "2*hcp(west)"]) for _ in range(max(1, min(most, 90))))
+    tests = dice.choice([f"{total}==0", f"{total} in 0-9", f"{total} in 1-2 or stops(east,clubs)"])
+    around = "".join(f"any {name} (" for name in names)
+    return around + tests + ")" * len(names) + dice.choice(["", "", " or balanced(west)", ")"])
+
+
 def characters(dice):
     """Any characters of ASCII but the first, which no word of a command line has."""
     return "".join(chr(dice.randrange(1, 128)) for _ in range(dice.randrange(40)))

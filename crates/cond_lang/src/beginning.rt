@@ -45,8 +45,8 @@ impl Beginning {
     /// spells a condition is a beginning as a whole.
     ///
     /// # Errors
-    /// Those of `parse` but `Syntax` and `TooManyParts`: the text has more than 1,024 bytes or a faulty piece, or an
-    /// allocation failed.
+    /// Those of `parse` but `Syntax` and `TooManyParts`: the text has more than 1,024 bytes or a
+    /// faulty piece, or an allocation failed.
     pub fn of(alloc: Global, text: &[u8]) -> Result<Beginning, CondError>
         ensures begins { IfOk result (λ b. IsBeginning text.now b) }
         ensures refused { IfErr result (λ e. IsDue text.now e) }

@@ -20,7 +20,7 @@ mod words;
 pub use beginning::Beginning;
 pub use classes::{Class, Neighbour, Quantifier};
 pub use condition::parse;
-pub use conditions::{Cond, CondError, Count, Item, Op, Question, Tree, Value};
+pub use conditions::{Cond, CondError, Count, Item, MOST_PARTS, Op, Question, Tree, Value};
 pub use language::LANGUAGE;
 pub use question::parse_question;
 pub use scanner::{Token, digit_run_len, letter_run_len};
