@@ -1,16 +1,17 @@
--- Which hands of a board are written.
-use Rattle.std.specs.Prelude.{ℕ, ◌==◌, ◌||◌, Bool, true, List, [], ◌∷◌, Option, Some, None, codes}
+-- What is written of a board: which hands, and their points.
+use Rattle.std.specs.Prelude.{ℕ, ◌==◌, ◌||◌, Bool, true, false, List, [], ◌∷◌, Option, Some, None, codes}
 use Rattle.std.specs.Prelude.{if◌then◌else◌}
 use Rattle.cards.specs.declared.seat.Seat.{Seat}
 use Rattle.cards.specs.declared.seat.Seat.TheVariants.{North, East, South, West}
 use Rattle.cards.specs.Hands.{hand_of}
 use Rattle.cards.specs.Pack.{seat_number}
 use Rattle.boards.specs.declared.board.Board.{Board}
+use Rattle.boards.specs.declared.show.Seats.{Seats}
+use Rattle.boards.specs.declared.show.Seats.TheVariants as show
 use Rattle.boards.specs.declared.show.Show.{Show}
-use Rattle.boards.specs.declared.show.Show.TheVariants as show
 
 -- the words that ask for hands
-abbrev pub show_words : List (List ℕ × Show)
+abbrev pub show_words : List (List ℕ × Seats)
 show_words =
     (codes "all", show.All) ∷ (codes "dealer", show.Dealer)
     ∷ (codes "north", show.North) ∷ (codes "east", show.East)
@@ -21,7 +22,7 @@ abbrev pub is_same : Seat → Seat → Bool
 is_same seat other = seat_number seat == seat_number other
 
 -- whether the hand in a seat is written
-abbrev pub shows : Show → Board → Seat → Bool
+abbrev pub shows : Seats → Board → Seat → Bool
 shows show.All board seat = true
 shows show.Dealer board seat = is_same seat board.dealer
 shows show.North board seat = is_same seat North
@@ -33,4 +34,17 @@ shows show.EastWest board seat = is_same seat East || is_same seat West
 
 -- the hand in a seat, if it is written
 abbrev pub hand_in : Show → Board → Seat → Option (List Bool)
-hand_in show board seat = if shows show board seat then Some (hand_of board.deal seat) else None
+hand_in show board seat =
+    if shows show.seats board seat then Some (hand_of board.deal seat) else None
+
+-- the hand in a seat, if its points are written
+abbrev pub counted_in : Show → Board → Seat → Option (List Bool)
+counted_in show board seat = if show.points then hand_in show board seat else None
+
+-- the words that ask for points, and whether they are written
+abbrev pub points_words : List (List ℕ × Bool)
+points_words = (codes "show", true) ∷ (codes "hide", false) ∷ []
+
+-- all hands, with their points
+abbrev pub all_shown : Show
+all_shown = record { seats = show.All; points = true }

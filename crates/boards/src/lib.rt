@@ -24,6 +24,6 @@ pub use format::{FORMAT_WORDS, FORMATS, Format};
 pub use heading::{Date, Heading, Label, MAX_LABEL_LEN};
 pub use notation::Notation;
 pub use setting::{Setting, Vul, dealer, vulnerable};
-pub use show::{SHOW_WORDS, SHOWS, Show};
+pub use show::{POINTS, SHOW_WORDS, SHOWS, Seats, Show};
 pub use style::{STYLE_WORDS, STYLES, Style};
 pub use tricks::Tricks;

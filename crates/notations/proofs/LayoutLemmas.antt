@@ -6,64 +6,77 @@ use Rattle.boards.specs.Layouts.{EndsAlike, ends_with}
 use Rattle.boards.specs.declared.format.Format.{Format}
 use Rattle.boards.specs.declared.format.Format.TheVariants.{Pbn, Hands, Lin, Html, Sheet, Slips, Json, Numbers}
 use Rattle.boards.specs.declared.show.Show.{Show}
-use Rattle.boards.specs.declared.show.Show.TheVariants.{All, Dealer, North, East, South, West, NorthSouth, EastWest}
-use Rattle.notations.specs.Formats.{board_text, footer_of, header_of, layout_showing}
+use Rattle.boards.specs.declared.show.Seats.{Seats}
+use Rattle.boards.specs.declared.show.Seats.TheVariants.{All, Dealer, North, East, South, West, NorthSouth, EastWest}
+use Rattle.notations.specs.Formats.{board_text, footer_of, header_of, layout_by, layout_showing}
 use Rattle.notations.proofs.GameLemmas.{plain_game}
 use Rattle.boards.specs.TricksLines.{nothing_known}
 
+header_by : (format : Format) (seats : Seats) (show : Show) (heading : HeadingView)
+    → (layout_by format seats show heading).header ≡ header_of format heading
+header_by Pbn All show heading = refl
+header_by Pbn Dealer show heading = refl
+header_by Pbn North show heading = refl
+header_by Pbn East show heading = refl
+header_by Pbn South show heading = refl
+header_by Pbn West show heading = refl
+header_by Pbn NorthSouth show heading = refl
+header_by Pbn EastWest show heading = refl
+header_by Hands seats show heading = refl
+header_by Lin seats show heading = refl
+header_by Html seats show heading = refl
+header_by Sheet seats show heading = refl
+header_by Slips seats show heading = refl
+header_by Json seats show heading = refl
+header_by Numbers seats show heading = refl
+
+board_by : (format : Format) (seats : Seats) (show : Show) (heading : HeadingView) (board : Board)
+    → show.seats ≡ seats → (layout_by format seats show heading).board board ≡ board_text format show heading nothing_known board
+board_by Pbn All show heading board all = sym (plain_game heading show board all)
+board_by Pbn Dealer show heading board is = refl
+board_by Pbn North show heading board is = refl
+board_by Pbn East show heading board is = refl
+board_by Pbn South show heading board is = refl
+board_by Pbn West show heading board is = refl
+board_by Pbn NorthSouth show heading board is = refl
+board_by Pbn EastWest show heading board is = refl
+board_by Hands seats show heading board is = refl
+board_by Lin seats show heading board is = refl
+board_by Html seats show heading board is = refl
+board_by Sheet seats show heading board is = refl
+board_by Slips seats show heading board is = refl
+board_by Json seats show heading board is = refl
+board_by Numbers seats show heading board is = refl
+
+footer_by : (format : Format) (seats : Seats) (show : Show) (heading : HeadingView)
+    → (layout_by format seats show heading).footer ≡ ends_with (footer_of format)
+footer_by Pbn All show heading = refl
+footer_by Pbn Dealer show heading = refl
+footer_by Pbn North show heading = refl
+footer_by Pbn East show heading = refl
+footer_by Pbn South show heading = refl
+footer_by Pbn West show heading = refl
+footer_by Pbn NorthSouth show heading = refl
+footer_by Pbn EastWest show heading = refl
+footer_by Hands seats show heading = refl
+footer_by Lin seats show heading = refl
+footer_by Html seats show heading = refl
+footer_by Sheet seats show heading = refl
+footer_by Slips seats show heading = refl
+footer_by Json seats show heading = refl
+footer_by Numbers seats show heading = refl
+
 pub showing_header : (format : Format) (show : Show) (heading : HeadingView)
     → (layout_showing format show heading).header ≡ header_of format heading
-showing_header Pbn All heading = refl
-showing_header Pbn Dealer heading = refl
-showing_header Pbn North heading = refl
-showing_header Pbn East heading = refl
-showing_header Pbn South heading = refl
-showing_header Pbn West heading = refl
-showing_header Pbn NorthSouth heading = refl
-showing_header Pbn EastWest heading = refl
-showing_header Hands show heading = refl
-showing_header Lin show heading = refl
-showing_header Html show heading = refl
-showing_header Sheet show heading = refl
-showing_header Slips show heading = refl
-showing_header Json show heading = refl
-showing_header Numbers show heading = refl
+showing_header format show heading = header_by format show.seats show heading
 
 pub showing_board : (format : Format) (show : Show) (heading : HeadingView) (board : Board)
     → (layout_showing format show heading).board board ≡ board_text format show heading nothing_known board
-showing_board Pbn All heading board = sym (plain_game heading board)
-showing_board Pbn Dealer heading board = refl
-showing_board Pbn North heading board = refl
-showing_board Pbn East heading board = refl
-showing_board Pbn South heading board = refl
-showing_board Pbn West heading board = refl
-showing_board Pbn NorthSouth heading board = refl
-showing_board Pbn EastWest heading board = refl
-showing_board Hands show heading board = refl
-showing_board Lin show heading board = refl
-showing_board Html show heading board = refl
-showing_board Sheet show heading board = refl
-showing_board Slips show heading board = refl
-showing_board Json show heading board = refl
-showing_board Numbers show heading board = refl
+showing_board format show heading board = board_by format show.seats show heading board refl
 
 pub showing_footer : (format : Format) (show : Show) (heading : HeadingView)
     → (layout_showing format show heading).footer ≡ ends_with (footer_of format)
-showing_footer Pbn All heading = refl
-showing_footer Pbn Dealer heading = refl
-showing_footer Pbn North heading = refl
-showing_footer Pbn East heading = refl
-showing_footer Pbn South heading = refl
-showing_footer Pbn West heading = refl
-showing_footer Pbn NorthSouth heading = refl
-showing_footer Pbn EastWest heading = refl
-showing_footer Hands show heading = refl
-showing_footer Lin show heading = refl
-showing_footer Html show heading = refl
-showing_footer Sheet show heading = refl
-showing_footer Slips show heading = refl
-showing_footer Json show heading = refl
-showing_footer Numbers show heading = refl
+showing_footer format show heading = footer_by format show.seats show heading
 
 pub showing_ends_alike : (format : Format) (show : Show) (heading : HeadingView)
     → EndsAlike (layout_showing format show heading)

@@ -7,8 +7,10 @@ use Rattle.pbn_text.specs.Games.{HeadingView, header, pbn}
 use Rattle.boards.specs.declared.format.Format.{Format}
 use Rattle.boards.specs.declared.format.Format.TheVariants.{Pbn, Hands, Lin, Html, Sheet, Slips, Json}
 use Rattle.boards.specs.declared.format.Format.TheVariants.{Numbers}
+use Rattle.boards.specs.declared.show.Seats.{Seats}
+use Rattle.boards.specs.declared.show.Seats.TheVariants.{All}
 use Rattle.boards.specs.declared.show.Show.{Show}
-use Rattle.boards.specs.declared.show.Show.TheVariants.{All}
+use Rattle.boards.specs.Show.{all_shown}
 use Rattle.notations.specs.Games.{game_in}
 use Rattle.notations.specs.Json.{json_line}
 use Rattle.notations.specs.Lin.{lin_line}
@@ -59,17 +61,20 @@ footer_of _ = []
 -- ---- layouts
 
 -- with these hands, and without tricks. Games with all hands are those of the crate pbn_text
-abbrev pub layout_showing : Format → Show → HeadingView → Layout
-layout_showing Pbn All heading = pbn heading
-layout_showing format show heading = record {
+abbrev pub layout_by : Format → Seats → Show → HeadingView → Layout
+layout_by Pbn All show heading = pbn heading
+layout_by format seats show heading = record {
   header = header_of format heading;
   board = board_text format show heading nothing_known;
   footer = ends_with (footer_of format);
 }
 
+abbrev pub layout_showing : Format → Show → HeadingView → Layout
+layout_showing format show heading = layout_by format show.seats show heading
+
 -- the layout of a format, under a heading: all hands, and no tricks
 abbrev pub layout_of : Format → HeadingView → Layout
-layout_of format heading = layout_showing format All heading
+layout_of format heading = layout_showing format all_shown heading
 
 -- with a table of tricks, of which line i is for the board of number first + i
 abbrev pub line_for : ℕ → List TricksView → ℕ → Option TricksView
@@ -77,9 +82,12 @@ line_for first table number =
     if nat_lt number first then None else slice_get table (number - first)
 
 -- tricks are written only beside all hands
+abbrev pub beside_seats : Seats → TricksView → TricksView
+beside_seats All tricks = tricks
+beside_seats _ tricks = nothing_known
+
 abbrev pub beside_hands : Show → TricksView → TricksView
-beside_hands All tricks = tricks
-beside_hands _ tricks = nothing_known
+beside_hands show tricks = beside_seats show.seats tricks
 
 -- a board without a line isn't written
 abbrev pub board_with : Format → Show → HeadingView → Option TricksView → Board → List ℕ

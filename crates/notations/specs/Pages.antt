@@ -14,7 +14,7 @@ use Rattle.boards.specs.Letters.{or_dash, suit_letters}
 use Rattle.pbn_text.specs.Games.{HeadingView, dealer_text}
 use Rattle.boards.specs.declared.show.Show.{Show}
 use Rattle.notations.specs.Names.{seat_name, vulnerable_name}
-use Rattle.boards.specs.Show.{hand_in}
+use Rattle.boards.specs.Show.{counted_in, hand_in}
 use Rattle.notations.specs.Tricks.{five_of, if_given, number_of}
 use Rattle.boards.specs.TricksLines.{TricksView}
 
@@ -99,24 +99,31 @@ suits_text hand =
     ++ suit_text hand Diamonds ++ codes "<br>"
     ++ suit_text hand Clubs
 
--- the seat of a hand, and its points
-unfoldable pub seat_text : Seat → ℕ → List ℕ
-seat_text seat points =
-    codes "<div class=\"" ++ seat_name seat ++ codes "\"><h3>" ++ seat_name seat
-    ++ codes " <small>" ++ decimal points ++ codes " HCP</small></h3>"
+-- the points of a hand, if they are written
+unfoldable pub count_text : Option (List Bool) → List ℕ
+count_text None = []
+count_text (Some hand) =
+    codes " <small>" ++ decimal (points_of hand) ++ codes " HCP</small>"
 
--- the hand in a seat, if it is shown: the seat, the points and the suits
-unfoldable pub hand_text : Seat → Option (List Bool) → List ℕ
-hand_text seat None = []
-hand_text seat (Some hand) = seat_text seat (points_of hand) ++ suits_text hand ++ codes "</div>\n"
+-- the seat of a hand
+unfoldable pub seat_text : Seat → List ℕ
+seat_text seat =
+    codes "<div class=\"" ++ seat_name seat ++ codes "\"><h3>" ++ seat_name seat
+
+-- the hand in a seat, if it is shown: the seat, its points if they are written, and the suits
+unfoldable pub hand_text : Seat → Option (List Bool) → Option (List Bool) → List ℕ
+hand_text seat None counted = []
+hand_text seat (Some hand) counted =
+    seat_text seat ++ count_text counted ++ codes "</h3>" ++ suits_text hand ++ codes "</div>\n"
 
 -- the hands that are shown
-abbrev pub hands_text : (Seat → Option (List Bool)) → List ℕ
-hands_text hand =
-    hand_text North (hand North)
-    ++ hand_text East (hand East)
-    ++ hand_text South (hand South)
-    ++ hand_text West (hand West)
+abbrev pub hands_text
+    : (Seat → Option (List Bool)) → (Seat → Option (List Bool)) → List ℕ
+hands_text hand counted =
+    hand_text North (hand North) (counted North)
+    ++ hand_text East (hand East) (counted East)
+    ++ hand_text South (hand South) (counted South)
+    ++ hand_text West (hand West) (counted West)
 
 -- the board's number, on the table
 unfoldable pub number_text : Vul → ℕ → List ℕ
@@ -227,6 +234,6 @@ board_text show tricks board =
     codes "<section class=\"board\">\n"
     ++ number_text board.vulnerable board.number
     ++ facts_text board.dealer board.vulnerable
-    ++ hands_text (hand_in show board)
+    ++ hands_text (hand_in show board) (counted_in show board)
     ++ tricks_text tricks
     ++ codes "</section>\n"

@@ -12,7 +12,7 @@ use Rattle.std.specs.List.{flat_map}
 use Rattle.boards.specs.declared.show.Show.{Show}
 use Rattle.notations.specs.Columns.{beside, line, spaces, two_columns}
 use Rattle.notations.specs.Names.{seat_name, vulnerable_name}
-use Rattle.boards.specs.Show.{hand_in}
+use Rattle.boards.specs.Show.{counted_in, hand_in}
 use Rattle.notations.specs.Tricks.{five_of, if_given, number_of, par_text}
 use Rattle.pbn_text.specs.Games.{dealer_text}
 use Rattle.boards.specs.TricksLines.{TricksView}
@@ -73,13 +73,14 @@ side_lines west east =
     ++ side_line west east Diamonds
     ++ side_line west east Clubs
 
--- South's suits, with the points of all: North's above, West's and East's, South's below
-abbrev pub south_lines : (Seat → Option (List Bool)) → List ℕ
-south_lines hand =
-    suit_line [] (hand South) Spades
-    ++ suit_line (one_count (hand North)) (hand South) Hearts
-    ++ suit_line (two_counts (hand West) (hand East)) (hand South) Diamonds
-    ++ suit_line (one_count (hand South)) (hand South) Clubs
+-- South's suits, with the points of all that are counted: North's above, West's and East's, South's
+-- below
+abbrev pub south_lines : Option (List Bool) → (Seat → Option (List Bool)) → List ℕ
+south_lines south counted =
+    suit_line [] south Spades
+    ++ suit_line (one_count (counted North)) south Hearts
+    ++ suit_line (two_counts (counted West) (counted East)) south Diamonds
+    ++ suit_line (one_count (counted South)) south Clubs
 
 -- ---- tricks
 
@@ -119,7 +120,7 @@ unfoldable pub record_text : Show → TricksView → Board → List ℕ
 record_text show tricks board =
     north_lines board (hand_in show board North)
     ++ side_lines (hand_in show board West) (hand_in show board East)
-    ++ south_lines (hand_in show board)
+    ++ south_lines (hand_in show board South) (counted_in show board)
     ++ tricks_lines tricks
     ++ line []
 

@@ -9,7 +9,7 @@ use Rattle.boards.specs.declared.setting.Vul.{Vul}
 use Rattle.boards.specs.declared.show.Show.{Show}
 use Rattle.notations.specs.Names.{seat_name, vulnerable_name}
 use Rattle.notations.specs.Pages.{facts_text, suits_text, tricks_text}
-use Rattle.boards.specs.Show.{hand_in}
+use Rattle.boards.specs.Show.{counted_in, hand_in}
 use Rattle.boards.specs.TricksLines.{TricksView}
 
 -- the board's number
@@ -30,26 +30,26 @@ hands_text hand =
     ++ hand_text South (hand South)
     ++ hand_text West (hand West)
 
--- the points of a hand that is shown
+-- the points of a hand, if they are written
 unfoldable pub points_text : Seat → Option (List Bool) → List ℕ
 points_text seat None = []
 points_text seat (Some hand) =
     codes "<span class=\"" ++ seat_name seat ++ codes "\">" ++ decimal (points_of hand)
     ++ codes "</span>"
 
--- the points of the hands that are shown
+-- the points that are written
 abbrev pub all_points : (Seat → Option (List Bool)) → List ℕ
-all_points hand =
-    points_text North (hand North)
-    ++ points_text East (hand East)
-    ++ points_text South (hand South)
-    ++ points_text West (hand West)
+all_points counted =
+    points_text North (counted North)
+    ++ points_text East (counted East)
+    ++ points_text South (counted South)
+    ++ points_text West (counted West)
 
 -- these, in their seats around the table
 unfoldable pub middle_text : Vul → (Seat → Option (List Bool)) → List ℕ
-middle_text vulnerable hand =
+middle_text vulnerable counted =
     codes "<div class=\"middle " ++ vulnerable_name vulnerable ++ codes "\">"
-    ++ all_points hand ++ codes "</div>\n"
+    ++ all_points counted ++ codes "</div>\n"
 
 -- a section of what the board is, its four hands, their points, and what is known of the tricks
 unfoldable pub section_text : Show → TricksView → Board → List ℕ
@@ -58,6 +58,6 @@ section_text show tricks board =
     ++ number_text board.number
     ++ facts_text board.dealer board.vulnerable
     ++ hands_text (hand_in show board)
-    ++ middle_text board.vulnerable (hand_in show board)
+    ++ middle_text board.vulnerable (counted_in show board)
     ++ tricks_text tricks
     ++ codes "</section>\n"

@@ -15,7 +15,7 @@ ghost use Rattle.notations.specs.Names.{seat_name, vulnerable_name};
 ghost use Rattle.notations.specs.Records.{north_lines, number_line, one_count, record_text};
 ghost use Rattle.notations.specs.Records.{side_line, side_lines, south_lines, suit_line};
 ghost use Rattle.notations.specs.Records.{two_counts};
-ghost use Rattle.boards.specs.Show.{hand_in};
+ghost use Rattle.boards.specs.Show.{counted_in, hand_in};
 ghost use Rattle.notations.specs.Tricks.{or_nothing};
 ghost use Rattle.notations.specs.internal.Parts.{rest_of_line, shown_suit};
 
@@ -91,7 +91,8 @@ fn put_sides(text: &mut TextBuffer, letters: &SuitLetters, show: Show, board: &B
 /// Appends South's suits, with the points of all hands.
 fn put_south(text: &mut TextBuffer, letters: &SuitLetters, show: Show, board: &Board)
     requires { length text.old + 400 ≤ CAPACITY }
-    ensures text { text.new ≡ text.old ++ south_lines (hand_in show board.now) }
+    ensures text { text.new ≡ text.old
+        ++ south_lines (hand_in show board.now South) (counted_in show board.now) }
     ensures most { length text.new ≤ length text.old + 320 }
 {
     let south = show.hand(board, Seat::South);
@@ -99,18 +100,19 @@ fn put_south(text: &mut TextBuffer, letters: &SuitLetters, show: Show, board: &B
     put_count_line(
         text,
         letters,
-        &show.hand(board, Seat::North),
+        &show.counted(board, Seat::North),
         &south,
         Suit::Hearts,
     );
     put_counts_line(
         text,
         letters,
-        &show.hand(board, Seat::West),
-        &show.hand(board, Seat::East),
+        &show.counted(board, Seat::West),
+        &show.counted(board, Seat::East),
         &south,
     );
-    put_count_line(text, letters, &south, &south, Suit::Clubs);
+    let counted = show.counted(board, Seat::South);
+    put_count_line(text, letters, &counted, &south, Suit::Clubs);
 }
 
 /// Appends a line of the points of one hand and a suit of South's.

@@ -8,15 +8,15 @@ ghost use Rattle.notations.specs.Formats.{layout_showing};
 ghost use Rattle.notations.specs.Games.{game_in};
 ghost use Rattle.boards.specs.declared.format.Format.{Format as AFormat};
 ghost use Rattle.boards.specs.declared.show.Show.{Show as AShow};
-ghost use Rattle.boards.specs.declared.show.Show.TheVariants.{All};
+ghost use Rattle.boards.specs.declared.show.Seats.TheVariants.{All};
 ghost use Rattle.pbn_text.specs.Games.{game_text};
 ghost use Rattle.boards.specs.TricksLines.{nothing_known};
 
 /// A game with all hands and without tricks is that of `pbn_text`.
 #[tactic(auto, using(crate::proofs::GameLemmas::plain_game))]
 pub fn plain_games_are_games()
-    ensures { (heading : HeadingView) (board : ABoard)
-        → game_in heading All nothing_known board ≡ game_text heading board }
+    ensures { (heading : HeadingView) (show : AShow) (board : ABoard)
+        → show.seats ≡ All → game_in heading show nothing_known board ≡ game_text heading board }
 {}
 
 /// With chosen hands, too, no footer depends on how many candidates were tried.

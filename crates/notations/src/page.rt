@@ -7,9 +7,9 @@
 ghost use Rattle.std.specs.Prelude.{◌≡◌, ◌≤◌, ◌+◌, ◌++◌, [], length};
 ghost use Rattle.std.specs.Option.{option_copied};
 ghost use Rattle.boards.specs.declared.buffer.TheConstants.{CAPACITY};
-ghost use Rattle.notations.specs.Pages.{board_text, facts_text, hand_text, hands_text};
+ghost use Rattle.notations.specs.Pages.{board_text, count_text, facts_text, hand_text, hands_text};
 ghost use Rattle.notations.specs.Pages.{number_text, seat_text};
-ghost use Rattle.boards.specs.Show.{hand_in};
+ghost use Rattle.boards.specs.Show.{counted_in, hand_in};
 ghost use Rattle.notations.specs.Tricks.{or_nothing};
 
 mod header;
@@ -54,13 +54,14 @@ pub(crate) fn put_board(
 /// Appends the hands that are shown.
 fn put_hands(text: &mut TextBuffer, letters: &SuitLetters, show: Show, board: &Board)
     requires { length text.old + 900 ≤ CAPACITY }
-    ensures text { text.new ≡ text.old ++ hands_text (hand_in show board.now) }
+    ensures text { text.new
+        ≡ text.old ++ hands_text (hand_in show board.now) (counted_in show board.now) }
     ensures most { length text.new ≤ length text.old + 760 }
 {
-    put_hand(text, letters, Seat::North, &show.hand(board, Seat::North));
-    put_hand(text, letters, Seat::East, &show.hand(board, Seat::East));
-    put_hand(text, letters, Seat::South, &show.hand(board, Seat::South));
-    put_hand(text, letters, Seat::West, &show.hand(board, Seat::West));
+    put_hand(text, letters, show, board, Seat::North);
+    put_hand(text, letters, show, board, Seat::East);
+    put_hand(text, letters, show, board, Seat::South);
+    put_hand(text, letters, show, board, Seat::West);
 }
 
 /// Appends the board's number, with the vulnerability as its style.
@@ -91,35 +92,50 @@ pub(crate) fn put_facts(text: &mut TextBuffer, dealer: Seat, vulnerable: Vul)
     text.put(b"</p>\n");
 }
 
-/// Appends the hand in the seat, if it is shown: the seat, the points and the suits.
+/// Appends the hand in the seat, if it is shown: the seat, its points if they are written, and the
+/// suits.
 #[inline(always)]
 #[tactic(auto, unfolding(crate::specs::Pages::hand_text))]
-fn put_hand(text: &mut TextBuffer, letters: &SuitLetters, seat: Seat, hand: &Option<Hand>)
+fn put_hand(text: &mut TextBuffer, letters: &SuitLetters, show: Show, board: &Board, seat: Seat)
     requires { length text.old + 210 ≤ CAPACITY }
-    ensures text { text.new ≡ text.old ++ hand_text seat hand.now }
+    ensures text { text.new ≡ text.old
+        ++ hand_text seat (hand_in show board.now seat) (counted_in show board.now seat) }
     ensures most { length text.new ≤ length text.old + 190 }
 {
-    if let Some(hand) = hand {
-        put_seat(text, seat, hand.points());
-        put_suits(text, letters, hand);
+    if let Some(hand) = show.hand(board, seat) {
+        put_seat(text, seat);
+        put_count(text, &show.counted(board, seat));
+        text.put(b"</h3>");
+        put_suits(text, letters, &hand);
         text.put(b"</div>\n");
     }
 }
 
-/// Appends the seat of a hand, and its points.
+/// Appends the seat of a hand.
 #[inline(always)]
 #[tactic(auto, unfolding(crate::specs::Pages::seat_text))]
-fn put_seat(text: &mut TextBuffer, seat: Seat, points: u8)
-    requires { length text.old + 90 ≤ CAPACITY }
-    ensures text { text.new ≡ text.old ++ seat_text seat points }
-    ensures most { length text.new ≤ length text.old + 79 }
+fn put_seat(text: &mut TextBuffer, seat: Seat)
+    requires { length text.old + 60 ≤ CAPACITY }
+    ensures text { text.new ≡ text.old ++ seat_text seat }
+    ensures most { length text.new ≤ length text.old + 28 }
 {
     let name = seat_name(seat);
     text.put(b"<div class=\"");
     text.put(name);
     text.put(b"\"><h3>");
     text.put(name);
-    text.put(b" <small>");
-    text.put_number(u64::from(points));
-    text.put(b" HCP</small></h3>");
+}
+
+/// Appends the points of a hand, if they are written.
+#[tactic(auto, unfolding(crate::specs::Pages::count_text))]
+fn put_count(text: &mut TextBuffer, counted: &Option<Hand>)
+    requires { length text.old + 50 ≤ CAPACITY }
+    ensures text { text.new ≡ text.old ++ count_text counted.now }
+    ensures most { length text.new ≤ length text.old + 41 }
+{
+    if let Some(hand) = counted {
+        text.put(b" <small>");
+        text.put_number(u64::from(hand.points()));
+        text.put(b" HCP</small>");
+    }
 }

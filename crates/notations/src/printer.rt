@@ -4,7 +4,6 @@ ghost use Rattle.std.specs.Prelude.{◌≡◌, ◌≢◌, [], IfOk, None, Some};
 ghost use Rattle.notations.specs.Formats.{HasPrinted, beside_hands, board_text, header_of, header_with_tricks, layout_in};
 ghost use Rattle.notations.specs.Formats.{layout_of, layout_showing, layout_with};
 ghost use Rattle.notations.specs.internal.Pens.{footer_after, format_of};
-ghost use Rattle.boards.specs.declared.show.Show.TheVariants.{All};
 
 use crate::page::Look;
 use crate::pen::Pen;
@@ -83,7 +82,7 @@ impl AnyPrinter {
         ensures text { IfOk result (λ p. p.text ≡ []) }
         ensures printed { IfOk result (λ p. ⟦<AnyPrinter as Notation>⟧.has_printed p []) }
     {
-        AnyPrinter::showing(alloc, format, Show::All, heading)
+        AnyPrinter::showing(alloc, format, Show::ALL, heading)
     }
 
     /// Returns a printer in the format and under the heading that shows these hands and has printed

@@ -6,7 +6,7 @@ ghost use Rattle.std.specs.Option.{option_copied};
 ghost use Rattle.boards.specs.declared.buffer.TheConstants.{CAPACITY};
 ghost use Rattle.notations.specs.Sheets.{all_points, hand_text, hands_text, middle_text, number_text};
 ghost use Rattle.notations.specs.Sheets.{points_text, section_text};
-ghost use Rattle.boards.specs.Show.{hand_in};
+ghost use Rattle.boards.specs.Show.{counted_in, hand_in};
 ghost use Rattle.notations.specs.Tricks.{or_nothing};
 
 mod style;
@@ -78,12 +78,12 @@ fn put_hand(text: &mut TextBuffer, letters: &SuitLetters, seat: Seat, hand: &Opt
     }
 }
 
-/// Appends the points of the hands that are shown, in their seats around the table.
+/// Appends the points that are written, in their seats around the table.
 #[tactic(auto, unfolding(crate::specs::Sheets::middle_text))]
 fn put_middle(text: &mut TextBuffer, show: Show, board: &Board)
     requires { length text.old + 330 ≤ CAPACITY }
     ensures text { text.new
-        ≡ text.old ++ middle_text board.now.vulnerable (hand_in show board.now) }
+        ≡ text.old ++ middle_text board.now.vulnerable (counted_in show board.now) }
     ensures most { length text.new ≤ length text.old + 330 }
 {
     text.put(b"<div class=\"middle ");
@@ -93,19 +93,19 @@ fn put_middle(text: &mut TextBuffer, show: Show, board: &Board)
     text.put(b"</div>\n");
 }
 
-/// Appends the points of the hands that are shown.
+/// Appends the points that are written.
 fn put_all_points(text: &mut TextBuffer, show: Show, board: &Board)
     requires { length text.old + 280 ≤ CAPACITY }
-    ensures text { text.new ≡ text.old ++ all_points (hand_in show board.now) }
+    ensures text { text.new ≡ text.old ++ all_points (counted_in show board.now) }
     ensures most { length text.new ≤ length text.old + 240 }
 {
-    put_points(text, Seat::North, &show.hand(board, Seat::North));
-    put_points(text, Seat::East, &show.hand(board, Seat::East));
-    put_points(text, Seat::South, &show.hand(board, Seat::South));
-    put_points(text, Seat::West, &show.hand(board, Seat::West));
+    put_points(text, Seat::North, &show.counted(board, Seat::North));
+    put_points(text, Seat::East, &show.counted(board, Seat::East));
+    put_points(text, Seat::South, &show.counted(board, Seat::South));
+    put_points(text, Seat::West, &show.counted(board, Seat::West));
 }
 
-/// Appends the points of the hand in the seat, if it is shown.
+/// Appends the points of the hand in the seat, if they are written.
 #[tactic(auto, unfolding(crate::specs::Sheets::points_text))]
 fn put_points(text: &mut TextBuffer, seat: Seat, hand: &Option<Hand>)
     requires { length text.old + 70 ≤ CAPACITY }

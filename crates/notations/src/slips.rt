@@ -20,53 +20,23 @@ pub(crate) fn put_slips(text: &mut TextBuffer, letters: &SuitLetters, show: Show
     requires { text.old ≡ [] }
     ensures { text.new ≡ slips_text show board.now }
 {
-    put_slip(
-        text,
-        letters,
-        board,
-        Seat::North,
-        &show.hand(board, Seat::North),
-    );
-    put_slip(
-        text,
-        letters,
-        board,
-        Seat::East,
-        &show.hand(board, Seat::East),
-    );
-    put_slip(
-        text,
-        letters,
-        board,
-        Seat::South,
-        &show.hand(board, Seat::South),
-    );
-    put_slip(
-        text,
-        letters,
-        board,
-        Seat::West,
-        &show.hand(board, Seat::West),
-    );
+    put_slip(text, letters, show, board, Seat::North);
+    put_slip(text, letters, show, board, Seat::East);
+    put_slip(text, letters, show, board, Seat::South);
+    put_slip(text, letters, show, board, Seat::West);
 }
 
 /// Appends the slip of the hand in the seat, if it is shown.
 #[tactic(auto, unfolding(crate::specs::Slips::slip_text))]
-fn put_slip(
-    text: &mut TextBuffer,
-    letters: &SuitLetters,
-    board: &Board,
-    seat: Seat,
-    hand: &Option<Hand>,
-)
+fn put_slip(text: &mut TextBuffer, letters: &SuitLetters, show: Show, board: &Board, seat: Seat)
     requires { length text.old + 330 ≤ CAPACITY }
-    ensures text { text.new ≡ text.old ++ slip_text board.now seat hand.now }
+    ensures text { text.new ≡ text.old ++ slip_text board.now seat (hand_in show board.now seat) }
     ensures most { length text.new ≤ length text.old + 270 }
 {
-    if let Some(hand) = hand {
+    if let Some(hand) = show.hand(board, seat) {
         put_place(text, board.number, seat);
         put_facts(text, board.dealer, board.vulnerable);
-        put_held(text, letters, hand);
+        put_held(text, letters, &hand);
     }
 }
 

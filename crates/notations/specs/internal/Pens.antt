@@ -8,7 +8,7 @@ use Rattle.boards.specs.declared.format.Format.{Format}
 use Rattle.boards.specs.declared.format.Format.TheVariants.{Pbn, Hands, Lin, Html, Sheet, Slips, Json}
 use Rattle.boards.specs.declared.format.Format.TheVariants.{Numbers}
 use Rattle.boards.specs.declared.show.Show.{Show}
-use Rattle.boards.specs.declared.show.Show.TheVariants.{All}
+use Rattle.boards.specs.declared.show.Seats.TheVariants.{All}
 use Rattle.notations.specs.Formats.{TableView, footer_of}
 use Rattle.boards.specs.TricksLines.{TricksView, nothing_known}
 
@@ -35,12 +35,12 @@ IsUnder heading _ = ⊤
 
 -- a printer of games writes all hands, and no tricks
 abbrev pub Writes : Show → TricksView → Pen → Type 0
-Writes show tricks (pen.Games printer) = (show ≡ All) × (tricks ≡ nothing_known)
+Writes show tricks (pen.Games printer) = (show.seats ≡ All) × (tricks ≡ nothing_known)
 Writes show tricks _ = ⊤
 
 -- it is one only where all hands are written, and there are no tricks
 abbrev pub IsFor : {X : Type 0} → Show → Option X → Pen → Type 0
-IsFor show tricks (pen.Games printer) = (show ≡ All) × (tricks ≡ None)
+IsFor show tricks (pen.Games printer) = (show.seats ≡ All) × (tricks ≡ None)
 IsFor show tricks _ = ⊤
 
 -- what comes after this many boards

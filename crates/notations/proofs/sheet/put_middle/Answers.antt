@@ -2,7 +2,7 @@ use Rattle.std.proofs.Common.{◌≡◌, ℕ, List, ◌++◌, ◌∙◌, codes, 
 use Rattle.std.proofs.lemmas.List.{append_assoc}
 use Rattle.notations.specs.Names.{vulnerable_name}
 use Rattle.notations.specs.Sheets.{all_points, middle_text}
-use Rattle.boards.specs.Show.{hand_in}
+use Rattle.boards.specs.Show.{counted_in}
 use Rattle.notations.proofs.sheet.put_middle.Goals as goal
 
 grouped : (old start name between points close : List ℕ)
@@ -14,7 +14,7 @@ unfolding middle_text
 returns-clause-text c =
     let name : List ℕ = vulnerable_name c.args.board.now.vulnerable in
     let between : List ℕ = codes "\">" in
-    let points : List ℕ = all_points (hand_in c.args.show c.args.board.now) in
+    let points : List ℕ = all_points (counted_in c.args.show c.args.board.now) in
     let named = c.put-2.ensures.text ∙ ap (λ xs. c.put.new.self ++ xs) c.vulnerable_name.ensures.value ∙ ap (λ xs. xs ++ name) c.put.ensures.text in
     let begun = c.put-3.ensures.text ∙ ap (λ xs. xs ++ between) named in
     let counted = c.put_all_points.ensures.text ∙ ap (λ xs. xs ++ points) begun in
