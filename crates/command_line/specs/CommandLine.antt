@@ -1,5 +1,5 @@
 -- The command line: what the program's words ask for, by clap's own functions of the words.
-use Rattle.std.specs.Prelude.{◌&&◌, ◌||◌, ◌==◌, ℕ, Bool, false, not, List, [], ◌∷◌, Option, Some, None, is_some, codes, get_or, length, nat_lt, option_map, unwrap_or, if◌then◌else◌}
+use Rattle.std.specs.Prelude.{true, ◌&&◌, ◌||◌, ◌==◌, ℕ, Bool, false, not, List, [], ◌∷◌, Option, Some, None, is_some, codes, get_or, length, nat_lt, option_map, unwrap_or, if◌then◌else◌}
 use Rattle.std.specs.Option.{option_and_then, option_map_or}
 use Rattle.std.specs.Str.{bytes_eq}
 use Rattle.std.specs.Str.Parse.{digits_value, without_leading_plus}
@@ -23,8 +23,10 @@ use Rattle.boards.specs.Formats.{formats}
 use Rattle.boards.specs.declared.format.Format.{Format}
 use Rattle.boards.specs.declared.format.Format.TheVariants.{Pbn}
 use Rattle.boards.specs.declared.show.Show.{Show}
-use Rattle.boards.specs.declared.show.Show.TheVariants.{All, Dealer}
-use Rattle.boards.specs.declared.show.Show.TheVariants as shown
+use Rattle.boards.specs.declared.show.Seats.{Seats}
+use Rattle.boards.specs.declared.show.Seats.TheVariants.{All, Dealer}
+use Rattle.boards.specs.Show.{points_words}
+use Rattle.boards.specs.declared.show.Seats.TheVariants as shown
 use Rattle.request_types.specs.declared.workers.Workers.{Workers}
 use Rattle.request_types.specs.declared.workers.Workers.TheVariants.{Number}
 use Rattle.request_types.specs.declared.workers.Workers.TheVariants as workers
@@ -50,7 +52,7 @@ abbrev pub dealers : List (Text × Seat)
 dealers =
     (codes "N", North) ∷ (codes "E", East) ∷ (codes "S", South) ∷ (codes "W", West) ∷ []
 
-abbrev pub shows : List (Text × Show)
+abbrev pub shows : List (Text × Seats)
 shows =
     (codes "all", All) ∷ (codes "dealer", Dealer) ∷ (codes "north", shown.North)
     ∷ (codes "east", shown.East) ∷ (codes "south", shown.South) ∷ (codes "west", shown.West)
@@ -100,10 +102,11 @@ abbrev pub has_unknown : Text → List Row → Bool
 has_unknown name rows =
     has_unknown_format name rows
     || (is_unknown shows (codes "show") rows
+    || (is_unknown points_words (codes "points") rows
     || (is_unknown dealers (codes "dealer") rows
     || (is_unknown sides (codes "vulnerable") rows
     || (is_unknown times (codes "progress") rows
-    || is_unknown times (codes "hints") rows))))
+    || is_unknown times (codes "hints") rows)))))
 
 -- the number of 32 bits that a text writes in digits, perhaps after a +
 abbrev pub number32 : Text → Option ℕ
@@ -163,11 +166,18 @@ is_turned rows =
     || (is_some (first_of (codes "lesson") rows)
     && not (is_some (first_of (codes "dealer") rows)))
 
+-- the hands that are written, and whether their points are
+abbrev pub show_in : List Row → Show
+show_in rows = record {
+  seats = unwrap_or (choice_in shows (codes "show") rows) All;
+  points = unwrap_or (choice_in points_words (codes "points") rows) true;
+}
+
 -- what the options of `show` were given, or their defaults
 abbrev pub shown_look : List Row → Look
 shown_look rows = record plain_look {
   format = unwrap_or (choice_in formats (codes "format") rows) Pbn;
-  show = unwrap_or (choice_in shows (codes "show") rows) All;
+  show = show_in rows;
   event = first_of (codes "event") rows;
   site = first_of (codes "site") rows;
   date = first_of (codes "date") rows;
@@ -177,7 +187,7 @@ shown_look rows = record plain_look {
 abbrev pub look_in : List Row → Look
 look_in rows = record {
   format = unwrap_or (choice_in formats (codes "format") rows) Pbn;
-  show = unwrap_or (choice_in shows (codes "show") rows) All;
+  show = show_in rows;
   first_board = number_in (codes "first-board") rows;
   event = first_of (codes "event") rows;
   site = first_of (codes "site") rows;

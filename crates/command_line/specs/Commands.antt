@@ -78,7 +78,10 @@ format_rule = lettered (codes "f") (option_rule (codes "format") parsed.String)
 abbrev pub show_rule : Rule
 show_rule = option_rule (codes "show") parsed.String
 
--- how the boards look, apart from these two
+abbrev pub points_rule : Rule
+points_rule = option_rule (codes "points") parsed.String
+
+-- how the boards look, apart from these three
 abbrev pub look_rules : List Rule
 look_rules =
     option_rule (codes "dealer") parsed.String
@@ -106,7 +109,7 @@ hints_rule = option_rule (codes "hints") parsed.String
 abbrev pub make_app : App
 make_app = command_with (codes "make") (
     seed_rule ∷ search_rules ++ hand_rules
-    ++ format_rule ∷ show_rule ∷ flag_rule (codes "tricks") ∷ look_rules ++ speed_rules
+    ++ format_rule ∷ show_rule ∷ points_rule ∷ flag_rule (codes "tricks") ∷ look_rules ++ speed_rules
     ++ flag_rule (codes "report") ∷ progress_rule ∷ hints_rule ∷ help_flag ∷ [])
 
 -- `deals find --seed S` and its further options
@@ -127,12 +130,12 @@ count_app = command_with (codes "count") (
 -- `deals pick --seed S` and its further options
 abbrev pub pick_app : App
 pick_app = command_with (codes "pick") (
-    seed_rule ∷ hand_rules ++ format_rule ∷ show_rule ∷ look_rules ++ hints_rule ∷ help_flag ∷ [])
+    seed_rule ∷ hand_rules ++ format_rule ∷ show_rule ∷ points_rule ∷ look_rules ++ hints_rule ∷ help_flag ∷ [])
 
 -- `deals show` and its options
 abbrev pub show_app : App
 show_app = command_with (codes "show") (
-    format_rule ∷ show_rule
+    format_rule ∷ show_rule ∷ points_rule
     ∷ option_rule (codes "event") parsed.String
     ∷ option_rule (codes "site") parsed.String
     ∷ option_rule (codes "date") parsed.String

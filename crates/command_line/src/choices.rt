@@ -11,7 +11,7 @@ ghost use Rattle.command_line.specs.CommandLine.{is_unknown, meant_by};
 ghost use Rattle.command_line.specs.internal.Choices.{table_of};
 
 use crate::words::text_in;
-use boards::{FORMAT_WORDS, FORMATS, Format, STYLE_WORDS, STYLES, Show, Style, Vul};
+use boards::{FORMAT_WORDS, FORMATS, Format, STYLE_WORDS, STYLES, Seats, Style, Vul};
 use cards::Seat;
 use clap::ArgMatches;
 use request_types::When;
@@ -58,20 +58,27 @@ pub static STYLE: Choice<Style> = Choice {
     table: STYLES,
 };
 
-pub static SHOW: Choice<Show> = Choice {
+pub static SHOW: Choice<Seats> = Choice {
     id: "show",
     shown: "--show <WHO>",
     values: "all, dealer, north, east, south, west, ns, ew",
     table: &[
-        ("all", Show::All),
-        ("dealer", Show::Dealer),
-        ("north", Show::North),
-        ("east", Show::East),
-        ("south", Show::South),
-        ("west", Show::West),
-        ("ns", Show::NorthSouth),
-        ("ew", Show::EastWest),
+        ("all", Seats::All),
+        ("dealer", Seats::Dealer),
+        ("north", Seats::North),
+        ("east", Seats::East),
+        ("south", Seats::South),
+        ("west", Seats::West),
+        ("ns", Seats::NorthSouth),
+        ("ew", Seats::EastWest),
     ],
+};
+
+pub static POINTS: Choice<bool> = Choice {
+    id: "points",
+    shown: "--points <WHETHER>",
+    values: "show, hide",
+    table: &[("show", true), ("hide", false)],
 };
 
 pub static DEALER: Choice<Seat> = Choice {
@@ -170,6 +177,7 @@ pub fn unknown_in<'a>(name: &str, matches: &ArgMatches<'a>) -> Option<Unknown<'a
 {
     unknown_format(name, matches)
         .or(SHOW.unknown(matches))
+        .or(POINTS.unknown(matches))
         .or(DEALER.unknown(matches))
         .or(VULNERABLE.unknown(matches))
         .or(PROGRESS.unknown(matches))

@@ -102,6 +102,10 @@ answers; dealer: the dealer's alone [default: all]
 [possible values: all, dealer, north, east, south,
 west, ns, ew]
 
+points: Whether hands, html and sheet have the number of
+points of each hand [default: show]
+[possible values: show, hide]
+
 tricks: Writes what can be made on each board, as standard
 input tells it: a line for each, from deals-tricks
 

@@ -1,6 +1,6 @@
 //! What the words of some command lines ask for: the definition of that, at examples.
 
-ghost use Rattle.std.specs.Prelude.{◌≡◌, ◌∷◌, [], None, Some, codes, true};
+ghost use Rattle.std.specs.Prelude.{◌≡◌, ◌∷◌, [], None, Some, codes, false, true};
 ghost use Rattle.boards.specs.declared.setting.Vul.TheVariants.{NorthSouth};
 ghost use Rattle.cards.specs.declared.seat.Seat.TheVariants.{South};
 ghost use Rattle.clap.specs.declared.error.kind.ErrorKind.TheVariants.{InvalidValue};
@@ -14,7 +14,8 @@ ghost use Rattle.request_types.specs.Requests.{lessons, numbers_look, pick, show
 ghost use Rattle.request_types.specs.Requests.{plain_look, plain_notices, plain_search, stream};
 ghost use Rattle.request_types.specs.Requests.{two_questions};
 ghost use Rattle.boards.specs.declared.format.Format.TheVariants.{Hands};
-ghost use Rattle.boards.specs.declared.show.Show.TheVariants.{Dealer};
+ghost use Rattle.boards.specs.declared.show.Seats.TheVariants.{Dealer};
+ghost use Rattle.boards.specs.Show.{all_shown};
 ghost use Rattle.request_types.specs.declared.workers.Workers.TheVariants as workers;
 ghost use Rattle.request_types.specs.declared.when.When.TheVariants.{Always, Auto, Never};
 ghost use Rattle.boards.specs.declared.style.Style.TheVariants.{Csv};
@@ -73,7 +74,7 @@ pub fn example_of_tricks()
         ∷ codes "--tricks" ∷ codes "--workers" ∷ codes "auto" ∷ [])
         ≡ Some (make_with_tricks
         (record (plain_search 0) { boards = Some 12; workers = workers.Auto })
-        (record plain_look { show = Dealer }) plain_notices) }
+        (record plain_look { show = record all_shown { seats = Dealer } }) plain_notices) }
     ensures refused { kinds_for
         (codes "deals" ∷ codes "make" ∷ codes "--seed" ∷ codes "0"
         ∷ codes "--boards" ∷ codes "12" ∷ codes "--workers" ∷ codes "many" ∷ [])
@@ -100,16 +101,17 @@ pub fn example_of_hands()
         }) (record plain_look { format = Hands }) Auto) }
 {}
 
-/// `deals show --format hands --show dealer --event Club` asks for hand records of the boards that
-/// the input has, with the dealers' hands alone. A seed is refused, since nothing is dealt, and so is
+/// `deals show --format hands --show dealer --points hide --event Club` asks for hand records of the
+/// boards that the input has, with the dealers' hands alone, and without points. A seed is refused, since nothing is dealt, and so is
 /// a word that is no format.
 pub fn example_of_show()
     ensures asked { asked
         (codes "deals" ∷ codes "show" ∷ codes "--format" ∷ codes "hands"
-        ∷ codes "--show" ∷ codes "dealer" ∷ codes "--event" ∷ codes "Club" ∷ [])
+        ∷ codes "--show" ∷ codes "dealer" ∷ codes "--points" ∷ codes "hide"
+        ∷ codes "--event" ∷ codes "Club" ∷ [])
         ≡ Some (show (record plain_look {
           format = Hands;
-          show = Dealer;
+          show = record { seats = Dealer; points = false };
           event = Some (codes "Club");
         }) Auto) }
     ensures seed { kinds_for

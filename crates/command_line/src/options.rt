@@ -210,6 +210,8 @@ const FORMAT: Row = optional! { 'f' "format" Text("FORMAT") };
 
 const SHOW: Row = optional! { "show" Text("WHO") };
 
+const POINTS: Row = optional! { "points" Text("WHETHER") };
+
 const TRICKS: Row = optional! { "tricks" Nothing };
 
 const DEALER: Row = optional! { "dealer" Text("SEAT") };
@@ -245,9 +247,9 @@ const VALUES: Row = required! { "count" Count("N") };
 // Which deals, how they look, speed, and what is said: each in the order in which people need them.
 
 pub(crate) const MAKE: &[Row] = &[
-    SEED, LESSON, WHERE, BOARDS, CANDIDATES, FIRST, NORTH, EAST, SOUTH, WEST, FORMAT, SHOW, TRICKS,
-    DEALER, VULNERABLE, ROTATE, FROM_BOARD, EVENT, SITE, DATE, WORKERS, LANE, REPORT, PROGRESS,
-    HINTS, HELP,
+    SEED, LESSON, WHERE, BOARDS, CANDIDATES, FIRST, NORTH, EAST, SOUTH, WEST, FORMAT, SHOW, POINTS,
+    TRICKS, DEALER, VULNERABLE, ROTATE, FROM_BOARD, EVENT, SITE, DATE, WORKERS, LANE, REPORT,
+    PROGRESS, HINTS, HELP,
 ];
 
 pub(crate) const FIND: &[Row] = &[
@@ -261,11 +263,11 @@ pub(crate) const COUNT: &[Row] = &[
 ];
 
 pub(crate) const PICK: &[Row] = &[
-    SEED, NORTH, EAST, SOUTH, WEST, FORMAT, SHOW, DEALER, VULNERABLE, ROTATE, FROM_BOARD, EVENT,
-    SITE, DATE, HINTS, HELP,
+    SEED, NORTH, EAST, SOUTH, WEST, FORMAT, SHOW, POINTS, DEALER, VULNERABLE, ROTATE, FROM_BOARD,
+    EVENT, SITE, DATE, HINTS, HELP,
 ];
 
-pub(crate) const SHOWN: &[Row] = &[FORMAT, SHOW, EVENT, SITE, DATE, HINTS, HELP];
+pub(crate) const SHOWN: &[Row] = &[FORMAT, SHOW, POINTS, EVENT, SITE, DATE, HINTS, HELP];
 
 /// The options of a command that needs none.
 pub(crate) const ALONE: &[Row] = &[HELP];

@@ -9,7 +9,7 @@ ghost use Rattle.clap.specs.declared.error.kind.ErrorKind.{ErrorKind};
 ghost use Rattle.command_line.specs.CommandLine.{asks_page, hands_in, has_by_alone, has_no_end};
 ghost use Rattle.command_line.specs.CommandLine.{is_set, is_turned, lacks_option, look_in, made_by};
 ghost use Rattle.command_line.specs.CommandLine.{notices_in, number_in, number_or, questions_in};
-ghost use Rattle.command_line.specs.CommandLine.{search_in, shown_look, when_in};
+ghost use Rattle.command_line.specs.CommandLine.{search_in, show_in, shown_look, when_in};
 ghost use Rattle.command_line.specs.Reading.{AreRead};
 ghost use Rattle.command_line.specs.internal.Asking.{AsksLessons, AsksShow, Chosen, HasValues};
 ghost use Rattle.command_line.specs.internal.Readings.{MayGive32, MayGive64, SearchValues};
@@ -19,7 +19,7 @@ ghost use Rattle.request_types.specs.PredealtHands.{given_by};
 ghost use Rattle.request_types.specs.Requests.{look_of, questions_of, search_of, wish_of};
 
 use crate::choices::{
-    DEALER, FORMAT, HINTS, PROGRESS, SHOW, STYLE, VULNERABLE, look_up, unknown_in,
+    DEALER, FORMAT, HINTS, POINTS, PROGRESS, SHOW, STYLE, VULNERABLE, look_up, unknown_in,
 };
 use crate::lesson_names::{lesson_in, no_lesson_in};
 use crate::options::{FINDERS, command};
@@ -27,7 +27,7 @@ use crate::refusals::{
     NO_END, NO_QUESTION, invalid_name, invalid_number, invalid_value, missing_option,
 };
 use crate::workers::{bad_workers_in, workers_in};
-use boards::Show;
+use boards::{Seats, Show};
 use clap::{ArgMatches, Error};
 use lessons::Lesson;
 use request_types::{
@@ -130,6 +130,16 @@ fn is_turned(matches: &ArgMatches) -> bool
         || (text_in(matches, "lesson").is_some() && text_in(matches, "dealer").is_none())
 }
 
+/// The hands that are written, and whether their points are.
+fn show_in(matches: &ArgMatches) -> Show
+    ensures { result ≡ show_in (rows_of (found_of matches.now)) }
+{
+    Show {
+        seats: SHOW.given(matches).unwrap_or(Seats::All),
+        points: POINTS.given(matches).unwrap_or(true),
+    }
+}
+
 /// What the options of the boards' look were given, or their defaults.
 fn look_in<'a>(matches: &ArgMatches<'a>) -> Look<'a>
     requires { MayGive64 (codes "first-board") (rows_of (found_of matches.now)) }
@@ -137,7 +147,7 @@ fn look_in<'a>(matches: &ArgMatches<'a>) -> Look<'a>
 {
     Look {
         format: FORMAT.given(matches).unwrap_or(Format::Pbn),
-        show: SHOW.given(matches).unwrap_or(Show::All),
+        show: show_in(matches),
         first_board: u64_in(matches, "first-board"),
         event: text_in(matches, "event"),
         site: text_in(matches, "site"),
@@ -153,7 +163,7 @@ fn shown_look<'a>(matches: &ArgMatches<'a>) -> Look<'a>
     ensures { look_of result ≡ shown_look (rows_of (found_of matches.now)) }
 {
     Look {
-        show: SHOW.given(matches).unwrap_or(Show::All),
+        show: show_in(matches),
         event: text_in(matches, "event"),
         site: text_in(matches, "site"),
         date: text_in(matches, "date"),

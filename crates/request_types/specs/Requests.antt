@@ -8,7 +8,7 @@ use Rattle.request_types.specs.PredealtHands.{GivenHands, given_by, none_given}
 use Rattle.boards.specs.declared.format.Format.{Format}
 use Rattle.boards.specs.declared.format.Format.TheVariants.{Numbers, Pbn}
 use Rattle.boards.specs.declared.show.Show.{Show}
-use Rattle.boards.specs.declared.show.Show.TheVariants.{All}
+use Rattle.boards.specs.Show.{all_shown}
 use Rattle.request_types.specs.declared.look.Look as given
 use Rattle.request_types.specs.declared.request.Notices.{Notices}
 use Rattle.request_types.specs.declared.request.Request.{Request}
@@ -69,7 +69,7 @@ plain_search seed = record {
 abbrev pub plain_look : Look
 plain_look = record {
   format = Pbn;
-  show = All;
+  show = all_shown;
   first_board = None;
   event = None;
   site = None;

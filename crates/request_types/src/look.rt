@@ -13,7 +13,7 @@ use cards::Seat;
 pub struct Look<'a> {
     /// The notation that the boards are written in.
     pub format: Format,
-    /// The hands that are written.
+    /// The hands that are written, and whether their points are.
     pub show: Show,
     pub first_board: Option<u64>,
     pub event: Option<&'a str>,
@@ -35,7 +35,7 @@ impl Look<'_> {
     {
         Look {
             format,
-            show: Show::All,
+            show: Show::ALL,
             first_board: None,
             event: None,
             site: None,

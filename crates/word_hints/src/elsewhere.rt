@@ -7,11 +7,13 @@ const ROWS: &str = "
     make|find|pick|show --of --by => \
         deals count tells how often each number comes, and the mean: --of 'hcp(north)'
     find|pick --tricks => deals make takes --tricks
-    find --show --dealer --vulnerable --rotate --first-board --event --site --date --format => \
+    find --show --points --dealer --vulnerable --rotate --first-board --event --site --date \
+        --format => \
         deals find prints numbers alone; deals make writes the boards, or deals pick, which reads \
         the numbers
     count --rotate => leave --rotate out: it changes no count, and north has the dealer's hand
-    count --show --dealer --vulnerable --rotate --first-board --event --site --date --format => \
+    count --show --points --dealer --vulnerable --rotate --first-board --event --site --date \
+        --format => \
         deals count writes a table: deals make writes boards
     pick --lesson --where --boards --candidates --first --workers --lane --report --progress => \
         deals pick reads the numbers of deals: deals find searches for them

@@ -54,7 +54,7 @@ const ROWS: &str = "
         slips for hands to be cut out
     option --numbers => \
         numbers come from the input, one a line: printf '1\\n4\\n' | deals pick --seed 7
-    option --hcp --points --balanced --len --length --shape => \
+    option --hcp --balanced --len --length --shape => \
         a condition comes after --where, in quotes: --where 'hcp(north)>=15'
     option --sections --section --tables --rounds => \
         every section can play the same file of boards; for other boards draw a seed for each

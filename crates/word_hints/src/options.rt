@@ -39,7 +39,7 @@ const NUMBER: Takes = Takes::Number {
     most: 1099511627776,
 };
 
-static OPTIONS: [Known; 28] = [
+static OPTIONS: [Known; 29] = [
     known! { "--seed" "-s" SEED, "7" },
     known! { "--lesson" "" Takes::Choice, "stayman" },
     known! { "--where" "-w" Takes::Text, "'hcp(north)>=15'" },
@@ -54,6 +54,7 @@ static OPTIONS: [Known; 28] = [
     known! { "--by" "" Takes::Text, "'longest(south)'" },
     known! { "--format" "-f" Takes::Choice, "html" },
     known! { "--show" "" Takes::Choice, "north" },
+    known! { "--points" "" Takes::Choice, "hide" },
     known! { "--tricks" "" Takes::Nothing, "" },
     known! { "--dealer" "" Takes::Choice, "N" },
     known! { "--vulnerable" "" Takes::Choice, "NS" },
