@@ -102,6 +102,9 @@ def chosen():
         words += ["--event", "Club night", "--date", "2024.05.01"]
         yield words, b"", notation.text(11, 40, form, labels=labels, show=show)
         yield [*words, "--rotate"], b"", notation.text(11, 40, form, rotate=True, labels=labels, show=show)
+        hidden = notation.text(11, 40, form, labels=labels, show=show, has_points=False)
+        yield [*words, "--points", "hide"], b"", hidden
+        yield [*words, "--points", "show"], b"", notation.text(11, 40, form, labels=labels, show=show)
         lines = [random_line(rng) for _ in range(40)]
         wanted = notation.text(11, 40, form, labels=labels, show=show, lines=lines)
         yield [*words, "--tricks"], "".join(line + "\n" for line in lines).encode(), wanted

@@ -54,10 +54,10 @@ def suits(hand):
     return [f"{sign} {suit or '-'}" for sign, suit in zip(SIGNS, model.spelled(hand).split("."))]
 
 
-def record(number, dealer, sides, hands, tricks):
+def record(number, dealer, sides, hands, tricks, has_points=True):
     """A hand record: twelve lines, those of the tricks, and an empty one."""
     north, east, south, west = map(suits, hands)
-    points = ["" if hand is None else model.points(hand) for hand in hands]
+    points = [model.points(hand) if hand is not None and has_points else "" for hand in hands]
     left = [f"Board {number}", f"Dealer {SEATS[dealer]}", f"Vul {sides}", ""]
     counts = ["", f"{points[0]:>8}", f"{points[3]:>4}{points[1]:>8}", f"{points[2]:>8}"]
     lines = [max(text + " ", f"{text:18}", key=len) + suit for text, suit in zip(left, north)]
@@ -71,7 +71,7 @@ def record(number, dealer, sides, hands, tricks):
     return "".join(line.rstrip(" ") + "\n" for line in lines) + "\n"
 
 
-def line(number, dealer, sides, hands, _tricks):
+def line(number, dealer, sides, hands, _tricks, _has_points=True):
     """A line of LIN."""
     spelled = []
     for hand in (hands[2], hands[3], hands[0], hands[1]):
@@ -140,28 +140,28 @@ def table(tricks):
     return lines + ([f'<p class="par">Par {tricks[1]}{marked(tricks[2])}</p>'] if tricks[1] else [])
 
 
-def section(number, dealer, sides, hands, tricks):
+def section(number, dealer, sides, hands, tricks, has_points=True):
     """A section of a page."""
     lines = ['<section class="board">', f'<h2 class="{sides}">Board {number}</h2>']
     lines.append(f"<p>Dealer {SEATS[dealer]}<br>Vul {sides}</p>")
     for seat, hand in zip(SEATS, hands):
         if hand is not None:
-            points = model.points(hand)
-            lines.append(f'<div class="{seat}"><h3>{seat} <small>{points} HCP</small></h3>{held(hand)}</div>')
+            points = f" <small>{model.points(hand)} HCP</small>" if has_points else ""
+            lines.append(f'<div class="{seat}"><h3>{seat}{points}</h3>{held(hand)}</div>')
     return "".join(line + "\n" for line in [*lines, *table(tricks), "</section>"])
 
 
-def small_section(number, dealer, sides, hands, tricks):
+def small_section(number, dealer, sides, hands, tricks, has_points=True):
     """A section of a sheet."""
     lines = ['<section class="board">', f"<h2>{number}</h2>", f"<p>Dealer {SEATS[dealer]}<br>Vul {sides}</p>"]
     there = [(seat, hand) for seat, hand in zip(SEATS, hands) if hand is not None]
     lines += [f'<div class="{seat}">{held(hand)}</div>' for seat, hand in there]
-    points = "".join(f'<span class="{seat}">{model.points(hand)}</span>' for seat, hand in there)
+    points = "".join(f'<span class="{seat}">{model.points(hand)}</span>' for seat, hand in there if has_points)
     lines.append(f'<div class="middle {sides}">{points}</div>')
     return "".join(line + "\n" for line in [*lines, *table(tricks), "</section>"])
 
 
-def slips(number, dealer, sides, hands, _tricks):
+def slips(number, dealer, sides, hands, _tricks, _has_points=True):
     """The sections of a board's slips, one for each hand that is shown."""
     return "".join(
         f'<section class="slip">\n<h2>{number} {seat}</h2>\n<p>Dealer {SEATS[dealer]}<br>Vul {sides}</p>\n<div>{held(hand)}</div>\n</section>\n'
@@ -197,7 +197,7 @@ def header(form, labels, with_tricks=False):
 
 
 def text(seed, count, form="pbn", dealer=None, sides=None, rotate=False, accepts=None, first=0, first_board=1,
-         boards=None, labels=(), show="all", lines=None):
+         boards=None, labels=(), show="all", lines=None, has_points=True):
     """The text of a `make` of this many candidates. The condition is asked of the hands before they are turned. With lines
     of tricks there is one for each board; they are written only beside all hands."""
     state, parts, number = model.start(seed), [header(form, labels, lines is not None)], first_board
@@ -219,7 +219,7 @@ def text(seed, count, form="pbn", dealer=None, sides=None, rotate=False, accepts
             parts.append(json_line(number, by, vulnerable, dealt, tricks, candidate))
         else:
             write = {"hands": record, "lin": line, "html": section, "sheet": small_section, "slips": slips}[form]
-            parts.append(write(number, by, vulnerable, dealt, tricks))
+            parts.append(write(number, by, vulnerable, dealt, tricks, has_points))
         number += 1
     if form in PAGES:
         parts.append(frame(1, ()))
