@@ -12,7 +12,7 @@ use Rattle.std.proofs.lemmas.List.{append-nil}
 use Rattle.records.specs.Kinds.{kind_of}
 use Rattle.records.specs.Places.{is_name_byte}
 use Rattle.records.specs.Scans.{spells_from}
-use Rattle.boards.specs.declared.board.Board.{Board as ABoard}
+use Rattle.records.specs.declared.game.Told.{Told}
 use Rattle.records.specs.Texts.{Spelled, after, list_of, refused_with, takes_tag}
 use Rattle.records.specs.declared.fault.RefusedRecord.{RefusedRecord}
 use Rattle.records.specs.declared.scanner.Scanner.{Scanner}
@@ -24,14 +24,16 @@ use Rattle.records.proofs.Scanning.{at_byte, plainly}
 
 -- a line from within its tag
 abbrev at : Reading → Part → ℕ → List ℕ → List ℕ → Reading
-at s part column name value = record s { line = record {
-  part = part;
-  skips = false;
-  comment = false;
-  column = column;
-  name = name;
-  value = value;
-} }
+at s part column name value = record s {
+  line = record {
+    part = part;
+    skips = false;
+    comment = false;
+    column = column;
+    name = name;
+    value = value;
+  };
+}
 
 -- ---- which bytes a name and a value don't have
 
@@ -151,14 +153,14 @@ tag_read s (b ∷ bs) value rest start tag =
 
 -- ---- what calls return
 
-pub whole_tag : (s : Scanner) (t : Reading) (name value : List ℕ) (r : Result (Option ABoard) RefusedRecord) → IsStart s.reading.line → s.after_cr ≡ false → IsTag name value
+pub whole_tag : (s : Scanner) (t : Reading) (name value : List ℕ) (r : Result (Option Told) RefusedRecord) → IsStart s.reading.line → s.after_cr ≡ false → IsTag name value
     → IfOk r (λ board. (next : Reading → Spelled) → takes_tag (kind_of name) (with_place (after_tag name value) s.reading) next ≡ after (list_of board) (next t))
     → IfOk r (λ board. (rest : List ℕ) → spells_from s (tag_text name value ++ rest) ≡ after (list_of board) (spells_from (record { reading = t; after_cr = s.after_cr }) rest))
 whole_tag s t name value (Err e) start plain tag takes = tt
 whole_tag s t name value (Ok board) start plain tag takes = λ rest.
     rw plain (tag_read s.reading name value rest start tag ∙ takes (λ u. spells_from (plainly u) rest))
 
-pub whole_tag_refused : (s : Scanner) (name value : List ℕ) (r : Result (Option ABoard) RefusedRecord) → IsStart s.reading.line → s.after_cr ≡ false → IsTag name value
+pub whole_tag_refused : (s : Scanner) (name value : List ℕ) (r : Result (Option Told) RefusedRecord) → IsStart s.reading.line → s.after_cr ≡ false → IsTag name value
     → IfErr r (λ e. (next : Reading → Spelled) → takes_tag (kind_of name) (with_place (after_tag name value) s.reading) next ≡ refused_with e)
     → IfErr r (λ e. (rest : List ℕ) → spells_from s (tag_text name value ++ rest) ≡ refused_with e)
 whole_tag_refused s name value (Ok board) start plain tag takes = tt

@@ -18,7 +18,7 @@ mod tag;
 mod values;
 
 pub use fault::{RecordFault, RefusedRecord};
-pub use game::Game;
+pub use game::{Game, Told};
 pub use kind::Kind;
 pub use line::{Part, Step};
 pub use reader::{BoardReader, Next, ReadFault};

@@ -9,9 +9,9 @@ ghost use Rattle.records.specs.Texts.{after, list_of, refused_with, spelled};
 ghost use Rattle.records.specs.internal.TagTexts.{IsStart, IsTag, Reads, tag_text};
 
 use crate::fault::RefusedRecord;
+use crate::game::Told;
 use crate::reading::Reading;
 use crate::tag::{SIGNS, tag_at};
-use boards::Board;
 
 /// Reads a text byte by byte. It keeps what was read of the game, and whether a CR came last.
 #[derive(Drop)]
@@ -33,7 +33,7 @@ impl Scanner {
     }
 
     /// Takes the end of a line.
-    fn end_line(&mut self) -> Result<Option<Board>, RefusedRecord>
+    fn end_line(&mut self) -> Result<Option<Told>, RefusedRecord>
         requires { IsWithin self.old (2 ^ 60) }
         ensures goes_on { IfOk result (λ board. (rest : List ℕ)
             → spells_from self.old (10 ∷ rest)
@@ -70,7 +70,7 @@ impl Scanner {
     }
 
     /// Takes a byte after another than a CR.
-    fn go_on(&mut self, byte: u8) -> Result<Option<Board>, RefusedRecord>
+    fn go_on(&mut self, byte: u8) -> Result<Option<Told>, RefusedRecord>
         requires room { InRoom self.old.reading (2 ^ 62) }
         requires within { byte ≢ 10 }
         requires plain { self.old.after_cr ≡ false }
@@ -104,7 +104,7 @@ impl Scanner {
         &mut self,
         name: &[u8],
         value: &[u8],
-    ) -> Result<Option<Board>, RefusedRecord>
+    ) -> Result<Option<Told>, RefusedRecord>
         requires room { IsWithin self.old (2 ^ 60) }
         requires start { IsStart self.old.reading.line × (self.old.after_cr ≡ false) }
         requires tag { IsTag name.now value.now }
@@ -143,7 +143,7 @@ impl Scanner {
     ///
     /// # Errors
     /// The line that is refused, whatever comes after.
-    pub fn take(&mut self, byte: u8) -> Result<Option<Board>, RefusedRecord>
+    pub fn take(&mut self, byte: u8) -> Result<Option<Told>, RefusedRecord>
         requires { IsWithin self.old (2 ^ 60) }
         ensures goes_on { IfOk result (λ board. (rest : List ℕ)
             → spells_from self.old (byte ∷ rest)
@@ -177,7 +177,7 @@ impl Scanner {
 
     /// Takes the tag that a line begins with here, or a byte. Returns how many bytes that were, and
     /// the board of the game that it ends.
-    fn take_some(&mut self, bytes: &[u8]) -> Result<(usize, Option<Board>), RefusedRecord>
+    fn take_some(&mut self, bytes: &[u8]) -> Result<(usize, Option<Told>), RefusedRecord>
         requires room { IsWithin self.old (2 ^ 60) }
         requires some { 0 < length bytes.now }
         ensures reads { IfOk result (λ r. Reads self.old self.new bytes.now r.0 r.1) }
@@ -199,7 +199,7 @@ impl Scanner {
     ///
     /// # Errors
     /// The line that is refused, whatever comes after.
-    pub(crate) fn read(&mut self, bytes: &[u8]) -> Result<(usize, Option<Board>), RefusedRecord>
+    pub(crate) fn read(&mut self, bytes: &[u8]) -> Result<(usize, Option<Told>), RefusedRecord>
         requires room { IsWithin self.old (2 ^ 58) }
         requires few { length bytes.now ≤ 2 ^ 50 }
         ensures reads { IfOk result (λ r. Reads self.old self.new bytes.now r.0 r.1) }
@@ -227,7 +227,7 @@ impl Scanner {
     ///
     /// # Errors
     /// The line that is refused.
-    pub fn finish(&mut self) -> Result<Option<Board>, RefusedRecord>
+    pub fn finish(&mut self) -> Result<Option<Told>, RefusedRecord>
         requires { IsWithin self.old (2 ^ 60) }
         ensures says { IfOk result (λ board. spells_from self.old []
             ≡ record { boards = list_of board; refused = None }) }
