@@ -42,6 +42,7 @@ class Board:
     dealer: str
     vulnerable: str
     hands: list[list[str]]
+    labels: list[tuple[str, str]] = field(default_factory=list)
 
     def deal(self) -> str:
         """The value of a Deal tag, from North on."""
@@ -70,6 +71,13 @@ def hands_of(value: str) -> list[list[str]] | None:
         seen.update(cards)
         hands[(first + place) % 4] = ["".join(sorted(ranks, key=RANKS.index)) for ranks in suits]
     return hands if len(seen) == 52 else None
+
+
+def labels_of(game: Game) -> list[tuple[str, str]]:
+    """The labels of a game: `?` and `#` are none."""
+    forms = {"Event": r'[ !#-\[\]-~]{0,100}', "Site": r'[ !#-\[\]-~]{0,100}', "Date": r"[0-9]{4}\.[0-9]{2}\.[0-9]{2}"}
+    values = {name: game.tags[name][1] for name in forms if name in game.tags}
+    return [(name, value) for name, value in values.items() if value not in ("?", "#") and re.fullmatch(forms[name], value)]
 
 
 def board_of(game: Game, last: int) -> Board | None:
@@ -105,6 +113,7 @@ def board_of(game: Game, last: int) -> Board | None:
         DEALERS[(number - 1) % 16] if dealer == "?" else dealer,
         SIDES[(number - 1) % 16] if vulnerable == "?" else vulnerable,
         hands,
+        labels_of(game),
     )
 
 
@@ -194,12 +203,3 @@ def read(text: bytes) -> tuple[list[Board], Refused | None]:
     except Refused as refused:
         return reader.boards, refused
     return reader.boards, None
-
-
-def json_lines(boards: list[Board]) -> str:
-    """The boards in JSON, without numbers of candidates."""
-    return "".join(
-        f'{{"board":{board.number},"dealer":"{board.dealer}","vulnerable":"{board.vulnerable}",'
-        f'"deal":"{board.deal()}"}}\n'
-        for board in boards
-    )

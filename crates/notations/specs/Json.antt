@@ -1,5 +1,5 @@
 -- JSON: a line a board, without header and footer.
-use Rattle.std.specs.Prelude.{ℕ, List, ◌++◌, codes, decimal}
+use Rattle.std.specs.Prelude.{ℕ, ◌^◌, nat_lt, List, [], ◌++◌, codes, decimal, if◌then◌else◌}
 use Rattle.boards.specs.declared.board.Board.{Board}
 use Rattle.pbn_text.specs.Games.{dealer_text}
 use Rattle.boards.specs.declared.show.Show.{Show}
@@ -15,6 +15,11 @@ tricks_members tricks =
     if_given (codes ",\"tricks\":\"") tricks.digits (codes "\"")
     ++ if_given (codes ",\"par\":\"") (par_text tricks) (codes "\"")
 
+-- the number of the candidate, if the board is of one: these are below 2^40
+abbrev pub number_member : ℕ → List ℕ
+number_member candidate =
+    if nat_lt candidate (2 ^ 40) then codes ",\"number\":" ++ decimal candidate else []
+
 -- the board's number, dealer, vulnerability and deal, the words as in PBN, the number of the
 -- candidate, and what is known of the tricks
 unfoldable pub json_line : Show → TricksView → Board → List ℕ
@@ -23,6 +28,6 @@ json_line show tricks board =
     ++ codes ",\"dealer\":\"" ++ dealer_text board.dealer
     ++ codes "\",\"vulnerable\":\"" ++ vulnerable_name board.vulnerable
     ++ codes "\",\"deal\":\"" ++ deal_value (hand_in show board)
-    ++ codes "\",\"number\":" ++ decimal board.candidate
+    ++ codes "\"" ++ number_member board.candidate
     ++ tricks_members tricks
     ++ codes "}\n"

@@ -5,13 +5,16 @@
 ghost use Rattle.std.specs.Prelude.{◌≡◌, ◌≤◌, ◌+◌, ◌++◌, [], length};
 ghost use Rattle.std.specs.Option.{option_copied};
 ghost use Rattle.boards.specs.declared.buffer.TheConstants.{CAPACITY};
-ghost use Rattle.notations.specs.Json.{json_line, tricks_members};
+ghost use Rattle.notations.specs.Json.{json_line, number_member, tricks_members};
 ghost use Rattle.notations.specs.Tricks.{or_nothing};
 
 use crate::dotted::{put_deal, seat_letter};
 use crate::names::vulnerable_name;
 use crate::results::{put_given, put_par};
 use boards::{Board, Show, SuitLetters, TextBuffer, Tricks};
+
+/// Candidates have numbers below it.
+const END_OF_CANDIDATES: u64 = 1 << 40;
 
 /// Writes the board's line into the empty buffer.
 #[tactic(auto, unfolding(crate::specs::Json::json_line))]
@@ -33,10 +36,22 @@ pub(crate) fn put_line(
     line.put(vulnerable_name(board.vulnerable));
     line.put(b"\",\"deal\":\"");
     put_deal(line, letters, show, board);
-    line.put(b"\",\"number\":");
-    line.put_number(board.candidate);
+    line.put(b"\"");
+    put_candidate(line, board.candidate);
     put_tricks(line, tricks);
     line.put(b"}\n");
+}
+
+/// Appends the number of the candidate, if the board is of one.
+fn put_candidate(line: &mut TextBuffer, candidate: u64)
+    requires { length line.old + 200 ≤ CAPACITY }
+    ensures text { line.new ≡ line.old ++ number_member candidate }
+    ensures most { length line.new ≤ length line.old + 30 }
+{
+    if candidate < END_OF_CANDIDATES {
+        line.put(b",\"number\":");
+        line.put_number(candidate);
+    }
 }
 
 /// Appends what is known of the tricks.

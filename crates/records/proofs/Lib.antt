@@ -1,8 +1,12 @@
 pub mod Partitions
+pub mod Ranks
+pub mod Labels
 pub mod DealTexts
 pub mod Steps
 pub mod Scanning
 pub mod Rooms
+pub mod Tags
+pub mod Passing
 pub mod Unread
 pub mod Filling
 pub mod Written

@@ -1,45 +1,58 @@
 -- The bytes of a piece that weren't read.
-use Rattle.std.proofs.Common.{◌≡◌, ◌∙◌, ◌<◌, ◌≤◌, ◌+◌, ℕ, List, [], ◌∷◌, ◌++◌, length, take, drop, get_or, Option, Result, Ok, Err, IfOk, IfErr, sym, ap, arith, length-take, add-one, drop-cons, refl}
-use Rattle.std.proofs.lemmas.List.{drop_all, get_or-take}
-use Rattle.boards.specs.declared.board.Board.{Board as ABoard}
-use Rattle.records.specs.Readers.{unread, unread_spells}
-use Rattle.records.specs.Scans.{spells_from}
+use Rattle.std.proofs.Common.{◌≡◌, ◌∙◌, ◌≤◌, ◌+◌, ◌-◌, ℕ, List, [], ◌++◌, length, take, drop, Option, Result, Ok, Err, IfOk, IfErr, sym, ap, arith, length-take, refl, subst}
+use Rattle.std.proofs.lemmas.List.{drop-drop, drop-take, drop_all, length-drop}
+use Rattle.records.specs.declared.game.Told.{Told}
+use Rattle.records.specs.Readers.{IsReady, unread, unread_spells}
+use Rattle.records.specs.Scans.{IsWithin, spells_from}
 use Rattle.records.specs.Texts.{after, list_of, refused_with}
 use Rattle.records.specs.declared.fault.RefusedRecord.{RefusedRecord}
 use Rattle.records.specs.declared.reader.BoardReader.{BoardReader}
+use Rattle.records.specs.declared.scanner.Scanner.{Scanner}
+use Rattle.records.specs.internal.TagTexts.{Reads}
 
-next_byte : (piece : List ℕ) (from to : ℕ) → from < to → to ≤ length piece → drop from (take to piece) ≡ get_or piece from 0 ∷ drop (from + 1) (take to piece)
-next_byte piece from to some fits =
-    let below : from < length (take to piece) = rw length-take (omega arith) in
-    let same : get_or (take to piece) from 0 ≡ get_or piece from 0 = get_or-take to piece from 0 some in
-    drop-cons (take to piece) from 0 below ∙ rw (same, add-one) refl
+-- ---- a part of a piece
 
-pub unread_byte : (r : BoardReader) (rest : List ℕ) → r.from < r.to → r.to ≤ length r.piece
-    → unread_spells r rest ≡ spells_from r.scanner (get_or r.piece r.from 0 ∷ (drop (r.from + 1) (take r.to r.piece) ++ rest))
+same_part : (piece : List ℕ) (from to : ℕ) → from ≤ to → drop from (take to piece) ≡ take (to - from) (drop from piece)
+same_part piece from to within =
+    let is : to ≡ from + (to - from) = omega (arith, within) in
+    ap (λ n. drop from (take n piece)) is ∙ drop-take from (to - from) piece
+
+pub part_read : (s t : Scanner) (piece : List ℕ) (from to : ℕ) (r : Result (ℕ × Option Told) RefusedRecord) → from ≤ to
+    → IfOk r (λ q. Reads s t (take (to - from) (drop from piece)) q.0 q.1) → IfOk r (λ q. Reads s t (drop from (take to piece)) q.0 q.1)
+part_read s t piece from to (Err e) within reads = tt
+part_read s t piece from to (Ok q) within reads = subst (λ l. Reads s t l q.0 q.1) (sym (same_part piece from to within)) reads
+
+pub part_refused : (s : Scanner) (piece : List ℕ) (from to : ℕ) (r : Result (ℕ × Option Told) RefusedRecord) → from ≤ to
+    → IfErr r (λ e. (rest : List ℕ) → spells_from s (take (to - from) (drop from piece) ++ rest) ≡ refused_with e)
+    → IfErr r (λ e. (rest : List ℕ) → spells_from s (drop from (take to piece) ++ rest) ≡ refused_with e)
+part_refused s piece from to (Ok q) within reads = tt
+part_refused s piece from to (Err e) within reads = λ rest. ap (λ l. spells_from s (l ++ rest)) (same_part piece from to within) ∙ reads rest
+
+-- ---- bytes of the piece were read
+
+pub bytes_read : (r s : BoardReader) (count : ℕ) (board : Option Told) → Reads r.scanner s.scanner (drop r.from (take r.to r.piece)) count board
+    → s.piece ≡ r.piece → s.from ≡ r.from + count → s.to ≡ r.to → (rest : List ℕ) → unread_spells r rest ≡ after (list_of board) (unread_spells s rest)
 unfolding unread_spells unread
-unread_byte r rest some fits = ap (λ l. spells_from r.scanner (l ++ rest)) (next_byte r.piece r.from r.to some fits)
+bytes_read r s count board reads piece from to rest =
+    reads.spells rest ∙ ap (λ l. after (list_of board) (spells_from s.scanner (l ++ rest))) (drop-drop count r.from (take r.to r.piece) ∙ rw (piece, from, to) refl)
 
--- a byte was read
-pub byte_taken : (r s : BoardReader) (b : ℕ) (result : Result (Option ABoard) RefusedRecord) → r.from < r.to → r.to ≤ length r.piece → b ≡ get_or r.piece r.from 0
-    → s.piece ≡ r.piece → s.from ≡ r.from + 1 → s.to ≡ r.to
-    → IfOk result (λ board. (rest : List ℕ) → spells_from r.scanner (b ∷ rest) ≡ after (list_of board) (spells_from s.scanner rest))
-    → IfOk result (λ board. (rest : List ℕ) → unread_spells r rest ≡ after (list_of board) (unread_spells s rest))
+pub bytes_refused : (r : BoardReader) (e : RefusedRecord) → ((rest : List ℕ) → spells_from r.scanner (drop r.from (take r.to r.piece) ++ rest) ≡ refused_with e)
+    → (rest : List ℕ) → unread_spells r rest ≡ refused_with e
 unfolding unread_spells unread
-byte_taken r s b (Err e) some fits is piece from to reads = tt
-byte_taken r s b (Ok board) some fits is piece from to reads = λ rest.
-    unread_byte r rest some fits
-    ∙ ap (λ x. spells_from r.scanner (x ∷ (drop (r.from + 1) (take r.to r.piece) ++ rest))) (sym is)
-    ∙ reads (drop (r.from + 1) (take r.to r.piece) ++ rest)
-    ∙ rw (piece, from, to) refl
+bytes_refused r e refused rest = refused rest
 
-pub byte_refused : (r : BoardReader) (b : ℕ) (result : Result (Option ABoard) RefusedRecord) → r.from < r.to → r.to ≤ length r.piece → b ≡ get_or r.piece r.from 0
-    → IfErr result (λ e. (rest : List ℕ) → spells_from r.scanner (b ∷ rest) ≡ refused_with e)
-    → IfErr result (λ e. (rest : List ℕ) → unread_spells r rest ≡ refused_with e)
-byte_refused r b (Ok board) some fits is reads = tt
-byte_refused r b (Err e) some fits is reads = λ rest.
-    unread_byte r rest some fits
-    ∙ ap (λ x. spells_from r.scanner (x ∷ (drop (r.from + 1) (take r.to r.piece) ++ rest))) (sym is)
-    ∙ reads (drop (r.from + 1) (take r.to r.piece) ++ rest)
+pub still_ready : (r s : BoardReader) (count : ℕ) (board : Option Told) → Reads r.scanner s.scanner (drop r.from (take r.to r.piece)) count board
+    → s.piece ≡ r.piece → s.from ≡ r.from + count → s.to ≡ r.to → s.taken ≡ r.taken + count → IsReady r → IsReady s
+still_ready r s count board reads piece from to taken ready =
+    let all : length (take r.to r.piece) ≡ r.to = rw length-take (omega (arith, ready.piece)) in
+    let within : count ≤ r.to - r.from = omega (arith, reads.within, length-drop r.from (take r.to r.piece), all) in
+    let room : IsWithin s.scanner (r.taken + count) = reads.room r.taken ready.room in
+    record {
+      within = omega (arith, within, from, to, ready.within);
+      piece = rw (piece, to) ready.piece;
+      few = omega (arith, within, from, to, taken, ready.few, ready.within);
+      room = rw taken room;
+    }
 
 -- a piece is read after the last
 pub filled : (r s : BoardReader) → r.from ≡ r.to → s.scanner ≡ r.scanner → s.from ≡ 0 → (rest : List ℕ) → unread_spells r (take s.to s.piece ++ rest) ≡ unread_spells s rest

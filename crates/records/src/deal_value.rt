@@ -17,6 +17,12 @@ const LAST_PART: usize = 15;
 /// Who has each card, as far as that is known.
 type Given = [Option<Seat>; 52];
 
+/// The ranks of the bytes from `2` to `T`; 13 where a byte is no rank's letter.
+const RANK_OF: [u8; 35] = [
+    12, 11, 10, 9, 8, 7, 6, 5, 13, 13, 13, 13, 13, 13, 13, 0, 13, 13, 13, 13, 13, 13, 13, 13, 3, 1,
+    13, 13, 13, 13, 13, 2, 13, 13, 4,
+];
+
 /// The rank of a letter; 13 where there is none.
 #[tactic(auto, unfolding(crate::specs::DealValues::rank_in))]
 fn rank_in(byte: u8) -> usize
@@ -24,12 +30,7 @@ fn rank_in(byte: u8) -> usize
     ensures range { result ≤ 13 }
 {
     match byte {
-        b'A' => 0,
-        b'K' => 1,
-        b'Q' => 2,
-        b'J' => 3,
-        b'T' => 4,
-        b'2'..=b'9' => usize::from(14 - (byte - b'0')),
+        b'2'..=b'T' => usize::from(RANK_OF[usize::from(byte - b'2')]),
         _ => RANKS,
     }
 }

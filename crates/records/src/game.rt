@@ -1,25 +1,35 @@
 //! A game: what its tags say of a board.
 
 ghost use Rattle.std.specs.Prelude.{◌≡◌, ◌+◌, ◌-◌, ◌<◌, ◌≤◌, ◌^◌, ℕ, IfOk, IfSome, unwrap_or};
-ghost use Rattle.records.specs.Games.{board_of, first_fault, game_says, has, no_game, number_of};
+ghost use Rattle.records.specs.Games.{board_of, first_fault, game_says, has, heading_of, no_game, number_of};
 ghost use Rattle.records.specs.Games.{with_deal, with_dealer, with_number, with_tag};
 ghost use Rattle.records.specs.Games.{with_vulnerable};
 
 use crate::deal_value::deal_in;
 use crate::fault::{RecordFault, RefusedRecord};
 use crate::kind::Kind;
-use crate::values::{dealer_in, is_unknown, number_in, vulnerable_in};
-use boards::{Board, Vul, dealer, vulnerable};
+use crate::values::{date_in, dealer_in, is_unknown, label_in, number_in, vulnerable_in};
+use boards::{Board, Date, Heading, Label, Vul, dealer, vulnerable};
 use cards::{Deal, Seat};
 
-/// What the tags of a game say, each if the game has it: the number of its board, or 0 if it is
-/// none; the dealer and the vulnerability, or `None` if they aren't known; the deal; and the first
+/// No candidate has this number.
+const NO_CANDIDATE: u64 = 1 << 40;
+
+/// A board, and the labels of its game.
+#[derive(Clone, Copy, Drop)]
+pub struct Told {
+    pub board: Board,
+    pub heading: Heading,
+}
+
+/// What the tags of a game say, each if the game has it: its labels, or `None` if they are none;
+/// the number of its board, or 0 if it is none; the dealer and the vulnerability, or `None` if they aren't known; the deal; and the first
 /// fault of a tag.
 #[derive(Clone, Copy)]
 pub struct Game {
-    pub event: bool,
-    pub site: bool,
-    pub date: bool,
+    pub event: Option<Option<Label>>,
+    pub site: Option<Option<Label>>,
+    pub date: Option<Option<Date>>,
     pub number: Option<u64>,
     pub dealer: Option<Option<Seat>>,
     pub vulnerable: Option<Option<Vul>>,
@@ -33,9 +43,9 @@ impl Game {
         ensures { result ≡ no_game }
     {
         Game {
-            event: false,
-            site: false,
-            date: false,
+            event: None,
+            site: None,
+            date: None,
             number: None,
             dealer: None,
             vulnerable: None,
@@ -49,9 +59,9 @@ impl Game {
         ensures { result ≡ has kind self.now }
     {
         match kind {
-            Kind::Event => self.event,
-            Kind::Site => self.site,
-            Kind::Date => self.date,
+            Kind::Event => self.event.is_some(),
+            Kind::Site => self.site.is_some(),
+            Kind::Date => self.date.is_some(),
             Kind::Board => self.number.is_some(),
             Kind::Dealer => self.dealer.is_some(),
             Kind::Vulnerable => self.vulnerable.is_some(),
@@ -125,15 +135,15 @@ impl Game {
     {
         match kind {
             Kind::Event => Game {
-                event: true,
+                event: Some(label_in(value)),
                 ..*self
             },
             Kind::Site => Game {
-                site: true,
+                site: Some(label_in(value)),
                 ..*self
             },
             Kind::Date => Game {
-                date: true,
+                date: Some(date_in(value)),
                 ..*self
             },
             Kind::Board => self.with_number(value, line),
@@ -166,7 +176,7 @@ impl Game {
         let number = self.number(last);
         Board {
             number,
-            candidate: 0,
+            candidate: NO_CANDIDATE,
             dealer: self.dealer.unwrap_or(None).unwrap_or(dealer(number)),
             vulnerable: self
                 .vulnerable
@@ -176,16 +186,27 @@ impl Game {
         }
     }
 
+    /// The labels of the game.
+    fn heading(&self) -> Heading
+        ensures { result ≡ heading_of self.now }
+    {
+        Heading {
+            event: self.event.unwrap_or(None),
+            site: self.site.unwrap_or(None),
+            date: self.date.unwrap_or(None),
+        }
+    }
+
     /// What the game says as it ends, after the board of number `last`.
     ///
     /// # Errors
     /// The first fault of its tags, if it has a deal.
     #[tactic(auto, unfolding(crate::specs::Games::game_says))]
-    pub(crate) fn says(&self, last: u64) -> Result<Option<Board>, RefusedRecord>
+    pub(crate) fn says(&self, last: u64) -> Result<Option<Told>, RefusedRecord>
         requires { last < 2 ^ 64 - 1 }
         ensures value { result ≡ game_says last self.now }
-        ensures most { IfOk result (λ board. IfSome board (λ b. (n : ℕ) → last + 1 ≤ n
-            → unwrap_or self.now.number 0 ≤ n → b.number ≤ n)) }
+        ensures most { IfOk result (λ told. IfSome told (λ t. (n : ℕ) → last + 1 ≤ n
+            → unwrap_or self.now.number 0 ≤ n → t.board.number ≤ n)) }
     {
         let Some(deal) = self.deal else {
             return Ok(None);
@@ -195,7 +216,10 @@ impl Game {
         }
         match deal {
             None => Ok(None),
-            Some(deal) => Ok(Some(self.board(last, deal))),
+            Some(deal) => Ok(Some(Told {
+                board: self.board(last, deal),
+                heading: self.heading(),
+            })),
         }
     }
 }

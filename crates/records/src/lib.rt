@@ -14,10 +14,11 @@ mod reader;
 mod reading;
 mod scanner;
 mod shown;
+mod tag;
 mod values;
 
 pub use fault::{RecordFault, RefusedRecord};
-pub use game::Game;
+pub use game::{Game, Told};
 pub use kind::Kind;
 pub use line::{Part, Step};
 pub use reader::{BoardReader, Next, ReadFault};

@@ -1,9 +1,10 @@
 //! A line that is read byte by byte, up to the tags in it.
 
-ghost use Rattle.std.specs.Prelude.{◌≡◌, ◌≢◌, ◌<◌, ◌≤◌, length};
+ghost use Rattle.std.specs.Prelude.{◌≡◌, ◌≢◌, ◌+◌, ◌<◌, ◌≤◌, ℕ, length, true};
 ghost use Rattle.records.specs.Places.{begin, is_blank, is_empty, is_in_tag, is_name_byte};
 ghost use Rattle.records.specs.Places.{moved, new_line, opened, place_after, step_at};
-ghost use Rattle.records.specs.declared.line.Step.TheVariants.{Wrong};
+ghost use Rattle.records.specs.internal.TagTexts.{IsStart, after_tag};
+ghost use Rattle.records.specs.declared.line.Step.TheVariants.{On, Wrong};
 ghost use Rattle.records.specs.declared.line.Part.TheVariants.{Bracket, Name, Gap, Value};
 ghost use Rattle.records.specs.declared.line.Part.TheVariants.{Escape, Close};
 
@@ -14,7 +15,7 @@ use std::marker::Model;
 pub(crate) const MOST_BYTES: usize = 4096;
 
 /// Where in a line a reader is.
-#[derive(Clone, Copy)]
+#[derive(Clone, Copy, PartialEq, Eq)]
 pub enum Part {
     /// Where a tag may begin, or a comment; or where all is skipped.
     Open,
@@ -84,7 +85,7 @@ fn is_blank(byte: u8) -> bool
     byte == b' ' || byte == b'\t'
 }
 
-fn is_name_byte(byte: u8) -> bool
+pub(crate) fn is_name_byte(byte: u8) -> bool
     ensures { result ≡ is_name_byte byte }
 {
     byte.is_ascii_alphanumeric() || byte == b'_'
@@ -149,6 +150,37 @@ impl Line {
         self.column = 0;
         self.name.clear();
         self.value.clear();
+    }
+
+    /// Whether nothing was read of the line, and no comment goes on.
+    pub(crate) fn is_at_start(&self) -> bool
+        ensures { result ≡ true → IsStart self.now }
+    {
+        self.column == 0 && self.part == Part::Open && !self.comment
+    }
+
+    /// Whether the line goes on after any byte.
+    pub(crate) fn is_free(&self) -> bool
+        ensures { result ≡ true → (b : ℕ) → step_at self.now.part b ≡ On }
+    {
+        matches!(
+            self.part,
+            Part::Open | Part::Rest | Part::Value | Part::Escape
+        )
+    }
+
+    /// Takes a tag at the beginning of the line.
+    pub(crate) fn take_tag(&mut self, name: &[u8], value: &[u8])
+        requires start { IsStart self.old }
+        requires fits { length name.now + length value.now + 5 ≤ 4096 }
+        ensures { self.new ≡ after_tag name.now value.now }
+    {
+        self.skips = false;
+        self.column = name.len() + value.len() + 5;
+        self.name.clear();
+        let _fits = self.name.try_extend_from_slice(name);
+        self.value.clear();
+        let _fits = self.value.try_extend_from_slice(value);
     }
 
     /// Takes a byte where a tag or a comment may begin.

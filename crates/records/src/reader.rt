@@ -1,15 +1,18 @@
 //! Boards that are read from an input.
 
 ghost use Rattle.std.specs.Prelude.{◌≡◌, ◌-◌, ◌+◌, ◌<◌, ◌≤◌, ◌^◌, [], ℕ, List, IfErr, IfOk};
-ghost use Rattle.std.specs.Prelude.{IfSome, MatchResult, OnOk, None, false, true};
+ghost use Rattle.std.specs.Prelude.{◌++◌, IfSome, MatchResult, OnOk, None, drop, false, length};
+ghost use Rattle.std.specs.Prelude.{take, true};
 ghost use Rattle.std.specs.Io.KnownBytes.{IsAtEnd, Keeps};
 ghost use Rattle.records.specs.Readers.{Fills, InputFaults, IsFed, IsReady, ReadsNext};
 ghost use Rattle.records.specs.Readers.{OnBoard, TellsEnd, left, unread_spells};
+ghost use Rattle.records.specs.Scans.{IsWithin, spells_from};
 ghost use Rattle.records.specs.Texts.{after, list_of, refused_with, spelled};
+ghost use Rattle.records.specs.internal.TagTexts.{Reads};
 
 use crate::fault::RefusedRecord;
+use crate::game::Told;
 use crate::scanner::Scanner;
-use boards::Board;
 use picking::{MOST_BYTES, Source, SourceFault};
 
 /// How many bytes are read at once.
@@ -22,9 +25,9 @@ const MOST_READS: u64 = MOST_BYTES + 1;
 #[derive(Drop)]
 pub enum Next {
     /// The board of a game that ended.
-    Board(Board),
+    Board(Told),
     /// The board of the last game, after which the input ended.
-    Last(Board),
+    Last(Told),
     /// The input ended.
     End,
 }
@@ -49,6 +52,27 @@ pub struct BoardReader {
     taken: u64,
 }
 
+/// Reads on in this part of a piece, up to a board or its end. Returns how many bytes were read,
+/// and the board.
+fn read_part(
+    scanner: &mut Scanner,
+    piece: &[u8; PIECE],
+    from: usize,
+    to: usize,
+) -> Result<(usize, Option<Told>), RefusedRecord>
+    requires within { from ≤ to }
+    requires piece { to ≤ length piece.now }
+    requires room { IsWithin scanner.old (2 ^ 58) }
+    ensures reads { IfOk result (λ r.
+        Reads scanner.old scanner.new (drop from (take to piece.now)) r.0 r.1) }
+    ensures more { IfOk result (λ r. IfSome r.1 (λ _. 0 < r.0)) }
+    ensures all { IfOk result (λ r. r.1 ≡ None → r.0 ≡ to - from) }
+    ensures refused { IfErr result (λ e. (rest : List ℕ)
+        → spells_from scanner.old (drop from (take to piece.now) ++ rest) ≡ refused_with e) }
+{
+    scanner.read(&piece[from..to])
+}
+
 impl BoardReader {
     /// Nothing was read.
     pub fn new() -> BoardReader
@@ -65,26 +89,8 @@ impl BoardReader {
         }
     }
 
-    /// Takes the next byte of the piece.
-    fn take_byte(&mut self) -> Result<Option<Board>, RefusedRecord>
-        requires ready { IsReady self.old }
-        requires some { self.old.from < self.old.to }
-        ensures goes_on { IfOk result (λ board. (rest : List ℕ)
-            → unread_spells self.old rest ≡ after (list_of board) (unread_spells self.new rest)) }
-        ensures refused { IfErr result (λ e. (rest : List ℕ)
-            → unread_spells self.old rest ≡ refused_with e) }
-        ensures ready { OnOk result (IsReady self.new) }
-        ensures left { OnOk result (left self.new ≡ left self.old) }
-        ensures taken { self.new.taken ≡ self.old.taken + 1 }
-    {
-        let byte = self.piece[self.from];
-        self.from += 1;
-        self.taken += 1;
-        self.scanner.take(byte)
-    }
-
     /// Reads on in the piece, up to a board or the end of the piece.
-    fn take_piece(&mut self) -> Result<Option<Board>, RefusedRecord>
+    fn take_piece(&mut self) -> Result<Option<Told>, RefusedRecord>
         requires { IsReady self.old }
         ensures goes_on { IfOk result (λ board. (rest : List ℕ)
             → unread_spells self.old rest ≡ after (list_of board) (unread_spells self.new rest)) }
@@ -96,14 +102,14 @@ impl BoardReader {
         ensures all { IfOk result (λ board. board ≡ None → self.new.from ≡ self.new.to) }
         ensures taken { self.old.taken ≤ self.new.taken }
     {
-        while self.from < self.to {
-            match self.take_byte() {
-                Ok(None) => {}
-                Ok(Some(board)) => return Ok(Some(board)),
-                Err(line) => return Err(line),
+        match read_part(&mut self.scanner, &self.piece, self.from, self.to) {
+            Ok((count, board)) => {
+                self.from += count;
+                self.taken += count as u64;
+                Ok(board)
             }
+            Err(line) => Err(line),
         }
-        Ok(None)
     }
 
     /// Reads the next piece of the input, after the last. Returns whether there is one.

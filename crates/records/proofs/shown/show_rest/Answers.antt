@@ -10,7 +10,7 @@ returns-in-Ok-Last-clause-shows g c before base start =
     let now = g.I.Source.rest c.loop-turn.input in
     let p = subst (ShownFrom layout has c.loop-turn.reader c.loop-turn.boards before now base) (sym c.watch.ensures.bytes) (c.loop-turn.invariant.shown before base start) in
     shows_last layout (g.N.Notation.layout c.loop-turn.notation) has c.loop-turn.reader c.next.new.self c.loop-turn.boards before now (g.I.Source.rest c.next.new.input) base (g.S.Sink.bytes c.watch.new.self) (g.S.Sink.bytes c.put_last.new.sink)
-    c.in-Ok-Last.board c.put_last.result c.loop-turn.invariant.layout (rw c.in-Ok-Last.field-0-is at c.in-Ok-Last.ensures.reads) c.put_last.ensures.bytes p
+    c.in-Ok-Last.told c.put_last.result c.loop-turn.invariant.layout (rw c.in-Ok-Last.field-0-is at c.in-Ok-Last.ensures.reads) c.put_last.ensures.bytes p
 
 pub returns-in-Ok-Last-clause-input : goal.returns-in-Ok-Last-clause-input
 returns-in-Ok-Last-clause-input g c = input_kept c.put_last.result _ _ c.put_last.ensures.fault (search rules)
@@ -52,7 +52,7 @@ returns-in-Err-clause-shows g c before base start =
     let now = g.I.Source.rest c.loop-turn.input in
     let p = subst (ShownFrom layout has c.loop-turn.reader c.loop-turn.boards before now base) (sym c.watch.ensures.bytes) (c.loop-turn.invariant.shown before base start) in
     breaks_board layout (g.N.Notation.layout c.loop-turn.notation) has c.loop-turn.reader c.next.new.self c.loop-turn.boards before now (g.I.Source.rest c.next.new.input) base (g.S.Sink.bytes c.watch.new.self) (g.S.Sink.bytes c.put.new.sink)
-    c.in-Ok-Board.board c.loop-turn.invariant.layout (rw c.in-Ok-Board.field-0-is at c.in-Ok-Board.ensures.reads) c.in-Err.ensures.bytes p
+    c.in-Ok-Board.told c.loop-turn.invariant.layout (rw c.in-Ok-Board.field-0-is at c.in-Ok-Board.ensures.reads) c.in-Err.ensures.bytes p
 
 pub loop-turn-preserved : goal.loop-turn-preserved
 loop-turn-preserved g c =
@@ -67,7 +67,7 @@ loop-turn-preserved g c =
       shown = λ before base start.
           let p = subst (ShownFrom layout has c.loop-turn.reader c.loop-turn.boards before now base) (sym c.watch.ensures.bytes) (c.loop-turn.invariant.shown before base start) in
           shows_board layout (g.N.Notation.layout c.loop-turn.notation) has (g.N.Notation.has_printed c.put.new.notation) c.loop-turn.reader c.next.new.self c.loop-turn.boards before now (g.I.Source.rest c.next.new.input) base (g.S.Sink.bytes c.watch.new.self) (g.S.Sink.bytes c.put.new.sink)
-          c.in-Ok-Board.board c.loop-turn.invariant.layout (rw c.in-Ok-Board.field-0-is at c.in-Ok-Board.ensures.reads) c.in-Ok.ensures.bytes c.put.ensures.printed p;
+          c.in-Ok-Board.told c.loop-turn.invariant.layout (rw c.in-Ok-Board.field-0-is at c.in-Ok-Board.ensures.reads) c.in-Ok.ensures.bytes c.put.ensures.printed p;
       ready = ready;
       fed = fed;
       faults = search rules;

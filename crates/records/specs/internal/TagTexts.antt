@@ -1,0 +1,52 @@
+-- A tag at the beginning of a line, in the form that most programs write.
+use Rattle.std.specs.Prelude.{◌≡◌, ◌<◌, ◌≤◌, ℕ, ◌+◌, ◌==◌, ◌||◌, Bool, true, false, not}
+use Rattle.std.specs.Prelude.{List, [], ◌∷◌, ◌++◌, Option, drop, length}
+use Rattle.std.specs.List.{list_all}
+use Rattle.records.specs.declared.game.Told.{Told}
+use Rattle.records.specs.Places.{Place, is_name_byte}
+use Rattle.records.specs.Scans.{IsWithin, spells_from}
+use Rattle.records.specs.Texts.{after, list_of}
+use Rattle.records.specs.declared.line.Part.TheVariants.{Open}
+use Rattle.records.specs.declared.reading.Reading.{Reading}
+use Rattle.records.specs.declared.scanner.Scanner.{Scanner}
+
+-- a byte that stands for itself in a value
+abbrev pub is_plain : ℕ → Bool
+is_plain b = not (b == 34 || (b == 92 || (b == 10 || b == 13)))
+
+-- [NAME "VALUE"]
+unfoldable pub tag_text : List ℕ → List ℕ → List ℕ
+tag_text name value = 91 ∷ (name ++ 32 ∷ 34 ∷ (value ++ 34 ∷ 93 ∷ []))
+
+pub record IsTag (name value : List ℕ) : Type 0 where
+  pub some : 0 < length name
+  pub named : list_all is_name_byte name ≡ true
+  pub plain : list_all is_plain value ≡ true
+  pub fits : length name + length value + 5 ≤ 4096
+
+-- nothing was read of the line, and no comment goes on
+pub record IsStart (p : Place) : Type 0 where
+  pub part : p.part ≡ Open
+  pub column : p.column ≡ 0
+  pub comment : p.comment ≡ false
+
+-- after such a tag
+abbrev pub after_tag : List ℕ → List ℕ → Place
+after_tag name value = record {
+  part = Open;
+  skips = false;
+  comment = false;
+  column = length name + length value + 5;
+  name = name;
+  value = value;
+}
+
+abbrev pub with_place : Place → Reading → Reading
+with_place p s = record s { line = p }
+
+-- these many bytes were read, and the board came of them
+pub record Reads (s t : Scanner) (bytes : List ℕ) (count : ℕ) (board : Option Told) : Type 0 where
+  pub within : count ≤ length bytes
+  pub spells : (rest : List ℕ) → spells_from s (bytes ++ rest)
+      ≡ after (list_of board) (spells_from t (drop count bytes ++ rest))
+  pub room : (n : ℕ) → IsWithin s n → IsWithin t (n + count)
