@@ -13,7 +13,7 @@ use Rattle.dealrun.specs.Values.{lines}
 use Rattle.jobs.specs.Counting.{IsAsked, table_by}
 use Rattle.deals_cli.specs.Formats.{layout_in, text_showing}
 use Rattle.deals_cli.specs.Shown.{ShowsUnder}
-use Rattle.jobs.specs.Makings.{IsPlanned, Means, heading_of, plan_of}
+use Rattle.jobs.specs.Makings.{Means, heading_of, plan_of}
 use Rattle.request_types.specs.Requests.{Wish, conditions, count, draw, make, make_with_tricks}
 use Rattle.lessons.specs.Lessons.{lessons_text}
 use Rattle.request_types.specs.Requests.{lessons, no_search, numbers_look, pick, show, stream}

@@ -4,11 +4,11 @@ use Rattle.std.specs.Prelude.{Result, Ok, Err}
 use Rattle.dealrun.specs.Headline.{WritesTextIn}
 use Rattle.dealrun.specs.Interrupted.{FaultsAfter}
 use Rattle.plans.specs.declared.cause.Cause.{Cause}
-use Rattle.plans.specs.declared.cause.Cause.TheVariants.{Memory, Output, Spawn, Stopped, Unclosed}
+use Rattle.plans.specs.declared.cause.Cause.TheVariants.{Memory, Output, Spawn}
 use Rattle.boards.specs.Layouts.{Layout}
 use Rattle.notations.specs.Formats.{layout_showing}
 use Rattle.plans.specs.Plans.{Planned}
-use Rattle.plans.specs.Text.{accepted, end_of, text_in}
+use Rattle.plans.specs.Text.{accepted, end_of}
 use Rattle.jobs.specs.Makings.{AreWorkers, plan_of}
 use Rattle.request_types.specs.Requests.{Look, Search}
 use Rattle.cond_lang.specs.Form.{Form}
