@@ -73,7 +73,7 @@ impl Reading {
         ensures number { unwrap_or self.old.game.number 0 ≤ 2 ^ 40
             → unwrap_or self.new.game.number 0 ≤ 2 ^ 40 }
     {
-        self.game = self.game.with_tag(kind, self.line.value(), self.lines + 1);
+        self.game.add_tag(kind, self.line.value(), self.lines + 1);
     }
 
     /// Goes to the next line.
