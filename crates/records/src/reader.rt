@@ -62,7 +62,7 @@ fn read_part(
 ) -> Result<(usize, Option<Told>), RefusedRecord>
     requires within { from ≤ to }
     requires piece { to ≤ length piece.now }
-    requires room { IsWithin scanner.old (2 ^ 58) }
+    requires room { IsWithin scanner.old (2 ^ 57) }
     ensures reads { IfOk result (λ r.
         Reads scanner.old scanner.new (drop from (take to piece.now)) r.0 r.1) }
     ensures more { IfOk result (λ r. IfSome r.1 (λ _. 0 < r.0)) }
