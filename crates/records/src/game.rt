@@ -1,7 +1,8 @@
 //! A game: what its tags say of a board.
 
 ghost use Rattle.std.specs.Prelude.{◌≡◌, ◌+◌, ◌-◌, ◌<◌, ◌≤◌, ◌^◌, ℕ, IfOk, IfSome, unwrap_or};
-ghost use Rattle.records.specs.Games.{board_of, first_fault, game_says, has, heading_of, no_game, number_of};
+ghost use Rattle.records.specs.Games.{board_of, first_fault, game_says, has, heading_of};
+ghost use Rattle.records.specs.Games.{no_game, number_of};
 ghost use Rattle.records.specs.Games.{with_deal, with_dealer, with_number, with_tag};
 ghost use Rattle.records.specs.Games.{with_vulnerable};
 
@@ -23,8 +24,8 @@ pub struct Told {
 }
 
 /// What the tags of a game say, each if the game has it: its labels, or `None` if they are none;
-/// the number of its board, or 0 if it is none; the dealer and the vulnerability, or `None` if they aren't known; the deal; and the first
-/// fault of a tag.
+/// the number of its board, or 0 if it is none; the dealer and the vulnerability, or `None` if they
+/// aren't known; the deal; and the first fault of a tag.
 #[derive(Clone, Copy)]
 pub struct Game {
     pub event: Option<Option<Label>>,

@@ -90,7 +90,7 @@ impl BoardReader {
     }
 
     /// Reads on in the piece, up to a board or the end of the piece.
-    fn take_piece(&mut self) -> Result<Option<Told>, RefusedRecord>
+    pub(crate) fn take_piece(&mut self) -> Result<Option<Told>, RefusedRecord>
         requires { IsReady self.old }
         ensures goes_on { IfOk result (λ board. (rest : List ℕ)
             → unread_spells self.old rest ≡ after (list_of board) (unread_spells self.new rest)) }

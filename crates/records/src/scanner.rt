@@ -96,7 +96,8 @@ impl Scanner {
         !self.after_cr && self.reading.line.is_at_start()
     }
 
-    /// Takes a tag at the beginning of a line, unless a game ends before it. Returns whether it did.
+    /// Takes a tag at the beginning of a line, unless a game ends before it. Returns whether it
+    /// did.
     fn pass_tag(&mut self, name: &[u8], value: &[u8]) -> bool
         requires room { IsWithin self.old (2 ^ 60) }
         requires start { IsStart self.old.reading.line × (self.old.after_cr ≡ false) }
@@ -110,8 +111,8 @@ impl Scanner {
         self.reading.pass_tag(name, value)
     }
 
-    /// Takes the tag that a line begins with here, if no game ends before it. Returns how many bytes
-    /// it has; none were taken if that is 0.
+    /// Takes the tag that a line begins with here, if no game ends before it. Returns how many
+    /// bytes it has; none were taken if that is 0.
     fn pass_tag_at(&mut self, bytes: &[u8]) -> usize
         requires { IsWithin self.old (2 ^ 60) }
         ensures { Reads self.old self.new bytes.now result None }
@@ -214,7 +215,8 @@ impl Scanner {
         from
     }
 
-    /// Reads on in the bytes, up to a board or their end. Returns how many were read, and the board.
+    /// Reads on in the bytes, up to a board or their end. Returns how many were read, and the
+    /// board.
     ///
     /// # Errors
     /// The line that is refused, whatever comes after.
