@@ -1,6 +1,7 @@
 -- Bytes that were read, one after another.
-use Rattle.std.proofs.Common.{◌≡◌, ◌∙◌, ◌<◌, ℕ, ◌+◌, ◌-◌, add-one, take, List, [], ◌∷◌, ◌++◌, length, drop, drop-cons, get_or, Option, None, append_assoc, length-append, ap, arith, refl, sym}
+use Rattle.std.proofs.Common.{◌≡◌, ◌∙◌, ◌<◌, ℕ, ◌+◌, ◌-◌, add-one, take, List, [], ◌∷◌, ◌++◌, length, drop, drop-cons, get_or, Option, None, Result, Ok, Err, IfOk, append_assoc, length-append, ap, arith, refl, sym}
 use Rattle.records.specs.declared.game.Told.{Told}
+use Rattle.std.specs.Prelude.{OnOk}
 use Rattle.records.specs.Scans.{IsWithin, spells_from}
 use Rattle.records.specs.Texts.{after, list_of, refused_with}
 use Rattle.records.specs.declared.fault.RefusedRecord.{RefusedRecord}
@@ -52,6 +53,12 @@ reads_passed s t u b bytes i below is p reads room = record {
 pub reads_refused : (s t : Scanner) (bytes : List ℕ) (n : ℕ) (e : RefusedRecord) → Reads s t bytes n None → ((rest : List ℕ) → spells_from t (take (length bytes - n) (drop n bytes) ++ rest) ≡ refused_with e)
     → (rest : List ℕ) → spells_from s (bytes ++ rest) ≡ refused_with e
 reads_refused s t bytes n e p refused rest = p.spells rest ∙ (rw (take_rest bytes n) at refused rest)
+
+pub first_read : (s t : Scanner) (b : ℕ) (bytes : List ℕ) (r : Result (Option Told) RefusedRecord) → 0 < length bytes → b ≡ get_or bytes 0 0
+    → IfOk r (λ told. (rest : List ℕ) → spells_from s (b ∷ rest) ≡ after (list_of told) (spells_from t rest)) → ((n : ℕ) → IsWithin s n → OnOk r (IsWithin t (n + 1)))
+    → IfOk r (λ told. Reads s t bytes 1 told)
+first_read s t b bytes (Err e) some is reads room = tt
+first_read s t b bytes (Ok told) some is reads room = reads_byte s t b bytes told some is reads room
 
 pub reads_tag : (s t : Scanner) (name value after_it bytes : List ℕ) (board : Option Told) → bytes ≡ tag_text name value ++ after_it
     → ((rest : List ℕ) → spells_from s (tag_text name value ++ rest) ≡ after (list_of board) (spells_from t rest)) → ((n : ℕ) → IsWithin s n → IsWithin t (n + 1))

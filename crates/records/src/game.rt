@@ -1,7 +1,8 @@
 //! A game: what its tags say of a board.
 
 ghost use Rattle.std.specs.Prelude.{◌≡◌, ◌+◌, ◌-◌, ◌<◌, ◌≤◌, ◌^◌, ℕ, IfOk, IfSome, unwrap_or};
-ghost use Rattle.records.specs.Games.{board_of, first_fault, game_says, has, heading_of, no_game, number_of};
+ghost use Rattle.records.specs.Games.{board_of, first_fault, game_says, has, heading_of};
+ghost use Rattle.records.specs.Games.{no_game, number_of};
 ghost use Rattle.records.specs.Games.{with_deal, with_dealer, with_number, with_tag};
 ghost use Rattle.records.specs.Games.{with_vulnerable};
 
@@ -23,8 +24,8 @@ pub struct Told {
 }
 
 /// What the tags of a game say, each if the game has it: its labels, or `None` if they are none;
-/// the number of its board, or 0 if it is none; the dealer and the vulnerability, or `None` if they aren't known; the deal; and the first
-/// fault of a tag.
+/// the number of its board, or 0 if it is none; the dealer and the vulnerability, or `None` if they
+/// aren't known; the deal; and the first fault of a tag.
 #[derive(Clone, Copy)]
 pub struct Game {
     pub event: Option<Option<Label>>,
@@ -80,76 +81,55 @@ impl Game {
         }
     }
 
-    fn with_number(&self, value: &[u8], line: u64) -> Game
-        ensures value { result ≡ with_number value.now line self.now }
-        ensures most { unwrap_or result.number 0 ≤ 2 ^ 40 }
+    fn add_number(&mut self, value: &[u8], line: u64)
+        ensures value { self.new ≡ with_number value.now line self.old }
+        ensures most { unwrap_or self.new.number 0 ≤ 2 ^ 40 }
     {
         let number = number_in(value);
-        Game {
-            number: Some(number),
-            fault: self.first_fault(number == 0, line, RecordFault::NotANumber),
-            ..*self
-        }
+        self.number = Some(number);
+        self.fault = self.first_fault(number == 0, line, RecordFault::NotANumber);
     }
 
-    fn with_dealer(&self, value: &[u8], line: u64) -> Game
-        ensures { result ≡ with_dealer value.now line self.now }
+    fn add_dealer(&mut self, value: &[u8], line: u64)
+        ensures { self.new ≡ with_dealer value.now line self.old }
     {
         let dealer = dealer_in(value);
         let bad = dealer.is_none() && !is_unknown(value);
-        Game {
-            dealer: Some(dealer),
-            fault: self.first_fault(bad, line, RecordFault::NotADealer),
-            ..*self
-        }
+        self.dealer = Some(dealer);
+        self.fault = self.first_fault(bad, line, RecordFault::NotADealer);
     }
 
-    fn with_vulnerable(&self, value: &[u8], line: u64) -> Game
-        ensures { result ≡ with_vulnerable value.now line self.now }
+    fn add_vulnerable(&mut self, value: &[u8], line: u64)
+        ensures { self.new ≡ with_vulnerable value.now line self.old }
     {
         let vulnerable = vulnerable_in(value);
         let bad = vulnerable.is_none() && !is_unknown(value);
-        Game {
-            vulnerable: Some(vulnerable),
-            fault: self.first_fault(bad, line, RecordFault::NotAVulnerability),
-            ..*self
-        }
+        self.vulnerable = Some(vulnerable);
+        self.fault = self.first_fault(bad, line, RecordFault::NotAVulnerability);
     }
 
-    fn with_deal(&self, value: &[u8], line: u64) -> Game
-        ensures { result ≡ with_deal value.now line self.now }
+    fn add_deal(&mut self, value: &[u8], line: u64)
+        ensures { self.new ≡ with_deal value.now line self.old }
     {
         let deal = deal_in(value);
-        Game {
-            deal: Some(deal),
-            fault: self.first_fault(deal.is_none(), line, RecordFault::NotADeal),
-            ..*self
-        }
+        self.deal = Some(deal);
+        self.fault = self.first_fault(deal.is_none(), line, RecordFault::NotADeal);
     }
 
-    /// The game with one tag more, on this line.
+    /// Adds a tag, on this line.
     #[tactic(auto, unfolding(crate::specs::Games::with_tag))]
-    pub(crate) fn with_tag(&self, kind: Kind, value: &[u8], line: u64) -> Game
-        ensures value { result ≡ with_tag kind value.now line self.now }
-        ensures most { unwrap_or self.now.number 0 ≤ 2 ^ 40 → unwrap_or result.number 0 ≤ 2 ^ 40 }
+    pub(crate) fn add_tag(&mut self, kind: Kind, value: &[u8], line: u64)
+        ensures value { self.new ≡ with_tag kind value.now line self.old }
+        ensures most { unwrap_or self.old.number 0 ≤ 2 ^ 40 → unwrap_or self.new.number 0 ≤ 2 ^ 40 }
     {
         match kind {
-            Kind::Event => Game {
-                event: Some(label_in(value)),
-                ..*self
-            },
-            Kind::Site => Game {
-                site: Some(label_in(value)),
-                ..*self
-            },
-            Kind::Date => Game {
-                date: Some(date_in(value)),
-                ..*self
-            },
-            Kind::Board => self.with_number(value, line),
-            Kind::Dealer => self.with_dealer(value, line),
-            Kind::Vulnerable => self.with_vulnerable(value, line),
-            Kind::Deal => self.with_deal(value, line),
+            Kind::Event => self.event = Some(label_in(value)),
+            Kind::Site => self.site = Some(label_in(value)),
+            Kind::Date => self.date = Some(date_in(value)),
+            Kind::Board => self.add_number(value, line),
+            Kind::Dealer => self.add_dealer(value, line),
+            Kind::Vulnerable => self.add_vulnerable(value, line),
+            Kind::Deal => self.add_deal(value, line),
         }
     }
 

@@ -16,6 +16,7 @@ mod scanner;
 mod shown;
 mod tag;
 mod values;
+mod watched;
 
 pub use fault::{RecordFault, RefusedRecord};
 pub use game::{Game, Told};

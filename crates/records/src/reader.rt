@@ -62,7 +62,7 @@ fn read_part(
 ) -> Result<(usize, Option<Told>), RefusedRecord>
     requires within { from ≤ to }
     requires piece { to ≤ length piece.now }
-    requires room { IsWithin scanner.old (2 ^ 58) }
+    requires room { IsWithin scanner.old (2 ^ 57) }
     ensures reads { IfOk result (λ r.
         Reads scanner.old scanner.new (drop from (take to piece.now)) r.0 r.1) }
     ensures more { IfOk result (λ r. IfSome r.1 (λ _. 0 < r.0)) }
@@ -90,7 +90,7 @@ impl BoardReader {
     }
 
     /// Reads on in the piece, up to a board or the end of the piece.
-    fn take_piece(&mut self) -> Result<Option<Told>, RefusedRecord>
+    pub(crate) fn take_piece(&mut self) -> Result<Option<Told>, RefusedRecord>
         requires { IsReady self.old }
         ensures goes_on { IfOk result (λ board. (rest : List ℕ)
             → unread_spells self.old rest ≡ after (list_of board) (unread_spells self.new rest)) }

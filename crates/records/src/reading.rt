@@ -73,7 +73,7 @@ impl Reading {
         ensures number { unwrap_or self.old.game.number 0 ≤ 2 ^ 40
             → unwrap_or self.new.game.number 0 ≤ 2 ^ 40 }
     {
-        self.game = self.game.with_tag(kind, self.line.value(), self.lines + 1);
+        self.game.add_tag(kind, self.line.value(), self.lines + 1);
     }
 
     /// Goes to the next line.
@@ -111,29 +111,28 @@ impl Reading {
         }
     }
 
-    /// Takes a tag at the beginning of a line, before which a game ends that has such a tag.
-    /// Returns its board.
-    ///
-    /// # Errors
-    /// The line that is refused, whatever comes after.
-    pub(crate) fn take_whole_tag(
-        &mut self,
-        name: &[u8],
-        value: &[u8],
-    ) -> Result<Option<Told>, RefusedRecord>
+    /// Takes a tag at the beginning of a line, unless the game ends before it. Returns whether it
+    /// did.
+    pub(crate) fn pass_tag(&mut self, name: &[u8], value: &[u8]) -> bool
         requires room { InRoom self.old (2 ^ 62) }
         requires start { IsStart self.old.line }
         requires fits { length name.now + length value.now + 5 ≤ 4096 }
-        ensures takes { IfOk result (λ board. (next : Reading → Spelled)
+        ensures passed { result ≡ true → (next : Reading → Spelled)
             → takes_tag (kind_of name.now) (with_place (after_tag name.now value.now) self.old) next
-            ≡ after (list_of board) (next self.new)) }
-        ensures refused { IfErr result (λ e. (next : Reading → Spelled)
-            → takes_tag (kind_of name.now) (with_place (after_tag name.now value.now) self.old) next
-            ≡ refused_with e) }
-        ensures room { (n : ℕ) → InRoom self.old n → OnOk result (InRoom self.new (n + 1)) }
+            ≡ next self.new }
+        ensures kept { result ≡ false → self.new ≡ self.old }
+        ensures room { (n : ℕ) → InRoom self.old n → InRoom self.new n }
     {
+        let Some(kind) = kind_of(name) else {
+            self.line.take_tag(name, value);
+            return true;
+        };
+        if self.game.has(kind) {
+            return false;
+        }
         self.line.take_tag(name, value);
-        self.take_tag()
+        self.add_tag(kind);
+        true
     }
 
     /// Takes the next byte of a line where any byte only goes on with it. Returns whether it did.

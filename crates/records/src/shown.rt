@@ -12,6 +12,7 @@ ghost use Rattle.sinks.specs.Sinks.{AppendsOrBreaksOff, CountsFault};
 
 use crate::fault::RefusedRecord;
 use crate::reader::{BoardReader, Next, ReadFault};
+use crate::watched::next_watched;
 use boards::{Board, Notation};
 use picking::{MOST_BYTES, Source};
 use sinks::{Sink, SinkFault, put_all};
@@ -111,8 +112,7 @@ fn show_rest<N: Notation, I: Source, S: Sink>(
 {
     let mut boards = written;
     for turn in 0..MOST_GAMES {
-        sink.watch(boards, boards);
-        let told = match reader.next(input) {
+        let told = match next_watched(reader, boards, input, sink) {
             Ok(Next::Board(told)) => told,
             Ok(Next::Last(told)) => return put_last(&told.board, boards, notation, sink),
             Ok(Next::End) => return put_end(boards, notation, sink),

@@ -1,7 +1,8 @@
 //! What the values of tags say.
 
 ghost use Rattle.std.specs.Prelude.{◌≡◌, ◌≤◌, ◌^◌};
-ghost use Rattle.records.specs.Values.{date_in, dealer_in, is_no_label, is_unknown, is_word, label_in, number_in, vulnerable_in};
+ghost use Rattle.records.specs.Values.{date_in, dealer_in, is_no_label, is_unknown, is_word};
+ghost use Rattle.records.specs.Values.{label_in, number_in, vulnerable_in};
 
 use boards::{Date, Label, Vul};
 use cards::Seat;
