@@ -101,8 +101,8 @@ pub fn example_of_hands()
 {}
 
 /// `deals show --format hands --show dealer --event Club` asks for hand records of the boards that
-/// the input has, with the dealers' hands alone. A seed is refused, since nothing is dealt, and so is
-/// a word that means no format.
+/// the input has, with the dealers' hands alone. A seed is refused, since nothing is dealt, and so
+/// is a word that means no format.
 pub fn example_of_show()
     ensures asked { asked
         (codes "deals" ∷ codes "show" ∷ codes "--format" ∷ codes "hands"

@@ -71,8 +71,8 @@ EndsTold s l picks.Input before after old new =
 EndsTold s l picks.Output before after old new = ⊥
 
 -- a wish was broken off for this cause: of a text that needs no run a proper prefix is written. The
--- output of a `pick`, a `show` or a `make` with tricks may also fail where it passes on what is before
--- a fault of its input
+-- output of a `pick`, a `show` or a `make` with tricks may also fail where it passes on what is
+-- before a fault of its input
 abbrev pub BreaksOff : Wish → Cause → (before after old new : Option (List ℕ)) → Type 0
 BreaksOff (stream seed n) cause before after old new = AppendsPart old new (lines seed n)
 BreaksOff conditions cause before after old new = AppendsPart old new language_page

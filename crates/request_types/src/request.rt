@@ -64,7 +64,10 @@ pub enum Request<'a> {
     },
     /// The boards of the games that the input has. Of the look the format, the hands that are
     /// written and the labels count.
-    Show { look: Look<'a>, hints: When },
+    Show {
+        look: Look<'a>,
+        hints: When,
+    },
     /// The page of the language.
     Conditions,
     /// What is told of a lesson, or without one the list of all.
@@ -88,9 +91,7 @@ impl<'a> Request<'a> {
                 look,
                 ..
             } => Some((Search::none(*seed, *hands), *look)),
-            Request::Show { look, .. } => {
-                Some((Search::none(0, PredealtHands::none()), *look))
-            }
+            Request::Show { look, .. } => { Some((Search::none(0, PredealtHands::none()), *look)) }
             Request::Conditions | Request::Lessons(_) | Request::Seed | Request::Stream(_) => None,
         }
     }

@@ -141,11 +141,13 @@ EndsPicking job (Err Input) before after old new =
 EndsPicking job (Err failure) before after old new = ⊥
 
 -- boards were shown, or the first read of the input failed, and nothing was written
-abbrev pub ShowsFor : ShowJob → Result ℕ ShowFault → (before after old new : Option (List ℕ)) → Type 0
+abbrev pub ShowsFor : ShowJob → Result ℕ ShowFault
+    → (before after old new : Option (List ℕ)) → Type 0
 ShowsFor job result before after old new =
     ShowsUnder job.format job.show job.heading result before after old new
 
-abbrev pub EndsShown : ShowJob → Result ℕ ShowFault → (before after old new : Option (List ℕ)) → Type 0
+abbrev pub EndsShown : ShowJob → Result ℕ ShowFault
+    → (before after old new : Option (List ℕ)) → Type 0
 EndsShown job (Err shown.Input) before after old new =
     (new ≡ old) ⊎ ShowsFor job (Err shown.Input) before after old new
 EndsShown job result before after old new = ShowsFor job result before after old new
