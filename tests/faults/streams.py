@@ -84,9 +84,9 @@ def of_errors():
         yield Check(f"standard error is {name}, output full", f"$DEALS {BOARDS} {where} >/dev/full", 4)
     why = f"  {os.strerror(errno.EISDIR)} (os error {errno.EISDIR})\n".encode()
     for hints, below in (("", b""), (HINTS, why)):
-        for words in ("pick --seed 7", "show"):
+        for words, written in (("pick --seed 7", HEADER), ("show", b"")):
             command = f"$DEALS {words}{hints} </"
-            yield Check(f"an input that can't be read, {words}{hints}", command, 7, HEADER, b"input failed\n" + below)
+            yield Check(f"an input that can't be read, {words}{hints}", command, 7, written, b"input failed\n" + below)
     yield Check("both are closed", f"$DEALS {BOARDS} >&- 2>&-", 4)
     yield Check("all three are closed", f"$DEALS {BOARDS} <&- >&- 2>&-", 4)
     yield Check("standard input is closed", f"$DEALS {BOARDS} <&-", 0, boards)

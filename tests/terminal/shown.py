@@ -1,7 +1,7 @@
 """Runs `show` of the built program over inputs of all kinds.
 
 What `make` writes in PBN and `show` reads has to be what `make` writes in each format, but for the numbers of candidates
-in JSON.
+in JSON, which are left out.
 """
 
 import os
@@ -13,8 +13,15 @@ import harness
 from board_formats import FORMATS
 
 # Options of `make`, and those that both commands take.
-MADE = [[], ["--rotate", "--dealer", "S", "--vulnerable", "All"], ["--first-board", "17"], ["--first-board", "1099511627770"]]
-BOTH = [[], ["--show", "dealer"], ["--show", "ew"], ["--event", "Club night", "--site", "", "--date", "2024.05.01"]]
+LABELS = ["--event", "Club night", "--site", "", "--date", "2024.05.01"]
+MADE = [
+    [],
+    LABELS,
+    ["--rotate", "--dealer", "S", "--vulnerable", "All"],
+    ["--first-board", "17", "--date", "2024.05.01"],
+    ["--first-board", "1099511627770"],
+]
+BOTH = [[], ["--show", "dealer"], ["--show", "ew"], LABELS]
 BOARDS = ["make", "--seed", "0", "--boards", "6"]
 
 # The first deal of seed 0, which POSIX's drand48 draws, as a game of PBN.
@@ -75,10 +82,12 @@ def made_and_shown():
         games = harness.deals(*BOARDS, *made).stdout
         for form in FORMATS:
             for both in BOTH:
+                if "--date" in made and "--date" in both:
+                    continue
                 words = ["--format", form, *both]
                 shown = harness.deals("show", *words, given=games)
                 right = harness.deals(*BOARDS, *made, *words)
-                same = without_numbers(shown.stdout) == without_numbers(right.stdout) != b""
+                same = shown.stdout == without_numbers(right.stdout) != b""
                 ends = (shown.returncode, shown.stderr, right.returncode) == (0, b"", 0)
                 yield " ".join(["make", *made, "| show", *words]), None if same and ends else "isn't what make writes"
 
@@ -88,7 +97,7 @@ def other_inputs():
     folder = os.open("/", os.O_RDONLY)
     ended = harness.deals("show", "--format", "hands", "--site", "Club", stdin=folder)
     os.close(folder)
-    right = (ended.returncode, ended.stdout, ended.stderr) == (7, b"Club\n\n", b"input failed\n")
+    right = (ended.returncode, ended.stdout, ended.stderr) == (7, b"", b"input failed\n")
     yield "a folder", None if right else repr(ended)
     closed = ["sh", "-c", 'exec "$0" show <&-', harness.PROGRAM]
     ended = subprocess.run(closed, capture_output=True, check=False)

@@ -67,14 +67,12 @@ pub fn no_board(alloc: Global, first: &[u8], has_deal: bool) -> Option<String> {
     if first.is_empty() {
         return String::from_str(alloc, EMPTY).ok();
     }
-    let (_, why) = BEGINNINGS
-        .iter()
-        .find(|row| first.starts_with(row.0))?;
+    let (_, why) = BEGINNINGS.iter().find(|row| first.starts_with(row.0))?;
     format!(in alloc; "note: the input has no board: deals show reads PBN, and {why}\n").ok()
 }
 
 const MARKED: &str =
-    "note: the first line counts for nothing, since a byte order mark stands before it: leave it out\n";
+    "note: the first line isn't read, since a byte order mark comes before it: leave it out\n";
 
 const EMPTY: &str =
     "note: the input is empty: the boards of a file are written by deals show < FILE\n";

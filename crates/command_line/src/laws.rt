@@ -102,8 +102,8 @@ pub fn example_of_hands()
 {}
 
 /// `deals show --format hands --show dealer --points hide --event Club` asks for hand records of the
-/// boards that the input has, with the dealers' hands alone, and without points. A seed is refused, since nothing is dealt, and so is
-/// a word that is no format.
+/// boards that the input has, with the dealers' hands alone and without points. A seed is refused,
+/// since nothing is dealt, and so is a word that means no format.
 pub fn example_of_show()
     ensures asked { asked
         (codes "deals" ∷ codes "show" ∷ codes "--format" ∷ codes "hands"

@@ -57,7 +57,7 @@ pub(crate) const SHOW_EXAMPLES: &str = "Examples:
     deals show --format lin < boards.pbn > boards.lin
 
 Reads boards in PBN from standard input, and deals none. Their numbers, dealers
-and vulnerabilities stay, and so do tricks and par.";
+and vulnerabilities stay; tricks and par are left out.";
 
 pub(crate) const CONDITIONS_EXAMPLES: &str = "Examples:
   Page by page:

@@ -155,8 +155,8 @@ fn counts_of(
     Counts::new(rt.alloc(), rt.stderr(), drawn, style, all, now)
 }
 
-/// For how many milliseconds boards are gathered: not at all where numbers or boards are read, since
-/// the next one may come much later.
+/// For how many milliseconds boards are gathered: not at all where numbers or boards are read,
+/// since the next one may come much later.
 fn gathered_millis(read: &Result<Request<'_>, Error>) -> u64 {
     match read {
         Ok(Request::Pick { .. } | Request::Show { .. }) => 0,

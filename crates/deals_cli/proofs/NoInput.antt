@@ -41,8 +41,9 @@ no_record line is = cc
 
 no_record_ended : (w : Wish) (line : RefusedRecord) (old new : Option (List ℕ)) → EndsAtRecord w line (Some []) (Some []) old new → ⊥
 no_record_ended (show l hints) line old new e =
-    let none : e.given ≡ [] = sym (e.consumed ∙ append-nil e.given) in
-    no_record line (subst (λ (t : List ℕ). (spelled t).refused ≡ Some line) none e.written.0)
+    let s = e.shows in
+    let none : s.given ≡ [] = sym (s.consumed ∙ append-nil s.given) in
+    no_record line (subst (λ (t : List ℕ). (spelled t).refused ≡ Some line) none s.written.0)
 no_record_ended (pick seed hands l hints) line old new e = e
 no_record_ended (make s l notices) line old new e = e
 no_record_ended (make_with_tricks s l notices) line old new e = e

@@ -1,5 +1,5 @@
 -- From how boards of the input were shown to what is promised of a `show`.
-use Rattle.std.proofs.Common.{◌≡◌, ◌∙◌, ◌⊎◌, ◌+◌, ℕ, List, Option, None, Some, Result, Ok, Err, refl, inl, inr}
+use Rattle.std.proofs.Common.{◌≡◌, ◌∙◌, ℕ, List, Option, None, Result, Ok, Err, refl, inl, inr}
 use Rattle.plans.specs.declared.cause.Cause.TheVariants.{Memory, Spawn, Output, Stopped, Unclosed}
 use Rattle.jobs.specs.Jobs.{IsReady}
 use Rattle.jobs.specs.declared.failure.Failure.{Failure}
@@ -16,23 +16,43 @@ use Rattle.records.specs.declared.reader.ReadFault.{ReadFault}
 use Rattle.records.specs.declared.reader.ReadFault.TheVariants as read
 use Rattle.records.specs.declared.shown.ShowFault.{ShowFault}
 use Rattle.records.specs.declared.shown.ShowFault.TheVariants as fault
-use Rattle.deals_cli.specs.internal.Ends.{CountsShown, EndsShowing}
+use Rattle.deals_cli.specs.internal.Ends.{CountsShown, EndsShowing, EndsShown}
+use Rattle.deals_cli.specs.Shown.{GoesOn, ShowsUnder}
 
 -- ---- how often the input failed
 
-pub counts_shown : (first : Result Next ReadFault) (r : Result ℕ ShowFault) (old mid new : ℕ) → InputFaults first old mid → MoreFaults first r mid new → CountsShown r old new
-counts_shown (Ok next) (Ok boards) old mid new h more = more ∙ h
-counts_shown (Ok next) (Err (fault.Refused line)) old mid new h more = more ∙ h
-counts_shown (Ok next) (Err fault.Input) old mid new h more = rw h at more
-counts_shown (Ok next) (Err fault.Output) old mid new h more = inl (more ∙ h)
-counts_shown (Err read.Input) (Ok boards) old mid new h more = absurd more.1
-counts_shown (Err read.Input) (Err (fault.Refused line)) old mid new h more = let bad = more.1 in cc
-counts_shown (Err read.Input) (Err fault.Input) old mid new h more = more.0 ∙ h
-counts_shown (Err read.Input) (Err fault.Output) old mid new h more = inr (more.0 ∙ h)
-counts_shown (Err (read.Refused line)) (Ok boards) old mid new h more = absurd more.1
-counts_shown (Err (read.Refused line)) (Err (fault.Refused other)) old mid new h more = more.0 ∙ h
-counts_shown (Err (read.Refused line)) (Err fault.Input) old mid new h more = let bad = more.1 in cc
-counts_shown (Err (read.Refused line)) (Err fault.Output) old mid new h more = inl (more.0 ∙ h)
+pub counts_shown : (E : Type 0) (first : Result Next ReadFault) (r : Result ℕ ShowFault) (old mid new : ℕ) → InputFaults first old mid → MoreFaults first r mid new → CountsShown {E = E} (Ok r) old new
+counts_shown E (Ok next) (Ok boards) old mid new h more = more ∙ h
+counts_shown E (Ok next) (Err (fault.Refused line)) old mid new h more = more ∙ h
+counts_shown E (Ok next) (Err fault.Input) old mid new h more = rw h at more
+counts_shown E (Ok next) (Err fault.Output) old mid new h more = inl (more ∙ h)
+counts_shown E (Err read.Input) (Ok boards) old mid new h more = absurd more.1
+counts_shown E (Err read.Input) (Err (fault.Refused line)) old mid new h more = let bad = more.1 in cc
+counts_shown E (Err read.Input) (Err fault.Input) old mid new h more = more.0 ∙ h
+counts_shown E (Err read.Input) (Err fault.Output) old mid new h more = inr (more.0 ∙ h)
+counts_shown E (Err (read.Refused line)) (Ok boards) old mid new h more = absurd more.1
+counts_shown E (Err (read.Refused line)) (Err (fault.Refused other)) old mid new h more = more.0 ∙ h
+counts_shown E (Err (read.Refused line)) (Err fault.Input) old mid new h more = let bad = more.1 in cc
+counts_shown E (Err (read.Refused line)) (Err fault.Output) old mid new h more = inl (more.0 ∙ h)
+
+-- a first read that didn't fail
+pub none_failed : (first : Result Next ReadFault) (old new : ℕ) → InputFaults first old new → (first ≡ Err read.Input → ⊥) → new ≡ old
+none_failed (Ok next) old new h other = h
+none_failed (Err (read.Refused line)) old new h other = h
+none_failed (Err read.Input) old new h other = absurd (other refl)
+
+pub goes_on : (first : Result Next ReadFault) (r : Result ℕ ShowFault) (old new : ℕ) → MoreFaults first r old new → (first ≡ Err read.Input → ⊥) → GoesOn first r
+goes_on (Ok next) r old new h other = tt
+goes_on (Err (read.Refused line)) r old new h other = h.1
+goes_on (Err read.Input) r old new h other = absurd (other refl)
+
+-- ---- of a job
+
+pub ends_shown : (job : ShowJob) (r : Result ℕ ShowFault) (before after old new : Option (List ℕ)) → ShowsUnder job.format job.show job.heading r before after old new → EndsShown job r before after old new
+ends_shown job (Ok n) before after old new h = h
+ends_shown job (Err (fault.Refused line)) before after old new h = h
+ends_shown job (Err fault.Input) before after old new h = inr h
+ends_shown job (Err fault.Output) before after old new h = h
 
 -- ---- of a wish
 

@@ -1,7 +1,6 @@
 -- From how boards with tricks were found and told to what is said of that.
-use Rattle.std.proofs.Common.{◌≡◌, ◌∙◌, ◌≤◌, ◌^◌, ℕ, ◌+◌, List, [], length, Option, None, Some, Result, Ok, Err, refl, sym, ap, subst, inl, inr}
+use Rattle.std.proofs.Common.{◌≡◌, ◌∙◌, ◌≤◌, ◌^◌, ℕ, ◌+◌, List, [], length, Option, None, Some, Result, Ok, Err, refl, ap, subst, inl, inr}
 use Rattle.cond_lang.specs.Form.{Form}
-use Rattle.dealrun.specs.Headline.{WritesTextIn}
 use Rattle.notations.specs.Numbers.{numbers}
 use Rattle.picking.specs.NumberTexts.{said}
 use Rattle.picking.specs.declared.fault.PickFault.{PickFault}
@@ -18,13 +17,11 @@ use Rattle.jobs.specs.declared.failure.Failure.TheVariants.{Interrupted, Line, I
 use Rattle.request_types.specs.Requests.{Look, Search}
 use Rattle.request_types.specs.declared.request.Notices.{Notices}
 use Rattle.request_types.specs.declared.workers.Workers.{Workers}
-use Rattle.sinks.specs.Appended.{AppendsAll}
 use Rattle.told.specs.Told.{Tells, Written}
 use Rattle.jobs.specs.Makings.{AreWorkers}
 use Rattle.deals_cli.specs.Runs.{InterruptsRun}
-use Rattle.deals_cli.specs.Reported.{Counts}
 use Rattle.deals_cli.specs.WithTricks.{TellsBoards}
-use Rattle.deals_cli.specs.internal.Ends.{EndsFinding, EndsReady, Found, InterruptsFound, Wrote, finding_cause}
+use Rattle.deals_cli.specs.internal.Ends.{EndsFinding, EndsReady, Found, Wrote, finding_cause}
 use Rattle.deals_cli.specs.declared.written.Written.{Written as Counted}
 use Rattle.deals_cli.proofs.Finding.{accepted_below, accepted_short, found_is_read}
 use Rattle.deals_cli.proofs.OtherWorkers.{worked_end, worked_writes}

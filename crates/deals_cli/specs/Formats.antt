@@ -7,7 +7,7 @@ use Rattle.notations.specs.Formats.{layout_of, layout_showing}
 use Rattle.boards.specs.declared.show.Show.{Show}
 use Rattle.boards.specs.declared.format.Format.{Format}
 use Rattle.plans.specs.Plans.{Planned}
-use Rattle.jobs.specs.Makings.{heading_of, plan_of}
+use Rattle.jobs.specs.Makings.{plan_of}
 use Rattle.request_types.specs.Requests.{Look, Search}
 
 -- the whole text of a plan under a condition
@@ -22,7 +22,3 @@ text_showing format show plan form =
 -- how boards are laid out
 abbrev pub layout_in : Search → Look → Layout
 layout_in s l = layout_showing l.format l.show (plan_of s l).heading
-
--- how boards are laid out that the input has
-abbrev pub layout_shown : Look → Layout
-layout_shown l = layout_showing l.format l.show (heading_of l)

@@ -10,12 +10,12 @@ use Rattle.picking.specs.declared.fault.PickFault.TheVariants as picks
 use Rattle.sinks.specs.Appended.{AppendsPart}
 use Rattle.dealrun.specs.Values.{lines}
 use Rattle.jobs.specs.Counting.{IsAsked}
-use Rattle.records.specs.Shown.{Shows}
 use Rattle.records.specs.declared.fault.RefusedRecord.{RefusedRecord}
 use Rattle.records.specs.declared.shown.ShowFault.{ShowFault}
 use Rattle.records.specs.declared.shown.ShowFault.TheVariants as shown
-use Rattle.deals_cli.specs.Formats.{layout_in, layout_shown}
-use Rattle.jobs.specs.Makings.{AreWorkers, Means, plan_of}
+use Rattle.deals_cli.specs.Formats.{layout_in}
+use Rattle.deals_cli.specs.Shown.{ShowsUnder}
+use Rattle.jobs.specs.Makings.{AreWorkers, Means, heading_of, plan_of}
 use Rattle.request_types.specs.Requests.{Look, Questions, Search, Wish, conditions, count, draw, make}
 use Rattle.lessons.specs.Lessons.{lessons_text}
 use Rattle.request_types.specs.Requests.{lessons, make_with_tricks, no_search, numbers_look}
@@ -59,7 +59,8 @@ EndsPick s l fault before after old new =
 
 -- showing ended with this fault
 abbrev pub EndsShow : Look → ShowFault → (before after old new : Option (List ℕ)) → Type 0
-EndsShow l fault before after old new = Shows (layout_shown l) (Err fault) before after old new
+EndsShow l fault before after old new =
+    ShowsUnder l.format l.show (heading_of l) (Err fault) before after old new
 
 -- a `make` with tricks was ended by this fault of its input
 abbrev pub EndsTold : Search → Look → PickFault → (before after old new : Option (List ℕ)) → Type 0
@@ -70,8 +71,8 @@ EndsTold s l picks.Input before after old new =
 EndsTold s l picks.Output before after old new = ⊥
 
 -- a wish was broken off for this cause: of a text that needs no run a proper prefix is written. The
--- output of a `pick`, a `show` or a `make` with tricks may also fail where it passes on what is before
--- a fault of its input
+-- output of a `pick`, a `show` or a `make` with tricks may also fail where it passes on what is
+-- before a fault of its input
 abbrev pub BreaksOff : Wish → Cause → (before after old new : Option (List ℕ)) → Type 0
 BreaksOff (stream seed n) cause before after old new = AppendsPart old new (lines seed n)
 BreaksOff conditions cause before after old new = AppendsPart old new language_page
@@ -88,16 +89,17 @@ BreaksOff (count s questions style notices) cause before after old new =
 BreaksOff (pick seed hands l hints) cause before after old new =
     (fault : PickFault) × EndsPick (no_search seed hands) l fault before after old new
 BreaksOff (show l hints) cause before after old new =
-    (fault : ShowFault) × EndsShow l fault before after old new
+    (new ≡ old) ⊎ ((fault : ShowFault) × EndsShow l fault before after old new)
 
--- a wish was ended by this fault of its input; of a `draw` nothing is written then
+-- a wish was ended by this fault of its input; of a `draw` nothing is written then, nor of a `show`
+-- whose first read failed
 abbrev pub EndsFor : Wish → PickFault → (before after old new : Option (List ℕ)) → Type 0
 EndsFor (pick seed hands l hints) fault before after old new =
     EndsPick (no_search seed hands) l fault before after old new
 EndsFor (make_with_tricks s l notices) fault before after old new =
     EndsTold s l fault before after old new
 EndsFor (show l hints) picks.Input before after old new =
-    EndsShow l shown.Input before after old new
+    (new ≡ old) ⊎ EndsShow l shown.Input before after old new
 EndsFor draw picks.Input before after old new = new ≡ old
 EndsFor w fault before after old new = ⊥
 

@@ -11,9 +11,9 @@ use Rattle.picking.specs.Outcomes.{Picks}
 use Rattle.sinks.specs.Appended.{AppendsAll}
 use Rattle.dealrun.specs.Values.{lines}
 use Rattle.jobs.specs.Counting.{IsAsked, table_by}
-use Rattle.records.specs.Shown.{Shows}
-use Rattle.deals_cli.specs.Formats.{layout_in, layout_shown, text_showing}
-use Rattle.jobs.specs.Makings.{IsPlanned, Means, plan_of}
+use Rattle.deals_cli.specs.Formats.{layout_in, text_showing}
+use Rattle.deals_cli.specs.Shown.{ShowsUnder}
+use Rattle.jobs.specs.Makings.{Means, heading_of, plan_of}
 use Rattle.request_types.specs.Requests.{Wish, conditions, count, draw, make, make_with_tricks}
 use Rattle.lessons.specs.Lessons.{lessons_text}
 use Rattle.request_types.specs.Requests.{lessons, no_search, numbers_look, pick, show, stream}
@@ -55,7 +55,7 @@ AppendsFrom (pick seed hands l hints) before after old new =
     × Picks (layout_in (no_search seed hands) l) (plan_of (no_search seed hands) l) (Ok boards)
     before after old new
 AppendsFrom (show l hints) before after old new =
-    (boards : ℕ) × Shows (layout_shown l) (Ok boards) before after old new
+    (boards : ℕ) × ShowsUnder l.format l.show (heading_of l) (Ok boards) before after old new
 
 -- the same without an input
 abbrev pub Appends : Wish → (old new : Option (List ℕ)) → Type 0

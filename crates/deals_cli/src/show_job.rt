@@ -1,36 +1,57 @@
 //! The job of a `show`: the boards of the games that the input has.
 
-ghost use Rattle.std.specs.Prelude.{◌≡◌, ◌-◌, ◌+◌, ◌^◌, ◌<◌, [], IfErr};
+ghost use Rattle.std.specs.Prelude.{◌≡◌, ◌-◌, ◌+◌, ◌^◌, ◌<◌, IfErr, IfOk};
 ghost use Rattle.jobs.specs.Failures.{CountsInput, faults_in, status_of};
-ghost use Rattle.records.specs.Shown.{FaultsOf, Shows};
-ghost use Rattle.deals_cli.specs.internal.Ends.{CountsShown, EndsShowing};
+ghost use Rattle.deals_cli.specs.Shown.{labelled, labels_told};
+ghost use Rattle.deals_cli.specs.internal.Ends.{CountsShown, EndsShowing, EndsShown, FaultsShown};
 
-use boards::Notation;
+use boards::Heading;
 use jobs::{Failure, ShowJob};
 use notations::AnyPrinter;
 use picking::Source;
 use plans::Cause;
-use records::{BoardReader, ShowFault, show};
+use records::{BoardReader, Next, ReadFault, ShowFault, show};
 use sinks::Sink;
-use std::alloc::Global;
+use std::alloc::{AllocError, Global};
 
-/// Writes the boards of the input by a notation that has printed nothing.
-fn show_by<N: Notation, I: Source, O: Sink>(
-    notation: &mut N,
+/// Returns each label of the job, or else that of the game that was read first.
+fn labelled(given: &Heading, first: &Result<Next, ReadFault>) -> Heading
+    ensures { result ≡ labelled given.now (labels_told first.now) }
+{
+    let game = match first {
+        Ok(Next::Board(told) | Next::Last(told)) => told.heading,
+        _ => Heading::none(),
+    };
+    Heading {
+        event: given.event.or(game.event),
+        site: given.site.or(game.site),
+        date: given.date.or(game.date),
+    }
+}
+
+/// Writes the boards of the input. Nothing is written if its first read fails.
+fn show_read<I: Source, O: Sink>(
+    alloc: Global,
+    job: &ShowJob,
     input: &mut I,
     out: &mut O,
-) -> Result<u64, ShowFault>
+) -> Result<Result<u64, ShowFault>, AllocError>
     requires output { O.faults out.old < 2 ^ 64 - 1 }
     requires input { I.faults input.old < 2 ^ 64 - 1 }
-    requires printed { N.has_printed notation.old [] }
-    ensures shows { Shows (N.layout notation.old) result (I.rest input.old) (I.rest input.new)
-        (O.bytes out.old) (O.bytes out.new) }
-    ensures faults { FaultsOf result (O.faults out.old) (O.faults out.new) }
+    ensures shows { IfOk result (λ shown. EndsShown job.now shown
+        (I.rest input.old) (I.rest input.new) (O.bytes out.old) (O.bytes out.new)) }
+    ensures memory { IfErr result (λ _. O.bytes out.new ≡ O.bytes out.old) }
+    ensures faults { FaultsShown result (O.faults out.old) (O.faults out.new) }
     ensures input { CountsShown result (I.faults input.old) (I.faults input.new) }
 {
     let mut reader = BoardReader::new();
     let first = reader.next(input);
-    show(&mut reader, first, notation, input, out)
+    if let Err(ReadFault::Input) = first {
+        return Ok(Err(ShowFault::Input));
+    }
+    let heading = labelled(&job.heading, &first);
+    let mut printer = AnyPrinter::showing(alloc, job.format, job.show, &heading)?;
+    Ok(show(&mut reader, first, &mut printer, input, out))
 }
 
 /// Writes the boards of the input. What was written before a fault of the input is passed on.
@@ -50,10 +71,7 @@ pub(crate) fn show_boards<I: Source, O: Sink>(
     ensures input { CountsInput result (I.faults input.old) (I.faults input.new) }
     ensures flushed { IfErr result (λ e. status_of e ≡ 7 → O.is_flushed out.new) }
 {
-    let mut printer = AnyPrinter::showing(alloc, job.format, job.show, &job.heading)?;
-    let shown = show_by(&mut printer, input, out);
-    drop(printer);
-    match shown {
+    match show_read(alloc, job, input, out)? {
         Ok(_) => Ok(()),
         Err(ShowFault::Output) => Err(Failure::Interrupted(Cause::Output)),
         Err(ShowFault::Refused(line)) => {

@@ -10,7 +10,7 @@ use Rattle.records.specs.declared.reader.Next.{Next}
 use Rattle.records.specs.declared.reader.Next.TheVariants.{Board, Last, End}
 use Rattle.records.specs.declared.reader.ReadFault.{ReadFault}
 use Rattle.records.specs.declared.reader.ReadFault.TheVariants.{Refused, Input}
-use Rattle.boards.specs.declared.board.Board.{Board as ABoard}
+use Rattle.records.specs.declared.game.Told.{Told}
 use Rattle.records.specs.Texts.{Spelled, after, refused_with}
 
 pub fills_none : (r : BoardReader) (before : Option (List ℕ)) → Fills r r before before
@@ -27,7 +27,7 @@ fills_on r l t f before middle after p same q = record {
 whole : (r f : BoardReader) (before after : Option (List ℕ)) (p : Fills r f before after) (v : Spelled) → unread_spells f [] ≡ v → unread_spells r p.given ≡ v
 whole r f before after p v e = ap (unread_spells r) (sym (append-nil p.given)) ∙ p.goes_on [] ∙ e
 
-pub reads_board : (r l t : BoardReader) (before after_read : Option (List ℕ)) (board : ABoard) → Fills r l before after_read
+pub reads_board : (r l t : BoardReader) (before after_read : Option (List ℕ)) (board : Told) → Fills r l before after_read
     → ((rest : List ℕ) → unread_spells l rest ≡ after (board ∷ []) (unread_spells t rest)) → ReadsNext r t (Ok (Board board)) before after_read
 reads_board r l t before after_read board p reads = record {
   given = p.given;

@@ -1,5 +1,6 @@
 pub mod Partitions
 pub mod Ranks
+pub mod Labels
 pub mod DealTexts
 pub mod Steps
 pub mod Scanning

@@ -1,6 +1,7 @@
 -- Bytes that were read, one after another.
-use Rattle.std.proofs.Common.{◌≡◌, ◌∙◌, ◌<◌, ℕ, ◌+◌, ◌-◌, add-one, take, List, [], ◌∷◌, ◌++◌, length, drop, drop-cons, get_or, Option, None, append_assoc, length-append, ap, arith, refl, sym}
-use Rattle.boards.specs.declared.board.Board.{Board as ABoard}
+use Rattle.std.proofs.Common.{◌≡◌, ◌∙◌, ◌<◌, ℕ, ◌+◌, ◌-◌, add-one, take, List, [], ◌∷◌, ◌++◌, length, drop, drop-cons, get_or, Option, None, Result, Ok, Err, IfOk, append_assoc, length-append, ap, arith, refl, sym}
+use Rattle.records.specs.declared.game.Told.{Told}
+use Rattle.std.specs.Prelude.{OnOk}
 use Rattle.records.specs.Scans.{IsWithin, spells_from}
 use Rattle.records.specs.Texts.{after, list_of, refused_with}
 use Rattle.records.specs.declared.fault.RefusedRecord.{RefusedRecord}
@@ -18,7 +19,7 @@ reads_none s bytes = record {
   room = λ n h. roomier s.reading (n + n) (n + 0 + (n + 0)) (omega arith) h;
 }
 
-pub reads_on : (s t u : Scanner) (bytes : List ℕ) (n m : ℕ) (board : Option ABoard) → Reads s t bytes n None → Reads t u (take (length bytes - n) (drop n bytes)) m board → Reads s u bytes (n + m) board
+pub reads_on : (s t u : Scanner) (bytes : List ℕ) (n m : ℕ) (board : Option Told) → Reads s t bytes n None → Reads t u (take (length bytes - n) (drop n bytes)) m board → Reads s u bytes (n + m) board
 reads_on s t u bytes n m board p r =
     let q : Reads t u (drop n bytes) m board = rw (take_rest bytes n) at r in
     record {
@@ -27,7 +28,7 @@ reads_on s t u bytes n m board p r =
       room = λ k h. roomier u.reading (k + n + m + (k + n + m)) (k + (n + m) + (k + (n + m))) (omega arith) (q.room (k + n) (p.room k h));
     }
 
-pub reads_byte : (s t : Scanner) (b : ℕ) (bytes : List ℕ) (board : Option ABoard) → 0 < length bytes → b ≡ get_or bytes 0 0
+pub reads_byte : (s t : Scanner) (b : ℕ) (bytes : List ℕ) (board : Option Told) → 0 < length bytes → b ≡ get_or bytes 0 0
     → ((rest : List ℕ) → spells_from s (b ∷ rest) ≡ after (list_of board) (spells_from t rest)) → ((n : ℕ) → IsWithin s n → IsWithin t (n + 1)) → Reads s t bytes 1 board
 reads_byte s t b [] board some is reads room = absurd (let none : 0 < 0 = some in omega arith)
 reads_byte s t b (x ∷ bytes) board some is reads room = record {
@@ -53,7 +54,13 @@ pub reads_refused : (s t : Scanner) (bytes : List ℕ) (n : ℕ) (e : RefusedRec
     → (rest : List ℕ) → spells_from s (bytes ++ rest) ≡ refused_with e
 reads_refused s t bytes n e p refused rest = p.spells rest ∙ (rw (take_rest bytes n) at refused rest)
 
-pub reads_tag : (s t : Scanner) (name value after_it bytes : List ℕ) (board : Option ABoard) → bytes ≡ tag_text name value ++ after_it
+pub first_read : (s t : Scanner) (b : ℕ) (bytes : List ℕ) (r : Result (Option Told) RefusedRecord) → 0 < length bytes → b ≡ get_or bytes 0 0
+    → IfOk r (λ told. (rest : List ℕ) → spells_from s (b ∷ rest) ≡ after (list_of told) (spells_from t rest)) → ((n : ℕ) → IsWithin s n → OnOk r (IsWithin t (n + 1)))
+    → IfOk r (λ told. Reads s t bytes 1 told)
+first_read s t b bytes (Err e) some is reads room = tt
+first_read s t b bytes (Ok told) some is reads room = reads_byte s t b bytes told some is reads room
+
+pub reads_tag : (s t : Scanner) (name value after_it bytes : List ℕ) (board : Option Told) → bytes ≡ tag_text name value ++ after_it
     → ((rest : List ℕ) → spells_from s (tag_text name value ++ rest) ≡ after (list_of board) (spells_from t rest)) → ((n : ℕ) → IsWithin s n → IsWithin t (n + 1))
     → Reads s t bytes (length name + length value + 5) board
 reads_tag s t name value after_it bytes board is reads room =

@@ -1,5 +1,5 @@
 -- What a tag at the beginning of a line does to what a text spells.
-use Rattle.std.proofs.Common.{◌≡◌, ◌∙◌, ◌<◌, ◌≤◌, ℕ, ◌+◌, ◌==◌, Bool, true, false, List, [], ◌∷◌, ◌++◌, length, ap, append_assoc, length-append, drop, take, Some, arith, refl, sym, Option, Result, Ok, Err, IfOk, IfErr}
+use Rattle.std.proofs.Common.{◌≡◌, ◌∙◌, ◌<◌, ◌≤◌, ℕ, ◌+◌, ◌==◌, Bool, true, false, List, [], ◌∷◌, ◌++◌, length, ap, append_assoc, length-append, drop, take, Some, arith, refl, sym}
 use Rattle.std.specs.List.{list_all}
 use Rattle.std.specs.Prelude.{nat_eq}
 use Rattle.std.specs.Borrow.{Bor}
@@ -12,9 +12,7 @@ use Rattle.std.proofs.lemmas.List.{append-nil}
 use Rattle.records.specs.Kinds.{kind_of}
 use Rattle.records.specs.Places.{is_name_byte}
 use Rattle.records.specs.Scans.{spells_from}
-use Rattle.boards.specs.declared.board.Board.{Board as ABoard}
-use Rattle.records.specs.Texts.{Spelled, after, list_of, refused_with, takes_tag}
-use Rattle.records.specs.declared.fault.RefusedRecord.{RefusedRecord}
+use Rattle.records.specs.Texts.{Spelled, takes_tag}
 use Rattle.records.specs.declared.scanner.Scanner.{Scanner}
 use Rattle.records.specs.declared.line.Part.{Part}
 use Rattle.records.specs.declared.line.Part.TheVariants.{Open, Bracket, Name, Gap, Value, Close}
@@ -24,14 +22,16 @@ use Rattle.records.proofs.Scanning.{at_byte, plainly}
 
 -- a line from within its tag
 abbrev at : Reading → Part → ℕ → List ℕ → List ℕ → Reading
-at s part column name value = record s { line = record {
-  part = part;
-  skips = false;
-  comment = false;
-  column = column;
-  name = name;
-  value = value;
-} }
+at s part column name value = record s {
+  line = record {
+    part = part;
+    skips = false;
+    comment = false;
+    column = column;
+    name = name;
+    value = value;
+  };
+}
 
 -- ---- which bytes a name and a value don't have
 
@@ -151,20 +151,11 @@ tag_read s (b ∷ bs) value rest start tag =
 
 -- ---- what calls return
 
-pub whole_tag : (s : Scanner) (t : Reading) (name value : List ℕ) (r : Result (Option ABoard) RefusedRecord) → IsStart s.reading.line → s.after_cr ≡ false → IsTag name value
-    → IfOk r (λ board. (next : Reading → Spelled) → takes_tag (kind_of name) (with_place (after_tag name value) s.reading) next ≡ after (list_of board) (next t))
-    → IfOk r (λ board. (rest : List ℕ) → spells_from s (tag_text name value ++ rest) ≡ after (list_of board) (spells_from (record { reading = t; after_cr = s.after_cr }) rest))
-whole_tag s t name value (Err e) start plain tag takes = tt
-whole_tag s t name value (Ok board) start plain tag takes = λ rest.
+pub tag_passed : (s : Scanner) (t : Reading) (name value : List ℕ) → IsStart s.reading.line → s.after_cr ≡ false → IsTag name value
+    → ((next : Reading → Spelled) → takes_tag (kind_of name) (with_place (after_tag name value) s.reading) next ≡ next t)
+    → (rest : List ℕ) → spells_from s (tag_text name value ++ rest) ≡ spells_from (record { reading = t; after_cr = s.after_cr }) rest
+tag_passed s t name value start plain tag takes rest =
     rw plain (tag_read s.reading name value rest start tag ∙ takes (λ u. spells_from (plainly u) rest))
-
-pub whole_tag_refused : (s : Scanner) (name value : List ℕ) (r : Result (Option ABoard) RefusedRecord) → IsStart s.reading.line → s.after_cr ≡ false → IsTag name value
-    → IfErr r (λ e. (next : Reading → Spelled) → takes_tag (kind_of name) (with_place (after_tag name value) s.reading) next ≡ refused_with e)
-    → IfErr r (λ e. (rest : List ℕ) → spells_from s (tag_text name value ++ rest) ≡ refused_with e)
-whole_tag_refused s name value (Ok board) start plain tag takes = tt
-whole_tag_refused s name value (Err e) start plain tag takes = λ rest.
-    let same : s ≡ plainly s.reading = rw plain refl in
-    ap (λ (u : Scanner). spells_from u (tag_text name value ++ rest)) same ∙ tag_read s.reading name value rest start tag ∙ takes (λ u. spells_from (plainly u) rest)
 
 -- ---- what a text begins with
 

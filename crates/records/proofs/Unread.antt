@@ -1,7 +1,7 @@
 -- The bytes of a piece that weren't read.
 use Rattle.std.proofs.Common.{◌≡◌, ◌∙◌, ◌≤◌, ◌+◌, ◌-◌, ℕ, List, [], ◌++◌, length, take, drop, Option, Result, Ok, Err, IfOk, IfErr, sym, ap, arith, length-take, refl, subst}
 use Rattle.std.proofs.lemmas.List.{drop-drop, drop-take, drop_all, length-drop}
-use Rattle.boards.specs.declared.board.Board.{Board as ABoard}
+use Rattle.records.specs.declared.game.Told.{Told}
 use Rattle.records.specs.Readers.{IsReady, unread, unread_spells}
 use Rattle.records.specs.Scans.{IsWithin, spells_from}
 use Rattle.records.specs.Texts.{after, list_of, refused_with}
@@ -17,12 +17,12 @@ same_part piece from to within =
     let is : to ≡ from + (to - from) = omega (arith, within) in
     ap (λ n. drop from (take n piece)) is ∙ drop-take from (to - from) piece
 
-pub part_read : (s t : Scanner) (piece : List ℕ) (from to : ℕ) (r : Result (ℕ × Option ABoard) RefusedRecord) → from ≤ to
+pub part_read : (s t : Scanner) (piece : List ℕ) (from to : ℕ) (r : Result (ℕ × Option Told) RefusedRecord) → from ≤ to
     → IfOk r (λ q. Reads s t (take (to - from) (drop from piece)) q.0 q.1) → IfOk r (λ q. Reads s t (drop from (take to piece)) q.0 q.1)
 part_read s t piece from to (Err e) within reads = tt
 part_read s t piece from to (Ok q) within reads = subst (λ l. Reads s t l q.0 q.1) (sym (same_part piece from to within)) reads
 
-pub part_refused : (s : Scanner) (piece : List ℕ) (from to : ℕ) (r : Result (ℕ × Option ABoard) RefusedRecord) → from ≤ to
+pub part_refused : (s : Scanner) (piece : List ℕ) (from to : ℕ) (r : Result (ℕ × Option Told) RefusedRecord) → from ≤ to
     → IfErr r (λ e. (rest : List ℕ) → spells_from s (take (to - from) (drop from piece) ++ rest) ≡ refused_with e)
     → IfErr r (λ e. (rest : List ℕ) → spells_from s (drop from (take to piece) ++ rest) ≡ refused_with e)
 part_refused s piece from to (Ok q) within reads = tt
@@ -30,7 +30,7 @@ part_refused s piece from to (Err e) within reads = λ rest. ap (λ l. spells_fr
 
 -- ---- bytes of the piece were read
 
-pub bytes_read : (r s : BoardReader) (count : ℕ) (board : Option ABoard) → Reads r.scanner s.scanner (drop r.from (take r.to r.piece)) count board
+pub bytes_read : (r s : BoardReader) (count : ℕ) (board : Option Told) → Reads r.scanner s.scanner (drop r.from (take r.to r.piece)) count board
     → s.piece ≡ r.piece → s.from ≡ r.from + count → s.to ≡ r.to → (rest : List ℕ) → unread_spells r rest ≡ after (list_of board) (unread_spells s rest)
 unfolding unread_spells unread
 bytes_read r s count board reads piece from to rest =
@@ -41,7 +41,7 @@ pub bytes_refused : (r : BoardReader) (e : RefusedRecord) → ((rest : List ℕ)
 unfolding unread_spells unread
 bytes_refused r e refused rest = refused rest
 
-pub still_ready : (r s : BoardReader) (count : ℕ) (board : Option ABoard) → Reads r.scanner s.scanner (drop r.from (take r.to r.piece)) count board
+pub still_ready : (r s : BoardReader) (count : ℕ) (board : Option Told) → Reads r.scanner s.scanner (drop r.from (take r.to r.piece)) count board
     → s.piece ≡ r.piece → s.from ≡ r.from + count → s.to ≡ r.to → s.taken ≡ r.taken + count → IsReady r → IsReady s
 still_ready r s count board reads piece from to taken ready =
     let all : length (take r.to r.piece) ≡ r.to = rw length-take (omega (arith, ready.piece)) in

@@ -1,26 +1,28 @@
 -- What the tags of a game say, and the board that the game is.
-use Rattle.std.specs.Prelude.{ℕ, zero, suc, ◌+◌, ◌^◌, ◌==◌, ◌&&◌, Bool, true, false, not}
+use Rattle.std.specs.Prelude.{ℕ, zero, suc, ◌+◌, ◌^◌, ◌==◌, ◌&&◌, Bool, not}
 use Rattle.std.specs.Prelude.{is_none, is_some}
 use Rattle.std.specs.Prelude.{List, Option, None, Some, Result, Ok, Err, unwrap_or, if◌then◌else◌}
 use Rattle.boards.specs.declared.board.Board.{Board as ABoard}
+use Rattle.boards.specs.Headings.{HeadingView}
 use Rattle.boards.specs.Law2.{dealer_of, vulnerable_of}
 use Rattle.cards.specs.declared.seat.Seat.{Seat}
 use Rattle.records.specs.DealValues.{deal_in}
-use Rattle.records.specs.Values.{dealer_in, is_unknown, number_in, vulnerable_in}
+use Rattle.records.specs.Values.{date_in, dealer_in, is_unknown, label_in, number_in, vulnerable_in}
 use Rattle.records.specs.declared.fault.RecordFault.{RecordFault}
 use Rattle.records.specs.declared.fault.RecordFault.TheVariants.{NotADeal, NotANumber, NotADealer}
 use Rattle.records.specs.declared.fault.RecordFault.TheVariants.{NotAVulnerability}
 use Rattle.records.specs.declared.fault.RefusedRecord.{RefusedRecord}
 use Rattle.records.specs.declared.game.Game.{Game}
+use Rattle.records.specs.declared.game.Told.{Told}
 use Rattle.records.specs.declared.kind.Kind.{Kind}
 use Rattle.records.specs.declared.kind.Kind.TheVariants.{Event, Site, Date, Board, Dealer}
 use Rattle.records.specs.declared.kind.Kind.TheVariants.{Vulnerable, Deal}
 
 abbrev pub no_game : Game
 no_game = record {
-  event = false;
-  site = false;
-  date = false;
+  event = None;
+  site = None;
+  date = None;
   number = None;
   dealer = None;
   vulnerable = None;
@@ -29,9 +31,9 @@ no_game = record {
 }
 
 abbrev pub has : Kind → Game → Bool
-has Event g = g.event
-has Site g = g.site
-has Date g = g.date
+has Event g = is_some g.event
+has Site g = is_some g.site
+has Date g = is_some g.date
 has Board g = is_some g.number
 has Dealer g = is_some g.dealer
 has Vulnerable g = is_some g.vulnerable
@@ -71,9 +73,9 @@ with_deal value line g = record g {
 
 -- the game with the tag of this kind and value, on this line
 unfoldable pub with_tag : Kind → List ℕ → ℕ → Game → Game
-with_tag Event value line g = record g { event = true }
-with_tag Site value line g = record g { site = true }
-with_tag Date value line g = record g { date = true }
+with_tag Event value line g = record g { event = Some (label_in value) }
+with_tag Site value line g = record g { site = Some (label_in value) }
+with_tag Date value line g = record g { date = Some (date_in value) }
 with_tag Board value line g = with_number value line g
 with_tag Dealer value line g = with_dealer value line g
 with_tag Vulnerable value line g = with_vulnerable value line g
@@ -99,21 +101,28 @@ board_of last g deal = record {
   deal = deal;
 }
 
--- a deal that is none is a fault
-abbrev pub deal_says : ℕ → Game → Option (List Seat) → Option ABoard
-deal_says last g None = None
-deal_says last g (Some deal) = Some (board_of last g deal)
+abbrev pub heading_of : Game → HeadingView
+heading_of g = record {
+  event = unwrap_or g.event None;
+  site = unwrap_or g.site None;
+  date = unwrap_or g.date None;
+}
 
-abbrev pub unless_fault : Option RefusedRecord → Option ABoard
-    → Result (Option ABoard) RefusedRecord
-unless_fault (Some fault) board = Err fault
-unless_fault None board = Ok board
+-- a deal that is none is a fault
+abbrev pub deal_says : ℕ → Game → Option (List Seat) → Option Told
+deal_says last g None = None
+deal_says last g (Some deal) =
+    Some (record { board = board_of last g deal; heading = heading_of g })
+
+abbrev pub unless_fault : Option RefusedRecord → Option Told → Result (Option Told) RefusedRecord
+unless_fault (Some fault) told = Err fault
+unless_fault None told = Ok told
 
 -- what a game says as it ends, after the board of this number. Without a deal it has no board and
 -- no fault
-abbrev pub by_deal : ℕ → Game → Option (Option (List Seat)) → Result (Option ABoard) RefusedRecord
+abbrev pub by_deal : ℕ → Game → Option (Option (List Seat)) → Result (Option Told) RefusedRecord
 by_deal last g None = Ok None
 by_deal last g (Some deal) = unless_fault g.fault (deal_says last g deal)
 
-unfoldable pub game_says : ℕ → Game → Result (Option ABoard) RefusedRecord
+unfoldable pub game_says : ℕ → Game → Result (Option Told) RefusedRecord
 game_says last g = by_deal last g g.deal

@@ -3,29 +3,29 @@ use Rattle.std.specs.Prelude.{◌≡◌, ℕ, ◌+◌, List, [], ◌++◌, lengt
 use Rattle.std.specs.Prelude.{Result, Ok, Err}
 use Rattle.std.specs.Prelude.{MatchResult, OnOk}
 use Rattle.std.specs.Io.KnownBytes.{Consumes, IsAtEnd}
-use Rattle.boards.specs.declared.board.Board.{Board as ABoard}
 use Rattle.boards.specs.Layouts.{Layout}
 use Rattle.plans.specs.Text.{text_of_boards}
-use Rattle.records.specs.Texts.{Spelled, after, spelled}
+use Rattle.records.specs.Texts.{Spelled, after, boards_of, spelled}
 use Rattle.records.specs.declared.fault.RefusedRecord.{RefusedRecord}
 use Rattle.records.specs.declared.reader.Next.{Next}
 use Rattle.records.specs.declared.reader.ReadFault.{ReadFault}
 use Rattle.records.specs.declared.reader.ReadFault.TheVariants as read
+use Rattle.records.specs.declared.game.Told.{Told}
 use Rattle.records.specs.declared.shown.ShowFault.{ShowFault}
 use Rattle.records.specs.declared.shown.ShowFault.TheVariants.{Refused, Input, Output}
 use Rattle.sinks.specs.Appended.{AppendsAll, AppendsPart}
 
 -- the footer; there is none where a line is refused
-abbrev pub footer_for : Layout → List ABoard → Option RefusedRecord → List ℕ
-footer_for layout boards None = layout.footer boards (length boards)
+abbrev pub footer_for : Layout → List Told → Option RefusedRecord → List ℕ
+footer_for layout boards None = layout.footer (boards_of boards) (length boards)
 footer_for layout boards (Some line) = []
 
 -- the header, the boards in order, and the footer
 abbrev pub shown_text : Layout → Spelled → List ℕ
-shown_text layout s = text_of_boards layout s.boards ++ footer_for layout s.boards s.refused
+shown_text layout s = text_of_boards layout (boards_of s.boards) ++ footer_for layout s.boards s.refused
 
 -- a text spells these boards first, whatever comes after it
-pub record BeginsWith (text : List ℕ) (boards : List ABoard) : Type 0 where
+pub record BeginsWith (text : List ℕ) (boards : List Told) : Type 0 where
   pub later : List ℕ → Spelled
   pub spells : (rest : List ℕ) → spelled (text ++ rest) ≡ after boards (later rest)
 
@@ -41,8 +41,9 @@ ShowsOf layout given (Err (Refused line)) old new =
     × AppendsAll old new (shown_text layout (spelled given))
 -- boards that they begin with
 ShowsOf layout given (Err Input) old new =
-    (boards : List ABoard)
-    × (BeginsWith given boards × AppendsAll old new (text_of_boards layout boards))
+    (boards : List Told)
+    × (BeginsWith given boards
+    × AppendsAll old new (text_of_boards layout (boards_of boards)))
 -- not all of what they spell
 ShowsOf layout given (Err Output) old new = AppendsPart old new (shown_text layout (spelled given))
 

@@ -1,8 +1,9 @@
 -- What a text spells: boards, up to a line that is refused.
 use Rattle.std.specs.Prelude.{◌≤◌, ℕ, ◌+◌, ◌^◌, nat_lt, unwrap_or}
-use Rattle.std.specs.Prelude.{List, [], ◌∷◌, ◌++◌, Option, None, Some, Result, Ok, Err}
+use Rattle.std.specs.Prelude.{List, [], ◌∷◌, ◌++◌, map, Option, None, Some, Result, Ok, Err}
 use Rattle.std.specs.Prelude.{if◌then◌else◌}
 use Rattle.boards.specs.declared.board.Board.{Board as ABoard}
+use Rattle.boards.specs.Headings.{HeadingView, no_heading}
 use Rattle.picking.specs.NumberTexts.{lines_of}
 use Rattle.records.specs.Games.{game_says, has, no_game, with_tag}
 use Rattle.records.specs.Kinds.{kind_of}
@@ -10,6 +11,7 @@ use Rattle.records.specs.Places.{begin, is_empty, is_in_tag, new_line, place_aft
 use Rattle.records.specs.declared.fault.RecordFault.{RecordFault}
 use Rattle.records.specs.declared.fault.RecordFault.TheVariants.{NotATag, TooLong}
 use Rattle.records.specs.declared.fault.RefusedRecord.{RefusedRecord}
+use Rattle.records.specs.declared.game.Told.{Told}
 use Rattle.records.specs.declared.kind.Kind.{Kind}
 use Rattle.records.specs.declared.line.Step.{Step}
 use Rattle.records.specs.declared.line.Step.TheVariants.{On, Whole, Wrong}
@@ -17,7 +19,7 @@ use Rattle.records.specs.declared.reading.Reading.{Reading}
 
 -- the boards of the games that end before the line that is refused, and that one, if there is one
 pub record Spelled : Type 0 where
-  pub boards : List ABoard
+  pub boards : List Told
   pub refused : Option RefusedRecord
 
 abbrev pub refused_with : RefusedRecord → Spelled
@@ -27,10 +29,10 @@ abbrev pub refused_at : Reading → RecordFault → Spelled
 refused_at s fault = refused_with (record { line = s.lines + 1; fault = fault })
 
 -- these boards, and then those
-abbrev pub after : List ABoard → Spelled → Spelled
+abbrev pub after : List Told → Spelled → Spelled
 after boards later = record { boards = boards ++ later.boards; refused = later.refused }
 
-abbrev pub list_of : Option ABoard → List ABoard
+abbrev pub list_of : Option Told → List Told
 list_of None = []
 list_of (Some board) = board ∷ []
 
@@ -40,11 +42,11 @@ abbrev pub begin_text : Reading
 begin_text = record { line = begin; lines = 0; game = no_game; last = 0 }
 
 -- the game ends
-abbrev pub says_and : Reading → Result (Option ABoard) RefusedRecord → (Reading → Spelled) → Spelled
+abbrev pub says_and : Reading → Result (Option Told) RefusedRecord → (Reading → Spelled) → Spelled
 says_and s (Err line) next = refused_with line
 says_and s (Ok None) next = next (record s { game = no_game })
 says_and s (Ok (Some board)) next =
-    after (board ∷ []) (next (record s { game = no_game; last = board.number }))
+    after (board ∷ []) (next (record s { game = no_game; last = board.board.number }))
 
 abbrev pub ends_game : Reading → (Reading → Spelled) → Spelled
 ends_game s next = says_and s (game_says s.last s.game) next
@@ -98,6 +100,18 @@ lines_spell s (l ∷ ls) = line_spells s l (λ t. lines_spell t ls)
 -- what a text spells
 unfoldable pub spelled : List ℕ → Spelled
 spelled text = lines_spell begin_text (lines_of text)
+
+-- the boards, without the labels of their games
+abbrev pub boards_of : List Told → List ABoard
+boards_of told = map (λ t. t.board) told
+
+-- the labels of the game of the first board
+abbrev pub first_heading : List Told → HeadingView
+first_heading [] = no_heading
+first_heading (t ∷ ts) = t.heading
+
+abbrev pub labels_of : List ℕ → HeadingView
+labels_of text = first_heading (spelled text).boards
 
 -- ---- how far a text can come within this many bytes
 pub record InRoom (s : Reading) (bytes : ℕ) : Type 0 where

@@ -1,5 +1,6 @@
 -- What the values of tags say of a board's number, dealer and vulnerability.
-use Rattle.std.specs.Prelude.{ℕ, ◌^◌, ◌&&◌, ◌||◌, Bool, nat_le, List, map, bytes_eq, codes}
+use Rattle.std.specs.Prelude.{ℕ, ◌^◌, ◌==◌, ◌&&◌, ◌||◌, Bool, false, not, nat_le}
+use Rattle.std.specs.Prelude.{List, [], ◌∷◌, length, map, bytes_eq, codes}
 use Rattle.std.specs.Prelude.{Option, None, Some, if◌then◌else◌}
 use Rattle.std.specs.Char.{is_ascii_digit, to_ascii_lowercase}
 use Rattle.std.specs.List.{list_all}
@@ -8,6 +9,34 @@ use Rattle.boards.specs.declared.setting.Vul.{Vul}
 use Rattle.boards.specs.declared.setting.Vul.TheVariants.{Neither, NorthSouth, EastWest, Both}
 use Rattle.cards.specs.declared.seat.Seat.{Seat}
 use Rattle.cards.specs.declared.seat.Seat.TheVariants.{North, East, South, West}
+
+-- a printable character of ASCII other than the quote and the backslash
+abbrev pub is_label_byte : ℕ → Bool
+is_label_byte b = nat_le 32 b && (nat_le b 126 && (not (b == 34) && not (b == 92)))
+
+-- at most 100 of them
+abbrev pub is_label : List ℕ → Bool
+is_label value = nat_le (length value) 100 && list_all is_label_byte value
+
+-- YYYY.MM.DD
+abbrev pub is_date : List ℕ → Bool
+is_date (a ∷ b ∷ c ∷ d ∷ e ∷ f ∷ g ∷ h ∷ k ∷ l ∷ []) =
+    list_all is_ascii_digit (a ∷ b ∷ c ∷ d ∷ [])
+    && (e == 46 && (list_all is_ascii_digit (f ∷ g ∷ [])
+    && (h == 46 && list_all is_ascii_digit (k ∷ l ∷ []))))
+is_date _ = false
+
+-- these stand for an event or a site that isn't known, or is that of the game before
+abbrev pub is_no_label : List ℕ → Bool
+is_no_label value = bytes_eq value (codes "?") || bytes_eq value (codes "#")
+
+unfoldable pub label_in : List ℕ → Option (List ℕ)
+label_in value =
+    if is_no_label value then None
+    else (if is_label value then Some value else None)
+
+unfoldable pub date_in : List ℕ → Option (List ℕ)
+date_in value = if is_date value then Some value else None
 
 -- a number from 1 to 2^40 in decimal; 0 for anything else
 unfoldable pub number_in : List ℕ → ℕ

@@ -1,28 +1,36 @@
 //! A game: what its tags say of a board.
 
 ghost use Rattle.std.specs.Prelude.{◌≡◌, ◌+◌, ◌-◌, ◌<◌, ◌≤◌, ◌^◌, ℕ, IfOk, IfSome, unwrap_or};
-ghost use Rattle.records.specs.Games.{board_of, first_fault, game_says, has, no_game, number_of};
+ghost use Rattle.records.specs.Games.{board_of, first_fault, game_says, has, heading_of};
+ghost use Rattle.records.specs.Games.{no_game, number_of};
 ghost use Rattle.records.specs.Games.{with_deal, with_dealer, with_number, with_tag};
 ghost use Rattle.records.specs.Games.{with_vulnerable};
 
 use crate::deal_value::deal_in;
 use crate::fault::{RecordFault, RefusedRecord};
 use crate::kind::Kind;
-use crate::values::{dealer_in, is_unknown, number_in, vulnerable_in};
-use boards::{Board, Vul, dealer, vulnerable};
+use crate::values::{date_in, dealer_in, is_unknown, label_in, number_in, vulnerable_in};
+use boards::{Board, Date, Heading, Label, Vul, dealer, vulnerable};
 use cards::{Deal, Seat};
 
 /// No candidate has this number.
 const NO_CANDIDATE: u64 = 1 << 40;
 
-/// What the tags of a game say, each if the game has it: the number of its board, or 0 if it is
-/// none; the dealer and the vulnerability, or `None` if they aren't known; the deal; and the first
-/// fault of a tag.
+/// A board, and the labels of its game.
+#[derive(Clone, Copy, Drop)]
+pub struct Told {
+    pub board: Board,
+    pub heading: Heading,
+}
+
+/// What the tags of a game say, each if the game has it: its labels, or `None` if they are none;
+/// the number of its board, or 0 if it is none; the dealer and the vulnerability, or `None` if they
+/// aren't known; the deal; and the first fault of a tag.
 #[derive(Clone, Copy)]
 pub struct Game {
-    pub event: bool,
-    pub site: bool,
-    pub date: bool,
+    pub event: Option<Option<Label>>,
+    pub site: Option<Option<Label>>,
+    pub date: Option<Option<Date>>,
     pub number: Option<u64>,
     pub dealer: Option<Option<Seat>>,
     pub vulnerable: Option<Option<Vul>>,
@@ -36,9 +44,9 @@ impl Game {
         ensures { result ≡ no_game }
     {
         Game {
-            event: false,
-            site: false,
-            date: false,
+            event: None,
+            site: None,
+            date: None,
             number: None,
             dealer: None,
             vulnerable: None,
@@ -52,9 +60,9 @@ impl Game {
         ensures { result ≡ has kind self.now }
     {
         match kind {
-            Kind::Event => self.event,
-            Kind::Site => self.site,
-            Kind::Date => self.date,
+            Kind::Event => self.event.is_some(),
+            Kind::Site => self.site.is_some(),
+            Kind::Date => self.date.is_some(),
             Kind::Board => self.number.is_some(),
             Kind::Dealer => self.dealer.is_some(),
             Kind::Vulnerable => self.vulnerable.is_some(),
@@ -73,76 +81,55 @@ impl Game {
         }
     }
 
-    fn with_number(&self, value: &[u8], line: u64) -> Game
-        ensures value { result ≡ with_number value.now line self.now }
-        ensures most { unwrap_or result.number 0 ≤ 2 ^ 40 }
+    fn add_number(&mut self, value: &[u8], line: u64)
+        ensures value { self.new ≡ with_number value.now line self.old }
+        ensures most { unwrap_or self.new.number 0 ≤ 2 ^ 40 }
     {
         let number = number_in(value);
-        Game {
-            number: Some(number),
-            fault: self.first_fault(number == 0, line, RecordFault::NotANumber),
-            ..*self
-        }
+        self.number = Some(number);
+        self.fault = self.first_fault(number == 0, line, RecordFault::NotANumber);
     }
 
-    fn with_dealer(&self, value: &[u8], line: u64) -> Game
-        ensures { result ≡ with_dealer value.now line self.now }
+    fn add_dealer(&mut self, value: &[u8], line: u64)
+        ensures { self.new ≡ with_dealer value.now line self.old }
     {
         let dealer = dealer_in(value);
         let bad = dealer.is_none() && !is_unknown(value);
-        Game {
-            dealer: Some(dealer),
-            fault: self.first_fault(bad, line, RecordFault::NotADealer),
-            ..*self
-        }
+        self.dealer = Some(dealer);
+        self.fault = self.first_fault(bad, line, RecordFault::NotADealer);
     }
 
-    fn with_vulnerable(&self, value: &[u8], line: u64) -> Game
-        ensures { result ≡ with_vulnerable value.now line self.now }
+    fn add_vulnerable(&mut self, value: &[u8], line: u64)
+        ensures { self.new ≡ with_vulnerable value.now line self.old }
     {
         let vulnerable = vulnerable_in(value);
         let bad = vulnerable.is_none() && !is_unknown(value);
-        Game {
-            vulnerable: Some(vulnerable),
-            fault: self.first_fault(bad, line, RecordFault::NotAVulnerability),
-            ..*self
-        }
+        self.vulnerable = Some(vulnerable);
+        self.fault = self.first_fault(bad, line, RecordFault::NotAVulnerability);
     }
 
-    fn with_deal(&self, value: &[u8], line: u64) -> Game
-        ensures { result ≡ with_deal value.now line self.now }
+    fn add_deal(&mut self, value: &[u8], line: u64)
+        ensures { self.new ≡ with_deal value.now line self.old }
     {
         let deal = deal_in(value);
-        Game {
-            deal: Some(deal),
-            fault: self.first_fault(deal.is_none(), line, RecordFault::NotADeal),
-            ..*self
-        }
+        self.deal = Some(deal);
+        self.fault = self.first_fault(deal.is_none(), line, RecordFault::NotADeal);
     }
 
-    /// The game with one tag more, on this line.
+    /// Adds a tag, on this line.
     #[tactic(auto, unfolding(crate::specs::Games::with_tag))]
-    pub(crate) fn with_tag(&self, kind: Kind, value: &[u8], line: u64) -> Game
-        ensures value { result ≡ with_tag kind value.now line self.now }
-        ensures most { unwrap_or self.now.number 0 ≤ 2 ^ 40 → unwrap_or result.number 0 ≤ 2 ^ 40 }
+    pub(crate) fn add_tag(&mut self, kind: Kind, value: &[u8], line: u64)
+        ensures value { self.new ≡ with_tag kind value.now line self.old }
+        ensures most { unwrap_or self.old.number 0 ≤ 2 ^ 40 → unwrap_or self.new.number 0 ≤ 2 ^ 40 }
     {
         match kind {
-            Kind::Event => Game {
-                event: true,
-                ..*self
-            },
-            Kind::Site => Game {
-                site: true,
-                ..*self
-            },
-            Kind::Date => Game {
-                date: true,
-                ..*self
-            },
-            Kind::Board => self.with_number(value, line),
-            Kind::Dealer => self.with_dealer(value, line),
-            Kind::Vulnerable => self.with_vulnerable(value, line),
-            Kind::Deal => self.with_deal(value, line),
+            Kind::Event => self.event = Some(label_in(value)),
+            Kind::Site => self.site = Some(label_in(value)),
+            Kind::Date => self.date = Some(date_in(value)),
+            Kind::Board => self.add_number(value, line),
+            Kind::Dealer => self.add_dealer(value, line),
+            Kind::Vulnerable => self.add_vulnerable(value, line),
+            Kind::Deal => self.add_deal(value, line),
         }
     }
 
@@ -179,16 +166,27 @@ impl Game {
         }
     }
 
+    /// The labels of the game.
+    fn heading(&self) -> Heading
+        ensures { result ≡ heading_of self.now }
+    {
+        Heading {
+            event: self.event.unwrap_or(None),
+            site: self.site.unwrap_or(None),
+            date: self.date.unwrap_or(None),
+        }
+    }
+
     /// What the game says as it ends, after the board of number `last`.
     ///
     /// # Errors
     /// The first fault of its tags, if it has a deal.
     #[tactic(auto, unfolding(crate::specs::Games::game_says))]
-    pub(crate) fn says(&self, last: u64) -> Result<Option<Board>, RefusedRecord>
+    pub(crate) fn says(&self, last: u64) -> Result<Option<Told>, RefusedRecord>
         requires { last < 2 ^ 64 - 1 }
         ensures value { result ≡ game_says last self.now }
-        ensures most { IfOk result (λ board. IfSome board (λ b. (n : ℕ) → last + 1 ≤ n
-            → unwrap_or self.now.number 0 ≤ n → b.number ≤ n)) }
+        ensures most { IfOk result (λ told. IfSome told (λ t. (n : ℕ) → last + 1 ≤ n
+            → unwrap_or self.now.number 0 ≤ n → t.board.number ≤ n)) }
     {
         let Some(deal) = self.deal else {
             return Ok(None);
@@ -198,7 +196,10 @@ impl Game {
         }
         match deal {
             None => Ok(None),
-            Some(deal) => Ok(Some(self.board(last, deal))),
+            Some(deal) => Ok(Some(Told {
+                board: self.board(last, deal),
+                heading: self.heading(),
+            })),
         }
     }
 }

@@ -16,9 +16,10 @@ mod scanner;
 mod shown;
 mod tag;
 mod values;
+mod watched;
 
 pub use fault::{RecordFault, RefusedRecord};
-pub use game::Game;
+pub use game::{Game, Told};
 pub use kind::Kind;
 pub use line::{Part, Step};
 pub use reader::{BoardReader, Next, ReadFault};

@@ -11,8 +11,8 @@ ghost use Rattle.records.specs.Texts.{after, list_of, refused_with, spelled};
 ghost use Rattle.records.specs.internal.TagTexts.{Reads};
 
 use crate::fault::RefusedRecord;
+use crate::game::Told;
 use crate::scanner::Scanner;
-use boards::Board;
 use picking::{MOST_BYTES, Source, SourceFault};
 
 /// How many bytes are read at once.
@@ -25,9 +25,9 @@ const MOST_READS: u64 = MOST_BYTES + 1;
 #[derive(Drop)]
 pub enum Next {
     /// The board of a game that ended.
-    Board(Board),
+    Board(Told),
     /// The board of the last game, after which the input ended.
-    Last(Board),
+    Last(Told),
     /// The input ended.
     End,
 }
@@ -59,10 +59,10 @@ fn read_part(
     piece: &[u8; PIECE],
     from: usize,
     to: usize,
-) -> Result<(usize, Option<Board>), RefusedRecord>
+) -> Result<(usize, Option<Told>), RefusedRecord>
     requires within { from ≤ to }
     requires piece { to ≤ length piece.now }
-    requires room { IsWithin scanner.old (2 ^ 58) }
+    requires room { IsWithin scanner.old (2 ^ 57) }
     ensures reads { IfOk result (λ r.
         Reads scanner.old scanner.new (drop from (take to piece.now)) r.0 r.1) }
     ensures more { IfOk result (λ r. IfSome r.1 (λ _. 0 < r.0)) }
@@ -90,7 +90,7 @@ impl BoardReader {
     }
 
     /// Reads on in the piece, up to a board or the end of the piece.
-    fn take_piece(&mut self) -> Result<Option<Board>, RefusedRecord>
+    pub(crate) fn take_piece(&mut self) -> Result<Option<Told>, RefusedRecord>
         requires { IsReady self.old }
         ensures goes_on { IfOk result (λ board. (rest : List ℕ)
             → unread_spells self.old rest ≡ after (list_of board) (unread_spells self.new rest)) }

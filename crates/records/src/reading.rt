@@ -9,10 +9,9 @@ ghost use Rattle.records.specs.Kinds.{kind_of};
 ghost use Rattle.records.specs.internal.TagTexts.{IsStart, after_tag, with_place};
 
 use crate::fault::{RecordFault, RefusedRecord};
-use crate::game::Game;
+use crate::game::{Game, Told};
 use crate::kind::{Kind, kind_of};
 use crate::line::{Line, MOST_BYTES, Step};
-use boards::Board;
 
 /// What was read of a text: where in a line it ends, how many lines there were before, what the
 /// game says so far, and the number of the last board, or 0.
@@ -50,7 +49,7 @@ impl Reading {
     }
 
     /// Ends the game, and returns its board, if it has one.
-    fn end_game(&mut self) -> Result<Option<Board>, RefusedRecord>
+    fn end_game(&mut self) -> Result<Option<Told>, RefusedRecord>
         requires { InRoom self.old (2 ^ 62) }
         ensures ends { IfOk result (λ board. (next : Reading → Spelled)
             → ends_game self.old next ≡ after (list_of board) (next self.new)) }
@@ -62,7 +61,7 @@ impl Reading {
         let board = self.game.says(self.last)?;
         self.game = Game::none();
         if let Some(board) = &board {
-            self.last = board.number;
+            self.last = board.board.number;
         }
         Ok(board)
     }
@@ -74,7 +73,7 @@ impl Reading {
         ensures number { unwrap_or self.old.game.number 0 ≤ 2 ^ 40
             → unwrap_or self.new.game.number 0 ≤ 2 ^ 40 }
     {
-        self.game = self.game.with_tag(kind, self.line.value(), self.lines + 1);
+        self.game.add_tag(kind, self.line.value(), self.lines + 1);
     }
 
     /// Goes to the next line.
@@ -87,7 +86,7 @@ impl Reading {
     }
 
     /// Takes the end of a tag, before which a game ends that has such a tag. Returns its board.
-    fn take_tag(&mut self) -> Result<Option<Board>, RefusedRecord>
+    fn take_tag(&mut self) -> Result<Option<Told>, RefusedRecord>
         requires { InRoom self.old (2 ^ 62) }
         ensures takes { IfOk result (λ board. (next : Reading → Spelled)
             → takes_tag (kind_of self.old.line.name) self.old next
@@ -112,29 +111,28 @@ impl Reading {
         }
     }
 
-    /// Takes a tag at the beginning of a line, before which a game ends that has such a tag.
-    /// Returns its board.
-    ///
-    /// # Errors
-    /// The line that is refused, whatever comes after.
-    pub(crate) fn take_whole_tag(
-        &mut self,
-        name: &[u8],
-        value: &[u8],
-    ) -> Result<Option<Board>, RefusedRecord>
+    /// Takes a tag at the beginning of a line, unless the game ends before it. Returns whether it
+    /// did.
+    pub(crate) fn pass_tag(&mut self, name: &[u8], value: &[u8]) -> bool
         requires room { InRoom self.old (2 ^ 62) }
         requires start { IsStart self.old.line }
         requires fits { length name.now + length value.now + 5 ≤ 4096 }
-        ensures takes { IfOk result (λ board. (next : Reading → Spelled)
+        ensures passed { result ≡ true → (next : Reading → Spelled)
             → takes_tag (kind_of name.now) (with_place (after_tag name.now value.now) self.old) next
-            ≡ after (list_of board) (next self.new)) }
-        ensures refused { IfErr result (λ e. (next : Reading → Spelled)
-            → takes_tag (kind_of name.now) (with_place (after_tag name.now value.now) self.old) next
-            ≡ refused_with e) }
-        ensures room { (n : ℕ) → InRoom self.old n → OnOk result (InRoom self.new (n + 1)) }
+            ≡ next self.new }
+        ensures kept { result ≡ false → self.new ≡ self.old }
+        ensures room { (n : ℕ) → InRoom self.old n → InRoom self.new n }
     {
+        let Some(kind) = kind_of(name) else {
+            self.line.take_tag(name, value);
+            return true;
+        };
+        if self.game.has(kind) {
+            return false;
+        }
         self.line.take_tag(name, value);
-        self.take_tag()
+        self.add_tag(kind);
+        true
     }
 
     /// Takes the next byte of a line where any byte only goes on with it. Returns whether it did.
@@ -170,7 +168,7 @@ impl Reading {
     ///
     /// # Errors
     /// The line, if it is refused, whatever comes after.
-    pub(crate) fn take(&mut self, byte: u8) -> Result<Option<Board>, RefusedRecord>
+    pub(crate) fn take(&mut self, byte: u8) -> Result<Option<Told>, RefusedRecord>
         requires { InRoom self.old (2 ^ 62) }
         ensures reads { IfOk result (λ board. (next : Reading → Spelled)
             → reads_byte self.old byte next ≡ after (list_of board) (next self.new)) }
@@ -193,7 +191,7 @@ impl Reading {
     ///
     /// # Errors
     /// The line, if it is refused, whatever comes after.
-    pub(crate) fn end_line(&mut self) -> Result<Option<Board>, RefusedRecord>
+    pub(crate) fn end_line(&mut self) -> Result<Option<Told>, RefusedRecord>
         requires { InRoom self.old (2 ^ 62) }
         ensures ends { IfOk result (λ board. (next : Reading → Spelled)
             → ends_line self.old next ≡ after (list_of board) (next self.new)) }
@@ -221,7 +219,7 @@ impl Reading {
     ///
     /// # Errors
     /// The last line, if it is refused, or one of the last game.
-    pub(crate) fn finish(&mut self) -> Result<Option<Board>, RefusedRecord>
+    pub(crate) fn finish(&mut self) -> Result<Option<Told>, RefusedRecord>
         requires { InRoom self.old (2 ^ 62) }
         ensures ends { IfOk result (λ board.
             ends_line self.old (λ t. ends_game t nothing_more)

@@ -9,9 +9,9 @@ ghost use Rattle.records.specs.Texts.{after, list_of, refused_with, spelled};
 ghost use Rattle.records.specs.internal.TagTexts.{IsStart, IsTag, Reads, tag_text};
 
 use crate::fault::RefusedRecord;
+use crate::game::Told;
 use crate::reading::Reading;
 use crate::tag::{SIGNS, tag_at};
-use boards::Board;
 
 /// Reads a text byte by byte. It keeps what was read of the game, and whether a CR came last.
 #[derive(Drop)]
@@ -33,7 +33,7 @@ impl Scanner {
     }
 
     /// Takes the end of a line.
-    fn end_line(&mut self) -> Result<Option<Board>, RefusedRecord>
+    fn end_line(&mut self) -> Result<Option<Told>, RefusedRecord>
         requires { IsWithin self.old (2 ^ 60) }
         ensures goes_on { IfOk result (λ board. (rest : List ℕ)
             → spells_from self.old (10 ∷ rest)
@@ -70,7 +70,7 @@ impl Scanner {
     }
 
     /// Takes a byte after another than a CR.
-    fn go_on(&mut self, byte: u8) -> Result<Option<Board>, RefusedRecord>
+    fn go_on(&mut self, byte: u8) -> Result<Option<Told>, RefusedRecord>
         requires room { InRoom self.old.reading (2 ^ 62) }
         requires within { byte ≢ 10 }
         requires plain { self.old.after_cr ≡ false }
@@ -96,26 +96,36 @@ impl Scanner {
         !self.after_cr && self.reading.line.is_at_start()
     }
 
-    /// Takes a tag at the beginning of a line, and returns the board of the game that it ends.
-    ///
-    /// # Errors
-    /// The line that is refused, whatever comes after.
-    pub(crate) fn take_tag(
-        &mut self,
-        name: &[u8],
-        value: &[u8],
-    ) -> Result<Option<Board>, RefusedRecord>
+    /// Takes a tag at the beginning of a line, unless a game ends before it. Returns whether it
+    /// did.
+    fn pass_tag(&mut self, name: &[u8], value: &[u8]) -> bool
         requires room { IsWithin self.old (2 ^ 60) }
         requires start { IsStart self.old.reading.line × (self.old.after_cr ≡ false) }
         requires tag { IsTag name.now value.now }
-        ensures goes_on { IfOk result (λ board. (rest : List ℕ)
+        ensures passed { result ≡ true → (rest : List ℕ)
             → spells_from self.old (tag_text name.now value.now ++ rest)
-            ≡ after (list_of board) (spells_from self.new rest)) }
-        ensures refused { IfErr result (λ e. (rest : List ℕ)
-            → spells_from self.old (tag_text name.now value.now ++ rest) ≡ refused_with e) }
-        ensures room { (n : ℕ) → IsWithin self.old n → OnOk result (IsWithin self.new (n + 1)) }
+            ≡ spells_from self.new rest }
+        ensures kept { result ≡ false → self.new ≡ self.old }
+        ensures room { (n : ℕ) → IsWithin self.old n → IsWithin self.new (n + 1) }
     {
-        self.reading.take_whole_tag(name, value)
+        self.reading.pass_tag(name, value)
+    }
+
+    /// Takes the tag that a line begins with here, if no game ends before it. Returns how many
+    /// bytes it has; none were taken if that is 0.
+    fn pass_tag_at(&mut self, bytes: &[u8]) -> usize
+        requires { IsWithin self.old (2 ^ 60) }
+        ensures { Reads self.old self.new bytes.now result None }
+    {
+        if !self.is_at_start() {
+            return 0;
+        }
+        match tag_at(bytes) {
+            Some(tag) if self.pass_tag(tag.name, tag.value) => {
+                tag.name.len() + tag.value.len() + SIGNS
+            }
+            _ => 0,
+        }
     }
 
     /// Takes the next byte of the text where that ends no tag and no game. Returns whether it did.
@@ -143,7 +153,7 @@ impl Scanner {
     ///
     /// # Errors
     /// The line that is refused, whatever comes after.
-    pub fn take(&mut self, byte: u8) -> Result<Option<Board>, RefusedRecord>
+    pub fn take(&mut self, byte: u8) -> Result<Option<Told>, RefusedRecord>
         requires { IsWithin self.old (2 ^ 60) }
         ensures goes_on { IfOk result (λ board. (rest : List ℕ)
             → spells_from self.old (byte ∷ rest)
@@ -175,32 +185,43 @@ impl Scanner {
         bytes.len()
     }
 
-    /// Takes the tag that a line begins with here, or a byte. Returns how many bytes that were, and
-    /// the board of the game that it ends.
-    fn take_some(&mut self, bytes: &[u8]) -> Result<(usize, Option<Board>), RefusedRecord>
+    /// Takes the first byte, and returns the board of the game that it ends.
+    fn take_first(&mut self, bytes: &[u8]) -> Result<Option<Told>, RefusedRecord>
         requires room { IsWithin self.old (2 ^ 60) }
         requires some { 0 < length bytes.now }
-        ensures reads { IfOk result (λ r. Reads self.old self.new bytes.now r.0 r.1) }
-        ensures more { IfOk result (λ r. 0 < r.0) }
+        ensures reads { IfOk result (λ told. Reads self.old self.new bytes.now 1 told) }
         ensures refused { IfErr result (λ e. (rest : List ℕ)
             → spells_from self.old (bytes.now ++ rest) ≡ refused_with e) }
     {
-        if self.is_at_start() {
-            if let Some(tag) = tag_at(bytes) {
-                let board = self.take_tag(tag.name, tag.value)?;
-                return Ok((tag.name.len() + tag.value.len() + SIGNS, board));
-            }
-        }
-        let board = self.take(bytes[0])?;
-        Ok((1, board))
+        self.take(bytes[0])
     }
 
-    /// Reads on in the bytes, up to a board or their end. Returns how many were read, and the board.
+    /// Takes bytes and tags before which no game ends, as far as there are any. Returns how many
+    /// bytes.
+    fn pass_on(&mut self, bytes: &[u8]) -> usize
+        requires room { IsWithin self.old (2 ^ 58) }
+        requires few { length bytes.now ≤ 2 ^ 50 }
+        ensures { Reads self.old self.new bytes.now result None }
+    {
+        let mut from = 0;
+        while from < bytes.len() {
+            from += self.skim(&bytes[from..]);
+            let count = self.pass_tag_at(&bytes[from..]);
+            if count == 0 {
+                return from;
+            }
+            from += count;
+        }
+        from
+    }
+
+    /// Reads on in the bytes, up to a board or their end. Returns how many were read, and the
+    /// board.
     ///
     /// # Errors
     /// The line that is refused, whatever comes after.
-    pub(crate) fn read(&mut self, bytes: &[u8]) -> Result<(usize, Option<Board>), RefusedRecord>
-        requires room { IsWithin self.old (2 ^ 58) }
+    pub(crate) fn read(&mut self, bytes: &[u8]) -> Result<(usize, Option<Told>), RefusedRecord>
+        requires room { IsWithin self.old (2 ^ 57) }
         requires few { length bytes.now ≤ 2 ^ 50 }
         ensures reads { IfOk result (λ r. Reads self.old self.new bytes.now r.0 r.1) }
         ensures more { IfOk result (λ r. IfSome r.1 (λ _. 0 < r.0)) }
@@ -210,14 +231,14 @@ impl Scanner {
     {
         let mut from = 0;
         while from < bytes.len() {
-            from += self.skim(&bytes[from..]);
+            from += self.pass_on(&bytes[from..]);
             if from == bytes.len() {
                 return Ok((from, None));
             }
-            let (count, board) = self.take_some(&bytes[from..])?;
-            from += count;
-            if board.is_some() {
-                return Ok((from, board));
+            let told = self.take_first(&bytes[from..])?;
+            from += 1;
+            if told.is_some() {
+                return Ok((from, told));
             }
         }
         Ok((from, None))
@@ -227,7 +248,7 @@ impl Scanner {
     ///
     /// # Errors
     /// The line that is refused.
-    pub fn finish(&mut self) -> Result<Option<Board>, RefusedRecord>
+    pub fn finish(&mut self) -> Result<Option<Told>, RefusedRecord>
         requires { IsWithin self.old (2 ^ 60) }
         ensures says { IfOk result (λ board. spells_from self.old []
             ≡ record { boards = list_of board; refused = None }) }

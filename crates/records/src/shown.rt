@@ -12,6 +12,7 @@ ghost use Rattle.sinks.specs.Sinks.{AppendsOrBreaksOff, CountsFault};
 
 use crate::fault::RefusedRecord;
 use crate::reader::{BoardReader, Next, ReadFault};
+use crate::watched::next_watched;
 use boards::{Board, Notation};
 use picking::{MOST_BYTES, Source};
 use sinks::{Sink, SinkFault, put_all};
@@ -111,15 +112,14 @@ fn show_rest<N: Notation, I: Source, S: Sink>(
 {
     let mut boards = written;
     for turn in 0..MOST_GAMES {
-        sink.watch(boards, boards);
-        let board = match reader.next(input) {
-            Ok(Next::Board(board)) => board,
-            Ok(Next::Last(board)) => return put_last(&board, boards, notation, sink),
+        let told = match next_watched(reader, boards, input, sink) {
+            Ok(Next::Board(told)) => told,
+            Ok(Next::Last(told)) => return put_last(&told.board, boards, notation, sink),
             Ok(Next::End) => return put_end(boards, notation, sink),
             Err(ReadFault::Refused(line)) => return Err(ShowFault::Refused(line)),
             Err(ReadFault::Input) => return Err(ShowFault::Input),
         };
-        match put(&board, notation, sink) {
+        match put(&told.board, notation, sink) {
             Ok(()) => boards += 1,
             Err(_) => return Err(ShowFault::Output),
         }
@@ -162,14 +162,14 @@ pub fn show<N: Notation, I: Source, S: Sink>(
         Ok(()) => {}
         Err(_) => return Err(ShowFault::Output),
     }
-    let board = match first {
-        Ok(Next::Board(board)) => board,
-        Ok(Next::Last(board)) => return put_last(&board, 0, notation, sink),
+    let told = match first {
+        Ok(Next::Board(told)) => told,
+        Ok(Next::Last(told)) => return put_last(&told.board, 0, notation, sink),
         Ok(Next::End) => return put_end(0, notation, sink),
         Err(ReadFault::Refused(line)) => return Err(ShowFault::Refused(line)),
         Err(ReadFault::Input) => return Err(ShowFault::Input),
     };
-    match put(&board, notation, sink) {
+    match put(&told.board, notation, sink) {
         Ok(()) => show_rest(reader, 1, notation, input, sink),
         Err(_) => Err(ShowFault::Output),
     }

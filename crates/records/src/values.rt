@@ -1,9 +1,10 @@
 //! What the values of tags say.
 
 ghost use Rattle.std.specs.Prelude.{◌≡◌, ◌≤◌, ◌^◌};
-ghost use Rattle.records.specs.Values.{dealer_in, is_unknown, is_word, number_in, vulnerable_in};
+ghost use Rattle.records.specs.Values.{date_in, dealer_in, is_no_label, is_unknown, is_word};
+ghost use Rattle.records.specs.Values.{label_in, number_in, vulnerable_in};
 
-use boards::Vul;
+use boards::{Date, Label, Vul};
 use cards::Seat;
 
 /// The greatest number of a board.
@@ -25,6 +26,31 @@ pub(crate) fn number_in(value: &[u8]) -> u64
         }
     }
     number
+}
+
+/// Whether the value stands for no label.
+fn is_no_label(value: &[u8]) -> bool
+    ensures { result ≡ is_no_label value.now }
+{
+    value == b"?".as_slice() || value == b"#".as_slice()
+}
+
+/// The event or the site of a value, unless it is none.
+pub(crate) fn label_in(value: &[u8]) -> Option<Label>
+    ensures { result ≡ label_in value.now }
+{
+    if is_no_label(value) {
+        None
+    } else {
+        Label::new(value)
+    }
+}
+
+/// The date of a value, unless it is none.
+pub(crate) fn date_in(value: &[u8]) -> Option<Date>
+    ensures { result ≡ date_in value.now }
+{
+    Date::new(value)
 }
 
 /// Whether the value says that nothing is known.

@@ -18,7 +18,7 @@ const ROWS: &str = "
     pick --lesson --where --boards --candidates --first --workers --lane --report --progress => \
         deals pick reads the numbers of deals: deals find searches for them
     show --tricks => \
-        tricks come with the boards: deals-tricks --add < boards.pbn | deals show
+        deals show writes no tricks; deals-tricks --add < boards.pbn adds them to PBN
     show --dealer --vulnerable --rotate --first-board => \
         deals show keeps what the boards say of number, dealer and vulnerability
     show --seed --lesson --where --boards --candidates --first --north --east --south --west \

@@ -4,11 +4,11 @@ use Rattle.std.specs.Prelude.{Result, Ok, Err}
 use Rattle.dealrun.specs.Headline.{WritesTextIn}
 use Rattle.dealrun.specs.Interrupted.{FaultsAfter}
 use Rattle.plans.specs.declared.cause.Cause.{Cause}
-use Rattle.plans.specs.declared.cause.Cause.TheVariants.{Memory, Output, Spawn, Stopped, Unclosed}
+use Rattle.plans.specs.declared.cause.Cause.TheVariants.{Memory, Output, Spawn}
 use Rattle.boards.specs.Layouts.{Layout}
 use Rattle.notations.specs.Formats.{layout_showing}
 use Rattle.plans.specs.Plans.{Planned}
-use Rattle.plans.specs.Text.{accepted, end_of, text_in}
+use Rattle.plans.specs.Text.{accepted, end_of}
 use Rattle.jobs.specs.Makings.{AreWorkers, plan_of}
 use Rattle.request_types.specs.Requests.{Look, Search}
 use Rattle.cond_lang.specs.Form.{Form}
@@ -22,7 +22,8 @@ use Rattle.picking.specs.FourBytes.{EndsBefore}
 use Rattle.picking.specs.Outcomes.{Picks}
 use Rattle.picking.specs.declared.fault.PickFault.{PickFault}
 use Rattle.picking.specs.declared.fault.PickFault.TheVariants as picks
-use Rattle.records.specs.Shown.{Shows}
+use Rattle.records.specs.Shown.{FaultsOf}
+use Rattle.deals_cli.specs.Shown.{ShowsUnder}
 use Rattle.records.specs.declared.shown.ShowFault.{ShowFault}
 use Rattle.records.specs.declared.shown.ShowFault.TheVariants as shown
 use Rattle.jobs.specs.Counting.{table_by}
@@ -139,29 +140,41 @@ EndsPicking job (Err Input) before after old new =
     before after old new
 EndsPicking job (Err failure) before after old new = ⊥
 
--- how the boards are laid out that the input has
-abbrev pub layout_for : ShowJob → Layout
-layout_for job = layout_showing job.format job.show job.heading
+-- boards were shown, or the first read of the input failed, and nothing was written
+abbrev pub ShowsFor : ShowJob → Result ℕ ShowFault
+    → (before after old new : Option (List ℕ)) → Type 0
+ShowsFor job result before after old new =
+    ShowsUnder job.format job.show job.heading result before after old new
+
+abbrev pub EndsShown : ShowJob → Result ℕ ShowFault
+    → (before after old new : Option (List ℕ)) → Type 0
+EndsShown job (Err shown.Input) before after old new =
+    (new ≡ old) ⊎ ShowsFor job (Err shown.Input) before after old new
+EndsShown job result before after old new = ShowsFor job result before after old new
 
 -- the input failed once if that ended it; where the output failed, it may have failed before
-abbrev pub CountsShown : Result ℕ ShowFault → (old new : ℕ) → Type 0
-CountsShown (Err shown.Input) old new = new ≡ old + 1
-CountsShown (Err shown.Output) old new = (new ≡ old) ⊎ (new ≡ old + 1)
+abbrev pub CountsShown : {E : Type 0} → Result (Result ℕ ShowFault) E → (old new : ℕ) → Type 0
+CountsShown (Ok (Err shown.Input)) old new = new ≡ old + 1
+CountsShown (Ok (Err shown.Output)) old new = (new ≡ old) ⊎ (new ≡ old + 1)
 CountsShown _ old new = new ≡ old
+
+abbrev pub FaultsShown : {E : Type 0} → Result (Result ℕ ShowFault) E → (old new : ℕ) → Type 0
+FaultsShown (Ok result) old new = FaultsOf result old new
+FaultsShown (Err e) old new = new ≡ old
 
 -- showing wrote all boards, or ended with a fault. The output may also fail where what is before
 -- a fault of the input is passed on
 abbrev pub EndsShowing : {T : Type 0} → ShowJob → Result T Failure
     → (before after old new : Option (List ℕ)) → Type 0
 EndsShowing job (Ok value) before after old new =
-    (boards : ℕ) × Shows (layout_for job) (Ok boards) before after old new
+    (boards : ℕ) × ShowsFor job (Ok boards) before after old new
 EndsShowing job (Err (Interrupted Memory)) before after old new = new ≡ old
 EndsShowing job (Err (Interrupted Output)) before after old new =
-    (fault : ShowFault) × Shows (layout_for job) (Err fault) before after old new
+    (new ≡ old) ⊎ ((fault : ShowFault) × ShowsFor job (Err fault) before after old new)
 EndsShowing job (Err (Record line)) before after old new =
-    Shows (layout_for job) (Err (shown.Refused line)) before after old new
+    ShowsFor job (Err (shown.Refused line)) before after old new
 EndsShowing job (Err Input) before after old new =
-    Shows (layout_for job) (Err shown.Input) before after old new
+    (new ≡ old) ⊎ ShowsFor job (Err shown.Input) before after old new
 EndsShowing job (Err failure) before after old new = ⊥
 
 -- a run over boards with tricks ended after its lines were read, for a wish of this search and look

@@ -2,7 +2,7 @@
 use Rattle.std.specs.Prelude.{◌≡◌, ◌<◌, ◌≤◌, ℕ, ◌+◌, ◌==◌, ◌||◌, Bool, true, false, not}
 use Rattle.std.specs.Prelude.{List, [], ◌∷◌, ◌++◌, Option, drop, length}
 use Rattle.std.specs.List.{list_all}
-use Rattle.boards.specs.declared.board.Board.{Board as ABoard}
+use Rattle.records.specs.declared.game.Told.{Told}
 use Rattle.records.specs.Places.{Place, is_name_byte}
 use Rattle.records.specs.Scans.{IsWithin, spells_from}
 use Rattle.records.specs.Texts.{after, list_of}
@@ -45,7 +45,7 @@ abbrev pub with_place : Place → Reading → Reading
 with_place p s = record s { line = p }
 
 -- these many bytes were read, and the board came of them
-pub record Reads (s t : Scanner) (bytes : List ℕ) (count : ℕ) (board : Option ABoard) : Type 0 where
+pub record Reads (s t : Scanner) (bytes : List ℕ) (count : ℕ) (board : Option Told) : Type 0 where
   pub within : count ≤ length bytes
   pub spells : (rest : List ℕ) → spells_from s (bytes ++ rest)
       ≡ after (list_of board) (spells_from t (drop count bytes ++ rest))

@@ -1,6 +1,5 @@
-use Rattle.std.proofs.Common.{◌∙◌, ap, is_some, sym, Some}
+use Rattle.std.proofs.Common.{◌∙◌, ap, is_some, sym}
 use Rattle.clap.specs.declared.error.kind.ErrorKind.TheVariants.{InvalidValue}
-use Rattle.request_types.specs.Requests.{Wish}
 use Rattle.command_line.proofs.Asked.{refused_asked, refused_kind}
 use Rattle.command_line.proofs.words.show_request.Goals as goal
 

@@ -1,9 +1,3 @@
-use Rattle.std.proofs.Common.{◌≡◌, ◌∙◌, [], Some, List, ℕ, refl, sym, ap}
-use Rattle.std.specs.Prelude.{Err, Ok, Result}
-use Rattle.boards.specs.Layouts.{Layout}
-use Rattle.boards.specs.declared.format.Format.TheVariants.{Numbers}
-use Rattle.notations.specs.Formats.{layout_of}
-use Rattle.notations.specs.Numbers.{numbers}
 use Rattle.deals_cli.proofs.Telling.{finding_broken, found_by}
 use Rattle.deals_cli.proofs.tricks_job.find.Goals as goal
 

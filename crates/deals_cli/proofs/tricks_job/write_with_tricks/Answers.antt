@@ -1,4 +1,3 @@
-use Rattle.std.proofs.Common.{◌≡◌}
 use Rattle.deals_cli.proofs.tricks_job.write_with_tricks.Goals as goal
 
 pub invariant_of-result : goal.invariant_of-result

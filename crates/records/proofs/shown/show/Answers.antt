@@ -22,7 +22,7 @@ returns-in-Ok-Last-clause-shows g c start before fresh reads =
     let header = subst (AppendsAll base out) c.header.ensures c.in-Ok.ensures.bytes in
     let none = shown_none layout has start before base out fresh header c.requires.printed in
     let read = rw (c.in-Ok-Last.is, c.in-Ok-Last.field-0-is) at reads in
-    shows_last layout layout has start c.args.reader.now 0 before before rest base out (g.S.Sink.bytes c.put_last.new.sink) c.in-Ok-Last.board c.put_last.result refl read c.put_last.ensures.bytes none
+    shows_last layout layout has start c.args.reader.now 0 before before rest base out (g.S.Sink.bytes c.put_last.new.sink) c.in-Ok-Last.told c.put_last.result refl read c.put_last.ensures.bytes none
 
 pub returns-in-Ok-End-clause-shows : goal.returns-in-Ok-End-clause-shows
 returns-in-Ok-End-clause-shows g c start before fresh reads =
@@ -59,7 +59,7 @@ returns-in-Err-put-clause-shows g c start before fresh reads =
     let header = subst (AppendsAll base out) c.header.ensures c.in-Ok.ensures.bytes in
     let none = shown_none layout has start before base out fresh header c.requires.printed in
     let read = rw (c.in-Ok-Board.is, c.in-Ok-Board.field-0-is) at reads in
-    breaks_board layout layout has start c.args.reader.now 0 before before rest base out (g.S.Sink.bytes c.put.new.sink) c.in-Ok-Board.board refl read c.in-Err-put.ensures.bytes none
+    breaks_board layout layout has start c.args.reader.now 0 before before rest base out (g.S.Sink.bytes c.put.new.sink) c.in-Ok-Board.told refl read c.in-Err-put.ensures.bytes none
 
 pub returns-in-Ok-put-clause-shows : goal.returns-in-Ok-put-clause-shows
 returns-in-Ok-put-clause-shows g c start before fresh reads =
@@ -72,7 +72,7 @@ returns-in-Ok-put-clause-shows g c start before fresh reads =
     let none = shown_none layout has start before base out fresh header c.requires.printed in
     let read = rw (c.in-Ok-Board.is, c.in-Ok-Board.field-0-is) at reads in
     let same = c.put.ensures.layout in
-    let one = shows_board layout layout has (g.N.Notation.has_printed c.put.new.notation) start c.args.reader.now 0 before before rest base out (g.S.Sink.bytes c.put.new.sink) c.in-Ok-Board.board refl read c.in-Ok-put.ensures.bytes c.put.ensures.printed none in
+    let one = shows_board layout layout has (g.N.Notation.has_printed c.put.new.notation) start c.args.reader.now 0 before before rest base out (g.S.Sink.bytes c.put.new.sink) c.in-Ok-Board.told refl read c.in-Ok-put.ensures.bytes c.put.ensures.printed none in
     let next = g.N.Notation.layout c.put.new.notation in
     let more = g.N.Notation.has_printed c.put.new.notation in
     let written = g.S.Sink.bytes c.put.new.sink in

@@ -8,9 +8,9 @@ returns-in-Ok-Last-clause-shows g c before base start =
     let layout = g.N.Notation.layout c.args.notation.now in
     let has = g.N.Notation.has_printed c.loop-turn.notation in
     let now = g.I.Source.rest c.loop-turn.input in
-    let p = subst (ShownFrom layout has c.loop-turn.reader c.loop-turn.boards before now base) (sym c.watch.ensures.bytes) (c.loop-turn.invariant.shown before base start) in
-    shows_last layout (g.N.Notation.layout c.loop-turn.notation) has c.loop-turn.reader c.next.new.self c.loop-turn.boards before now (g.I.Source.rest c.next.new.input) base (g.S.Sink.bytes c.watch.new.self) (g.S.Sink.bytes c.put_last.new.sink)
-    c.in-Ok-Last.board c.put_last.result c.loop-turn.invariant.layout (rw c.in-Ok-Last.field-0-is at c.in-Ok-Last.ensures.reads) c.put_last.ensures.bytes p
+    let p = subst (ShownFrom layout has c.loop-turn.reader c.loop-turn.boards before now base) (sym c.next_watched.ensures.bytes) (c.loop-turn.invariant.shown before base start) in
+    shows_last layout (g.N.Notation.layout c.loop-turn.notation) has c.loop-turn.reader c.next_watched.new.reader c.loop-turn.boards before now (g.I.Source.rest c.next_watched.new.input) base (g.S.Sink.bytes c.next_watched.new.sink) (g.S.Sink.bytes c.put_last.new.sink)
+    c.in-Ok-Last.told c.put_last.result c.loop-turn.invariant.layout (rw c.in-Ok-Last.field-0-is at c.in-Ok-Last.ensures.reads) c.put_last.ensures.bytes p
 
 pub returns-in-Ok-Last-clause-input : goal.returns-in-Ok-Last-clause-input
 returns-in-Ok-Last-clause-input g c = input_kept c.put_last.result _ _ c.put_last.ensures.fault (search rules)
@@ -20,8 +20,8 @@ returns-in-Ok-End-clause-shows g c before base start =
     let layout = g.N.Notation.layout c.args.notation.now in
     let has = g.N.Notation.has_printed c.loop-turn.notation in
     let now = g.I.Source.rest c.loop-turn.input in
-    let p = subst (ShownFrom layout has c.loop-turn.reader c.loop-turn.boards before now base) (sym c.watch.ensures.bytes) (c.loop-turn.invariant.shown before base start) in
-    shows_end layout (g.N.Notation.layout c.loop-turn.notation) has c.loop-turn.reader c.next.new.self c.loop-turn.boards before now (g.I.Source.rest c.next.new.input) base (g.S.Sink.bytes c.watch.new.self) (g.S.Sink.bytes c.put_end.new.sink)
+    let p = subst (ShownFrom layout has c.loop-turn.reader c.loop-turn.boards before now base) (sym c.next_watched.ensures.bytes) (c.loop-turn.invariant.shown before base start) in
+    shows_end layout (g.N.Notation.layout c.loop-turn.notation) has c.loop-turn.reader c.next_watched.new.reader c.loop-turn.boards before now (g.I.Source.rest c.next_watched.new.input) base (g.S.Sink.bytes c.next_watched.new.sink) (g.S.Sink.bytes c.put_end.new.sink)
     c.put_end.result c.loop-turn.invariant.layout (rw c.in-Ok-End.field-0-is at c.in-Ok-End.ensures.reads) c.put_end.ensures.bytes p
 
 pub returns-in-Ok-End-clause-input : goal.returns-in-Ok-End-clause-input
@@ -32,8 +32,8 @@ returns-in-Err-Refused-clause-shows g c before base start =
     let layout = g.N.Notation.layout c.args.notation.now in
     let has = g.N.Notation.has_printed c.loop-turn.notation in
     let now = g.I.Source.rest c.loop-turn.input in
-    let p = subst (ShownFrom layout has c.loop-turn.reader c.loop-turn.boards before now base) (sym c.watch.ensures.bytes) (c.loop-turn.invariant.shown before base start) in
-    shows_refused layout has c.loop-turn.reader c.next.new.self c.loop-turn.boards before now (g.I.Source.rest c.next.new.input) base (g.S.Sink.bytes c.watch.new.self)
+    let p = subst (ShownFrom layout has c.loop-turn.reader c.loop-turn.boards before now base) (sym c.next_watched.ensures.bytes) (c.loop-turn.invariant.shown before base start) in
+    shows_refused layout has c.loop-turn.reader c.next_watched.new.reader c.loop-turn.boards before now (g.I.Source.rest c.next_watched.new.input) base (g.S.Sink.bytes c.next_watched.new.sink)
     c.in-Err-Refused.line (rw c.in-Err-Refused.field-0-is at c.in-Err-Refused.ensures.reads) p
 
 pub returns-in-Err-Input-clause-shows : goal.returns-in-Err-Input-clause-shows
@@ -41,8 +41,8 @@ returns-in-Err-Input-clause-shows g c before base start =
     let layout = g.N.Notation.layout c.args.notation.now in
     let has = g.N.Notation.has_printed c.loop-turn.notation in
     let now = g.I.Source.rest c.loop-turn.input in
-    let p = subst (ShownFrom layout has c.loop-turn.reader c.loop-turn.boards before now base) (sym c.watch.ensures.bytes) (c.loop-turn.invariant.shown before base start) in
-    shows_failed layout has c.loop-turn.reader c.next.new.self c.loop-turn.boards before now (g.I.Source.rest c.next.new.input) base (g.S.Sink.bytes c.watch.new.self)
+    let p = subst (ShownFrom layout has c.loop-turn.reader c.loop-turn.boards before now base) (sym c.next_watched.ensures.bytes) (c.loop-turn.invariant.shown before base start) in
+    shows_failed layout has c.loop-turn.reader c.next_watched.new.reader c.loop-turn.boards before now (g.I.Source.rest c.next_watched.new.input) base (g.S.Sink.bytes c.next_watched.new.sink)
     (rw c.in-Err-Input.field-0-is at c.in-Err-Input.ensures.reads) p
 
 pub returns-in-Err-clause-shows : goal.returns-in-Err-clause-shows
@@ -50,9 +50,9 @@ returns-in-Err-clause-shows g c before base start =
     let layout = g.N.Notation.layout c.args.notation.now in
     let has = g.N.Notation.has_printed c.loop-turn.notation in
     let now = g.I.Source.rest c.loop-turn.input in
-    let p = subst (ShownFrom layout has c.loop-turn.reader c.loop-turn.boards before now base) (sym c.watch.ensures.bytes) (c.loop-turn.invariant.shown before base start) in
-    breaks_board layout (g.N.Notation.layout c.loop-turn.notation) has c.loop-turn.reader c.next.new.self c.loop-turn.boards before now (g.I.Source.rest c.next.new.input) base (g.S.Sink.bytes c.watch.new.self) (g.S.Sink.bytes c.put.new.sink)
-    c.in-Ok-Board.board c.loop-turn.invariant.layout (rw c.in-Ok-Board.field-0-is at c.in-Ok-Board.ensures.reads) c.in-Err.ensures.bytes p
+    let p = subst (ShownFrom layout has c.loop-turn.reader c.loop-turn.boards before now base) (sym c.next_watched.ensures.bytes) (c.loop-turn.invariant.shown before base start) in
+    breaks_board layout (g.N.Notation.layout c.loop-turn.notation) has c.loop-turn.reader c.next_watched.new.reader c.loop-turn.boards before now (g.I.Source.rest c.next_watched.new.input) base (g.S.Sink.bytes c.next_watched.new.sink) (g.S.Sink.bytes c.put.new.sink)
+    c.in-Ok-Board.told c.loop-turn.invariant.layout (rw c.in-Ok-Board.field-0-is at c.in-Ok-Board.ensures.reads) c.in-Err.ensures.bytes p
 
 pub loop-turn-preserved : goal.loop-turn-preserved
 loop-turn-preserved g c =
@@ -65,9 +65,9 @@ loop-turn-preserved g c =
     record {
       layout = search rules;
       shown = λ before base start.
-          let p = subst (ShownFrom layout has c.loop-turn.reader c.loop-turn.boards before now base) (sym c.watch.ensures.bytes) (c.loop-turn.invariant.shown before base start) in
-          shows_board layout (g.N.Notation.layout c.loop-turn.notation) has (g.N.Notation.has_printed c.put.new.notation) c.loop-turn.reader c.next.new.self c.loop-turn.boards before now (g.I.Source.rest c.next.new.input) base (g.S.Sink.bytes c.watch.new.self) (g.S.Sink.bytes c.put.new.sink)
-          c.in-Ok-Board.board c.loop-turn.invariant.layout (rw c.in-Ok-Board.field-0-is at c.in-Ok-Board.ensures.reads) c.in-Ok.ensures.bytes c.put.ensures.printed p;
+          let p = subst (ShownFrom layout has c.loop-turn.reader c.loop-turn.boards before now base) (sym c.next_watched.ensures.bytes) (c.loop-turn.invariant.shown before base start) in
+          shows_board layout (g.N.Notation.layout c.loop-turn.notation) has (g.N.Notation.has_printed c.put.new.notation) c.loop-turn.reader c.next_watched.new.reader c.loop-turn.boards before now (g.I.Source.rest c.next_watched.new.input) base (g.S.Sink.bytes c.next_watched.new.sink) (g.S.Sink.bytes c.put.new.sink)
+          c.in-Ok-Board.told c.loop-turn.invariant.layout (rw c.in-Ok-Board.field-0-is at c.in-Ok-Board.ensures.reads) c.in-Ok.ensures.bytes c.put.ensures.printed p;
       ready = ready;
       fed = fed;
       faults = search rules;

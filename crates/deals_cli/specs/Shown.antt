@@ -1,0 +1,50 @@
+-- What a `show` writes: the boards that the input has, under the labels of the options, or else of
+-- the game of the first board.
+use Rattle.std.specs.Prelude.{ℕ, List, Option, Result, Ok, Err}
+use Rattle.std.specs.Option.{option_or}
+use Rattle.boards.specs.Headings.{HeadingView, no_heading}
+use Rattle.boards.specs.declared.format.Format.{Format}
+use Rattle.boards.specs.declared.show.Show.{Show}
+use Rattle.notations.specs.Formats.{layout_showing}
+use Rattle.records.specs.Readers.{IsFresh, ReadsNext}
+use Rattle.records.specs.Shown.{EndsBy, Shows}
+use Rattle.records.specs.declared.reader.BoardReader.{BoardReader}
+use Rattle.records.specs.declared.reader.Next.{Next}
+use Rattle.records.specs.declared.reader.Next.TheVariants.{Board, Last}
+use Rattle.records.specs.declared.reader.ReadFault.{ReadFault}
+use Rattle.records.specs.declared.reader.ReadFault.TheVariants as read
+use Rattle.records.specs.declared.shown.ShowFault.{ShowFault}
+
+-- each label that is given, or else that of the game
+abbrev pub labelled : (given game : HeadingView) → HeadingView
+labelled given game = record {
+  event = option_or given.event game.event;
+  site = option_or given.site game.site;
+  date = option_or given.date game.date;
+}
+
+-- the labels that the first read of the input tells: those of the game of the first board
+abbrev pub labels_told : Result Next ReadFault → HeadingView
+labels_told (Ok (Board told)) = told.heading
+labels_told (Ok (Last told)) = told.heading
+labels_told _ = no_heading
+
+-- a line that the first read refused ends it, unless the output fails
+abbrev pub GoesOn : Result Next ReadFault → Result ℕ ShowFault → Type 0
+GoesOn (Ok next) result = Unit {0}
+GoesOn (Err (read.Refused line)) result = EndsBy (read.Refused line) result
+GoesOn (Err read.Input) result = ⊥
+
+-- boards were shown in this format, with these hands and labels
+pub record ShowsUnder (format : Format) (show : Show) (given : HeadingView)
+    (result : Result ℕ ShowFault) (before after old new : Option (List ℕ)) : Type 0 where
+  -- what was read first, by a reader that had read nothing
+  pub start : BoardReader
+  pub next : BoardReader
+  pub first : Result Next ReadFault
+  pub rest : Option (List ℕ)
+  pub fresh : IsFresh start
+  pub reads : ReadsNext start next first before rest
+  pub goes_on : GoesOn first result
+  pub shows : Shows (layout_showing format show (labelled given (labels_told first))) result
+      before after old new
