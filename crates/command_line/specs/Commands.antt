@@ -109,7 +109,8 @@ hints_rule = option_rule (codes "hints") parsed.String
 abbrev pub make_app : App
 make_app = command_with (codes "make") (
     seed_rule ∷ search_rules ++ hand_rules
-    ++ format_rule ∷ show_rule ∷ points_rule ∷ flag_rule (codes "tricks") ∷ look_rules ++ speed_rules
+    ++ format_rule ∷ show_rule ∷ points_rule ∷ flag_rule (codes "tricks") ∷ look_rules
+    ++ speed_rules
     ++ flag_rule (codes "report") ∷ progress_rule ∷ hints_rule ∷ help_flag ∷ [])
 
 -- `deals find --seed S` and its further options
@@ -130,7 +131,8 @@ count_app = command_with (codes "count") (
 -- `deals pick --seed S` and its further options
 abbrev pub pick_app : App
 pick_app = command_with (codes "pick") (
-    seed_rule ∷ hand_rules ++ format_rule ∷ show_rule ∷ points_rule ∷ look_rules ++ hints_rule ∷ help_flag ∷ [])
+    seed_rule ∷ hand_rules ++ format_rule ∷ show_rule ∷ points_rule ∷ look_rules
+    ++ hints_rule ∷ help_flag ∷ [])
 
 -- `deals show` and its options
 abbrev pub show_app : App

@@ -22,7 +22,8 @@ footer_for layout boards (Some line) = []
 
 -- the header, the boards in order, and the footer
 abbrev pub shown_text : Layout → Spelled → List ℕ
-shown_text layout s = text_of_boards layout (boards_of s.boards) ++ footer_for layout s.boards s.refused
+shown_text layout s =
+    text_of_boards layout (boards_of s.boards) ++ footer_for layout s.boards s.refused
 
 -- a text spells these boards first, whatever comes after it
 pub record BeginsWith (text : List ℕ) (boards : List Told) : Type 0 where

@@ -63,7 +63,8 @@ const WISHES: &str = "
 
     count json jsonl ndjson => \
         for programs write --format csv; deals make --format json writes boards
-    count pbn lin bbo hands sheet slips => deals count writes a table of numbers; deals make writes boards
+    count pbn lin bbo hands sheet slips => \
+        deals count writes a table of numbers; deals make writes boards
 ";
 
 const ONE_FORMAT: &str = "one format a run: run it again with the same seed for the other";

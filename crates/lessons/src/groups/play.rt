@@ -15,8 +15,8 @@ pub(crate) const PLAY: &[Row] = &[
     (
         "major-game",
         "Game in a major",
-        "North and South have a fit in a major, and points and losers for game. It makes on nine of \
-         ten.",
+        "North and South have a fit in a major, and points and losers for game. It makes on nine \
+         of ten.",
         "any major (len(north,major)>=5 and len(south,major)>=3) and hcp(north)+hcp(south) in \
          25-27 and losers(north)+losers(south) in 13-14",
     ),
