@@ -68,7 +68,9 @@ class Night:
         pbn = harness.deals(*make).stdout
         tricks = subprocess.run([companion.build()], input=pbn, capture_output=True, check=True).stdout
         page = harness.deals(*make, "--format", "sheet", "--tricks", given=tricks).stdout
-        return files["night.pbn"] == pbn and files["night.tricks"] == tricks and files["night.html"] == page != b""
+        slips = harness.deals(*make, "--format", "slips").stdout
+        wanted = {"night.pbn": pbn, "night.tricks": tricks, "slips.html": slips, "night.html": page}
+        return all(files[name] == text != b"" for name, text in wanted.items())
 
 
 def made():
@@ -93,7 +95,7 @@ def made():
 
 def stopped():
     """Killed at each call of a program, or with one that fails at once or after some bytes, and run again."""
-    for how, status, calls in (("killed", -signal.SIGKILL, (1, 2, 3, 4, 5)), ("fails", 5, (2, 4)), ("half", 5, (3, 4, 5))):
+    for how, status, calls in (("killed", -signal.SIGKILL, (1, 2, 3, 4, 5, 6)), ("fails", 5, (2, 4)), ("half", 5, (3, 4, 5, 6))):
         for at in calls:
             with harness.scratch() as folder:
                 night = Night(folder)

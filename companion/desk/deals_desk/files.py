@@ -27,12 +27,13 @@ FILES = (
     File("boards", "Boards", "All four hands of each board.", ("--format=html",), HTML, "html"),
     File("handout", "Handout", "The dealer's hand alone.", ("--show=dealer", "--format=html"), HTML, "html"),
     File("sheet", "Sheet", "All hands, eighteen boards on a page, to print from the browser.", SHEET, HTML, "html"),
+    File("slips", "Slips", "A slip for each hand, to be cut out.", ("--format=slips",), HTML, "html"),
     File("tricks", "Sheet with tricks", WITH_TRICKS, SHEET, HTML, "html", tricks=True),
     File("pbn", "PBN", "For dealing machines and bridge programs.", ("--format=pbn",), PBN, "pbn", saved=True),
     File("lin", "LIN", "For Bridge Base Online.", ("--format=lin",), LIN, "lin", saved=True),
 )
 BY_NAME = {file.name: file for file in FILES}
 
-TONIGHT = ("pbn", "tricks", "sheet", "lin")
-LESSON = ("boards", "handout", "pbn", "lin", "sheet", "tricks")
+TONIGHT = ("pbn", "tricks", "sheet", "slips", "lin")
+LESSON = ("boards", "handout", "pbn", "lin", "sheet", "slips", "tricks")
 SEARCH = ("boards", "pbn", "lin", "sheet")
