@@ -3,11 +3,16 @@
 use crate::seen::Seen;
 use advice::{dealt_again, no_board};
 use clap::Error;
+use cond_lang::{Cond, Tree};
 use deals_cli::{Failure, Job, Report, Request, Task};
 use hint_rules::slip;
 use sinks::{Piped, put_all};
-use std::alloc::Global;
+use std::alloc::{AllocError, Global};
 use std::io::IsTerminal;
+
+/// A condition of so many tests isn't looked through for why no deal meets it: that takes a time
+/// which grows with the third power of their number.
+const MOST_TESTS: u32 = 300;
 
 /// Notes what there is to note of a task.
 pub fn put_notes(
@@ -30,12 +35,34 @@ fn note(alloc: Global, words: &[String], request: &Request<'_>, job: &Job) -> Op
         Job::Count(job) => &job.condition,
         _ => return None,
     };
-    match hints::note(alloc, condition) {
+    match unmet(alloc, condition) {
         Ok(None) => match slip_of(alloc, request) {
             Some(slip) => Some(slip),
             None => dealt_again(alloc, words, request),
         },
         noted => noted.unwrap_or(None),
+    }
+}
+
+/// The note on a condition that no deal meets. One of very many tests isn't looked through.
+fn unmet(alloc: Global, condition: &Cond) -> Result<Option<String>, AllocError> {
+    if room_after(condition.tree(), MOST_TESTS) == 0 {
+        return Ok(None);
+    }
+    hints::note(alloc, condition)
+}
+
+/// What is left of the room after a place for each test of the tree.
+fn room_after(tree: &Tree, room: u32) -> u32 {
+    if room == 0 {
+        return 0;
+    }
+    match tree {
+        Tree::AnyOf(left, right) | Tree::AllOf(left, right) => {
+            room_after(right, room_after(left, room))
+        }
+        Tree::Negation(inner) => room_after(inner, room),
+        _ => room.saturating_sub(1),
     }
 }
 
