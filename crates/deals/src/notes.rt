@@ -10,8 +10,8 @@ use sinks::{Piped, put_all};
 use std::alloc::{AllocError, Global};
 use std::io::IsTerminal;
 
-/// A condition of so many tests isn't looked through for why no deal meets it: that takes a time
-/// which grows with the third power of their number.
+/// A condition of this many tests or more isn't looked through for why no deal meets it: the time
+/// for that grows with the third power of their number.
 const MOST_TESTS: u32 = 300;
 
 /// Notes what there is to note of a task.
