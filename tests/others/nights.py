@@ -91,6 +91,12 @@ def made():
         yield "a label that is refused", status == 2 and not (night.folder / "other").exists()
         status, _ = night.run("4")
         yield "too few words", status == 2
+        status, said = night.run("3", "Club night", "more", "28")
+        more = (night.folder / "more" / "night.pbn").read_text()
+        yield "more boards", status == 0 and [f'[Board "{board}"]' in more for board in (27, 28, 30, 31)] == [False, True, True, False]
+        yield "of another seed", "a new seed for new boards" in said and (night.folder / "more" / "seed").read_bytes() != first["seed"]
+        status, said = night.run("3", "Club night", "more", "31")
+        yield "others in their folder", status == 2 and "3 boards from 28 on, Club night" in said
 
 
 def stopped():

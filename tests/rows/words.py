@@ -10,8 +10,8 @@ Standard error is a pipe, so of a refusal it has the line alone, or the text of 
 a terminal more may come below, and a tip of that library that is far from what was tried is left out; `--hints always`
 says the same into a pipe, and `--hints never` nothing more on a terminal.
 
-A row of refused/ has words that are refused with status 2, and below them what a person is told on a terminal: the
-lines that begin with `  tip: ` and `  hint: `.
+A row of refused/ has words that are refused with status 2, or 3 for their condition, and below them what a person is
+told on a terminal: the lines that begin with `  tip: ` and `  hint: `.
 """
 
 import os
@@ -133,7 +133,7 @@ def words():
 def fault_of_refused(words, lines):
     """Why a person isn't told these lines of words that are refused, or a program is told one, or None."""
     ended = run(words, b"")
-    if ended.returncode != 2:
+    if ended.returncode not in (2, 3):
         return f"status {ended.returncode}"
     if b"\n  hint: " in ended.stderr:
         return f"said {ended.stderr!r} to a program"

@@ -20,6 +20,8 @@ PLACE = re.compile(r"refused at byte (\d+): (.*)")
 MARK = re.compile(r"^ *(\^+)$", re.MULTILINE)
 EXPECTED = re.compile(r"^  expected (.*)$", re.MULTILINE)
 HINT = re.compile(r"^  hint: (.*)$", re.MULTILINE)
+# Lines that help only who types commands.
+OF_A_SHELL = ("Usage: ", "For more information, try ")
 # A hint that puts one word in the place of the marked one.
 WRITE_WORD = re.compile(r'^write "([^"]*)"$')
 # A hint that has a whole condition.
@@ -105,7 +107,7 @@ def read(said: str, form: dict[str, str]) -> Answer:
     lines = said.rstrip().splitlines() or ["no reason was given"]
     line = lines[0]
     field = field_of(line)
-    text = "\n".join(lines[1:])
+    text = "\n".join(told for told in lines[1:] if not told.startswith(OF_A_SHELL)).strip("\n")
     hints = tuple(HINT.findall(said))
     found = PLACE.search(line)
     if not found:

@@ -54,6 +54,7 @@ def file(name: str) -> Response:
         abort(404)
     try:
         bounded(form)
+        checked(words.check(form), form)
         ended = checked(command_of(wanted, form), form)
     except Refused as refused:
         return page("refused.html", 422, answer=refused.answer)

@@ -105,6 +105,7 @@ def file(name: str) -> AnyResponse:
     wanted = files.BY_NAME[name]
 
     def make(night: Night) -> tuple[AnyResponse, Night]:
+        checked(words.check(night), night)
         return written(checked(command_of(wanted, night), night).output, wanted, "night"), night
 
     return answered(make)
