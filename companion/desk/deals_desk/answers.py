@@ -19,6 +19,7 @@ LINES = (
 PLACE = re.compile(r"refused at byte (\d+): (.*)")
 MARK = re.compile(r"^ *(\^+)$", re.MULTILINE)
 EXPECTED = re.compile(r"^  expected (.*)$", re.MULTILINE)
+NOTE = re.compile(r"^note: (.*)$", re.MULTILINE)
 HINT = re.compile(r"^  hint: (.*)$", re.MULTILINE)
 # Lines that help only who types commands.
 OF_A_SHELL = ("Usage: ", "For more information, try ")
@@ -100,6 +101,11 @@ def mended(text: str, at: int, length: int, hints: tuple[str, ...]) -> tuple[str
         if whole and not re.search(r"\b(and|or)\b", text):
             return whole[1], whole[1]
     return None, ""
+
+
+def note(said: str) -> str:
+    """What is noted of a condition that is accepted; nothing if nothing is."""
+    return "\n".join(NOTE.findall(said))
 
 
 def read(said: str, form: dict[str, str]) -> Answer:

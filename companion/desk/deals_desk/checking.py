@@ -3,6 +3,7 @@
 from flask import Blueprint, Response, abort, jsonify, request
 
 from . import fields, words
+from .answers import note
 from .counting import rarity
 from .desk import Refused, checked
 from .words import DEALS, Command
@@ -21,17 +22,18 @@ def text_of(name: str) -> str:
 
 @pages.post("/check/<name>")
 def check(name: str) -> Response:
-    """What is wrong with a text, if anything is."""
+    """What is wrong with a text, if anything is, or what there is to note of it."""
     text = text_of(name)
     if not text:
         return jsonify(None)
     asked = words.word(TRIED[name], text)
     command = Command(((DEALS, "count", "--seed=1", "--candidates=1", asked, "--hints=always"),))
     try:
-        checked(command, {name: text, fields.BY_NAME["of"].name: text} if name == "by" else {name: text})
+        ended = checked(command, {name: text, fields.BY_NAME["of"].name: text} if name == "by" else {name: text})
     except Refused as refused:
         return jsonify(refused.answer.told())
-    return jsonify(None)
+    noted = note(ended.said)
+    return jsonify({"note": noted} if noted else None)
 
 
 @pages.post("/rarity")

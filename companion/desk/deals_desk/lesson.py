@@ -5,6 +5,7 @@ from urllib.parse import urlencode
 from flask import Blueprint, Response, abort, request
 
 from . import fields, files, starts, words
+from .answers import note
 from .desk import Refused, bounded, checked, command_of, desk, page, written
 from .words import DEALS, TRICKS, Form
 
@@ -29,17 +30,17 @@ def address(form: Form) -> str:
 @pages.get("/lesson")
 def lesson() -> Response:
     form = asked()
-    answer = None
+    answer, noted = None, ""
     is_asked = bool(request.args.get("boards"))
     if is_asked:
         try:
             bounded(form)
-            checked(words.check(form), form)
+            noted = note(checked(words.check(form), form).said)
         except Refused as refused:
             answer = refused.answer
     line = words.boards(form, files.BY_NAME["boards"].look).line()
     return page(
-        "lesson.html", 422 if answer else 200, form=form, answer=answer, files=offered(form), address=address(form),
+        "lesson.html", 422 if answer else 200, form=form, answer=answer, noted=noted, files=offered(form), address=address(form),
         is_dealt=is_asked and not answer, line=line, groups=starts.groups(desk().runner.programs.get(DEALS, "")), has_solver=desk().runner.has(TRICKS),
     )
 

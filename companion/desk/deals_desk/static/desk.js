@@ -65,7 +65,12 @@ function refusal(area, answer) {
 
 function show(area, answer) {
   const field = area.closest(".field");
-  field.querySelectorAll(".refusal").forEach((old) => old.remove());
+  field.querySelectorAll(".refusal, .note").forEach((old) => old.remove());
+  field.parentElement.querySelectorAll(":scope > .note").forEach((old) => old.remove());
+  if (answer && answer.note) {
+    field.append(Object.assign(make("p", answer.note, "note"), {role: "status"}));
+    answer = null;
+  }
   area.toggleAttribute("aria-invalid", Boolean(answer));
   if (answer) {
     area.setAttribute("aria-invalid", "true");
@@ -120,7 +125,7 @@ function watchText(area) {
     clearTimeout(resting);
     if (!line) return;
     line.hidden = true;
-    if (!answer) resting = setTimeout(rest, RESTING);
+    if (!answer || answer.note) resting = setTimeout(rest, RESTING);
   };
   area.addEventListener("input", () => {
     mark(area, null);
