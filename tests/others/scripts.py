@@ -288,6 +288,10 @@ def runs():
     yield "run", None if (ended.returncode, ended.stdout) == (0, wanted.stdout) and wanted.stdout else "other"
     ended = subprocess.run(words, input=script.encode(), capture_output=True, env={"DEALS": "/nowhere"}, check=False)
     yield "run, no program", None if ended.returncode == 1 and b"isn't installed" in ended.stderr else "other"
+    with open("/dev/full", "wb") as full:
+        ended = subprocess.run([PYTHON, TRANSLATOR], input=script.encode(), stdout=full, stderr=subprocess.PIPE, check=False)
+    said = b"deals-dealer: the output failed: No space left on device\n"
+    yield "a full disk", None if (ended.returncode, ended.stderr) == (4, said) else f"{ended.returncode}: {ended.stderr!r}"
     _, _, said = translated("altcount 6 3 2\npt6(north)>2")
     yield "altcount, what is told", None if "manual" in said else said
     for given, status in ((["/nowhere"], 1), (["--seed", "x"], 2), (["--seed", "4294967296"], 2), (["a", "b"], 2)):

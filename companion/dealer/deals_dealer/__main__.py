@@ -86,8 +86,10 @@ def main(words: Sequence[str] | None = None) -> int:
         return run(commands)
     try:
         print("".join(f"{command.line()}\n" for command in commands), end="", flush=True)
-    except BrokenPipeError:
+    except OSError as error:
         os.dup2(os.open(os.devnull, os.O_WRONLY), sys.stdout.fileno())
+        if not isinstance(error, BrokenPipeError):
+            say(f"the output failed: {error.strerror}")
         return OUTPUT
     return 0
 

@@ -6,8 +6,8 @@ const DEAL: &[u8] = b"[Deal";
 /// How many bytes of the beginning are kept.
 const FIRST: usize = 4;
 
-/// The first bytes of an input, and how much of the beginning of a Deal tag came last, or all of it
-/// once it came.
+/// The first bytes of an input, and how much of the beginning of a Deal tag came last, or one more
+/// once that and the end of its name came.
 #[derive(Clone, Copy)]
 pub struct Seen {
     first: [u8; FIRST],
@@ -27,7 +27,7 @@ impl Seen {
 
     /// Whether a Deal tag began.
     pub fn has_deal(&self) -> bool {
-        self.matched >= DEAL.len()
+        self.matched > DEAL.len()
     }
 
     /// The first bytes.
@@ -53,7 +53,12 @@ impl Seen {
             seen.first[seen.length] = byte;
             seen.length += 1;
         }
-        seen.matched = if DEAL.get(seen.matched) == Some(&byte) {
+        let is_next = match DEAL.get(seen.matched) {
+            Some(next) => *next == byte,
+            // The name has ended, and isn't Dealer.
+            None => !byte.is_ascii_alphanumeric() && byte != b'_',
+        };
+        seen.matched = if is_next {
             seen.matched.saturating_add(1)
         } else {
             usize::from(byte == b'[')
