@@ -2,9 +2,9 @@
 
 pub(crate) const RULES: &str = "
     In:hcp|controls|losers ( ^ Named:ns|northsouth ) => \
-        for both together write \"%w0(north)+%w0(south)\", for each a test of its own
+        for both together write \"%w0(north)+%w0(south)\", for either put your test in any ns (..)
     In:hcp|controls|losers ( ^ Named:ew|eastwest ) => \
-        for both together write \"%w0(east)+%w0(west)\", for each a test of its own
+        for both together write \"%w0(east)+%w0(west)\", for either put your test in any ew (..)
     In:hcp|controls|losers ( ^ Named:n -|/|+|& s|S ) => \
         for both together write \"%w0(north)+%w0(south)\", for each a test of its own
     In:hcp|controls|losers ( ^ Named:e -|/|+|& w|W ) => \
@@ -14,21 +14,25 @@ pub(crate) const RULES: &str = "
     In:hcp|controls|losers ( Seat ^ Seat ) => \
         for both together write \"%w0(%b1)+%w0(%n0)\", for each a test of its own
     In:hcp|controls|losers|len ( ^ Named:ns|northsouth , SUITS ) => \
-        for both together write \"%w0(north,%n2)+%w0(south,%n2)\", for each a test of its own
+        for both together write \"%w0(north,%n2)+%w0(south,%n2)\", for either put \
+        your test in any ns (..)
     In:hcp|controls|losers|len ( ^ Named:ew|eastwest , SUITS ) => \
-        for both together write \"%w0(east,%n2)+%w0(west,%n2)\", for each a test of its own
+        for both together write \"%w0(east,%n2)+%w0(west,%n2)\", for either put \
+        your test in any ew (..)
     In:hcp|controls|losers|len ( Seat ^ -|/|&|and|+ Seat , SUITS ) => \
         for both together write \"%w0(%b1,%n3)+%w0(%n1,%n3)\", for each a test of its own
     In:cards ( ^ Named:ns|northsouth , Ranks ) => \
-        for both together write \"cards(north,%n2)+cards(south,%n2)\", for each a test of its own
+        for both together write \"cards(north,%n2)+cards(south,%n2)\", for either put \
+        your test in any ns (..)
     In:cards ( ^ Named:ew|eastwest , Ranks ) => \
-        for both together write \"cards(east,%n2)+cards(west,%n2)\", for each a test of its own
+        for both together write \"cards(east,%n2)+cards(west,%n2)\", for either put \
+        your test in any ew (..)
     In:cards ( ^ Named:ns|northsouth , SUITS , Ranks ) => \
-        for both together write \"cards(north,%n2,%n4)+cards(south,%n2,%n4)\", for each a test of \
-        its own
+        for both together write \"cards(north,%n2,%n4)+cards(south,%n2,%n4)\", for either put \
+        your test in any ns (..)
     In:cards ( ^ Named:ew|eastwest , SUITS , Ranks ) => \
-        for both together write \"cards(east,%n2,%n4)+cards(west,%n2,%n4)\", for each a test of \
-        its own
+        for both together write \"cards(east,%n2,%n4)+cards(west,%n2,%n4)\", for either put \
+        your test in any ew (..)
 
     In:balanced ( ^ Named:ns|northsouth ) => \
         for both hands write: balanced(north) and balanced(south)
