@@ -85,7 +85,10 @@ def serve(asked: argparse.Namespace, runner: Runner) -> int:
     try:
         listening = listen(asked.listen, asked.port)
     except OSError as error:
-        say(f"can't listen at {asked.listen}, port {asked.port}: {error.strerror}\n  try another by --port")
+        say(
+            f"can't listen at {asked.listen}, port {asked.port}: {error.strerror}\n"
+            f"  is the page open already, at http://{asked.listen}:{asked.port}/? else try another by --port"
+        )
         return UNABLE
     number = listening.getsockname()[1]
     app = create(runner, Guard(hosts(asked.listen, number, asked.name)))

@@ -25,7 +25,7 @@ WITH_TRICKS = (
 )
 FILES = (
     File("boards", "Boards", "All four hands of each board.", ("--format=html",), HTML, "html"),
-    File("handout", "Handout", "The dealer's hand alone.", ("--show=dealer", "--format=html"), HTML, "html"),
+    File("handout", "Handout", "The dealer's hand alone.", ("--show=dealer", "--points=hide", "--format=html"), HTML, "html"),
     File("sheet", "Sheet", "All hands, eighteen boards on a page, to print from the browser.", SHEET, HTML, "html"),
     File("slips", "Slips", "A slip for each hand, to be cut out.", ("--format=slips",), HTML, "html"),
     File("tricks", "Sheet with tricks", WITH_TRICKS, SHEET, HTML, "html", tricks=True),
