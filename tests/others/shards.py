@@ -125,15 +125,20 @@ def begun(_):
     """What resume says of a file that it can't go on with, which stays as it is; numbers are read in ten."""
     with tempfile.TemporaryDirectory(prefix="resume-") as folder:
         file = pathlib.Path(folder) / "found"
+        settings = {"env": {**os.environ, "DEALS": str(harness.PROGRAM)}, "capture_output": True, "check": False}
         for kept, count, said in BEGUN:
             file.write_bytes(kept)
             words = ["sh", str(RESUME), str(file), count, *SEED]
-            run = subprocess.run(words, env={**os.environ, "DEALS": "false"}, capture_output=True, check=False)
+            run = subprocess.run(words, **settings)
             if said is None:
                 right = (run.returncode, run.stdout) == (0, b"") and b"all %d " % int(count) in run.stderr
             else:
                 right = run.returncode == 2 and said in run.stderr and file.read_bytes() == kept
             yield f"resume, {kept}, {count}", None if right else str(run)
+        file.write_bytes(b"5\n7\n")
+        run = subprocess.run([*words[:3], "20", *SEED, "--where", "hcp(north)>37"], **settings)
+        right = run.returncode == 2 and b"has candidate 5, which this search doesn't find" in run.stderr
+        yield "resume, another search", None if right and file.read_bytes() == b"5\n7\n" else str(run)
 
 
 def stopped(deals):
