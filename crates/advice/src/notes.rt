@@ -17,8 +17,8 @@ pub fn dealt_again(alloc: Global, words: &[String], request: &Request<'_>) -> Op
     let boards = boards_from(alloc, board, search)?;
     let boards = boards.as_str();
     format!(in alloc;
-        "note: boards {boards} are the first deals of this seed: to go on after an \
-earlier run give --first too\n"
+        "note: boards {boards} are the first deals of this seed: with a seed of their own \
+that is right; after boards of the same seed give --first too\n"
     )
     .ok()
 }
