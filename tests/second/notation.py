@@ -170,6 +170,10 @@ def slips(number, dealer, sides, hands, _tricks, _has_points=True):
     )
 
 
+# What writes a board in the formats whose boards have no candidate and no labels.
+WRITERS = {"hands": record, "lin": line, "html": section, "sheet": small_section, "slips": slips}
+
+
 def styled(form, with_tricks):
     """The style of a page without labels."""
     name = form if form != "html" else "tricks" if with_tricks else "page"
@@ -218,8 +222,7 @@ def text(seed, count, form="pbn", dealer=None, sides=None, rotate=False, accepts
         elif form == "json":
             parts.append(json_line(number, by, vulnerable, dealt, tricks, candidate))
         else:
-            write = {"hands": record, "lin": line, "html": section, "sheet": small_section, "slips": slips}[form]
-            parts.append(write(number, by, vulnerable, dealt, tricks, has_points))
+            parts.append(WRITERS[form](number, by, vulnerable, dealt, tricks, has_points))
         number += 1
     if form in PAGES:
         parts.append(frame(1, ()))

@@ -7,13 +7,13 @@ import random
 import subprocess
 from collections.abc import Iterator
 
+import board_formats
 import harness
 import model
 import notation
 import records
 import report
 
-FORMATS = ("pbn", "json", "hands", "lin", "html", "sheet")
 # How many games the texts have in the gate, and with `many`.
 GAMES, MANY = 3_000, 20_000
 PLAYERS = ("West", "North", "East", "South", "Scoring", "Declarer", "Contract", "Result", "Auction", "_x1")
@@ -101,9 +101,9 @@ def written(form: str, boards: list[records.Board], whole: bool) -> bytes:
             line = notation.json_line(board.number, dealer, board.vulnerable, hands, tricks, 0)
             parts.append(line.replace(',"number":0', ""))
         else:
-            write = {"hands": notation.record, "lin": notation.line, "html": notation.section, "sheet": notation.small_section}
+            write = notation.WRITERS
             parts.append(write[form](board.number, dealer, board.vulnerable, hands, tricks))
-    if whole and form in ("html", "sheet"):
+    if whole and form in notation.PAGES:
         parts.append(notation.frame(1, ()))
     return "".join(parts).encode()
 
@@ -112,7 +112,7 @@ def of_texts() -> Iterator[tuple[str, str | None]]:
     """What is wrong with each text; None where nothing is."""
     rng, left = random.Random(17), MANY if report.has("many") else GAMES
     while left > 0:
-        games, form = min(left, rng.randrange(1, 12)), rng.choice(FORMATS)
+        games, form = min(left, rng.randrange(1, 12)), rng.choice(board_formats.FORMATS)
         left -= games
         text = random_text(rng, games)
         boards, refused = records.read(text)
