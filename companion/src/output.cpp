@@ -52,8 +52,7 @@ void Counts::draw(size_t boards, size_t kept) {
     const double seconds = std::chrono::duration<double>(Clock::now() - began).count();
     if (!is_terminal || seconds < FIRST_SECONDS)
         return;
-    const std::string of_them = kept == boards ? "" : with_commas(kept) + " kept  ";
-    print("\r\x1b[?7l" + with_commas(boards) + " boards  " + of_them +
+    print("\r\x1b[?7l" + with_commas(boards) + " boards  " + with_commas(kept) + " kept  " +
           with_commas(size_t(double(boards) / seconds)) + "/s\x1b[K\x1b[?7h");
     is_drawn = true;
 }
