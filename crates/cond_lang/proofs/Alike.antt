@@ -1,14 +1,18 @@
 -- A condition stays one if a token gives way to another of its kind, and if the bound classes stand
 -- for others of their members.
-use Rattle.std.proofs.Common.{◌≡◌, ℕ, true, List, [], ◌∷◌, ◌++◌, Option, Some, None, refl, sym, ap, ◌∙◌, subst}
+use Rattle.std.proofs.Common.{◌≡◌, ℕ, true, List, [], ◌∷◌, ◌++◌, Option, Some, None, slice_get, refl, sym, ap, ◌∙◌, subst}
 use Rattle.std.specs.Prelude.{is_some, fold}
 use Rattle.cards.specs.declared.honours.Honours.{Honours}
 use Rattle.cards.specs.declared.hand.Measure.{Measure as AMeasure}
 use Rattle.cards.specs.declared.seat.Seat.{Seat as ASeat}
+use Rattle.cards.specs.declared.seat.Seat.TheVariants.{North}
 use Rattle.cards.specs.declared.suit.Suit.{Suit as ASuit}
+use Rattle.cards.specs.declared.suit.Suit.TheVariants.{Spades}
 use Rattle.cond_lang.specs.declared.classes.Bound.{Bound}
 use Rattle.cond_lang.specs.declared.classes.Choice.{Choice}
 use Rattle.cond_lang.specs.declared.classes.Class.{Class as AClass}
+use Rattle.cond_lang.specs.declared.classes.Params.{Params}
+use Rattle.cond_lang.specs.declared.classes.Params.TheVariants.{OfSeat, OfSuit, OfBoth}
 use Rattle.cond_lang.specs.declared.classes.Quantifier.{Quantifier as AQuantifier}
 use Rattle.cond_lang.specs.declared.words.Kind.{Kind}
 use Rattle.cond_lang.specs.declared.words.Kind.TheVariants as kind
@@ -17,31 +21,31 @@ use Rattle.conditions.specs.declared.tree.Item.{Item}
 use Rattle.conditions.specs.declared.tree.Item.TheVariants.{Length, Any}
 use Rattle.conditions.specs.declared.tree.Op.{Op}
 use Rattle.cond_lang.specs.declared.scanner.Token.{Token}
-use Rattle.cond_lang.specs.declared.scanner.Token.TheVariants.{Or, And, Not, Balanced, Shape, Pattern, Quantifier, Stops, Measure, Cards, Len, Longest, Second, Shortest, In, X, Seat, Suit, Class, Neighbour, Ranks, Number, Open, Close, Comma, Dash, Plus, Star, Relation}
+use Rattle.cond_lang.specs.declared.scanner.Token.TheVariants.{Or, And, Not, Balanced, Shape, Pattern, Quantifier, Stops, Measure, Cards, Len, Longest, Second, Shortest, In, X, Seat, Suit, Class, Neighbour, Ranks, Number, Open, Close, Comma, Dash, Plus, Star, Relation, Let, Is, Name}
 use Rattle.cond_lang.specs.Continuations.{kind_of}
-use Rattle.cond_lang.specs.Faults.{IsViable}
 use Rattle.conditions.specs.Form.{Amount, sum, number, counted, times, measured, suit_measured, cards_held, suit_cards_held, suit_length, longest, second, shortest, Form, any_of, all_of, negation, compare, within, balanced, shaped, patterned, stops}
-use Rattle.cond_lang.specs.Classes.{unbound, bound_to, seat_bound_to, seat_beside, bind, members, Names, by_suit, by_class}
-use Rattle.cond_lang.specs.Grammar.{SpellsCounted, a_count, multiple, SpellsSeat, by_word, by_bound, beside, SpellsCount, SpellsHandTest, SpellsAtom, SpellsValue, atom, plus, a_number, count, measure, measure_in, len, cards, cards_in, longest_suit, second_suit, shortest_suit, item_token, four, SpellsCond, both, or, SpellsBoth, unit, and, SpellsUnit, not, brackets, quantified, test, SpellsTest, comparison, in_range, of_hand, is_balanced, has_shape, has_pattern, has_stopper, joined, SpellsEach, none as no_more, one_more}
+use Rattle.cond_lang.specs.Classes.{bound_to, choice, seat_bound_to, seat_beside, bind, members, Names, by_suit, by_class}
+use Rattle.cond_lang.specs.Grammar.{Meanings, SpellsArgs, no_args, seat_arg, suit_arg, both_args, named_value, named_condition, SpellsCounted, a_count, multiple, SpellsSeat, by_word, by_bound, beside, SpellsCount, SpellsHandTest, SpellsAtom, SpellsValue, atom, plus, a_number, count, measure, measure_in, len, cards, cards_in, longest_suit, second_suit, shortest_suit, item_token, four, SpellsCond, both, or, SpellsBoth, unit, and, SpellsUnit, not, brackets, quantified, test, SpellsTest, comparison, in_range, of_hand, is_balanced, has_shape, has_pattern, has_stopper, joined, SpellsEach, none as no_more, one_more}
+use Rattle.cond_lang.proofs.LikeNames.{LikeNames, like_names, condition_at, value_at}
 use Rattle.cond_lang.proofs.Scopes.{SameScope, same_scope, bind_same, can_bind_same, some_of, members_some, suits_alike, seats_alike}
 
 -- the lists have tokens of the same kinds
-data Alike : List Token → List Token → Type 0 where
+pub data Alike : List Token → List Token → Type 0 where
   none : Alike [] []
   more : {x y : Token} {T U : List Token} → kind_of x ≡ kind_of y → Alike T U → Alike (x ∷ T) (y ∷ U)
 
-alike_refl : (T : List Token) → Alike T T
+pub alike_refl : (T : List Token) → Alike T T
 alike_refl [] = none
 alike_refl (x ∷ T) = more refl (alike_refl T)
 
-alike_append : {T U R S : List Token} → Alike T U → Alike R S → Alike (T ++ R) (U ++ S)
+pub alike_append : {T U R S : List Token} → Alike T U → Alike R S → Alike (T ++ R) (U ++ S)
 alike_append none b = b
 alike_append (more e a) b = more e (alike_append a b)
 
-join : {x y : Token} {T U : List Token} → x ≡ y → T ≡ U → x ∷ T ≡ y ∷ U
+pub join : {x y : Token} {T U : List Token} → x ≡ y → T ≡ U → x ∷ T ≡ y ∷ U
 join {x} {y} {T} {U} e i = ap (λ x. x ∷ T) e ∙ ap (λ T. y ∷ T) i
 
-moved : (N : List Token → Type 0) {T U : List Token} → U ≡ T → N T → N U
+pub moved : (N : List Token → Type 0) {T U : List Token} → U ≡ T → N T → N U
 moved N e h = subst N (sym e) h
 
 -- ---- one token
@@ -72,6 +76,9 @@ only (kind.Neighbour n) = Some (Neighbour n)
 only kind.Close = Some Close
 only kind.And = Some And
 only kind.Or = Some Or
+only kind.Let = Some Let
+only kind.Is = Some Is
+only (kind.Name n) = Some (Name n)
 only k = None
 
 only_of : (y t : Token) → only (kind_of y) ≡ Some t → y ≡ t
@@ -99,6 +106,9 @@ only_of Plus t e = cc
 only_of Star t e = cc
 only_of (Class c) t e = cc
 only_of (Neighbour n) t e = cc
+only_of Let t e = cc
+only_of Is t e = cc
+only_of (Name n) t e = cc
 only_of (Seat q) t e = absurd (cc)
 only_of (Suit s) t e = absurd (cc)
 only_of (Ranks h) t e = absurd (cc)
@@ -106,7 +116,7 @@ only_of (Number n) t e = absurd (cc)
 only_of (Relation o) t e = absurd (cc)
 
 -- a token that is the only one of its kind gives way to itself alone
-same : (x : Token) {y : Token} → only (kind_of x) ≡ Some x → kind_of x ≡ kind_of y → y ≡ x
+pub same : (x : Token) {y : Token} → only (kind_of x) ≡ Some x → kind_of x ≡ kind_of y → y ≡ x
 same x {y} h e = only_of y x (ap only (sym e) ∙ h)
 
 same_measure : (m : AMeasure) {y : Token} → kind_of (Measure m) ≡ kind_of y → y ≡ Measure m
@@ -120,7 +130,7 @@ like_seat : (q : ASeat) (y : Token) → kind_of (Seat q) ≡ kind_of y → (r : 
 like_seat q (Seat r) e = (r, refl)
 like_seat q y e = absurd (cc)
 
-same_class : (c : AClass) {y : Token} → kind_of (Class c) ≡ kind_of y → y ≡ Class c
+pub same_class : (c : AClass) {y : Token} → kind_of (Class c) ≡ kind_of y → y ≡ Class c
 same_class c e = same (Class c) refl e
 
 same_quantifier : (k : AQuantifier) {y : Token} → kind_of (Quantifier k) ≡ kind_of y → y ≡ Quantifier k
@@ -160,16 +170,16 @@ like_item Any y e = (Any, same X refl e)
 
 -- ---- a token between two lists
 
-record Between (L : List Token) (x : Token) (R U : List Token) : Type 0 where
-  left : List Token
-  token : Token
-  right : List Token
-  is : U ≡ left ++ token ∷ right
-  like_left : Alike L left
-  like : kind_of x ≡ kind_of token
-  like_right : Alike R right
+pub record Between (L : List Token) (x : Token) (R U : List Token) : Type 0 where
+  pub left : List Token
+  pub token : Token
+  pub right : List Token
+  pub is : U ≡ left ++ token ∷ right
+  pub like_left : Alike L left
+  pub like : kind_of x ≡ kind_of token
+  pub like_right : Alike R right
 
-between : (L : List Token) (x : Token) (R U : List Token) → Alike (L ++ x ∷ R) U → Between L x R U
+pub between : (L : List Token) (x : Token) (R U : List Token) → Alike (L ++ x ∷ R) U → Between L x R U
 between [] x R [] a = elim a [ ]
 between [] x R (y ∷ U) (more e a) = record { left = []; token = y; right = U; is = refl; like_left = none; like = e; like_right = a }
 between (z ∷ L) x R [] a = elim a [ ]
@@ -186,30 +196,30 @@ between (z ∷ L) x R (y ∷ U) (more e a) =
     }
 
 -- the same, where the token between is the only one of its kind
-split_is : {L R U : List Token} {x : Token} (p : Between L x R U) → only (kind_of x) ≡ Some x → U ≡ p.left ++ x ∷ p.right
+pub split_is : {L R U : List Token} {x : Token} (p : Between L x R U) → only (kind_of x) ≡ Some x → U ≡ p.left ++ x ∷ p.right
 split_is {L} {R} {U} {x} p h = p.is ∙ ap (λ y. p.left ++ y ∷ p.right) (same x h p.like)
 
 -- two lists, one after the other
-record Parts (L R U : List Token) : Type 0 where
-  first : List Token
-  second : List Token
-  is : U ≡ first ++ second
-  like_first : Alike L first
-  like_second : Alike R second
+pub record Parts (L R U : List Token) : Type 0 where
+  pub first : List Token
+  pub second : List Token
+  pub is : U ≡ first ++ second
+  pub like_first : Alike L first
+  pub like_second : Alike R second
 
-parts : (L R U : List Token) → Alike (L ++ R) U → Parts L R U
+pub parts : (L R U : List Token) → Alike (L ++ R) U → Parts L R U
 parts [] R U a = record { first = []; second = U; is = refl; like_first = none; like_second = a }
 parts (z ∷ L) R [] a = elim a [ ]
 parts (z ∷ L) R (y ∷ U) (more e a) =
     let p = parts L R U a in
     record { first = y ∷ p.first; second = p.second; is = ap (λ L. y ∷ L) p.is; like_first = more e p.like_first; like_second = p.like_second }
 
-nothing_like : (U : List Token) → Alike [] U → U ≡ []
+pub nothing_like : (U : List Token) → Alike [] U → U ≡ []
 nothing_like [] none = refl
 nothing_like (y ∷ U) a = elim a [ ]
 
 -- a token that ends the list
-ends_with : {L U : List Token} {x : Token} (p : Between L x [] U) → only (kind_of x) ≡ Some x → U ≡ p.left ++ x ∷ []
+pub ends_with : {L U : List Token} {x : Token} (p : Between L x [] U) → only (kind_of x) ≡ Some x → U ≡ p.left ++ x ∷ []
 ends_with {L} {U} {x} p h = split_is p h ∙ ap (λ R. p.left ++ x ∷ R) (nothing_like p.right p.like_right)
 
 -- ---- seats
@@ -230,8 +240,8 @@ keep_seat {F} f (beside {n} {Q} w h) (more e0 (more {U} e1 a)) =
 
 -- ---- atoms
 
-abbrev SomeAtom : Bound → List Token → Type 0
-SomeAtom E T = (a : Amount) × SpellsAtom E T a
+abbrev SomeAtom : Meanings → Bound → List Token → Type 0
+SomeAtom N E T = (a : Amount) × SpellsAtom N E T a
 
 -- what counts, with other suits and ranks
 abbrev SomeCount : Bound → Token → List Token → Type 0
@@ -272,35 +282,69 @@ keep_counted {F} f (count {c} {Q} {R} k h) (more {y} e0 (more {U} e1 a)) =
     let g = keep_count f k e0 p.like_second in
     (g.0 r.0, moved (λ L. SpellsCounted F L (g.0 r.0)) (join refl (join (same Open refl e1) p.is)) (count g.1 r.1))
 
-keep_atom : {E F : Bound} {T U : List Token} {a : Amount} → SameScope E F → SpellsAtom E T a → Alike T U → SomeAtom F U
-keep_atom {F} f (a_number {n}) (more {y} e none) =
-    let m = like_number n y e in (number m.0, moved (λ L. SpellsAtom F L (number m.0)) (join m.1 refl) a_number)
-keep_atom f (a_count h) a = let k = keep_counted f h a in (counted k.0, a_count k.1)
-keep_atom {F} f (multiple {n} w h) (more {y} e0 (more e1 a)) =
+-- ---- arguments
+
+abbrev SomeArgs : Bound → Params → List Token → Type 0
+SomeArgs E p T = (x : Choice) × SpellsArgs E p T x
+
+-- a token that names a suit, and a bracket
+like_last :
+    {E F : Bound} {c : Token} {s : ASuit} → SameScope E F → Names E c s → (U : List Token) → Alike (c ∷ Close ∷ []) U
+    → (t : ASuit) × (d : Token) × ((U ≡ d ∷ Close ∷ []) × Names F d t)
+like_last f i U (more {y = z} e0 (more e1 none)) = let t = like_named f i z e0 in (t.0, z, (join refl (join (same Close refl e1) refl), t.1))
+
+keep_args : {E F : Bound} {p : Params} {T U : List Token} {x : Choice} → SameScope E F → SpellsArgs E p T x → Alike T U → SomeArgs F p U
+keep_args f no_args none = (choice Spades North, no_args)
+keep_args {F} f (seat_arg {Q} h) (more {U} e a) =
+    let p = between Q Close [] U a in
+    let r = keep_seat f h p.like_left in
+    (choice Spades r.0, moved (λ L. SpellsArgs F OfSeat L (choice Spades r.0)) (join (same Open refl e) (ends_with p refl)) (seat_arg r.1))
+keep_args {F} f (suit_arg i) (more e0 (more {y = z} e1 (more e2 none))) =
+    let t = like_named f i z e1 in
+    (choice t.0 North, moved (λ L. SpellsArgs F OfSuit L (choice t.0 North)) (join (same Open refl e0) (join refl (join (same Close refl e2) refl))) (suit_arg t.1))
+keep_args {F} f (both_args {Q} {c} h i) (more {U} e a) =
+    let p = between Q Comma (c ∷ Close ∷ []) U a in
+    let r = keep_seat f h p.like_left in
+    let s = like_last f i p.right p.like_right in
+    (choice s.0 r.0, moved (λ L. SpellsArgs F OfBoth L (choice s.0 r.0)) (join (same Open refl e) (split_is p refl ∙ ap (λ R. p.left ++ Comma ∷ R) s.2.0)) (both_args r.1 s.2.1))
+
+-- the same names, and the same classes bound
+abbrev pub SameWords : Meanings → Meanings → Bound → Bound → Type 0
+SameWords N M E F = LikeNames N M × SameScope E F
+
+keep_atom : {N M : Meanings} {E F : Bound} {T U : List Token} {a : Amount} → SameWords N M E F → SpellsAtom N E T a → Alike T U → SomeAtom M F U
+keep_atom {M} {F} f (a_number {n}) (more {y} e none) =
+    let m = like_number n y e in (number m.0, moved (λ L. SpellsAtom M F L (number m.0)) (join m.1 refl) a_number)
+keep_atom f (a_count h) a = let k = keep_counted f.1 h a in (counted k.0, a_count k.1)
+keep_atom {M} {F} f (named_value {n} {p} {f = g} i h) (more {y} e a) =
+    let k = value_at f.0 n p g i in
+    let x = keep_args f.1 h a in
+    (k.0 x.0, moved (λ L. SpellsAtom M F L (k.0 x.0)) (join (same (Name n) refl e) refl) (named_value k.1 x.1))
+keep_atom {M} {F} f (multiple {n} w h) (more {y} e0 (more e1 a)) =
     let m = like_number n y e0 in
-    let k = keep_counted f h a in
-    (times m.0 k.0, moved (λ L. SpellsAtom F L (times m.0 k.0)) (join m.1 (join (same Star refl e1) refl)) (multiple w k.1))
+    let k = keep_counted f.1 h a in
+    (times m.0 k.0, moved (λ L. SpellsAtom M F L (times m.0 k.0)) (join m.1 (join (same Star refl e1) refl)) (multiple w k.1))
 
 -- ---- values
 
-abbrev SomeValue : Bound → List Token → Type 0
-SomeValue E T = (a : Amount) × SpellsValue E T a
+abbrev pub SomeValue : Meanings → Bound → List Token → Type 0
+SomeValue N E T = (a : Amount) × SpellsValue N E T a
 
-keep_value : {E F : Bound} {T U : List Token} {a : Amount} → SameScope E F → SpellsValue E T a → Alike T U → SomeValue F U
+pub keep_value : {N M : Meanings} {E F : Bound} {T U : List Token} {a : Amount} → SameWords N M E F → SpellsValue N E T a → Alike T U → SomeValue M F U
 keep_value f (atom h) a = let k = keep_atom f h a in (k.0, atom k.1)
-keep_value {F} {T} {U} f (plus {L} {R} l r) a =
+keep_value {M} {F} {T} {U} f (plus {L} {R} l r) a =
     let p = between L Plus R U a in
     let left = keep_value f l p.like_left in
     let right = keep_atom f r p.like_right in
-    (sum left.0 right.0, moved (λ L. SpellsValue F L (sum left.0 right.0)) (split_is p refl) (plus left.1 right.1))
+    (sum left.0 right.0, moved (λ L. SpellsValue M F L (sum left.0 right.0)) (split_is p refl) (plus left.1 right.1))
 
 -- ---- tests
 
-abbrev SomeTest : Bound → List Token → Type 0
-SomeTest E T = (t : Form) × SpellsTest E T t
+abbrev SomeTest : Meanings → Bound → List Token → Type 0
+SomeTest N E T = (t : Form) × SpellsTest N E T t
 
-some_test : {E : Bound} {T U : List Token} (t : Form) → U ≡ T → SpellsTest E T t → SomeTest E U
-some_test {E} t e h = (t, moved (λ L. SpellsTest E L t) e h)
+some_test : {N : Meanings} {E : Bound} {T U : List Token} (t : Form) → U ≡ T → SpellsTest N E T t → SomeTest N E U
+some_test {N} {E} t e h = (t, moved (λ L. SpellsTest N E L t) e h)
 
 -- number - number
 like_range :
@@ -317,7 +361,7 @@ record IsFour (U : List Token) : Type 0 where
   second : Item
   third : Item
   fourth : Item
-  is : U ≡ four first second third fourth
+  pub is : U ≡ four first second third fourth
 
 like_four : (a b c d : Item) (U : List Token) → Alike (four a b c d) U → IsFour U
 like_four a b c d U (more e2 (more {y = i} e3 (more e4 (more {y = j} e5 (more e6 (more {y = k} e7 (more e8 (more {y = l} e9 (more e10 none))))))))) =
@@ -357,7 +401,7 @@ keep_hand_test s (has_stopper v i) e0 (more e1 (more {y = z} e2 (more e3 none)))
     let t = like_named s i z e2 in
     some_hand_test (λ q. stops q t.0) (same Stops refl e0) (join (same Comma refl e1) (join refl (join (same Close refl e3) refl))) (has_stopper v t.1)
 
-keep_test : {E F : Bound} {T U : List Token} {t : Form} → SameScope E F → SpellsTest E T t → Alike T U → SomeTest F U
+keep_test : {N M : Meanings} {E F : Bound} {T U : List Token} {t : Form} → SameWords N M E F → SpellsTest N E T t → Alike T U → SomeTest M F U
 keep_test {T} {U} f (comparison {L} {R} {a} {b} {o} l r) h =
     let p = between L (Relation o) R U h in
     let left = keep_value f l p.like_left in
@@ -369,91 +413,91 @@ keep_test {T} {U} f (in_range {L} {a} {m} {n = k} l) h =
     let left = keep_value f l p.like_left in
     let r = like_range m k p.right p.like_right in
     some_test (within left.0 r.0 r.1.0) (split_is p refl ∙ ap (λ R. p.left ++ In ∷ R) r.1.1) (in_range left.1)
-keep_test {F} f (of_hand {c} {Q} {R} k h) (more {y} e0 (more {U} e1 a)) =
+keep_test {M} {F} f (named_condition {n} {p} {f = g} i h) (more {y} e a) =
+    let k = condition_at f.0 n p g i in
+    let x = keep_args f.1 h a in
+    some_test (k.0 x.0) (join (same (Name n) refl e) refl) (named_condition k.1 x.1)
+keep_test {M} {F} f (of_hand {c} {Q} {R} k h) (more {y} e0 (more {U} e1 a)) =
     let p = parts Q R U a in
-    let r = keep_seat f h p.like_first in
-    let g = keep_hand_test f k e0 p.like_second in
+    let r = keep_seat f.1 h p.like_first in
+    let g = keep_hand_test f.1 k e0 p.like_second in
     some_test (g.0 r.0) (join refl (join (same Open refl e1) p.is)) (of_hand g.1 r.1)
 
 -- ---- conditions
 
-abbrev pub SomeCond : Bound → List Token → Type 0
-SomeCond E T = (t : Form) × SpellsCond E T t
+abbrev pub SomeCond : Meanings → Bound → List Token → Type 0
+SomeCond N E T = (t : Form) × SpellsCond N E T t
 
-abbrev SomeBoth : Bound → List Token → Type 0
-SomeBoth E T = (t : Form) × SpellsBoth E T t
+abbrev SomeBoth : Meanings → Bound → List Token → Type 0
+SomeBoth N E T = (t : Form) × SpellsBoth N E T t
 
-abbrev SomeUnit : Bound → List Token → Type 0
-SomeUnit E T = (t : Form) × SpellsUnit E T t
+abbrev SomeUnit : Meanings → Bound → List Token → Type 0
+SomeUnit N E T = (t : Form) × SpellsUnit N E T t
 
 -- with each member of the class the list spells a tree
-abbrev pub SomeEach : Bound → AClass → List Token → Type 0
-SomeEach E c T = (t : Form) × (ts : List Form) × SpellsEach E c (members E c) T (t ∷ ts)
+abbrev pub SomeEach : Meanings → Bound → AClass → List Token → Type 0
+SomeEach N E c T = (t : Form) × (ts : List Form) × SpellsEach N E c (members E c) T (t ∷ ts)
 
-each_of : (E : Bound) (c : AClass) (T : List Token) → ((s : Choice) → SomeCond (bind E c s) T) → (ss : List Choice) → (ts : List Form) × SpellsEach E c ss T ts
-each_of E c T f [] = ([], no_more)
-each_of E c T f (s ∷ ss) =
+each_of : (N : Meanings) (E : Bound) (c : AClass) (T : List Token) → ((s : Choice) → SomeCond N (bind E c s) T) → (ss : List Choice) → (ts : List Form) × SpellsEach N E c ss T ts
+each_of N E c T f [] = ([], no_more)
+each_of N E c T f (s ∷ ss) =
     let t = f s in
-    let ts = each_of E c T f ss in
+    let ts = each_of N E c T f ss in
     (t.0 ∷ ts.0, one_more t.1 ts.1)
 
-pub some_each : (E : Bound) (c : AClass) (T : List Token) → ((s : Choice) → SomeCond (bind E c s) T) → SomeEach E c T
-some_each E c T f =
+pub some_each : (N : Meanings) (E : Bound) (c : AClass) (T : List Token) → ((s : Choice) → SomeCond N (bind E c s) T) → SomeEach N E c T
+some_each N E c T f =
     let m = members_some E c in
     let t = f m.0 in
-    let ts = each_of E c T f m.1 in
-    (t.0, ts.0, subst (λ ss. SpellsEach E c ss T (t.0 ∷ ts.0)) (sym m.2) (one_more t.1 ts.1))
+    let ts = each_of N E c T f m.1 in
+    (t.0, ts.0, subst (λ ss. SpellsEach N E c ss T (t.0 ∷ ts.0)) (sym m.2) (one_more t.1 ts.1))
 
-mutual
-  keep_cond : {E F : Bound} {T U : List Token} {t : Form} → SameScope E F → SpellsCond E T t → Alike T U → SomeCond F U
-  keep_cond f (both h) a = let k = keep_both f h a in (k.0, both k.1)
-  keep_cond {F} {T} {U} f (or {L} {R} l r) a =
-      let p = between L Or R U a in
-      let left = keep_cond f l p.like_left in
-      let right = keep_both f r p.like_right in
-      (any_of left.0 right.0, moved (λ L. SpellsCond F L (any_of left.0 right.0)) (split_is p refl) (or left.1 right.1))
+module _ {N M : Meanings} where
+  mutual
+    pub keep_cond : {E F : Bound} {T U : List Token} {t : Form} → SameWords N M E F → SpellsCond N E T t → Alike T U → SomeCond M F U
+    keep_cond f (both h) a = let k = keep_both f h a in (k.0, both k.1)
+    keep_cond {F} {T} {U} f (or {L} {R} l r) a =
+        let p = between L Or R U a in
+        let left = keep_cond f l p.like_left in
+        let right = keep_both f r p.like_right in
+        (any_of left.0 right.0, moved (λ L. SpellsCond M F L (any_of left.0 right.0)) (split_is p refl) (or left.1 right.1))
 
-  keep_both : {E F : Bound} {T U : List Token} {t : Form} → SameScope E F → SpellsBoth E T t → Alike T U → SomeBoth F U
-  keep_both f (unit h) a = let k = keep_unit f h a in (k.0, unit k.1)
-  keep_both {F} {T} {U} f (and {L} {R} l r) a =
-      let p = between L And R U a in
-      let left = keep_both f l p.like_left in
-      let right = keep_unit f r p.like_right in
-      (all_of left.0 right.0, moved (λ L. SpellsBoth F L (all_of left.0 right.0)) (split_is p refl) (and left.1 right.1))
+    keep_both : {E F : Bound} {T U : List Token} {t : Form} → SameWords N M E F → SpellsBoth N E T t → Alike T U → SomeBoth M F U
+    keep_both f (unit h) a = let k = keep_unit f h a in (k.0, unit k.1)
+    keep_both {F} {T} {U} f (and {L} {R} l r) a =
+        let p = between L And R U a in
+        let left = keep_both f l p.like_left in
+        let right = keep_unit f r p.like_right in
+        (all_of left.0 right.0, moved (λ L. SpellsBoth M F L (all_of left.0 right.0)) (split_is p refl) (and left.1 right.1))
 
-  keep_unit : {E F : Bound} {T U : List Token} {t : Form} → SameScope E F → SpellsUnit E T t → Alike T U → SomeUnit F U
-  keep_unit {F} f (not h) (more {U} e a) =
-      let k = keep_unit f h a in
-      (negation k.0, moved (λ L. SpellsUnit F L (negation k.0)) (join (same Not refl e) refl) (not k.1))
-  keep_unit {F} f (brackets {T} h) (more {U} e a) =
-      let p = between T Close [] U a in
-      let k = keep_cond f h p.like_left in
-      let is : U ≡ p.left ++ Close ∷ [] = ends_with p refl in
-      (k.0, moved (λ L. SpellsUnit F L k.0) (join (same Open refl e) is) (brackets k.1))
-  keep_unit {F} f (quantified {k} {c} {T} w b each) (more e0 (more e1 (more {U} e2 a))) =
-      let p = between T Close [] U a in
-      let ts = some_each F c p.left (keep_each f each p.like_left) in
-      let is : U ≡ p.left ++ Close ∷ [] = ends_with p refl in
-      let t : Form = fold (joined k) ts.0 ts.1 in (
-        t,
-        moved (λ L. SpellsUnit F L t) (join (same_quantifier k e0) (join (same_class c e1) (join (same Open refl e2) is)))
-            (quantified w (sym (can_bind_same f c) ∙ b) ts.2),
-      )
-  keep_unit f (test h) a = let k = keep_test f h a in (k.0, test k.1)
+    keep_unit : {E F : Bound} {T U : List Token} {t : Form} → SameWords N M E F → SpellsUnit N E T t → Alike T U → SomeUnit M F U
+    keep_unit {F} f (not h) (more {U} e a) =
+        let k = keep_unit f h a in
+        (negation k.0, moved (λ L. SpellsUnit M F L (negation k.0)) (join (same Not refl e) refl) (not k.1))
+    keep_unit {F} f (brackets {T} h) (more {U} e a) =
+        let p = between T Close [] U a in
+        let k = keep_cond f h p.like_left in
+        let is : U ≡ p.left ++ Close ∷ [] = ends_with p refl in
+        (k.0, moved (λ L. SpellsUnit M F L k.0) (join (same Open refl e) is) (brackets k.1))
+    keep_unit {F} f (quantified {k} {c} {T} w b each) (more e0 (more e1 (more {U} e2 a))) =
+        let p = between T Close [] U a in
+        let ts = some_each M F c p.left (keep_each f each p.like_left) in
+        let is : U ≡ p.left ++ Close ∷ [] = ends_with p refl in
+        let t : Form = fold (joined k) ts.0 ts.1 in (
+          t,
+          moved (λ L. SpellsUnit M F L t) (join (same_quantifier k e0) (join (same_class c e1) (join (same Open refl e2) is)))
+              (quantified w (sym (can_bind_same f.1 c) ∙ b) ts.2),
+        )
+    keep_unit f (test h) a = let k = keep_test f h a in (k.0, test k.1)
 
-  keep_each :
-      {E F : Bound} {c : AClass} {ss : List Choice} {T U : List Token} {t : Form} {ts : List Form}
-      → SameScope E F → SpellsEach E c ss T (t ∷ ts) → Alike T U → (s : Choice) → SomeCond (bind F c s) U
-  keep_each {c} f (one_more {s = r} h hs) a s = keep_cond (bind_same f c r s) h a
+    keep_each :
+        {E F : Bound} {c : AClass} {ss : List Choice} {T U : List Token} {t : Form} {ts : List Form}
+        → SameWords N M E F → SpellsEach N E c ss T (t ∷ ts) → Alike T U → (s : Choice) → SomeCond M (bind F c s) U
+    keep_each {c} f (one_more {s = r} h hs) a s = keep_cond (f.0, bind_same f.1 c r s) h a
 
 -- What is spelled with some suits and seats for the bound classes is spelled with others.
-pub spelled_with : {E F : Bound} {T : List Token} {t : Form} → SameScope E F → SpellsCond E T t → SomeCond F T
-spelled_with {T} f h = keep_cond f h (alike_refl T)
+pub spelled_with : {N : Meanings} {E F : Bound} {T : List Token} {t : Form} → SameScope E F → SpellsCond N E T t → SomeCond N F T
+spelled_with {N} {T} f h = keep_cond (like_names N, f) h (alike_refl T)
 
--- What goes on to a condition still does with another token of the same kind.
-pub viable_like : (T : List Token) (c d : Token) → kind_of c ≡ kind_of d → IsViable (T ++ c ∷ []) → IsViable (T ++ d ∷ [])
-viable_like T c d e v =
-    let a : Alike ((T ++ c ∷ []) ++ v.0) ((T ++ d ∷ []) ++ v.0) =
-    alike_append (alike_append (alike_refl T) (more e none)) (alike_refl v.0) in
-    let k = keep_cond (same_scope unbound) v.2 a in
-    (v.0, k.0, k.1)
+pub value_with : {N : Meanings} {E F : Bound} {T : List Token} {a : Amount} → SameScope E F → SpellsValue N E T a → SomeValue N F T
+value_with {N} {T} f h = keep_value (like_names N, f) h (alike_refl T)

@@ -21,57 +21,46 @@ use Rattle.cond_lang.specs.Classes.{unbound}
 use Rattle.cond_lang.specs.Continuations.{CanFollow, IsBeginning, IsLongestViable, IsLongestViableIn}
 use Rattle.cond_lang.specs.Cut.{HasTokens}
 use Rattle.cond_lang.specs.Faults.{IsViable, IsFirstFault, IsPlace, HasSyntaxFault, offset_of}
-use Rattle.cond_lang.specs.Grammar.{SpellsValue, atom, a_number, both, unit, test, comparison, Spells}
+use Rattle.cond_lang.specs.Definitions.{defined, Spells, SpellsAmount}
+use Rattle.cond_lang.specs.Grammar.{Meanings, SpellsValue, atom, a_number, both, unit, test, comparison}
 use Rattle.cond_lang.specs.Text.{kinds}
-use Rattle.cond_lang.specs.internal.Reading.{Outcome, got, stuck, after, related_by, unit_by, a_cond, a_both, a_unit, a_value, ors, ands, steps, reading, ended, whole}
+use Rattle.cond_lang.specs.internal.Defining.{ended, cond_alone, whole, whole_value}
+use Rattle.cond_lang.specs.internal.Reading.{Outcome, got, stuck, after, related_by, unit_by, a_cond, a_both, a_unit, a_value, ors, ands, reading}
 use Rattle.std.proofs.lemmas.Bool.{cases_lt}
 use Rattle.cond_lang.proofs.Beginnings.{one_longest}
 use Rattle.cond_lang.proofs.Faults.{tree_or_fault}
-use Rattle.cond_lang.proofs.Enough.{reads, reading-steps}
+use Rattle.cond_lang.proofs.Definitions.{definitions_read, no_let_value, one_tree, one_value, whole_value_spelled, whole_value_right}
+use Rattle.cond_lang.proofs.Enough.{reads}
 use Rattle.cond_lang.proofs.Place.{never_both}
-use Rattle.cond_lang.proofs.Sequences.{Reads}
-use Rattle.cond_lang.proofs.Spelled.{value_reads, sums_stop, unit_compares, one_tree}
-use Rattle.cond_lang.proofs.Steps.{steps_reads}
+use Rattle.cond_lang.proofs.Spelled.{value_read, unit_compares}
 use Rattle.cond_lang.proofs.Texts.{one_tokens}
-
--- ---- values
-
--- What is spelled is read.
-value_read : {T : List Token} {a : Amount} → SpellsValue unbound T a → reading unbound a_value T ≡ got a []
-value_read {T} {a} h = ap (reading unbound a_value) (sym (append-nil T)) ∙ value_reads h [] (λ e. cc) ∙ sums_stop unbound a [] (λ e. cc)
-
--- What is read is spelled.
-value_right : (T : List Token) (a : Amount) → reading unbound a_value T ≡ got a [] → SpellsValue unbound T a
-value_right T a e =
-    let n : ℕ = 2 + 5 * length T in
-    let i : steps n unbound a_value T ≡ got a [] = sym (reading-steps n unbound a_value T (omega arith)) ∙ e in
-    let h : Reads (SpellsValue unbound) (steps n unbound a_value) T (got a []) =
-    subst (λ o. Reads (SpellsValue unbound) (steps n unbound a_value) T o) i (steps_reads n unbound a_value T) in
-    subst (λ L. SpellsValue unbound L a) (sym (h.cut ∙ append-nil h.done)) h.right
-
-one_value : (T : List Token) (a b : Amount) → SpellsValue unbound T a → SpellsValue unbound T b → a ≡ b
-one_value T a b h k = let x = value_read h in let y = value_read k in cc
 
 -- ---- no list is both
 
 -- reading a condition, a value is read to its end, and there its comparison is missing
-value_stuck : (T : List Token) (a : Amount) → SpellsValue unbound T a → whole T ≡ stuck []
-unfolding whole
-value_stuck T a h =
-    let as_unit : reading unbound a_unit T ≡ stuck [] =
-    reads unbound a_unit T
-    ∙ ap (unit_by reading unbound) (sym (append-nil T))
+value_ends : (N : Meanings) (T : List Token) (a : Amount) → SpellsValue N unbound T a → cond_alone N T ≡ stuck []
+unfolding cond_alone
+value_ends N T a h =
+    let read : reading N unbound a_value T ≡ got a [] = ap (reading N unbound a_value) (sym (append-nil T)) ∙ value_read h [] (λ e. cc, λ e. cc) in
+    let as_unit : reading N unbound a_unit T ≡ stuck [] =
+    reads N unbound a_unit T
+    ∙ ap (unit_by N (reading N) unbound) (sym (append-nil T))
     ∙ unit_compares h []
-    ∙ ap (λ L. after (reading unbound a_value L) (λ a S. related_by reading unbound a S)) (append-nil T)
-    ∙ ap (λ o. after o (λ a S. related_by reading unbound a S)) (value_read h) in
-    let as_both : reading unbound a_both T ≡ stuck [] =
-    reads unbound a_both T ∙ ap (λ o. after o (λ a R. reading unbound (ands a) R)) as_unit in
-    let as_cond : reading unbound a_cond T ≡ stuck [] =
-    reads unbound a_cond T ∙ ap (λ o. after o (λ a R. reading unbound (ors a) R)) as_both in
+    ∙ ap (λ L. after (reading N unbound a_value L) (λ a S. related_by (reading N) unbound a S)) (append-nil T)
+    ∙ ap (λ o. after o (λ a S. related_by (reading N) unbound a S)) read in
+    let as_both : reading N unbound a_both T ≡ stuck [] =
+    reads N unbound a_both T ∙ ap (λ o. after o (λ a R. reading N unbound (ands a) R)) as_unit in
+    let as_cond : reading N unbound a_cond T ≡ stuck [] =
+    reads N unbound a_cond T ∙ ap (λ o. after o (λ a R. reading N unbound (ors a) R)) as_both in
     ap (λ o. after o ended) as_cond
 
-pub no_list_is_both : (T : List Token) (t : Form) (a : Amount) → Spells T t → SpellsValue unbound T a → ⊥
-no_list_is_both T t a s v = never_both T [] t (value_stuck T a v) s
+value_stuck : {T : List Token} {a : Amount} → SpellsAmount T a → whole T ≡ stuck []
+unfolding whole
+value_stuck (defined {D} {T} {N} {x = a} d h) =
+    ap (λ o. after o (λ N R. cond_alone N R)) (definitions_read d T (no_let_value h)) ∙ value_ends N T a h
+
+pub no_list_is_both : (T : List Token) (t : Form) (a : Amount) → Spells T t → SpellsAmount T a → ⊥
+no_list_is_both T t a s v = never_both T [] t (value_stuck v) s
 
 -- a list asks one question at most
 pub one_asked : (T : List Token) (p q : Question) → Asks T p → Asks T q → p ≡ q
@@ -83,14 +72,17 @@ one_asked T (asks_value a) (asks_value b) h k = ap (λ a. asks_value a) (one_val
 -- ---- the same lists are viable
 
 -- a value goes on to a condition
-value_goes_on : (T more : List Token) (a : Amount) → SpellsValue unbound (T ++ more) a → IsViable T
+abbrev compared : List Token
+compared = Relation Equal ∷ Number 0 ∷ []
+
+compares : {T : List Token} {a : Amount} → SpellsAmount T a → Spells (T ++ compared) (compare a Equal (number 0))
+compares (defined {D} {T} {x = a} d h) =
+    subst (λ L. Spells L (compare a Equal (number 0))) (sym (append_assoc D T compared))
+    (defined d (both (unit (test (comparison {L = T} {R = Number 0 ∷ []} h (atom a_number))))))
+
+value_goes_on : (T more : List Token) (a : Amount) → SpellsAmount (T ++ more) a → IsViable T
 value_goes_on T more a h =
-    let behind : List Token = Relation Equal ∷ Number 0 ∷ [] in (
-      more ++ behind,
-      compare a Equal (number 0),
-      subst (λ L. Spells L (compare a Equal (number 0))) (append_assoc T more behind)
-          (both (unit (test (comparison {L = T ++ more} {R = Number 0 ∷ []} h (atom a_number))))),
-    )
+    (more ++ compared, compare a Equal (number 0), subst (λ L. Spells L (compare a Equal (number 0))) (append_assoc T more compared) (compares h))
 
 pub viable_condition : (T : List Token) → IsAskViable T → IsViable T
 viable_condition T (more, asks_condition t, h) = (more, t, h)
@@ -104,29 +96,20 @@ same_viable T = (viable_condition T, viable_question T)
 
 -- ---- what the parser found
 
--- the tokens S are a value: R of them are left, and these are none
-pub is_value : (placed : List Placed) (S R : List Token) (a : Amount) → S ≡ kinds placed → reading unbound a_value S ≡ got a R → length R ≡ 0 → SpellsValue unbound (kinds placed) a
-is_value placed S [] a e h n = value_right (kinds placed) a (ap (reading unbound a_value) (sym e) ∙ h)
-is_value placed S (c ∷ R) a e h n = absurd (omega arith)
+-- the tokens S are a value
+pub is_value : (placed : List Placed) (S R : List Token) (a : Amount) → S ≡ kinds placed → whole_value S ≡ got a R → SpellsAmount (kinds placed) a
+is_value placed S R a e h = whole_value_right (kinds placed) R a (ap whole_value (sym e) ∙ h)
 
--- some are left
-pub no_value_left : (placed : List Placed) (S R : List Token) (a b : Amount) → S ≡ kinds placed → reading unbound a_value S ≡ got a R → (length R ≡ 0 → ⊥) → SpellsValue unbound (kinds placed) b → ⊥
-no_value_left placed S R a b e h n v =
-    let x = value_read v in
-    let y : reading unbound a_value (kinds placed) ≡ got a R = ap (reading unbound a_value) (sym e) ∙ h in
-    let nil : R ≡ [] = cc in
-    n (ap length nil)
-
-pub no_value_stuck : (placed : List Placed) (S R : List Token) (b : Amount) → S ≡ kinds placed → reading unbound a_value S ≡ stuck R → SpellsValue unbound (kinds placed) b → ⊥
+pub no_value_stuck : (placed : List Placed) (S R : List Token) (b : Amount) → S ≡ kinds placed → whole_value S ≡ stuck R → SpellsAmount (kinds placed) b → ⊥
 no_value_stuck placed S R b e h v =
-    let x = value_read v in
-    let y : reading unbound a_value (kinds placed) ≡ stuck R = ap (reading unbound a_value) (sym e) ∙ h in
+    let x = whole_value_spelled v in
+    let y : whole_value (kinds placed) ≡ stuck R = ap whole_value (sym e) ∙ h in
     cc
 
 -- ---- where a text goes wrong
 
 -- tokens that are no value go wrong as a question where they do as a condition
-pub ask_fault : (T : List Token) (n : ℕ) → ((a : Amount) → SpellsValue unbound T a → ⊥) → IsFirstFault T n → IsFirstAskFault T n
+pub ask_fault : (T : List Token) (n : ℕ) → ((a : Amount) → SpellsAmount T a → ⊥) → IsFirstFault T n → IsFirstAskFault T n
 ask_fault T n none f =
     record {
       within = f.within;
@@ -141,7 +124,7 @@ ask_fault T n none f =
 
 -- a condition's fault is a question's, where the tokens are no value
 pub place_of_question :
-    (text : List ℕ) (xs ys : List Placed) (at : ℕ) → HasTokens text xs → ys ≡ xs → ((a : Amount) → SpellsValue unbound (kinds ys) a → ⊥)
+    (text : List ℕ) (xs ys : List Placed) (at : ℕ) → HasTokens text xs → ys ≡ xs → ((a : Amount) → SpellsAmount (kinds ys) a → ⊥)
     → IsPlace ys (length text) at → HasAskFault text at
 place_of_question text xs ys at h e none p =
     record { tokens = ys; cut = rw e h; place = (p.0, ask_fault (kinds ys) p.0 none p.1, p.2) }
@@ -186,7 +169,7 @@ same_beginning text T = (condition_begins text T, question_begins text T)
 
 -- some value is the whole list
 abbrev pub IsAValue : List Token → Type 0
-IsAValue T = (a : Amount) × SpellsValue unbound T a
+IsAValue T = (a : Amount) × SpellsAmount T a
 
 -- what could follow in a question: what could in a condition, and the end of a value
 pub follows_asking : (T : List Token) (k : Kind) → CanFollow T k → CanFollowAsking T k
@@ -223,7 +206,7 @@ end_of_condition T k v b i e w x = (
 
 -- whether some value was found says whether there is one
 pub some_value : {V : Type 0} (T : List Token) (keeps : V → Amount → Type 0) (found : Option V) (b : Bool) → b ≡ is_some found
-    → MatchOption found ((a : Amount) → SpellsValue unbound T a → ⊥) (λ v. (a : Amount) × keeps v a × SpellsValue unbound T a)
+    → MatchOption found ((a : Amount) → SpellsAmount T a → ⊥) (λ v. (a : Amount) × keeps v a × SpellsAmount T a)
     → IsTrue b ↔ IsAValue T
 some_value T keeps (Some v) b e h = (λ p. (h.0, h.2), λ a. e)
 some_value T keeps None b e h = (λ p. absurd (false≢true (sym e ∙ p)), λ a. absurd (h a.0 a.1))
@@ -257,13 +240,12 @@ pub no_question : (text : List ℕ) (at : ℕ) (q : Question) → HasAskFault te
 no_question text at q f s =
     asks_nothing (kinds f.tokens) f.place.0 q f.place.1 (its_tokens_ask text f.tokens f.tokens q f.cut refl s)
 
-value_or_none : (T : List Token) (o : Outcome Amount) → reading unbound a_value T ≡ o → IsAValue T ⊎ ((a : Amount) → SpellsValue unbound T a → ⊥)
-value_or_none T (got a []) e = inl (a, value_right T a e)
-value_or_none T (got a (c ∷ R)) e = inr (λ b v. let x = value_read v in absurd (cc))
-value_or_none T (stuck R) e = inr (λ b v. let x = value_read v in absurd (cc))
+value_or_none : (T : List Token) (o : Outcome Amount) → whole_value T ≡ o → IsAValue T ⊎ ((a : Amount) → SpellsAmount T a → ⊥)
+value_or_none T (got a R) e = inl (a, whole_value_right T R a e)
+value_or_none T (stuck R) e = inr (λ b v. let x = whole_value_spelled v in absurd (cc))
 
 value_or_fault :
-    (text : List ℕ) (at : ℕ) (f : HasSyntaxFault text at) → IsAValue (kinds f.tokens) ⊎ ((a : Amount) → SpellsValue unbound (kinds f.tokens) a → ⊥)
+    (text : List ℕ) (at : ℕ) (f : HasSyntaxFault text at) → IsAValue (kinds f.tokens) ⊎ ((a : Amount) → SpellsAmount (kinds f.tokens) a → ⊥)
     → ((q : Question) × SpellsQuestion text q) ⊎ ((at : ℕ) × HasAskFault text at)
 value_or_fault text at f (inl v) = inl (asks_value v.0, record { tokens = f.tokens; cut = f.cut; asks = v.1 })
 value_or_fault text at f (inr none) = inr (at, place_of_question text f.tokens f.tokens at f.cut refl none f.place)
@@ -273,18 +255,18 @@ pub question_or_fault : (text : List ℕ) (ts : List Placed) → HasTokens text 
 question_or_fault text ts h =
     elim (tree_or_fault text ts h) [
       | inl s ↦ inl (asks_condition s.0, record { tokens = s.1.tokens; cut = s.1.cut; asks = s.1.spells })
-      | inr f ↦ value_or_fault text f.0 f.1 (value_or_none (kinds f.1.tokens) (reading unbound a_value (kinds f.1.tokens)) refl)
+      | inr f ↦ value_or_fault text f.0 f.1 (value_or_none (kinds f.1.tokens) (whole_value (kinds f.1.tokens)) refl)
     ]
 
 -- ---- refusals, as a result tells them
 
 -- the same tokens, read twice
-pub no_value_of : (xs ys : List Placed) → xs ≡ ys → ((a : Amount) → SpellsValue unbound (kinds xs) a → ⊥) → (a : Amount) → SpellsValue unbound (kinds ys) a → ⊥
-no_value_of xs ys e none a s = none a (subst (λ zs. SpellsValue unbound (kinds zs) a) (sym e) s)
+pub no_value_of : (xs ys : List Placed) → xs ≡ ys → ((a : Amount) → SpellsAmount (kinds xs) a → ⊥) → (a : Amount) → SpellsAmount (kinds ys) a → ⊥
+no_value_of xs ys e none a s = none a (subst (λ zs. SpellsAmount (kinds zs) a) (sym e) s)
 
 -- what is no value is refused as a condition, unless memory ran out
 pub tree_found :
-    (T : List Token) (q : Question) (e : CondError) → ((a : Amount) → SpellsValue unbound T a → ⊥)
+    (T : List Token) (q : Question) (e : CondError) → ((a : Amount) → SpellsAmount T a → ⊥)
     → ((t : Form) → Spells T t → (e ≡ Memory) ⊎ ((e ≡ TooManyParts) × (MOST_PARTS < parts_of t)))
     → Asks T q → (e ≡ Memory) ⊎ ((e ≡ TooManyParts) × (MOST_PARTS < parts_asked q))
 tree_found T (asks_condition t) e none found s = found t s
@@ -292,7 +274,7 @@ tree_found T (asks_value a) e none found s = absurd (none a s)
 
 pub tree_refused :
     (text : List ℕ) (xs ys : List Placed) (r : Result Question CondError) (e : CondError) → r ≡ Err e → HasTokens text xs → ys ≡ xs
-    → ((a : Amount) → SpellsValue unbound (kinds ys) a → ⊥)
+    → ((a : Amount) → SpellsAmount (kinds ys) a → ⊥)
     → (e ≡ Memory) ⊎ ((e ≡ TooManyParts) ⊎ ((at : ℕ) × (e ≡ Syntax at)))
     → ((at : ℕ) → e ≡ Syntax at → IsPlace ys (length text) at)
     → (e ≡ TooManyParts → (t : Form) × Spells (kinds ys) t × (MOST_PARTS < parts_of t))

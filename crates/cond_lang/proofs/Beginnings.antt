@@ -14,11 +14,12 @@ use Rattle.cond_lang.specs.Continuations.{kind_of, CanFollow, IsLongestViable, I
 use Rattle.cond_lang.specs.Cut.{HasTokens}
 use Rattle.cond_lang.specs.Faults.{IsViable, IsFirstFault, HasSyntaxFault, offset_of}
 use Rattle.conditions.specs.Form.{Form}
-use Rattle.cond_lang.specs.Grammar.{Spells}
+use Rattle.cond_lang.specs.Definitions.{Spells}
 use Rattle.cond_lang.specs.Text.{kinds}
-use Rattle.cond_lang.specs.internal.Reading.{got, stuck, whole}
+use Rattle.cond_lang.specs.internal.Defining.{whole}
+use Rattle.cond_lang.specs.internal.Reading.{got, stuck}
 use Rattle.cond_lang.proofs.Place.{first_fault, from_ok, from_stuck, never_both}
-use Rattle.cond_lang.proofs.Alike.{viable_like}
+use Rattle.cond_lang.proofs.AlikeTexts.{viable_like}
 use Rattle.cond_lang.proofs.Faults.{viable_part}
 use Rattle.cond_lang.proofs.Texts.{one_tokens}
 

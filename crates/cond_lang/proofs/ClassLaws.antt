@@ -19,7 +19,7 @@ use Rattle.conditions.specs.declared.tree.Count.{Count}
 use Rattle.conditions.specs.Form.{Amount, Form, any_of, all_of, negation}
 use Rattle.conditions.specs.Meaning.{holds}
 use Rattle.cond_lang.specs.Classes.{bind, can_bind, choice, members, seat_beside}
-use Rattle.cond_lang.specs.Grammar.{a_count, multiple, SpellsCount, SpellsAtom, SpellsValue, atom, plus, a_number, count, measure, measure_in, len, cards, cards_in, longest_suit, second_suit, shortest_suit, SpellsCond, both, unit, SpellsUnit, not as negated, brackets, quantified, test, SpellsEach, none, one_more, joined, SpellsTest, comparison, in_range, of_hand, is_balanced, has_shape, has_pattern, has_stopper}
+use Rattle.cond_lang.specs.Grammar.{Meanings, SpellsArgs, named_value, named_condition, a_count, multiple, SpellsCount, SpellsAtom, SpellsValue, atom, plus, a_number, count, measure, measure_in, len, cards, cards_in, longest_suit, second_suit, shortest_suit, SpellsCond, both, unit, SpellsUnit, not as negated, brackets, quantified, test, SpellsEach, none, one_more, joined, SpellsTest, comparison, in_range, of_hand, is_balanced, has_shape, has_pattern, has_stopper}
 use Rattle.cond_lang.specs.internal.Reading.{front}
 use Rattle.cond_lang.proofs.Quantified.{AreEach}
 
@@ -36,79 +36,81 @@ count_front longest_suit k = λ e. cc
 count_front (second_suit w) k = λ e. cc
 count_front shortest_suit k = λ e. cc
 
-atom_front : {E : Bound} {L : List Token} {a : Amount} → SpellsAtom E L a → (X : List Token) (k : AQuantifier) → front (L ++ X) ≢ Some (Quantifier k)
+atom_front : {N : Meanings} {E : Bound} {L : List Token} {a : Amount} → SpellsAtom N E L a → (X : List Token) (k : AQuantifier) → front (L ++ X) ≢ Some (Quantifier k)
 atom_front a_number X k = λ e. cc
 atom_front (a_count (count h s)) X k = count_front h k
 atom_front (multiple w h) X k = λ e. cc
+atom_front (named_value i h) X k = λ e. cc
 
-value_front : {E : Bound} {L : List Token} {a : Amount} → SpellsValue E L a → (X : List Token) (k : AQuantifier) → front (L ++ X) ≢ Some (Quantifier k)
+value_front : {N : Meanings} {E : Bound} {L : List Token} {a : Amount} → SpellsValue N E L a → (X : List Token) (k : AQuantifier) → front (L ++ X) ≢ Some (Quantifier k)
 value_front (atom h) X k = atom_front h X k
 value_front (plus {L} {R} l r) X k = rw (append_assoc L (Plus ∷ R) X) (value_front l (Plus ∷ (R ++ X)) k)
 
-test_front : {E : Bound} {T : List Token} {t : Form} → SpellsTest E T t → (k : AQuantifier) → front T ≢ Some (Quantifier k)
+test_front : {N : Meanings} {E : Bound} {T : List Token} {t : Form} → SpellsTest N E T t → (k : AQuantifier) → front T ≢ Some (Quantifier k)
 test_front (comparison {L} {R} {o} l r) k = value_front l (Relation o ∷ R) k
 test_front (in_range {L} {m} {n} l) k = value_front l (In ∷ Number m ∷ Dash ∷ Number n ∷ []) k
+test_front (named_condition i h) k = λ e. cc
 test_front (of_hand is_balanced s) k = λ e. cc
 test_front (of_hand (has_shape a b c d) s) k = λ e. cc
 test_front (of_hand (has_pattern a b c d) s) k = λ e. cc
 test_front (of_hand (has_stopper w i) s) k = λ e. cc
 
 -- a class can be bound there, and the tokens spell a tree with each of its suits
-abbrev pub IsQuantified : Bound → AQuantifier → AClass → List Token → Form → Type 0
-IsQuantified E k c T t = (can_bind E c ≡ true) × AreEach E k c T t
+abbrev pub IsQuantified : Meanings → Bound → AQuantifier → AClass → List Token → Form → Type 0
+IsQuantified N E k c T t = (can_bind E c ≡ true) × AreEach N E k c T t
 
 same_each :
-    (E : Bound) (j k : AQuantifier) (c d : AClass) (S T : List Token) (t : Form)
-    → j ≡ k → c ≡ d → S ≡ T → IsQuantified E j c S t → IsQuantified E k d T t
-same_each E j k c d S T t a b e h =
-    subst (λ T. IsQuantified E k d T t) e (subst (λ d. IsQuantified E k d S t) b (subst (λ k. IsQuantified E k c S t) a h))
+    (N : Meanings) (E : Bound) (j k : AQuantifier) (c d : AClass) (S T : List Token) (t : Form)
+    → j ≡ k → c ≡ d → S ≡ T → IsQuantified N E j c S t → IsQuantified N E k d T t
+same_each N E j k c d S T t a b e h =
+    subst (λ T. IsQuantified N E k d T t) e (subst (λ d. IsQuantified N E k d S t) b (subst (λ k. IsQuantified N E k c S t) a h))
 
 quantifies :
-    {E : Bound} {A : List Token} {t : Form} → SpellsUnit E A t → (k : AQuantifier) (c : AClass) (T : List Token)
-    → A ≡ Quantifier k ∷ Class c ∷ Open ∷ T ++ Close ∷ [] → IsQuantified E k c T t
+    {N : Meanings} {E : Bound} {A : List Token} {t : Form} → SpellsUnit N E A t → (k : AQuantifier) (c : AClass) (T : List Token)
+    → A ≡ Quantifier k ∷ Class c ∷ Open ∷ T ++ Close ∷ [] → IsQuantified N E k c T t
 quantifies (negated h) k c T e = absurd (cc)
 quantifies (brackets h) k c T e = absurd (cc)
-quantifies {E} (quantified {k = j} {c = d} {T = S} {t} {ts} w b each) k c T e =
+quantifies {N} {E} (quantified {k = j} {c = d} {T = S} {t} {ts} w b each) k c T e =
     let i : j ≡ k = cc in
     let l : d ≡ c = cc in
     let m : S ++ Close ∷ [] ≡ T ++ Close ∷ [] = cc in
-    same_each E j k d c S T _ i l (append_cancel_right S T (Close ∷ []) m) (b, (t, ts, each, refl))
+    same_each N E j k d c S T _ i l (append_cancel_right S T (Close ∷ []) m) (b, (t, ts, each, refl))
 quantifies (test h) k c T e = absurd (test_front h k (ap front e))
 
 pub quantified_is :
-    (E : Bound) (k : AQuantifier) (c : AClass) (T : List Token) (t : Form) → SpellsUnit E (Quantifier k ∷ Class c ∷ Open ∷ T ++ Close ∷ []) t
-    → IsQuantified E k c T t
-quantified_is E k c T t h = quantifies h k c T refl
+    (N : Meanings) (E : Bound) (k : AQuantifier) (c : AClass) (T : List Token) (t : Form) → SpellsUnit N E (Quantifier k ∷ Class c ∷ Open ∷ T ++ Close ∷ []) t
+    → IsQuantified N E k c T t
+quantified_is N E k c T t h = quantifies h k c T refl
 
 -- `any` of a class with two members is c with one or c with the other
-abbrev pub WithOneOf : AClass → Choice → Choice → Bound → List Token → Form → Type 0
-WithOneOf c x y E T t =
+abbrev pub WithOneOf : AClass → Choice → Choice → Meanings → Bound → List Token → Form → Type 0
+WithOneOf c x y N E T t =
     (can_bind E c ≡ true)
-    × ((a : Form) × (b : Form) × SpellsCond (bind E c x) T a × SpellsCond (bind E c y) T b × (t ≡ any_of a b))
+    × ((a : Form) × (b : Form) × SpellsCond N (bind E c x) T a × SpellsCond N (bind E c y) T b × (t ≡ any_of a b))
 
-two_each : (E : Bound) (c : AClass) (x y : Choice) (T : List Token) (t u : Form) (us : List Form) → SpellsEach E c (x ∷ y ∷ []) T (u ∷ us) → t ≡ fold (joined Any) u us
-    → (a : Form) × (b : Form) × SpellsCond (bind E c x) T a × SpellsCond (bind E c y) T b × (t ≡ any_of a b)
-two_each E c x y T t u us (one_more {t = a} h (one_more {t = b} g none)) e = (a, b, h, g, e)
+two_each : (N : Meanings) (E : Bound) (c : AClass) (x y : Choice) (T : List Token) (t u : Form) (us : List Form) → SpellsEach N E c (x ∷ y ∷ []) T (u ∷ us) → t ≡ fold (joined Any) u us
+    → (a : Form) × (b : Form) × SpellsCond N (bind E c x) T a × SpellsCond N (bind E c y) T b × (t ≡ any_of a b)
+two_each N E c x y T t u us (one_more {t = a} h (one_more {t = b} g none)) e = (a, b, h, g, e)
 
 any_of_two :
-    (c : AClass) (x y : Choice) (E : Bound) → members E c ≡ x ∷ y ∷ [] → (T : List Token) (t : Form)
-    → SpellsUnit E (Quantifier Any ∷ Class c ∷ Open ∷ T ++ Close ∷ []) t ↔ WithOneOf c x y E T t
-any_of_two c x y E e T t = (
-  λ h. let q = quantified_is E Any c T t h in
-      (q.0, two_each E c x y T t q.1.0 q.1.1 (subst (λ ss. SpellsEach E c ss T (q.1.0 ∷ q.1.1)) e q.1.2) q.1.3),
-  λ m. subst (λ t. SpellsUnit E (Quantifier Any ∷ Class c ∷ Open ∷ T ++ Close ∷ []) t) (sym m.1.4)
-      (quantified tt m.0 (subst (λ ss. SpellsEach E c ss T (m.1.0 ∷ m.1.1 ∷ [])) (sym e) (one_more m.1.2 (one_more m.1.3 none)))),
+    (c : AClass) (x y : Choice) (N : Meanings) (E : Bound) → members E c ≡ x ∷ y ∷ [] → (T : List Token) (t : Form)
+    → SpellsUnit N E (Quantifier Any ∷ Class c ∷ Open ∷ T ++ Close ∷ []) t ↔ WithOneOf c x y N E T t
+any_of_two c x y N E e T t = (
+  λ h. let q = quantified_is N E Any c T t h in
+      (q.0, two_each N E c x y T t q.1.0 q.1.1 (subst (λ ss. SpellsEach N E c ss T (q.1.0 ∷ q.1.1)) e q.1.2) q.1.3),
+  λ m. subst (λ t. SpellsUnit N E (Quantifier Any ∷ Class c ∷ Open ∷ T ++ Close ∷ []) t) (sym m.1.4)
+      (quantified tt m.0 (subst (λ ss. SpellsEach N E c ss T (m.1.0 ∷ m.1.1 ∷ [])) (sym e) (one_more m.1.2 (one_more m.1.3 none)))),
 )
 
 pub majors :
-    (E : Bound) (T : List Token) (t : Form)
-    → SpellsUnit E (Quantifier Any ∷ Class Major ∷ Open ∷ T ++ Close ∷ []) t ↔ WithOneOf Major (choice Spades North) (choice Hearts East) E T t
-majors E T t = any_of_two Major (choice Spades North) (choice Hearts East) E refl T t
+    (N : Meanings) (E : Bound) (T : List Token) (t : Form)
+    → SpellsUnit N E (Quantifier Any ∷ Class Major ∷ Open ∷ T ++ Close ∷ []) t ↔ WithOneOf Major (choice Spades North) (choice Hearts East) N E T t
+majors N E T t = any_of_two Major (choice Spades North) (choice Hearts East) N E refl T t
 
 pub north_or_south :
-    (E : Bound) (T : List Token) (t : Form)
-    → SpellsUnit E (Quantifier Any ∷ Class NorthSouth ∷ Open ∷ T ++ Close ∷ []) t ↔ WithOneOf NorthSouth (choice Spades North) (choice Diamonds South) E T t
-north_or_south E T t = any_of_two NorthSouth (choice Spades North) (choice Diamonds South) E refl T t
+    (N : Meanings) (E : Bound) (T : List Token) (t : Form)
+    → SpellsUnit N E (Quantifier Any ∷ Class NorthSouth ∷ Open ∷ T ++ Close ∷ []) t ↔ WithOneOf NorthSouth (choice Spades North) (choice Diamonds South) N E T t
+north_or_south N E T t = any_of_two NorthSouth (choice Spades North) (choice Diamonds South) N E refl T t
 
 -- the partner of a seat's partner is the seat
 pub across_twice : (q : ASeat) → seat_beside Partner (seat_beside Partner q) ≡ q
@@ -161,23 +163,23 @@ none_fails t u [] deal e = not_not (holds t deal) ∙ ap not (sym e)
 none_fails t u (x ∷ xs) deal e = none_fails (all_of t x) (any_of u (negation x)) xs deal (not_both (holds t deal) (holds x deal) (holds u deal) e)
 
 negated_each :
-    {E : Bound} {c : AClass} {ss : List Choice} {T : List Token} {ts : List Form} → SpellsEach E c ss T ts
-    → SpellsEach E c ss (Not ∷ Open ∷ T ++ Close ∷ []) (map negation ts)
+    {N : Meanings} {E : Bound} {c : AClass} {ss : List Choice} {T : List Token} {ts : List Form} → SpellsEach N E c ss T ts
+    → SpellsEach N E c ss (Not ∷ Open ∷ T ++ Close ∷ []) (map negation ts)
 negated_each none = none
 negated_each (one_more h hs) = one_more (both (unit (negated (brackets h)))) (negated_each hs)
 
 -- `every class (c)` is `not any class (not (c))`
-abbrev pub IsNotAnyNot : Bound → AClass → List Token → Form → Type 0
-IsNotAnyNot E c T t =
+abbrev pub IsNotAnyNot : Meanings → Bound → AClass → List Token → Form → Type 0
+IsNotAnyNot N E c T t =
     (u : Form)
-    × SpellsUnit E (Not ∷ Quantifier Any ∷ Class c ∷ Open ∷ (Not ∷ Open ∷ T ++ Close ∷ []) ++ Close ∷ []) u
+    × SpellsUnit N E (Not ∷ Quantifier Any ∷ Class c ∷ Open ∷ (Not ∷ Open ∷ T ++ Close ∷ []) ++ Close ∷ []) u
     × ((deal : List ASeat) → holds t deal ≡ holds u deal)
 
 pub every_is_not_any_not :
-    (E : Bound) (c : AClass) (T : List Token) (t : Form) → SpellsUnit E (Quantifier Every ∷ Class c ∷ Open ∷ T ++ Close ∷ []) t
-    → IsNotAnyNot E c T t
-every_is_not_any_not E c T t h =
-    let q = quantified_is E Every c T t h in
+    (N : Meanings) (E : Bound) (c : AClass) (T : List Token) (t : Form) → SpellsUnit N E (Quantifier Every ∷ Class c ∷ Open ∷ T ++ Close ∷ []) t
+    → IsNotAnyNot N E c T t
+every_is_not_any_not N E c T t h =
+    let q = quantified_is N E Every c T t h in
     let first : Form = q.1.0 in
     let more : List Form = q.1.1 in (
       negation (fold (joined Any) (negation first) (map negation more)),

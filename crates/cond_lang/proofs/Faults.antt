@@ -10,18 +10,21 @@ use Rattle.cond_lang.specs.declared.scanner.Token.TheVariants.{Number, Relation}
 use Rattle.cond_lang.specs.declared.scanner.Placed.{Placed}
 use Rattle.conditions.specs.declared.error.CondError.{CondError}
 use Rattle.cond_lang.specs.declared.scanner.Piece.TheVariants.{Token as TokenPiece}
-use Rattle.cond_lang.specs.Cut.{symbols, IsRun, IsPiece, number as number_piece, symbol, Pieces, IsCut, end, piece, HasTokens}
+use Rattle.cond_lang.specs.Cut.{symbols, IsRun, IsPiece, number as number_piece, symbol, Pieces, IsCut, end, piece, named, HasTokens}
 use Rattle.cond_lang.specs.Faults.{HasFault}
 use Rattle.conditions.specs.Form.{Form, number, compare}
-use Rattle.cond_lang.specs.Grammar.{atom, a_number, both, unit, test, comparison, Spells}
+use Rattle.cond_lang.specs.Definitions.{Spells, defined, none}
+use Rattle.cond_lang.specs.Grammar.{atom, a_number, both, unit, test, comparison}
 use Rattle.cond_lang.specs.Faults.{IsViable, IsFirstFault}
 use Rattle.cond_lang.specs.Text.{kinds}
 use Rattle.cond_lang.specs.Faults.{offset_of}
-use Rattle.cond_lang.specs.internal.Reading.{Outcome, got, stuck, whole}
+use Rattle.cond_lang.specs.internal.Defining.{whole}
+use Rattle.cond_lang.specs.internal.Reading.{Outcome, got, stuck}
 use Rattle.cond_lang.specs.Text.{SpellsTree}
 use Rattle.cond_lang.specs.Faults.{HasSyntaxFault}
 use Rattle.cond_lang.proofs.Cuts.{some_cut}
-use Rattle.cond_lang.proofs.Place.{first_fault, whole_all}
+use Rattle.cond_lang.proofs.Definitions.{whole_right}
+use Rattle.cond_lang.proofs.Place.{first_fault}
 use Rattle.cond_lang.proofs.Symbols.{fits}
 use Rattle.cond_lang.proofs.Tables.{entry_of}
 use Rattle.cond_lang.proofs.Told.{Told, told_from, TellsTokens, told_tokens, told_fault}
@@ -77,7 +80,7 @@ one_syntax_fault text a b f g =
 found_or_fault :
     (text : List ℕ) (ts : List Placed) (o : Outcome Form) → HasTokens text ts → whole (kinds ts) ≡ o
     → ((tree : Form) × SpellsTree text tree) ⊎ ((at : ℕ) × HasSyntaxFault text at)
-found_or_fault text ts (got t R) h e = inl (t, record { tokens = ts; cut = h; spells = whole_all (kinds ts) R t e })
+found_or_fault text ts (got t R) h e = inl (t, record { tokens = ts; cut = h; spells = whole_right (kinds ts) R t e })
 found_or_fault text ts (stuck R) h e =
     let n : ℕ = length (kinds ts) - length R in
     inr (offset_of ts (length text) n, record { tokens = ts; cut = h; place = (n, first_fault (kinds ts) R e, refl) })
@@ -86,12 +89,12 @@ pub tree_or_fault : (text : List ℕ) (ts : List Placed) → HasTokens text ts �
 tree_or_fault text ts h = found_or_fault text ts (whole (kinds ts)) h refl
 
 -- A text has tokens, or a fault.
-told_or_fault : (text : List ℕ) (ps : Pieces) (r : Told) → IsCut text ps → told_from 0 ps ≡ r → ((ts : List Placed) × HasTokens text ts) ⊎ ((e : CondError) × HasFault text e)
+told_or_fault : (text : List ℕ) (ps : Pieces) (r : Told) → IsCut text ps → told_from 0 (named ps) ≡ r → ((ts : List Placed) × HasTokens text ts) ⊎ ((e : CondError) × HasFault text e)
 told_or_fault text ps (Ok ts) c e = inl (ts, told_tokens text ts (record { pieces = ps; cut = c; found = e }))
 told_or_fault text ps (Err f) c e = inr (f, told_fault text f (record { pieces = ps; cut = c; found = e }))
 
 pub tokens_or_fault : (text : List ℕ) → ((ts : List Placed) × HasTokens text ts) ⊎ ((e : CondError) × HasFault text e)
-tokens_or_fault text = let c = some_cut text in told_or_fault text c.0 (told_from 0 c.0) c.1 refl
+tokens_or_fault text = let c = some_cut text in told_or_fault text c.0 (told_from 0 (named c.0)) c.1 refl
 
 zero : (rest : List ℕ) → IsRun is_ascii_digit (48 ∷ []) rest → IsPiece (48 ∷ []) rest (TokenPiece (Number 0))
 zero rest r = number_piece r (omega arith)
@@ -116,5 +119,5 @@ zero_is_zero =
     record {
       tokens = record { token = Number 0; at = 0 } ∷ record { token = Relation Equal; at = 1 } ∷ record { token = Number 0; at = 3 } ∷ [];
       cut = told_tokens (codes "0==0") _ zero_is_zero_cut;
-      spells = both (unit (test (comparison {L = Number 0 ∷ []} {R = Number 0 ∷ []} (atom a_number) (atom a_number))));
+      spells = defined {D = []} none (both (unit (test (comparison {L = Number 0 ∷ []} {R = Number 0 ∷ []} (atom a_number) (atom a_number)))));
     }

@@ -11,13 +11,15 @@ use Rattle.conditions.specs.declared.tree.Op.TheVariants.{Equal}
 use Rattle.cards.specs.declared.suit.Suit.TheVariants.{Spades}
 use Rattle.cond_lang.specs.declared.classes.Bound.{Bound}
 use Rattle.cond_lang.specs.declared.scanner.Token.{Token}
-use Rattle.cond_lang.specs.declared.scanner.Token.TheVariants.{Or, And, Not, Balanced, Shape, Pattern, Measure, Cards, Len, Longest, Second, Shortest, Seat, Suit, Number, Open, Close, Comma, Plus, Star, Relation}
+use Rattle.cond_lang.specs.declared.scanner.Token.TheVariants.{Or, And, Not, Balanced, Shape, Pattern, Measure, Cards, Len, Longest, Second, Shortest, Seat, Suit, Number, Open, Close, Comma, Plus, Star, Relation, Let}
 use Rattle.conditions.specs.Form.{Amount, number, counted, points, suit_points, suit_length, Form, any_of, all_of, negation, compare}
 use Rattle.cond_lang.specs.Classes.{unbound, by_suit, by_class}
-use Rattle.cond_lang.specs.Grammar.{a_count, multiple, Forms, FormsAt, SpellsSeat, by_word, by_bound, beside, SpellsCount, SpellsAtom, a_number, count, measure, measure_in, len, cards, cards_in, longest_suit, second_suit, shortest_suit, SpellsValue, atom, plus, item_token, four, SpellsCond, both, or, BothOf, SpellsBoth, unit, and, UnitOf, SpellsUnit, not, brackets, quantified, test, SpellsTest, comparison, in_range, of_hand, is_balanced, has_shape, has_pattern, has_stopper, Spells}
+use Rattle.cond_lang.specs.Definitions.{Spells, SpellsNameless}
+use Rattle.cond_lang.specs.Grammar.{named_value, named_condition, a_count, multiple, Forms, FormsAt, SpellsSeat, by_word, by_bound, beside, SpellsCount, SpellsAtom, a_number, count, measure, measure_in, len, cards, cards_in, longest_suit, second_suit, shortest_suit, SpellsValue, atom, plus, item_token, four, SpellsCond, both, or, BothOf, SpellsBoth, unit, and, UnitOf, SpellsUnit, not, brackets, quantified, test, SpellsTest, comparison, in_range, of_hand, is_balanced, has_shape, has_pattern, has_stopper}
 use Rattle.cond_lang.specs.Faults.{IsViableIn, IsFirstFaultIn, IsViable, IsFirstFault}
 use Rattle.cond_lang.specs.SmallerGrammars as small
 use Rattle.cond_lang.specs.SmallerGrammars.{no_additions, SpellsFirstAtom, four_numbers, FirstTestOf, SpellsInFirstGrammar, IsOldest, IsViableFirst}
+use Rattle.cond_lang.proofs.Nameless.{nameless_text, same_without_names, viable_without_names}
 use Rattle.cond_lang.proofs.SmallerGrammars.{after_first, same_in_first_grammar, spelled_again}
 
 -- ---- lists that are alike up to a newer token
@@ -88,12 +90,13 @@ keep_count longest_suit h = zero_for Longest _ (λ i. i)
 keep_count (second_suit w) h = zero_for Second _ (λ i. i)
 keep_count shortest_suit h = zero_for Shortest _ (λ i. i)
 
-keep_atom : {E : Bound} {T : List Token} {a : Amount} → SpellsAtom E T a → Kept SpellsFirstAtom T
+keep_atom : {E : Bound} {T : List Token} {a : Amount} → SpellsAtom [] E T a → Kept SpellsFirstAtom T
 keep_atom {T} a_number = itself SpellsFirstAtom T _ small.a_number
 keep_atom (a_count (count k h)) = keep_count k h
+keep_atom (named_value i h) = absurd (cc)
 keep_atom (multiple {n} w h) = (Number n ∷ [], number n, small.a_number, same (newer (λ i. i)))
 
-keep_value : {E : Bound} {T : List Token} {a : Amount} → SpellsValue E T a → Kept SpellsFirstAtom T
+keep_value : {E : Bound} {T : List Token} {a : Amount} → SpellsValue [] E T a → Kept SpellsFirstAtom T
 keep_value (atom h) = keep_atom h
 keep_value (plus {L} {R} l r) = let k = keep_value l in (k.0, k.1, k.2, keeps_before Plus R (λ i. i) k.3)
 
@@ -121,7 +124,7 @@ zero_test : FirstTestOf SpellsFirstAtom zero_equals (compare (number 0) Equal (n
 unfolding zero_equals
 zero_test = small.comparison {L = Number 0 ∷ []} {R = Number 0 ∷ []} small.a_number small.a_number
 
-keep_test : {E : Bound} {T : List Token} {t : Form} → SpellsTest E T t → Kept (FirstTestOf SpellsFirstAtom) T
+keep_test : {E : Bound} {T : List Token} {t : Form} → SpellsTest [] E T t → Kept (FirstTestOf SpellsFirstAtom) T
 keep_test (comparison {L} {R} {a} {b} {o} l r) =
     let k = keep_value l in
     let j = keep_value r in
@@ -129,6 +132,7 @@ keep_test (comparison {L} {R} {a} {b} {o} l r) =
 keep_test (in_range l) =
     let k = keep_value l in
     (k.0 ++ Relation Equal ∷ Number 0 ∷ [], compare k.1 Equal (number 0), small.comparison k.2 small.a_number, keeps_both k.3 (newer (λ i. i)))
+keep_test (named_condition i h) = absurd (cc)
 keep_test (of_hand {q} is_balanced h) =
     (Balanced ∷ Open ∷ Seat q ∷ Close ∷ [], _, small.is_balanced, same (same (keeps_seat h (keeps_all _))))
 keep_test (of_hand {q} (has_shape a b c d) h) =
@@ -142,21 +146,21 @@ abbrev FirstTests : FormsAt
 FirstTests E = FirstTestOf SpellsFirstAtom
 
 mutual
-  keep_cond : {E : Bound} {T : List Token} {t : Form} → SpellsCond E T t → Kept SpellsInFirstGrammar T
+  keep_cond : {E : Bound} {T : List Token} {t : Form} → SpellsCond [] E T t → Kept SpellsInFirstGrammar T
   keep_cond (both h) = let k = keep_both h in (k.0, k.1, both k.2, k.3)
   keep_cond (or l r) =
       let k = keep_cond l in
       let j = keep_both r in
       (k.0 ++ Or ∷ j.0, any_of k.1 j.1, or k.2 j.2, keeps_both k.3 (same j.3))
 
-  keep_both : {E : Bound} {T : List Token} {t : Form} → SpellsBoth E T t → Kept (BothOf no_additions FirstTests unbound) T
+  keep_both : {E : Bound} {T : List Token} {t : Form} → SpellsBoth [] E T t → Kept (BothOf no_additions FirstTests unbound) T
   keep_both (unit h) = let k = keep_unit h in (k.0, k.1, unit k.2, k.3)
   keep_both (and l r) =
       let k = keep_both l in
       let j = keep_unit r in
       (k.0 ++ And ∷ j.0, all_of k.1 j.1, and k.2 j.2, keeps_both k.3 (same j.3))
 
-  keep_unit : {E : Bound} {T : List Token} {t : Form} → SpellsUnit E T t → Kept (UnitOf no_additions FirstTests unbound) T
+  keep_unit : {E : Bound} {T : List Token} {t : Form} → SpellsUnit [] E T t → Kept (UnitOf no_additions FirstTests unbound) T
   keep_unit (not h) = let k = keep_unit h in (Not ∷ k.0, negation k.1, not k.2, same k.3)
   keep_unit (brackets h) =
       let k = keep_cond h in
@@ -166,17 +170,21 @@ mutual
 
 -- ---- viable lists
 
-to_first : (T : List Token) → ((c : Token) → Contains T c → IsOldest c) → IsViable T → IsViableFirst T
+-- no list of the oldest tokens gives a name
+no_let : (T : List Token) → ((c : Token) → Contains T c → IsOldest c) → Contains T Let → ⊥
+no_let T old h = old Let h
+
+to_first : (T : List Token) → ((c : Token) → Contains T c → IsOldest c) → IsViableIn SpellsNameless T → IsViableFirst T
 to_first T old v =
     let k = keep_cond v.2 in
     let r = rest_of T v.0 old k.3 in
     (r.0, k.1, subst (λ U. SpellsInFirstGrammar U k.1) r.1 k.2)
 
 from_first : (T : List Token) → IsViableFirst T → IsViable T
-from_first T v = (v.0, v.1, spelled_again v.2)
+from_first T v = (v.0, v.1, nameless_text (spelled_again v.2))
 
 pub viable_in_first_grammar : (T : List Token) → ((c : Token) → Contains T c → IsOldest c) → IsViable T ↔ IsViableFirst T
-viable_in_first_grammar T old = (to_first T old, from_first T)
+viable_in_first_grammar T old = (λ v. to_first T old ((viable_without_names T (no_let T old)).0 v), from_first T)
 
 -- ---- first faults
 
@@ -196,7 +204,8 @@ fault_in S W T n viable spells f = record {
 
 pub same_faults_in_first_grammar : (T : List Token) (n : ℕ) → ((c : Token) → Contains T c → IsOldest c) → IsFirstFault T n ↔ IsFirstFaultIn SpellsInFirstGrammar T n
 same_faults_in_first_grammar T n old = (
-  fault_in Spells SpellsInFirstGrammar T n (λ k. viable_in_first_grammar (take k T) (old_part k T old)) (λ t. spelled_again),
+  fault_in Spells SpellsInFirstGrammar T n (λ k. viable_in_first_grammar (take k T) (old_part k T old)) (λ t h. nameless_text (spelled_again h)),
   fault_in SpellsInFirstGrammar Spells T n
-      (λ k. let v = viable_in_first_grammar (take k T) (old_part k T old) in (v.1, v.0)) (λ t. (same_in_first_grammar T t old).0),
+      (λ k. let v = viable_in_first_grammar (take k T) (old_part k T old) in (v.1, v.0))
+      (λ t h. (same_in_first_grammar T t old).0 ((same_without_names T t (no_let T old)).0 h)),
 )

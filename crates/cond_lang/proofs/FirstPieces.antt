@@ -27,7 +27,7 @@ word_kept p t e o = entry_of first_words p t e
 first_word : (p : List ℕ) (t : Token) → Contains words (p, t) → IsOldest t → Contains first_words (p, t)
 first_word =
     at_entry (λ p t. IsOldest t → Contains first_words (p, t)) words
-    (word_kept _ _ refl, (word_kept _ _ refl, (word_kept _ _ refl, (word_kept _ _ refl, (word_kept _ _ refl, (word_kept _ _ refl, ((λ o. absurd o), ((λ o. absurd o), ((λ o. absurd o), (word_kept _ _ refl, ((λ o. absurd o), ((λ o. absurd o), ((λ o. absurd o), (word_kept _ _ refl, ((λ o. absurd o), ((λ o. absurd o), ((λ o. absurd o), ((λ o. absurd o), ((λ o. absurd o), (word_kept _ _ refl, (word_kept _ _ refl, (word_kept _ _ refl, (word_kept _ _ refl, ((λ o. absurd o), ((λ o. absurd o), ((λ o. absurd o), ((λ o. absurd o), ((λ o. absurd o), ((λ o. absurd o), (word_kept _ _ refl, (word_kept _ _ refl, (word_kept _ _ refl, (word_kept _ _ refl, ((λ o. absurd o), ((λ o. absurd o), ((λ o. absurd o), ((λ o. absurd o), tt)))))))))))))))))))))))))))))))))))))
+    (word_kept _ _ refl, (word_kept _ _ refl, (word_kept _ _ refl, (word_kept _ _ refl, (word_kept _ _ refl, (word_kept _ _ refl, ((λ o. absurd o), ((λ o. absurd o), ((λ o. absurd o), (word_kept _ _ refl, ((λ o. absurd o), ((λ o. absurd o), ((λ o. absurd o), (word_kept _ _ refl, ((λ o. absurd o), ((λ o. absurd o), ((λ o. absurd o), ((λ o. absurd o), ((λ o. absurd o), (word_kept _ _ refl, (word_kept _ _ refl, (word_kept _ _ refl, (word_kept _ _ refl, ((λ o. absurd o), ((λ o. absurd o), ((λ o. absurd o), ((λ o. absurd o), ((λ o. absurd o), ((λ o. absurd o), (word_kept _ _ refl, (word_kept _ _ refl, (word_kept _ _ refl, (word_kept _ _ refl, ((λ o. absurd o), ((λ o. absurd o), ((λ o. absurd o), ((λ o. absurd o), ((λ o. absurd o), ((λ o. absurd o), tt)))))))))))))))))))))))))))))))))))))))
 
 word_still : (p : List ℕ) (t : Token) → Contains first_words (p, t) → Contains words (p, t)
 word_still =

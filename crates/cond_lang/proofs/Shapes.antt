@@ -1,5 +1,5 @@
 -- Reading goes on and stops at the same tokens, whatever the bound classes stand for.
-use Rattle.std.proofs.Common.{◌≡◌, ℕ, zero, suc, cond, List, [], ◌∷◌, Option, Some, None, refl, sym, ap, ◌∙◌}
+use Rattle.std.proofs.Common.{◌≡◌, ℕ, zero, suc, cond, List, [], ◌∷◌, Option, Some, None, slice_get, refl, sym, ap, ◌∙◌}
 use Rattle.std.specs.Prelude.{is_some}
 use Rattle.cards.specs.declared.hand.Measure.{Measure as AMeasure}
 use Rattle.cards.specs.declared.seat.Seat.{Seat as ASeat}
@@ -7,12 +7,15 @@ use Rattle.cards.specs.declared.suit.Suit.{Suit as ASuit}
 use Rattle.cond_lang.specs.declared.classes.Bound.{Bound}
 use Rattle.cond_lang.specs.declared.classes.Choice.{Choice}
 use Rattle.cond_lang.specs.declared.classes.Class.{Class as AClass}
+use Rattle.cond_lang.specs.declared.classes.Params.{Params}
+use Rattle.cond_lang.specs.declared.classes.Params.TheVariants.{Plain, OfSeat, OfSuit, OfBoth}
 use Rattle.cond_lang.specs.declared.classes.Quantifier.{Quantifier as AQuantifier}
 use Rattle.cond_lang.specs.declared.scanner.Token.{Token}
-use Rattle.cond_lang.specs.declared.scanner.Token.TheVariants.{Or, And, Not, Balanced, Shape, Pattern, Quantifier, Stops, Measure, Cards, Len, Longest, Second, Shortest, In, Seat, Suit, Class, Neighbour, Number, Open, Comma, Plus, Star}
+use Rattle.cond_lang.specs.declared.scanner.Token.TheVariants.{Or, And, Not, Balanced, Shape, Pattern, Quantifier, Stops, Measure, Cards, Len, Longest, Second, Shortest, In, Seat, Suit, Class, Neighbour, Number, Open, Comma, Plus, Star, Name}
 use Rattle.conditions.specs.Form.{Amount, measured, suit_measured, cards_held, Form, balanced}
 use Rattle.cond_lang.specs.Classes.{bound_to, seat_bound_to, seat_beside, bind, all_choices, members}
-use Rattle.cond_lang.specs.internal.Reading.{Outcome, got, stuck, Reader, after, opened, comma, class_seat, seat, open_seat, open_seat_comma, seat_in_brackets, seat_and_items, items, comma_ranks_close, ranks_close, relation, range, class_suit, suit, quantifier, class, closing, closed, comma_suit_close, rest_of_measure, suit_and_ranks, rest_of_cards, seat_and_suit, count_of, count_alone, rest_of_number, atom_of, Goal, a_cond, a_both, a_unit, ors, ands, a_value, sums, Readers, compared_by, related_by, comparing_by, sums_by, each_by, bracketed_by, quantified_by, unit_by, ors_by, ands_by, step, steps}
+use Rattle.cond_lang.specs.Grammar.{Meaning, Meanings, condition, value}
+use Rattle.cond_lang.specs.internal.Reading.{Outcome, got, stuck, Reader, after, opened, comma, class_seat, seat, open_seat, open_seat_comma, seat_in_brackets, seat_and_items, items, comma_ranks_close, ranks_close, relation, range, class_suit, suit, quantifier, class, closing, closed, comma_suit_close, rest_of_measure, suit_and_ranks, rest_of_cards, seat_and_suit, count_of, count_alone, rest_of_number, number_or_count, suit_in_brackets, args, value_used, atom_of, condition_used_by, test_by, Goal, a_cond, a_both, a_unit, ors, ands, a_value, sums, Readers, compared_by, related_by, comparing_by, sums_by, each_by, bracketed_by, quantified_by, unit_by, ors_by, ands_by, step, steps}
 use Rattle.cond_lang.proofs.Scopes.{SameScope, suits_alike, seats_alike, first, same_scope, bind_same, can_bind_same, can_quantify_same, members_some}
 use Rattle.cond_lang.proofs.Members.{ReadsEach, each_got, each_stuck}
 
@@ -138,11 +141,37 @@ module _ {E F : Bound} (f : SameScope E F) where
   rest_of_number_alike n [] = refl
   rest_of_number_alike n (x ∷ S) = refl
 
-  atom_alike : (S : List Token) → shape (atom_of E S) ≡ shape (atom_of F S)
+  number_or_count_alike : (S : List Token) → shape (number_or_count E S) ≡ shape (number_or_count F S)
+  unfolding number_or_count
+  number_or_count_alike [] = alone_alike []
+  number_or_count_alike (Number n ∷ S) = rest_of_number_alike n S
+  number_or_count_alike (x ∷ S) = alone_alike (x ∷ S)
+
+  suit_in_brackets_alike : (S : List Token) → shape (suit_in_brackets E S) ≡ shape (suit_in_brackets F S)
+  suit_in_brackets_alike S =
+      after_alike (opened S) (opened S) _ _ refl (λ _ _ R.
+      after_alike (suit E R) (suit F R) _ _ (suit_alike R) (λ s t R. closing_alike s t R))
+
+  args_alike : (p : Params) (S : List Token) → shape (args E p S) ≡ shape (args F p S)
+  args_alike Plain S = refl
+  args_alike OfSeat S = after_alike (seat_in_brackets E S) (seat_in_brackets F S) _ _ (seat_in_brackets_alike S) (λ q r R. refl)
+  args_alike OfSuit S = after_alike (suit_in_brackets E S) (suit_in_brackets F S) _ _ (suit_in_brackets_alike S) (λ s t R. refl)
+  args_alike OfBoth S = after_alike (seat_and_suit E S) (seat_and_suit F S) _ _ (seat_and_suit_alike S) (λ p q R. refl)
+
+  used_alike : {A : Type 0} (p : Params) (g : Choice → A) (S : List Token)
+      → shape (after (args E p S) (λ x R. got (g x) R)) ≡ shape (after (args F p S) (λ x R. got (g x) R))
+  used_alike {A} p g S = after_alike (args E p S) (args F p S) _ _ (args_alike p S) (λ x y R. refl)
+
+  value_used_alike : (m : Option Meaning) (n : ℕ) (S : List Token) → shape (value_used m E n S) ≡ shape (value_used m F n S)
+  value_used_alike (Some (value p g)) n S = used_alike p g S
+  value_used_alike (Some (condition p g)) n S = refl
+  value_used_alike None n S = refl
+
+  atom_alike : (N : Meanings) (S : List Token) → shape (atom_of N E S) ≡ shape (atom_of N F S)
   unfolding atom_of
-  atom_alike [] = alone_alike []
-  atom_alike (Number n ∷ S) = rest_of_number_alike n S
-  atom_alike (x ∷ S) = alone_alike (x ∷ S)
+  atom_alike N [] = number_or_count_alike []
+  atom_alike N (Name n ∷ S) = value_used_alike (slice_get N n) n S
+  atom_alike N (x ∷ S) = number_or_count_alike (x ∷ S)
 
 -- ---- readers that lead back to a condition
 
@@ -199,7 +228,7 @@ pub each_shape :
     → shape (each_by r E k c S all_choices None S) ≡ shape (r (bind E c first) a_cond S)
 each_shape r E k c S h = each_shape_from r E k c S (r (bind E c first) a_cond S) h
 
-module _ (r : Readers) (k : AreAlike r) (E F : Bound) (f : SameScope E F) where
+module _ (N : Meanings) (r : Readers) (k : AreAlike r) (E F : Bound) (f : SameScope E F) where
   compared_alike : (a b : Amount) (S : List Token) → shape (compared_by r E a S) ≡ shape (compared_by r F b S)
   compared_alike a b S =
       after_alike (relation S) (relation S) _ _ refl (λ o p R.
@@ -238,7 +267,12 @@ module _ (r : Readers) (k : AreAlike r) (E F : Bound) (f : SameScope E F) where
   quantified_alike S =
       ap (λ o. shape (after o (λ k S. after (class E S) (λ c S. bracketed_by r E k c S)))) (quantifier_alike f S) ∙ classes_alike (quantifier F S)
 
-  unit_alike : (S : List Token) → shape (unit_by r E S) ≡ shape (unit_by r F S)
+  condition_used_alike : (m : Option Meaning) (n : ℕ) (S : List Token) → shape (condition_used_by m r E n S) ≡ shape (condition_used_by m r F n S)
+  condition_used_alike (Some (condition p g)) n S = used_alike f p g S
+  condition_used_alike (Some (value p g)) n S = compares_alike (Name n ∷ S)
+  condition_used_alike None n S = compares_alike (Name n ∷ S)
+
+  unit_alike : (S : List Token) → shape (unit_by N r E S) ≡ shape (unit_by N r F S)
   unit_alike (Not ∷ S) = after_alike (r E a_unit S) (r F a_unit S) _ _ (k E F f a_unit a_unit units S) (λ a b R. refl)
   unit_alike (Open ∷ S) = after_alike (r E a_cond S) (r F a_cond S) _ _ (k E F f a_cond a_cond conds S) (λ a b R. closing_alike a b R)
   unit_alike (Quantifier j ∷ S) = quantified_alike (Quantifier j ∷ S)
@@ -246,6 +280,7 @@ module _ (r : Readers) (k : AreAlike r) (E F : Bound) (f : SameScope E F) where
   unit_alike (Shape ∷ S) = after_alike (seat_and_items E S) (seat_and_items F S) _ _ (seat_and_items_alike f S) (λ p q R. refl)
   unit_alike (Pattern ∷ S) = after_alike (seat_and_items E S) (seat_and_items F S) _ _ (seat_and_items_alike f S) (λ p q R. refl)
   unit_alike (Stops ∷ S) = after_alike (seat_and_suit E S) (seat_and_suit F S) _ _ (seat_and_suit_alike f S) (λ p q R. refl)
+  unit_alike (Name n ∷ S) = condition_used_alike (slice_get N n) n S
   unit_alike [] = compares_alike []
   unit_alike (x ∷ S) = compares_alike (x ∷ S)
 
@@ -259,25 +294,29 @@ module _ (r : Readers) (k : AreAlike r) (E F : Bound) (f : SameScope E F) where
   ands_alike a b [] = refl
   ands_alike a b (x ∷ S) = refl
 
-  sums_alike : (a b : Amount) (S : List Token) → shape (sums_by r E a S) ≡ shape (sums_by r F b S)
-  sums_alike a b (Plus ∷ S) = after_alike (atom_of E S) (atom_of F S) _ _ (atom_alike f S) (λ x y R. k E F f _ _ behind_sums R)
+  sums_alike : (a b : Amount) (S : List Token) → shape (sums_by N r E a S) ≡ shape (sums_by N r F b S)
+  sums_alike a b (Plus ∷ S) = after_alike (atom_of N E S) (atom_of N F S) _ _ (atom_alike f N S) (λ x y R. k E F f _ _ behind_sums R)
   sums_alike a b [] = refl
   sums_alike a b (x ∷ S) = refl
 
-  step_alike : {g h : Goal} → LikeGoals g h → (S : List Token) → shape (step r E g S) ≡ shape (step r F h S)
+  step_alike : {g h : Goal} → LikeGoals g h → (S : List Token) → shape (step N r E g S) ≡ shape (step N r F h S)
   step_alike conds S = after_alike (r E a_both S) (r F a_both S) _ _ (k E F f a_both a_both boths S) (λ a b R. k E F f _ _ behind_ors R)
   step_alike boths S = after_alike (r E a_unit S) (r F a_unit S) _ _ (k E F f a_unit a_unit units S) (λ a b R. k E F f _ _ behind_ands R)
   step_alike units S = unit_alike S
   step_alike (behind_ors {a} {b}) S = ors_alike a b S
   step_alike (behind_ands {a} {b}) S = ands_alike a b S
-  step_alike values S = after_alike (atom_of E S) (atom_of F S) _ _ (atom_alike f S) (λ a b R. k E F f _ _ behind_sums R)
+  step_alike values S = after_alike (atom_of N E S) (atom_of N F S) _ _ (atom_alike f N S) (λ a b R. k E F f _ _ behind_sums R)
   step_alike (behind_sums {a} {b}) S = sums_alike a b S
 
-steps_alike : (n : ℕ) → AreAlike (steps n)
+steps_alike : (N : Meanings) (n : ℕ) → AreAlike (steps N n)
 unfolding steps
-steps_alike zero E F f g h i S = refl
-steps_alike (suc n) E F f g h i S = step_alike (steps n) (λ E F f g h i S. steps_alike n E F f g h i S) E F f i S
+steps_alike N zero E F f g h i S = refl
+steps_alike N (suc n) E F f g h i S = step_alike N (steps N n) (λ E F f g h i S. steps_alike N n E F f g h i S) E F f i S
 
 -- what the steps read of a condition doesn't depend on the suits and seats
-pub conds_alike : (n : ℕ) (E F : Bound) → SameScope E F → (S : List Token) → shape (steps n E a_cond S) ≡ shape (steps n F a_cond S)
-conds_alike n E F f S = steps_alike n E F f a_cond a_cond conds S
+pub conds_alike : (N : Meanings) (n : ℕ) (E F : Bound) → SameScope E F → (S : List Token) → shape (steps N n E a_cond S) ≡ shape (steps N n F a_cond S)
+conds_alike N n E F f S = steps_alike N n E F f a_cond a_cond conds S
+
+-- nor of a value
+pub values_alike : (N : Meanings) (n : ℕ) (E F : Bound) → SameScope E F → (S : List Token) → shape (steps N n E a_value S) ≡ shape (steps N n F a_value S)
+values_alike N n E F f S = steps_alike N n E F f a_value a_value values S

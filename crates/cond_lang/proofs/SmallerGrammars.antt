@@ -16,7 +16,8 @@ use Rattle.conditions.specs.declared.tree.Item.{Item}
 use Rattle.conditions.specs.declared.tree.Item.TheVariants.{Length, Any}
 use Rattle.conditions.specs.Form.{Amount, counted, Form, shaped, patterned}
 use Rattle.cond_lang.specs.Classes.{by_suit, by_class}
-use Rattle.cond_lang.specs.Grammar.{Addition, quantifiers, seats, factors, CountedOf, SpellsCounted, a_count, multiple, addition_of, everything, SeatOf, SpellsSeat, by_word, by_bound, beside, CountOf, SpellsCount, HandTestOf, SpellsHandTest, Amounts, FormsAt, AtomOf, SpellsAtom, a_number, count, measure, measure_in, len, cards, cards_in, longest_suit, second_suit, shortest_suit, ValueOf, atom, plus, four, CondOf, both, or, BothOf, unit, and, UnitOf, not, brackets, quantified, test, EachOf, none, one_more, TestOf, SpellsTest, comparison, in_range, of_hand, is_balanced, has_shape, has_pattern, has_stopper, SpellsValue, Spells}
+use Rattle.cond_lang.specs.Definitions.{SpellsNameless}
+use Rattle.cond_lang.specs.Grammar.{named_value, named_condition, Addition, quantifiers, seats, factors, CountedOf, SpellsCounted, a_count, multiple, addition_of, everything, SeatOf, SpellsSeat, by_word, by_bound, beside, CountOf, SpellsCount, HandTestOf, SpellsHandTest, Amounts, FormsAt, AtomOf, SpellsAtom, a_number, count, measure, measure_in, len, cards, cards_in, longest_suit, second_suit, shortest_suit, ValueOf, atom, plus, four, CondOf, both, or, BothOf, unit, and, UnitOf, not, brackets, quantified, test, EachOf, none, one_more, TestOf, SpellsTest, comparison, in_range, of_hand, is_balanced, has_shape, has_pattern, has_stopper, SpellsValue}
 use Rattle.cond_lang.specs.SmallerGrammars as small
 use Rattle.cond_lang.specs.SmallerGrammars.{SpellsWith, brought_by, no_factors, SpellsWithoutFactors, HcpCounted, no_seats, SpellsWithoutSeats, IsBeforeSeats, no_additions, SpellsEarlier, IsEarlier, HcpCount, SpellsWithoutSums, SpellsHcpAtom, SpellsWithHcpAlone, SpellsFirstAtom, FirstTestOf, SpellsInFirstWords, IsFirst, SpellsInFirstGrammar, IsOldest}
 
@@ -85,9 +86,10 @@ turn_hand B P Q w (has_stopper p i) n = has_stopper (w Stops quantifiers refl n 
 
 turn_test :
     (B : Token → Type 0) (P Q : Words) → TurnsWords B P Q → (E : Bound) (V W : Amounts) → Turns B V W
-    → (T : List Token) (t : Form) → TestOf P E V T t → HasNone B T → TestOf Q E W T t
+    → (T : List Token) (t : Form) → TestOf P [] E V T t → HasNone B T → TestOf Q [] E W T t
 turn_test B P Q w E V W f T t (comparison {L} {R} {a} {b} {o} l r) n =
     comparison (f L a l (left_of B L (Relation o) R n)) (f R b r (right_of B L (Relation o) R n))
+turn_test B P Q w E V W f T t (named_condition i h) n = absurd (cc)
 turn_test B P Q w E V W f T t (in_range {L} {a} {m} {n = k} l) n = in_range (f L a l (left_of B L In (Number m ∷ Dash ∷ Number k ∷ []) n))
 turn_test B P Q w E V W f T t (of_hand {c} {Q = S} {R} {q} k h) n =
     of_hand (turn_hand B P Q w k (none_first B c (Open ∷ S ++ R) n)) (seat_of B P Q w c S R q h n)
@@ -136,26 +138,27 @@ turn_counted :
 turn_counted B P Q w (count {c} {Q = S} {R} {q} k h) n =
     count (turn_count B P Q w k (none_first B c (Open ∷ S ++ R) n)) (seat_of B P Q w c S R q h n)
 
-turn_atom : (B : Token → Type 0) (P Q : Words) → TurnsWords B P Q → (E : Bound) → Turns B (AtomOf P E) (AtomOf Q E)
+turn_atom : (B : Token → Type 0) (P Q : Words) → TurnsWords B P Q → (E : Bound) → Turns B (AtomOf P [] E) (AtomOf Q [] E)
 turn_atom B P Q w E T a a_number n = a_number
 turn_atom B P Q w E T a (a_count h) n = a_count (turn_counted B P Q w h n)
+turn_atom B P Q w E T a (named_value i h) n = absurd (cc)
 turn_atom B P Q w E T a (multiple {n = m} {T = S} p h) n =
     multiple (w Star factors refl (λ b. n Star b (1, omega arith, refl)) p) (turn_counted B P Q w h (right_of B (Number m ∷ []) Star S n))
 
 -- the tests of the grammar with some additions
 abbrev TestsWith : Words → FormsAt
-TestsWith P E = TestOf P E (ValueOf (AtomOf P E))
+TestsWith P E = TestOf P [] E (ValueOf (AtomOf P [] E))
 
 turn_words : (B : Token → Type 0) (P Q : Words) → TurnsWords B P Q → TurnsTests B (TestsWith P) (TestsWith Q)
 turn_words B P Q w E T t h n =
-    turn_test B P Q w E (ValueOf (AtomOf P E)) (ValueOf (AtomOf Q E)) (turn_value B (AtomOf P E) (AtomOf Q E) (turn_atom B P Q w E)) T t h n
+    turn_test B P Q w E (ValueOf (AtomOf P [] E)) (ValueOf (AtomOf Q [] E)) (turn_value B (AtomOf P [] E) (AtomOf Q [] E) (turn_atom B P Q w E)) T t h n
 
 -- from a grammar with some additions to one with others
 turn_all : (B : Token → Type 0) (P Q : Words) → TurnsWords B P Q → {T : List Token} {t : Form} → SpellsWith P T t → HasNone B T → SpellsWith Q T t
 turn_all B P Q w h n = turn_cond B P Q w (TestsWith P) (TestsWith Q) (turn_words B P Q w) h n
 
 -- what a smaller grammar spells, the whole one spells too
-to_all : (P : Words) {T : List Token} {t : Form} → SpellsWith P T t → Spells T t
+to_all : (P : Words) {T : List Token} {t : Form} → SpellsWith P T t → SpellsNameless T t
 to_all P h = turn_all IsNone P everything (λ c a e b w. tt) h (λ c b. absurd b)
 
 -- ---- without factors
@@ -174,7 +177,7 @@ leaves_factors c quantifiers e b w = tt
 leaves_factors c seats e b w = tt
 leaves_factors c factors e b w = b (brought_star c e)
 
-pub same_before_factors : (T : List Token) (t : Form) → (Contains T Star → ⊥) → Spells T t ↔ SpellsWithoutFactors T t
+pub same_before_factors : (T : List Token) (t : Form) → (Contains T Star → ⊥) → SpellsNameless T t ↔ SpellsWithoutFactors T t
 same_before_factors T t n = (λ h. turn_all IsStar everything no_factors leaves_factors h (λ c e i. n (subst (λ c. Contains T c) e i)), λ h. to_all no_factors h)
 
 -- ---- without the words of seats too
@@ -186,7 +189,7 @@ leaves_seats c quantifiers e b w = tt
 leaves_seats c seats e b w = b (λ n. n.0 e)
 leaves_seats c factors e b w = b (λ n. n.1 e)
 
-pub same_before_seats : (T : List Token) (t : Form) → ((c : Token) → Contains T c → IsBeforeSeats c) → Spells T t ↔ SpellsWithoutSeats T t
+pub same_before_seats : (T : List Token) (t : Form) → ((c : Token) → Contains T c → IsBeforeSeats c) → SpellsNameless T t ↔ SpellsWithoutSeats T t
 same_before_seats T t n = (λ h. turn_all IsOfSeats everything no_seats leaves_seats h (λ c b i. b (n c i)), λ h. to_all no_seats h)
 
 -- ---- without those of quantifiers too
@@ -196,7 +199,7 @@ IsLast c = IsEarlier c → ⊥
 leaves_last : TurnsWords IsLast everything no_additions
 leaves_last c a e b w = b (λ n. cc)
 
-pub same_earlier : (T : List Token) (t : Form) → ((c : Token) → Contains T c → IsEarlier c) → Spells T t ↔ SpellsEarlier T t
+pub same_earlier : (T : List Token) (t : Form) → ((c : Token) → Contains T c → IsEarlier c) → SpellsNameless T t ↔ SpellsEarlier T t
 same_earlier T t n = (λ h. turn_all IsLast everything no_additions leaves_last h (λ c b i. b (n c i)), λ h. to_all no_additions h)
 
 -- ---- without sums
@@ -208,14 +211,14 @@ one_atom A T a (atom h) n = h
 one_atom A T a (plus {L} {R} l r) n = absurd (n Plus refl (Contains-append_right L (Plus ∷ R) Plus (0, omega arith, refl)))
 
 abbrev TestsWithoutSums : FormsAt
-TestsWithoutSums E = TestOf everything E (SpellsAtom E)
+TestsWithoutSums E = TestOf everything [] E (SpellsAtom [] E)
 
-pub same_without_sums : (T : List Token) (t : Form) → (Contains T Plus → ⊥) → Spells T t ↔ SpellsWithoutSums T t
+pub same_without_sums : (T : List Token) (t : Form) → (Contains T Plus → ⊥) → SpellsNameless T t ↔ SpellsWithoutSums T t
 same_without_sums T t n = (
-  λ h. turn_cond IsPlus everything everything (keeps_words IsPlus everything) SpellsTest TestsWithoutSums
-      (λ E. turn_test IsPlus everything everything (keeps_words IsPlus everything) E (SpellsValue E) (SpellsAtom E) (one_atom (SpellsAtom E))) h (λ c e. rw e n),
-  λ h. turn_cond IsNone everything everything (keeps_words IsNone everything) TestsWithoutSums SpellsTest
-      (λ E. turn_test IsNone everything everything (keeps_words IsNone everything) E (SpellsAtom E) (SpellsValue E) (λ T a v n. atom v)) h (λ c b. absurd b),
+  λ h. turn_cond IsPlus everything everything (keeps_words IsPlus everything) (SpellsTest []) TestsWithoutSums
+      (λ E. turn_test IsPlus everything everything (keeps_words IsPlus everything) E (SpellsValue [] E) (SpellsAtom [] E) (one_atom (SpellsAtom [] E))) h (λ c e. rw e n),
+  λ h. turn_cond IsNone everything everything (keeps_words IsNone everything) TestsWithoutSums (SpellsTest [])
+      (λ E. turn_test IsNone everything everything (keeps_words IsNone everything) E (SpellsAtom [] E) (SpellsValue [] E) (λ T a v n. atom v)) h (λ c b. absurd b),
 )
 
 -- ---- with hcp alone
@@ -237,9 +240,10 @@ hcp_count shortest_suit n = small.shortest_suit
 hcp_counted : {E : Bound} {T : List Token} {k : Count} → SpellsCounted E T k → HasNone IsOtherMeasure T → HcpCounted E T k
 hcp_counted (count {c} {Q} {R} k h) n = small.count (hcp_count k (none_first IsOtherMeasure c (Open ∷ Q ++ R) n)) h
 
-hcp_atom : (E : Bound) → Turns IsOtherMeasure (SpellsAtom E) (SpellsHcpAtom E)
+hcp_atom : (E : Bound) → Turns IsOtherMeasure (SpellsAtom [] E) (SpellsHcpAtom E)
 hcp_atom E T a a_number n = small.a_number
 hcp_atom E T a (a_count h) n = small.a_count (hcp_counted h n)
+hcp_atom E T a (named_value i h) n = absurd (cc)
 hcp_atom E T a (multiple {n = m} {T = S} w h) n = small.multiple (hcp_counted h (right_of IsOtherMeasure (Number m ∷ []) Star S n))
 
 count_again : {E : Bound} {c : Token} {R : List Token} {f : ASeat → Count} → HcpCount E c R f → SpellsCount E c R f
@@ -252,20 +256,20 @@ count_again small.longest_suit = longest_suit
 count_again small.second_suit = second_suit tt
 count_again small.shortest_suit = shortest_suit
 
-atom_again : (E : Bound) → Turns IsNone (SpellsHcpAtom E) (SpellsAtom E)
+atom_again : (E : Bound) → Turns IsNone (SpellsHcpAtom E) (SpellsAtom [] E)
 atom_again E T a small.a_number n = a_number
 atom_again E T a (small.a_count (small.count k h)) n = a_count (count (count_again k) h)
 atom_again E T a (small.multiple (small.count k h)) n = multiple tt (count (count_again k) h)
 
 abbrev HcpTests : FormsAt
-HcpTests E = TestOf everything E (ValueOf (SpellsHcpAtom E))
+HcpTests E = TestOf everything [] E (ValueOf (SpellsHcpAtom E))
 
-pub same_with_hcp_alone : (T : List Token) (t : Form) → ((m : AMeasure) → m ≢ Hcp → Contains T (Measure m) → ⊥) → Spells T t ↔ SpellsWithHcpAlone T t
+pub same_with_hcp_alone : (T : List Token) (t : Form) → ((m : AMeasure) → m ≢ Hcp → Contains T (Measure m) → ⊥) → SpellsNameless T t ↔ SpellsWithHcpAlone T t
 same_with_hcp_alone T t n = (
-  λ h. turn_cond IsOtherMeasure everything everything (keeps_words IsOtherMeasure everything) SpellsTest HcpTests
-      (λ E. turn_test IsOtherMeasure everything everything (keeps_words IsOtherMeasure everything) E (SpellsValue E) (ValueOf (SpellsHcpAtom E)) (turn_value IsOtherMeasure (SpellsAtom E) (SpellsHcpAtom E) (hcp_atom E))) h (λ c b. rw b.2 (n b.0 b.1)),
-  λ h. turn_cond IsNone everything everything (keeps_words IsNone everything) HcpTests SpellsTest
-      (λ E. turn_test IsNone everything everything (keeps_words IsNone everything) E (ValueOf (SpellsHcpAtom E)) (SpellsValue E) (turn_value IsNone (SpellsHcpAtom E) (SpellsAtom E) (atom_again E))) h (λ c b. absurd b),
+  λ h. turn_cond IsOtherMeasure everything everything (keeps_words IsOtherMeasure everything) (SpellsTest []) HcpTests
+      (λ E. turn_test IsOtherMeasure everything everything (keeps_words IsOtherMeasure everything) E (SpellsValue [] E) (ValueOf (SpellsHcpAtom E)) (turn_value IsOtherMeasure (SpellsAtom [] E) (SpellsHcpAtom E) (hcp_atom E))) h (λ c b. rw b.2 (n b.0 b.1)),
+  λ h. turn_cond IsNone everything everything (keeps_words IsNone everything) HcpTests (SpellsTest [])
+      (λ E. turn_test IsNone everything everything (keeps_words IsNone everything) E (ValueOf (SpellsHcpAtom E)) (SpellsValue [] E) (turn_value IsNone (SpellsHcpAtom E) (SpellsAtom [] E) (atom_again E))) h (λ c b. absurd b),
 )
 
 -- ---- in the first words
@@ -307,15 +311,16 @@ first_count longest_suit q n = absurd (n Longest (λ h. h) (0, omega arith, refl
 first_count (second_suit w) q n = absurd (n Second (λ h. h) (0, omega arith, refl))
 first_count shortest_suit q n = absurd (n Shortest (λ h. h) (0, omega arith, refl))
 
-first_atom : (E : Bound) → Turns IsLater (SpellsAtom E) SpellsFirstAtom
+first_atom : (E : Bound) → Turns IsLater (SpellsAtom [] E) SpellsFirstAtom
 first_atom E T a a_number n = small.a_number
+first_atom E T a (named_value i h) n = absurd (cc)
 first_atom E T a (multiple {n = m} w h) n = absurd (n Star (λ h. h) (1, omega arith, refl))
 first_atom E T a (a_count (count {c} {Q} {R} {q} {f} k h)) n =
     let e = first_seat h c R n in
     subst (λ Q. SpellsFirstAtom (c ∷ Open ∷ Q ++ R) (counted (f q))) (sym e) (first_count k q (subst (λ Q. HasNone IsLater (c ∷ Open ∷ Q ++ R)) e n))
 
-first_value : (E : Bound) → Turns IsLater (SpellsValue E) (ValueOf SpellsFirstAtom)
-first_value E = turn_value IsLater (SpellsAtom E) SpellsFirstAtom (first_atom E)
+first_value : (E : Bound) → Turns IsLater (SpellsValue [] E) (ValueOf SpellsFirstAtom)
+first_value E = turn_value IsLater (SpellsAtom [] E) SpellsFirstAtom (first_atom E)
 
 first_shape : (q : ASeat) (a b c d : Item) → HasNone IsLater (Shape ∷ Open ∷ Seat q ∷ four a b c d) → FirstTestOf (ValueOf SpellsFirstAtom) (Shape ∷ Open ∷ Seat q ∷ four a b c d) (shaped q (a ∷ b ∷ c ∷ d ∷ []))
 first_shape q (Length a) (Length b) (Length c) (Length d) n = small.has_shape
@@ -343,35 +348,36 @@ first_hand (has_stopper w i) q n = absurd (n Stops (λ h. h) (0, omega arith, re
 abbrev FirstTests : Amounts → FormsAt
 FirstTests V E = FirstTestOf V
 
-first_test : TurnsTests IsLater SpellsTest (FirstTests (ValueOf SpellsFirstAtom))
+first_test : TurnsTests IsLater (SpellsTest []) (FirstTests (ValueOf SpellsFirstAtom))
 first_test E T t (comparison {L} {R} {a} {b} {o} l r) n =
     small.comparison (first_value E L a l (left_of IsLater L (Relation o) R n)) (first_value E R b r (right_of IsLater L (Relation o) R n))
+first_test E T t (named_condition i h) n = absurd (cc)
 first_test E T t (in_range {L} {m} {n = k} l) n = absurd (n In (λ h. h) (Contains-append_right L (In ∷ Number m ∷ Dash ∷ Number k ∷ []) In (0, omega arith, refl)))
 first_test E T t (of_hand {c} {Q} {R} {q} {f} k h) n =
     let e = first_seat h c R n in
     subst (λ Q. FirstTestOf (ValueOf SpellsFirstAtom) (c ∷ Open ∷ Q ++ R) (f q)) (sym e)
     (first_hand k q (subst (λ Q. HasNone IsLater (c ∷ Open ∷ Q ++ R)) e n))
 
-first_atom_again : {E : Bound} {T : List Token} {a : Amount} → SpellsFirstAtom T a → SpellsAtom E T a
+first_atom_again : {E : Bound} {T : List Token} {a : Amount} → SpellsFirstAtom T a → SpellsAtom [] E T a
 first_atom_again small.a_number = a_number
 first_atom_again small.hcp = a_count (count measure by_word)
 first_atom_again small.hcp_in = a_count (count (measure_in by_suit) by_word)
 first_atom_again small.len = a_count (count (len by_suit) by_word)
 
-first_value_again : {E : Bound} {T : List Token} {a : Amount} → ValueOf SpellsFirstAtom T a → SpellsValue E T a
+first_value_again : {E : Bound} {T : List Token} {a : Amount} → ValueOf SpellsFirstAtom T a → SpellsValue [] E T a
 first_value_again (atom h) = atom (first_atom_again h)
 first_value_again (plus l r) = plus (first_value_again l) (first_atom_again r)
 
-first_test_again : TurnsTests IsNone (FirstTests (ValueOf SpellsFirstAtom)) SpellsTest
+first_test_again : TurnsTests IsNone (FirstTests (ValueOf SpellsFirstAtom)) (SpellsTest [])
 first_test_again E T t (small.comparison l r) n = comparison (first_value_again l) (first_value_again r)
 first_test_again E T t small.is_balanced n = of_hand is_balanced by_word
 first_test_again E T t (small.has_shape {a} {b} {c} {d}) n = of_hand (has_shape (Length a) (Length b) (Length c) (Length d)) by_word
 first_test_again E T t (small.has_pattern {a} {b} {c} {d}) n = of_hand (has_pattern (Length a) (Length b) (Length c) (Length d)) by_word
 
-pub same_in_first_words : (T : List Token) (t : Form) → ((c : Token) → Contains T c → IsFirst c) → Spells T t ↔ SpellsInFirstWords T t
+pub same_in_first_words : (T : List Token) (t : Form) → ((c : Token) → Contains T c → IsFirst c) → SpellsNameless T t ↔ SpellsInFirstWords T t
 same_in_first_words T t n = (
-  λ h. turn_cond IsLater everything no_additions leaves_later SpellsTest (FirstTests (ValueOf SpellsFirstAtom)) first_test h (λ c b i. b (n c i)),
-  λ h. turn_cond IsNone no_additions everything (λ c a e b w. tt) (FirstTests (ValueOf SpellsFirstAtom)) SpellsTest first_test_again h (λ c b. absurd b),
+  λ h. turn_cond IsLater everything no_additions leaves_later (SpellsTest []) (FirstTests (ValueOf SpellsFirstAtom)) first_test h (λ c b i. b (n c i)),
+  λ h. turn_cond IsNone no_additions everything (λ c a e b w. tt) (FirstTests (ValueOf SpellsFirstAtom)) (SpellsTest []) first_test_again h (λ c b. absurd b),
 )
 
 -- ---- in the first grammar
@@ -392,11 +398,11 @@ first_words_again h =
     (turn_first_test IsNone SpellsFirstAtom (ValueOf SpellsFirstAtom) (λ T a v n. atom v)) h (λ c b. absurd b)
 
 -- What the first grammar spells, the whole grammar spells too.
-pub spelled_again : {T : List Token} {t : Form} → SpellsInFirstGrammar T t → Spells T t
+pub spelled_again : {T : List Token} {t : Form} → SpellsInFirstGrammar T t → SpellsNameless T t
 spelled_again h =
-    turn_cond IsNone no_additions everything (λ c a e b w. tt) (FirstTests (ValueOf SpellsFirstAtom)) SpellsTest first_test_again (first_words_again h) (λ c b. absurd b)
+    turn_cond IsNone no_additions everything (λ c a e b w. tt) (FirstTests (ValueOf SpellsFirstAtom)) (SpellsTest []) first_test_again (first_words_again h) (λ c b. absurd b)
 
-pub same_in_first_grammar : (T : List Token) (t : Form) → ((c : Token) → Contains T c → IsOldest c) → Spells T t ↔ SpellsInFirstGrammar T t
+pub same_in_first_grammar : (T : List Token) (t : Form) → ((c : Token) → Contains T c → IsOldest c) → SpellsNameless T t ↔ SpellsInFirstGrammar T t
 same_in_first_grammar T t n = (
   λ h. turn_cond IsPlus no_additions no_additions (keeps_words IsPlus no_additions) (FirstTests (ValueOf SpellsFirstAtom)) (FirstTests SpellsFirstAtom)
       (turn_first_test IsPlus (ValueOf SpellsFirstAtom) SpellsFirstAtom (one_atom SpellsFirstAtom))

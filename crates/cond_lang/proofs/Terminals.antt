@@ -1,5 +1,5 @@
 -- The readers that don't lead back to a condition.
-use Rattle.std.proofs.Common.{◌≡◌, ℕ, Bool, true, false, cond, List, [], ◌∷◌, ◌++◌, Option, Some, None, refl, sym, ap, ◌∙◌, subst, append_assoc, append-nil}
+use Rattle.std.proofs.Common.{◌≡◌, ℕ, Bool, true, false, cond, List, [], ◌∷◌, ◌++◌, Option, Some, None, slice_get, refl, sym, ap, ◌∙◌, subst, append_assoc, append-nil}
 use Rattle.cards.specs.declared.honours.Honours.{Honours}
 use Rattle.cards.specs.declared.hand.Measure.{Measure as AMeasure}
 use Rattle.cards.specs.declared.seat.Seat.{Seat as ASeat}
@@ -8,17 +8,20 @@ use Rattle.cards.specs.declared.suit.Suit.{Suit as ASuit}
 use Rattle.cards.specs.declared.suit.Suit.TheVariants.{Spades}
 use Rattle.cond_lang.specs.declared.classes.Bound.{Bound}
 use Rattle.cond_lang.specs.declared.classes.Class.{Class as AClass}
+use Rattle.cond_lang.specs.declared.classes.Choice.{Choice}
 use Rattle.cond_lang.specs.declared.classes.Neighbour.{Neighbour as ANeighbour}
+use Rattle.cond_lang.specs.declared.classes.Params.{Params}
+use Rattle.cond_lang.specs.declared.classes.Params.TheVariants.{Plain, OfSeat, OfSuit, OfBoth}
 use Rattle.conditions.specs.declared.tree.Count.{Count}
 use Rattle.conditions.specs.declared.tree.Item.{Item}
 use Rattle.conditions.specs.declared.tree.Item.TheVariants.{Length, Any}
 use Rattle.conditions.specs.declared.tree.Op.TheVariants.{Equal}
 use Rattle.cond_lang.specs.declared.scanner.Token.{Token}
-use Rattle.cond_lang.specs.declared.scanner.Token.TheVariants.{Star, Measure, Cards, Len, Longest, Second, Shortest, X, Seat, Suit, Class, Neighbour, Ranks, Number, Open, Close, Comma, Dash, Relation}
+use Rattle.cond_lang.specs.declared.scanner.Token.TheVariants.{Star, Measure, Cards, Len, Longest, Second, Shortest, X, Seat, Suit, Class, Neighbour, Ranks, Number, Open, Close, Comma, Dash, Relation, Name}
 use Rattle.conditions.specs.Form.{Amount, number, counted, times, measured, suit_measured, cards_held, suit_cards_held, suit_length, longest, second, shortest}
-use Rattle.cond_lang.specs.Classes.{bound_to, seat_bound_to, can_bind, Names, by_suit, by_class, seat_beside}
-use Rattle.cond_lang.specs.Grammar.{SpellsCounted, a_count, multiple, SpellsSeat, by_word, by_bound, beside, SpellsAtom, a_number, count, measure, measure_in, len, cards, cards_in, longest_suit, second_suit, shortest_suit, item_token, four}
-use Rattle.cond_lang.specs.internal.Reading.{Outcome, got, stuck, Reader, after, opened, closed, comma, dash, seat, class_seat, suit, class_suit, class, digits, ranks, item, relation, closing, comma_suit_close, rest_of_measure, ranks_close, comma_ranks_close, suit_and_ranks, rest_of_cards, count_of, count_alone, rest_of_number, open_seat, seat_in_brackets, seat_and_suit, open_seat_comma, range, atom_of, items, seat_and_items}
+use Rattle.cond_lang.specs.Classes.{bound_to, seat_bound_to, can_bind, Names, by_suit, by_class, choice, seat_beside}
+use Rattle.cond_lang.specs.Grammar.{Meaning, Meanings, condition, value, SpellsArgs, no_args, seat_arg, suit_arg, both_args, named_value, SpellsCounted, a_count, multiple, SpellsSeat, by_word, by_bound, beside, SpellsAtom, a_number, count, measure, measure_in, len, cards, cards_in, longest_suit, second_suit, shortest_suit, item_token, four}
+use Rattle.cond_lang.specs.internal.Reading.{Outcome, got, stuck, Reader, after, opened, closed, comma, dash, seat, class_seat, suit, class_suit, class, digits, ranks, item, relation, closing, comma_suit_close, rest_of_measure, ranks_close, comma_ranks_close, suit_and_ranks, rest_of_cards, count_of, count_alone, rest_of_number, number_or_count, open_seat, seat_in_brackets, seat_and_suit, open_seat_comma, range, suit_in_brackets, args, value_used, atom_of, items, seat_and_items}
 use Rattle.cond_lang.proofs.Sequences.{Reads, HasSome, reads_after, reads_as, reads_token, reads_like, like_at, like_at_end, gets_token, gets_at, gets_at_end, stops_at, stops_at_end}
 
 -- nothing more
@@ -341,26 +344,74 @@ reads_count_of E (Shortest ∷ S) =
 reads_count_of E (c ∷ S) = stops_at _ c (count_of E) S (some_count E) (λ X. refl)
 
 -- a count alone
-reads_count_alone : (E : Bound) (S : List Token) → Reads (SpellsAtom E) (count_alone E) S (count_alone E S)
-reads_count_alone E S =
-    reads_after (SpellsCounted E) (λ k Q a. (Q ≡ []) × (a ≡ counted k)) (SpellsAtom E) (count_of E) (λ k R. got (counted k) R) S (count_of E S)
+reads_count_alone : (N : Meanings) (E : Bound) (S : List Token) → Reads (SpellsAtom N E) (count_alone E) S (count_alone E S)
+reads_count_alone N E S =
+    reads_after (SpellsCounted E) (λ k Q a. (Q ≡ []) × (a ≡ counted k)) (SpellsAtom N E) (count_of E) (λ k R. got (counted k) R) S (count_of E S)
     (λ P Q k a h m. rw (m.0, m.1, append-nil P) (a_count h)) (λ k. ([], counted k, (refl, refl))) (reads_count_of E S) (λ k R. gets _ (counted k) R (refl, refl))
 
 -- nothing, or a factor's count, after a number
-reads_rest_of_number : (E : Bound) (n : ℕ) (S : List Token) → Reads (λ P. SpellsAtom E (Number n ∷ P)) (rest_of_number E n) S (rest_of_number E n S)
-reads_rest_of_number E n [] = gets_at_end _ (rest_of_number E n) (number n) a_number refl
-reads_rest_of_number E n (Star ∷ S) =
-    reads_token (λ P. SpellsAtom E (Number n ∷ Star ∷ P)) _ Star (λ S. after (count_of E S) (λ k R. got (times n k) R)) (rest_of_number E n) S _ (λ P x m. m) (λ X. refl)
-    (reads_after (SpellsCounted E) (λ k Q a. (Q ≡ []) × (a ≡ times n k)) (λ P. SpellsAtom E (Number n ∷ Star ∷ P)) (count_of E) (λ k R. got (times n k) R) S (count_of E S)
+reads_rest_of_number : (N : Meanings) (E : Bound) (n : ℕ) (S : List Token) → Reads (λ P. SpellsAtom N E (Number n ∷ P)) (rest_of_number E n) S (rest_of_number E n S)
+reads_rest_of_number N E n [] = gets_at_end _ (rest_of_number E n) (number n) a_number refl
+reads_rest_of_number N E n (Star ∷ S) =
+    reads_token (λ P. SpellsAtom N E (Number n ∷ Star ∷ P)) _ Star (λ S. after (count_of E S) (λ k R. got (times n k) R)) (rest_of_number E n) S _ (λ P x m. m) (λ X. refl)
+    (reads_after (SpellsCounted E) (λ k Q a. (Q ≡ []) × (a ≡ times n k)) (λ P. SpellsAtom N E (Number n ∷ Star ∷ P)) (count_of E) (λ k R. got (times n k) R) S (count_of E S)
     (λ P Q k a h m. rw (m.0, m.1, append-nil P) (multiple tt h)) (λ k. ([], times n k, (refl, refl))) (reads_count_of E S) (λ k R. gets _ (times n k) R (refl, refl)))
-reads_rest_of_number E n (c ∷ S) = gets_at _ c (rest_of_number E n) S (number n) a_number (λ X. refl)
+reads_rest_of_number N E n (c ∷ S) = gets_at _ c (rest_of_number E n) S (number n) a_number (λ X. refl)
 
-pub reads_atom : (E : Bound) (S : List Token) → Reads (SpellsAtom E) (atom_of E) S (atom_of E S)
+reads_number_or_count : (N : Meanings) (E : Bound) (S : List Token) → Reads (SpellsAtom N E) (number_or_count E) S (number_or_count E S)
+unfolding number_or_count
+reads_number_or_count N E [] = reads_like _ (count_alone E) (number_or_count E) [] _ (like_at_end (count_alone E) (number_or_count E) refl) (reads_count_alone N E [])
+reads_number_or_count N E (Number n ∷ S) =
+    reads_token (λ P. SpellsAtom N E (Number n ∷ P)) (SpellsAtom N E) (Number n) (rest_of_number E n) (number_or_count E) S _ (λ P x m. m) (λ X. refl) (reads_rest_of_number N E n S)
+reads_number_or_count N E (c ∷ S) = reads_like _ (count_alone E) (number_or_count E) (c ∷ S) _ (like_at (count_alone E) (number_or_count E) c S (λ X. refl)) (reads_count_alone N E (c ∷ S))
+
+-- ---- names of values
+
+-- ( suit )
+abbrev IsSuitIn : Bound → List Token → ASuit → Type 0
+IsSuitIn E P s = (c : Token) × Names E c s × (P ≡ Open ∷ c ∷ Close ∷ [])
+
+reads_suit_in_brackets : (E : Bound) (S : List Token) → Reads (IsSuitIn E) (suit_in_brackets E) S (suit_in_brackets E S)
+reads_suit_in_brackets E S =
+    reads_then (λ _. Open ∷ []) (IsSuitIn E) opened (λ _ S. after (suit E S) closing) S (opened S)
+    (λ _. (Suit Spades ∷ Close ∷ [], Spades, (Suit Spades, by_suit, refl))) (reads_opened S)
+    (λ _ R. reads_named E (λ P. IsSuitIn E (Open ∷ P)) closing R
+    (λ s. (Close ∷ [], s, λ c n. (c, n, refl))) (λ s R. reads_closing _ s R (λ c n. (c, n, refl))))
+
+pub reads_args : (E : Bound) (p : Params) (S : List Token) → Reads (SpellsArgs E p) (args E p) S (args E p S)
+reads_args E Plain S = gets _ (choice Spades North) S no_args
+reads_args E OfSeat S =
+    reads_after (IsSeatAnd Close E) (λ q Q x. (Q ≡ []) × (x ≡ choice Spades q)) (SpellsArgs E OfSeat) (seat_in_brackets E) (λ q R. got (choice Spades q) R) S (seat_in_brackets E S)
+    (λ P Q q x h m. rw (m.0, m.1, append-nil P, h.2) (seat_arg h.1)) (λ q. ([], choice Spades q, (refl, refl))) (reads_seat_in_brackets E S) (λ q R. gets _ (choice Spades q) R (refl, refl))
+reads_args E OfSuit S =
+    reads_after (IsSuitIn E) (λ s Q x. (Q ≡ []) × (x ≡ choice s North)) (SpellsArgs E OfSuit) (suit_in_brackets E) (λ s R. got (choice s North) R) S (suit_in_brackets E S)
+    (λ P Q s x h m. rw (m.0, m.1, append-nil P, h.2) (suit_arg h.1)) (λ s. ([], choice s North, (refl, refl))) (reads_suit_in_brackets E S) (λ s R. gets _ (choice s North) R (refl, refl))
+reads_args E OfBoth S =
+    reads_after (AreSeatAndSuit E) (λ p Q x. (Q ≡ []) × (x ≡ choice p.1 p.0)) (SpellsArgs E OfBoth) (seat_and_suit E) (λ p R. got (choice p.1 p.0) R) S (seat_and_suit E S)
+    (λ P Q p x h m. rw (m.0, m.1, append-nil P, h.4) (both_args h.1 h.3)) (λ p. ([], choice p.1 p.0, (refl, refl))) (reads_seat_and_suit E S) (λ p R. gets _ (choice p.1 p.0) R (refl, refl))
+
+-- arguments, and what is made of them
+pub reads_used :
+    {A : Type 0} (E : Bound) (p : Params) (f : Choice → A) (K : List Token → A → Type 0)
+    → ((P : List Token) (x : Choice) → SpellsArgs E p P x → K P (f x)) → (S : List Token)
+    → Reads K (λ S. after (args E p S) (λ x R. got (f x) R)) S (after (args E p S) (λ x R. got (f x) R))
+reads_used {A} E p f K h S =
+    reads_after (SpellsArgs E p) (λ x Q a. (Q ≡ []) × (a ≡ f x)) K (args E p) (λ x R. got (f x) R) S (args E p S)
+    (λ P Q x a i m. rw (m.0, m.1, append-nil P) (h P x i)) (λ x. ([], f x, (refl, refl))) (reads_args E p S) (λ x R. gets _ (f x) R (refl, refl))
+
+pub reads_value_used : (N : Meanings) (E : Bound) (n : ℕ) (S : List Token) (m : Option Meaning) → slice_get N n ≡ m → Reads (SpellsAtom N E) (atom_of N E) (Name n ∷ S) (value_used m E n S)
 unfolding atom_of
-reads_atom E [] = reads_like _ (count_alone E) (atom_of E) [] _ (like_at_end (count_alone E) (atom_of E) refl) (reads_count_alone E [])
-reads_atom E (Number n ∷ S) =
-    reads_token (λ P. SpellsAtom E (Number n ∷ P)) (SpellsAtom E) (Number n) (rest_of_number E n) (atom_of E) S _ (λ P x m. m) (λ X. refl) (reads_rest_of_number E n S)
-reads_atom E (c ∷ S) = reads_like _ (count_alone E) (atom_of E) (c ∷ S) _ (like_at (count_alone E) (atom_of E) c S (λ X. refl)) (reads_count_alone E (c ∷ S))
+reads_value_used N E n S (Some (value p f)) e =
+    reads_token (λ P. SpellsAtom N E (Name n ∷ P)) (SpellsAtom N E) (Name n) (λ S. after (args E p S) (λ x R. got (f x) R)) (atom_of N E) S _ (λ P x m. m)
+    (λ X. ap (λ m. value_used m E n X) e) (reads_used E p f (λ P. SpellsAtom N E (Name n ∷ P)) (λ P x h. named_value e h) S)
+reads_value_used N E n S (Some (condition p f)) e = stops_at _ (Name n) (atom_of N E) S (Number 0 ∷ [], number 0, a_number) (λ X. ap (λ m. value_used m E n X) e)
+reads_value_used N E n S None e = stops_at _ (Name n) (atom_of N E) S (Number 0 ∷ [], number 0, a_number) (λ X. ap (λ m. value_used m E n X) e)
+
+pub reads_atom : (N : Meanings) (E : Bound) (S : List Token) → Reads (SpellsAtom N E) (atom_of N E) S (atom_of N E S)
+unfolding atom_of
+reads_atom N E [] = reads_like _ (number_or_count E) (atom_of N E) [] _ (like_at_end (number_or_count E) (atom_of N E) refl) (reads_number_or_count N E [])
+reads_atom N E (Name n ∷ S) = reads_value_used N E n S (slice_get N n) refl
+reads_atom N E (c ∷ S) = reads_like _ (number_or_count E) (atom_of N E) (c ∷ S) _ (like_at (number_or_count E) (atom_of N E) c S (λ X. refl)) (reads_number_or_count N E (c ∷ S))
 
 -- four items with dashes between them
 abbrev pub AreItems : List Token → List Item → Type 0

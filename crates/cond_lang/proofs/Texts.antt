@@ -6,21 +6,21 @@ use Rattle.cond_lang.specs.declared.scanner.Piece.TheVariants.{Separator, Token 
 use Rattle.conditions.specs.declared.error.CondError.{CondError}
 use Rattle.conditions.specs.declared.error.CondError.TheVariants.{TooLong, Byte, Word, Number, Syntax, TooManyParts, Memory}
 use Rattle.conditions.specs.Form.{Form}
-use Rattle.cond_lang.specs.Grammar.{Spells}
+use Rattle.cond_lang.specs.Definitions.{Spells}
 use Rattle.cond_lang.specs.Text.{kinds}
-use Rattle.cond_lang.specs.Cut.{fault_at, HasTokens}
+use Rattle.cond_lang.specs.Cut.{named, fault_at, HasTokens}
 use Rattle.cond_lang.specs.Faults.{bytes_of, HasFault}
 use Rattle.cond_lang.specs.Text.{SpellsTree}
 use Rattle.cond_lang.specs.Faults.{IsDue}
 use Rattle.cond_lang.proofs.Cuts.{one_cut}
-use Rattle.cond_lang.proofs.Spelled.{one_tree}
+use Rattle.cond_lang.proofs.Definitions.{one_tree}
 use Rattle.cond_lang.proofs.Told.{told_from, tokens_told, fault_told}
 
 pub one_fault : (text : List ℕ) (e f : CondError) → HasFault text e → HasFault text f → e ≡ f
 one_fault text e f h k =
     let x = fault_told text e h in
     let y = fault_told text f k in
-    let same : told_from 0 x.pieces ≡ told_from 0 y.pieces = ap (told_from 0) (one_cut text x.pieces y.pieces x.cut y.cut) in
+    let same : told_from 0 (named x.pieces) ≡ told_from 0 (named y.pieces) = ap (λ ps. told_from 0 (named ps)) (one_cut text x.pieces y.pieces x.cut y.cut) in
     let a = x.found in
     let b = y.found in
     cc
@@ -29,7 +29,7 @@ pub one_tokens : (text : List ℕ) (xs ys : List Placed) → HasTokens text xs �
 one_tokens text xs ys h k =
     let x = tokens_told text xs h in
     let y = tokens_told text ys k in
-    let same : told_from 0 x.pieces ≡ told_from 0 y.pieces = ap (told_from 0) (one_cut text x.pieces y.pieces x.cut y.cut) in
+    let same : told_from 0 (named x.pieces) ≡ told_from 0 (named y.pieces) = ap (λ ps. told_from 0 (named ps)) (one_cut text x.pieces y.pieces x.cut y.cut) in
     let a = x.found in
     let b = y.found in
     cc
@@ -38,7 +38,7 @@ pub no_tokens : (text : List ℕ) (e : CondError) (xs : List Placed) → HasFaul
 no_tokens text e xs h k =
     let x = fault_told text e h in
     let y = tokens_told text xs k in
-    let same : told_from 0 x.pieces ≡ told_from 0 y.pieces = ap (told_from 0) (one_cut text x.pieces y.pieces x.cut y.cut) in
+    let same : told_from 0 (named x.pieces) ≡ told_from 0 (named y.pieces) = ap (λ ps. told_from 0 (named ps)) (one_cut text x.pieces y.pieces x.cut y.cut) in
     let a = x.found in
     let b = y.found in
     cc

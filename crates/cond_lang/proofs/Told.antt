@@ -1,14 +1,15 @@
 -- What pieces tell, one after another from the left: it is what the definitions say of them.
-use Rattle.std.proofs.Common.{◌≡◌, ℕ, ◌+◌, List, [], ◌∷◌, ◌++◌, length, Result, Ok, Err, Some, None, refl, sym, ap, ◌∙◌, subst, arith}
+use Rattle.std.proofs.Common.{◌≡◌, ℕ, ◌+◌, List, [], ◌∷◌, ◌++◌, length, All, ◌≢◌, Result, Ok, Err, Some, None, refl, sym, ap, ◌∙◌, subst, arith}
 use Rattle.std.specs.List.{AllByRecursion, cons_option, filter_map}
 use Rattle.std.proofs.lemmas.List.Elements.{All-from_recursion, recursion_from_All}
 use Rattle.std.proofs.lemmas.List.Sums.{sum_by-cons}
 use Rattle.cond_lang.specs.declared.scanner.Placed.{Placed}
 use Rattle.cond_lang.specs.declared.scanner.Piece.{Piece}
+use Rattle.cond_lang.specs.declared.scanner.Token.TheVariants.{Let}
 use Rattle.cond_lang.specs.declared.scanner.Piece.TheVariants.{Separator, Token as TokenPiece, StrayByte, UnknownWord, LongNumber}
 use Rattle.conditions.specs.declared.error.CondError.{CondError}
 use Rattle.conditions.specs.declared.error.CondError.TheVariants.{Byte, Word, Number}
-use Rattle.cond_lang.specs.Cut.{Pieces, IsCut, placed_from, token_at, fault_at, IsSound, tokens_of, HasTokens}
+use Rattle.cond_lang.specs.Cut.{Pieces, IsCut, no_names, named_piece, naming_after, named_from, named, placed_from, token_at, fault_at, IsSound, tokens_of, HasTokens}
 use Rattle.cond_lang.specs.Faults.{bytes_of, HasFault}
 
 -- tokens, or a fault
@@ -37,12 +38,12 @@ told_from at (p ∷ ps) = with_piece p.1 at (told_from (at + length p.0) ps)
 pub record TellsTokens (text : List ℕ) (tokens : List Placed) : Type 0 where
   pub pieces : Pieces
   pub cut : IsCut text pieces
-  pub found : told_from 0 pieces ≡ Ok tokens
+  pub found : told_from 0 (named pieces) ≡ Ok tokens
 
 pub record TellsFault (text : List ℕ) (fault : CondError) : Type 0 where
   pub pieces : Pieces
   pub cut : IsCut text pieces
-  pub found : told_from 0 pieces ≡ Err fault
+  pub found : told_from 0 (named pieces) ≡ Err fault
 
 -- Sound pieces tell their tokens.
 
@@ -86,15 +87,16 @@ tokens_told text ts h =
       pieces = h.pieces;
       cut = h.cut;
       found =
-          sound_told 0 h.pieces (recursion_from_All IsSound h.pieces h.clean) ∙ ap (λ L. Ok L) (sym h.found);
+          sound_told 0 (named h.pieces) (recursion_from_All IsSound (named h.pieces) h.clean) ∙ ap (λ L. Ok L) (sym h.found);
     }
 
 pub told_tokens : (text : List ℕ) (ts : List Placed) → TellsTokens text ts → HasTokens text ts
 told_tokens text ts h =
-    let s : AllByRecursion IsSound h.pieces = told_sound 0 h.pieces ts h.found in
-    let e : told_from 0 h.pieces ≡ Ok (tokens_of h.pieces) = sound_told 0 h.pieces s in
-    let f : told_from 0 h.pieces ≡ Ok ts = h.found in
-    record { pieces = h.pieces; cut = h.cut; clean = All-from_recursion IsSound h.pieces s; found = cc }
+    let ps : Pieces = named h.pieces in
+    let s : AllByRecursion IsSound ps = told_sound 0 ps ts h.found in
+    let e : told_from 0 ps ≡ Ok (tokens_of ps) = sound_told 0 ps s in
+    let f : told_from 0 ps ≡ Ok ts = h.found in
+    record { pieces = h.pieces; cut = h.cut; clean = All-from_recursion IsSound ps s; found = cc }
 
 -- The fault of pieces that begin at an offset.
 record FaultFrom (at : ℕ) (ps : Pieces) (e : CondError) : Type 0 where
@@ -179,22 +181,53 @@ pub fault_told : (text : List ℕ) (e : CondError) → HasFault text e → Tells
 fault_told text e h =
     let place : bytes_of h.before ≡ 0 + bytes_of h.before = omega arith in
     record {
-      pieces = h.before ++ h.faulty ∷ h.after;
+      pieces = h.pieces;
       cut = h.cut;
       found =
-          fault_told_from 0 h.before h.faulty h.after e (recursion_from_All IsSound h.before h.clean)
+          ap (told_from 0) h.parts
+          ∙ fault_told_from 0 h.before h.faulty h.after e (recursion_from_All IsSound h.before h.clean)
           (subst (λ n. fault_at n h.faulty.1 ≡ Some e) place h.found);
     }
 
 pub told_fault : (text : List ℕ) (e : CondError) → TellsFault text e → HasFault text e
 told_fault text e h =
-    let f = told_fault_from 0 h.pieces e h.found in
+    let f = told_fault_from 0 (named h.pieces) e h.found in
     let place : 0 + bytes_of f.before ≡ bytes_of f.before = omega arith in
     record {
+      pieces = h.pieces;
+      cut = h.cut;
       before = f.before;
       faulty = f.faulty;
       after = f.after;
-      cut = subst (IsCut text) f.split h.cut;
+      parts = f.split;
       clean = All-from_recursion IsSound f.before f.clean;
       found = subst (λ n. fault_at n f.faulty.1 ≡ Some e) place f.found;
     }
+
+-- Pieces none of which is `let` have no names.
+
+naming_kept : (p : List ℕ × Piece) → (p.1 ≡ TokenPiece Let → ⊥) → naming_after no_names p ≡ no_names
+naming_kept (w, Separator) n = refl
+naming_kept (w, UnknownWord) n = refl
+naming_kept (w, StrayByte) n = refl
+naming_kept (w, LongNumber) n = refl
+naming_kept (w, TokenPiece Let) n = absurd (n refl)
+naming_kept (w, TokenPiece t) n = refl
+
+piece_kept : (p : List ℕ × Piece) → named_piece no_names p ≡ p.1
+piece_kept (w, Separator) = refl
+piece_kept (w, UnknownWord) = refl
+piece_kept (w, StrayByte) = refl
+piece_kept (w, LongNumber) = refl
+piece_kept (w, TokenPiece t) = refl
+
+no_let : (ps : Pieces) → AllByRecursion (λ p. p.1 ≡ TokenPiece Let → ⊥) ps → named ps ≡ ps
+no_let [] a = refl
+no_let (p ∷ ps) a =
+    let more : named ps ≡ ps = no_let ps a.1 in
+    ap (λ k. (p.0, k) ∷ named_from (naming_after no_names p) ps) (piece_kept p)
+    ∙ ap (λ N. p ∷ named_from N ps) (naming_kept p a.0)
+    ∙ ap (λ qs. p ∷ qs) more
+
+pub same_without_let : (ps : Pieces) → All (λ p. p.1 ≢ TokenPiece Let) ps → named ps ≡ ps
+same_without_let ps a = no_let ps (recursion_from_All (λ p. p.1 ≢ TokenPiece Let) ps a)

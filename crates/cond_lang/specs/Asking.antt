@@ -6,17 +6,16 @@ use Rattle.cond_lang.specs.declared.scanner.Token.{Token}
 use Rattle.cond_lang.specs.declared.words.Kind.{Kind}
 use Rattle.conditions.specs.declared.error.CondError.{CondError}
 use Rattle.conditions.specs.Questions.{Question, asks_condition, asks_value, parts_asked}
-use Rattle.cond_lang.specs.Classes.{unbound}
 use Rattle.cond_lang.specs.Continuations.{CanFollowIn, IsBeginningIn}
 use Rattle.cond_lang.specs.Cut.{HasTokens}
+use Rattle.cond_lang.specs.Definitions.{Spells, SpellsAmount}
 use Rattle.cond_lang.specs.Faults.{HasSyntaxFaultIn, IsDueIn, IsFirstFaultIn, IsViableIn}
-use Rattle.cond_lang.specs.Grammar.{Spells, SpellsValue}
 use Rattle.cond_lang.specs.Text.{kinds}
 
--- the whole list is one condition, or one value
+-- the whole list is one condition, or one value, behind its definitions
 abbrev pub Asks : List Token → Question → Type 0
 Asks T (asks_condition tree) = Spells T tree
-Asks T (asks_value value) = SpellsValue unbound T value
+Asks T (asks_value value) = SpellsAmount T value
 
 -- the text has no faulty piece, and its tokens ask this question
 pub record SpellsQuestion (text : List ℕ) (question : Question) : Type 0 where

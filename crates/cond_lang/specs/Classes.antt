@@ -13,6 +13,8 @@ use Rattle.cond_lang.specs.declared.classes.Class.{Class as AClass}
 use Rattle.cond_lang.specs.declared.classes.Class.TheVariants.{Suit as AnySuit, Major, Minor, Other, Seat as AnySeat, NorthSouth, EastWest}
 use Rattle.cond_lang.specs.declared.classes.Neighbour.{Neighbour as ANeighbour}
 use Rattle.cond_lang.specs.declared.classes.Neighbour.TheVariants.{Partner, Left, Right}
+use Rattle.cond_lang.specs.declared.classes.Params.{Params}
+use Rattle.cond_lang.specs.declared.classes.Params.TheVariants.{Plain, OfSeat, OfSuit, OfBoth}
 use Rattle.cond_lang.specs.declared.scanner.Token.{Token}
 use Rattle.cond_lang.specs.declared.scanner.Token.TheVariants.{Suit, Class}
 
@@ -114,3 +116,11 @@ abbrev pub seat_beside : ANeighbour → ASeat → ASeat
 seat_beside Partner q = next_seat (next_seat q)
 seat_beside Left q = next_seat q
 seat_beside Right q = next_seat (next_seat (next_seat q))
+
+-- inside a name's body `seat` and `suit` mean its arguments, where it has them, and no other class
+-- is bound
+abbrev pub given : Params → Choice → Bound
+given Plain x = unbound
+given OfSeat x = bind unbound AnySeat x
+given OfSuit x = bind unbound AnySuit x
+given OfBoth x = bind (bind unbound AnySeat x) AnySuit x

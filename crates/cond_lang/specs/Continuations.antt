@@ -4,13 +4,14 @@ use Rattle.cond_lang.specs.declared.words.Kind.{Kind}
 use Rattle.cond_lang.specs.declared.words.Kind.TheVariants as kind
 use Rattle.cond_lang.specs.declared.scanner.Placed.{Placed}
 use Rattle.cond_lang.specs.declared.scanner.Token.{Token}
-use Rattle.cond_lang.specs.declared.scanner.Token.TheVariants.{Or, And, Not, Balanced, Shape, Pattern, Quantifier, Stops, Measure, Cards, Len, Longest, Second, Shortest, In, X, Seat, Suit, Class, Neighbour, Ranks, Number, Open, Close, Comma, Dash, Plus, Star, Relation}
+use Rattle.cond_lang.specs.declared.scanner.Token.TheVariants.{Or, And, Not, Balanced, Shape, Pattern, Quantifier, Stops, Measure, Cards, Len, Longest, Second, Shortest, In, X, Seat, Suit, Class, Neighbour, Ranks, Number, Open, Close, Comma, Dash, Plus, Star, Relation, Let, Is, Name}
 use Rattle.cond_lang.specs.Cut.{HasTokens}
 use Rattle.cond_lang.specs.Faults.{IsViableIn}
-use Rattle.cond_lang.specs.Grammar.{Spells}
+use Rattle.cond_lang.specs.Definitions.{Spells}
 use Rattle.cond_lang.specs.Text.{kinds}
 
--- each word of its own, and one kind for all comparisons, seats, suits, ranks, numbers
+-- each word and each name of its own, and one kind for all comparisons, seats, suits, ranks,
+-- numbers
 abbrev pub kind_of : Token → Kind
 kind_of Not = kind.Not
 kind_of Open = kind.Open
@@ -41,6 +42,9 @@ kind_of (Ranks h) = kind.Ranks
 kind_of Close = kind.Close
 kind_of And = kind.And
 kind_of Or = kind.Or
+kind_of Let = kind.Let
+kind_of Is = kind.Is
+kind_of (Name n) = kind.Name n
 
 -- Behind T the list may end, since T spells something by the rules S, or some token of the kind
 -- goes on to what does.

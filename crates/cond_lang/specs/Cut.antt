@@ -1,7 +1,8 @@
 -- A text is cut into pieces, each the longest that fits at its place: words and ranks, numbers,
 -- symbols, separators, comments, and bytes that begin none of these.
-use Rattle.std.specs.Prelude.{◌≡◌, ℕ, ◌+◌, ◌*◌, ◌-◌, ◌<◌, ◌≤◌, Bool, true, false, not, ◌||◌, ◌&&◌, ◌==◌, List, [], ◌∷◌, ◌++◌, length, codes, fold, count_by, map, Option, Some, None, All, Contains}
+use Rattle.std.specs.Prelude.{◌≡◌, ℕ, ◌+◌, ◌*◌, ◌-◌, ◌<◌, ◌≤◌, Bool, true, false, not, ◌||◌, ◌&&◌, ◌==◌, List, [], ◌∷◌, ◌++◌, length, codes, fold, count_by, map, Option, Some, None, All, Contains, position, if◌then◌else◌}
 use Rattle.std.specs.List.{AllByRecursion, filter_map, list_all, list_any}
+use Rattle.std.specs.Str.{bytes_eq}
 use Rattle.std.specs.Char.{is_ascii_lowercase, is_ascii_digit}
 use Rattle.cards.specs.Measures.{measures}
 use Rattle.cards.specs.declared.hand.Measure.{Measure as AMeasure}
@@ -14,7 +15,7 @@ use Rattle.cond_lang.specs.declared.classes.Class.TheVariants.{Suit as AnySuit, 
 use Rattle.cond_lang.specs.declared.classes.Neighbour.TheVariants.{Partner, Left, Right}
 use Rattle.cond_lang.specs.declared.classes.Quantifier.TheVariants.{Any, Every}
 use Rattle.cond_lang.specs.declared.scanner.Token.{Token}
-use Rattle.cond_lang.specs.declared.scanner.Token.TheVariants.{Or, And, Not, Balanced, Shape, Pattern, Quantifier, Stops, Measure, Cards, Len, Longest, Second, Shortest, In, X, Seat, Suit, Class, Neighbour, Ranks, Number, Open, Close, Comma, Dash, Plus, Star, Relation}
+use Rattle.cond_lang.specs.declared.scanner.Token.TheVariants.{Or, And, Not, Balanced, Shape, Pattern, Quantifier, Stops, Measure, Cards, Len, Longest, Second, Shortest, In, X, Seat, Suit, Class, Neighbour, Ranks, Number, Open, Close, Comma, Dash, Plus, Star, Relation, Let, Is, Name}
 use Rattle.cond_lang.specs.declared.scanner.Placed.{Placed}
 use Rattle.cond_lang.specs.declared.scanner.Piece.{Piece}
 use Rattle.cond_lang.specs.declared.scanner.Piece.TheVariants.{Separator, Token as TokenPiece, StrayByte, UnknownWord, LongNumber}
@@ -65,6 +66,8 @@ words =
     ∷ (codes "major", Class Major)
     ∷ (codes "minor", Class Minor)
     ∷ (codes "other", Class Other)
+    ∷ (codes "let", Let)
+    ∷ (codes "is", Is)
     ∷ []
 
 -- the symbols, each with its token
@@ -190,6 +193,55 @@ pub data CutOf (P : List ℕ → List ℕ → Piece → Type 0) : List ℕ → P
 abbrev pub IsCut : List ℕ → Pieces → Type 0
 IsCut text pieces = CutOf IsPiece text pieces
 
+-- ---- names
+
+-- the names that a text gives as far as it is read, and whether its last token is `let`
+pub record Naming : Type 0 where
+  pub given : List (List ℕ)
+  pub after_let : Bool
+
+abbrev pub no_names : Naming
+no_names = record { given = []; after_let = false }
+
+-- the number of a name that is given
+abbrev pub name_number : Naming → List ℕ → Option ℕ
+name_number N p = position (λ q. bytes_eq q p) N.given
+
+-- what letters are that are no known word and no ranks, by the number of the name if it is given:
+-- after `let` they are a new name
+abbrev pub name_or : Naming → Option ℕ → Piece
+name_or N (Some n) = TokenPiece (Name n)
+name_or N None = if N.after_let then TokenPiece (Name (length N.given)) else UnknownWord
+
+abbrev pub names_with : Naming → List ℕ → Option ℕ → List (List ℕ)
+names_with N p (Some n) = N.given
+names_with N p None = if N.after_let then N.given ++ p ∷ [] else N.given
+
+-- what a piece is behind these names
+abbrev pub named_piece : Naming → List ℕ × Piece → Piece
+named_piece N (p, UnknownWord) = name_or N (name_number N p)
+named_piece N (p, k) = k
+
+-- the names after it
+abbrev pub naming_after : Naming → List ℕ × Piece → Naming
+naming_after N (p, Separator) = N
+naming_after N (p, UnknownWord) =
+    record { given = names_with N p (name_number N p); after_let = false }
+naming_after N (p, TokenPiece Let) = record { given = N.given; after_let = true }
+naming_after N (p, k) = record { given = N.given; after_let = false }
+
+abbrev pub named_from : Naming → Pieces → Pieces
+named_from N [] = []
+named_from N (p ∷ ps) = (p.0, named_piece N p) ∷ named_from (naming_after N p) ps
+
+-- A run of letters that is no known word and no ranks is a name if the token before it is `let`, or
+-- if it is spelled like one that was after a `let` before it in the text. Names are numbered from 0
+-- in the order in which they first come.
+abbrev pub named : Pieces → Pieces
+named ps = named_from no_names ps
+
+-- ---- tokens
+
 -- each piece's kind with the offset of its first byte, for pieces that begin at the offset `at`
 abbrev pub placed_from : ℕ → Pieces → List (ℕ × Piece)
 placed_from at [] = []
@@ -219,5 +271,5 @@ tokens_of ps = filter_map (λ p. token_at p.0 p.1) (placed_from 0 ps)
 pub record HasTokens (text : List ℕ) (tokens : List Placed) : Type 0 where
   pub pieces : Pieces
   pub cut : IsCut text pieces
-  pub clean : All IsSound pieces
-  pub found : tokens ≡ tokens_of pieces
+  pub clean : All IsSound (named pieces)
+  pub found : tokens ≡ tokens_of (named pieces)

@@ -8,8 +8,8 @@ use Rattle.conditions.specs.declared.error.CondError.{CondError}
 use Rattle.conditions.specs.declared.error.CondError.TheVariants.{TooLong, Byte, Word, Number, Syntax, TooManyParts, Memory}
 use Rattle.conditions.specs.declared.limits.TheConstants.{MOST_PARTS}
 use Rattle.conditions.specs.Limits.{parts_of}
-use Rattle.cond_lang.specs.Cut.{Pieces, IsCut, IsSound, fault_at, HasTokens}
-use Rattle.cond_lang.specs.Grammar.{Spells}
+use Rattle.cond_lang.specs.Cut.{Pieces, IsCut, named, IsSound, fault_at, HasTokens}
+use Rattle.cond_lang.specs.Definitions.{Spells}
 use Rattle.cond_lang.specs.Text.{kinds}
 
 -- ---- faulty pieces
@@ -20,10 +20,12 @@ bytes_of ps = sum_by (λ p. length p.0) ps
 
 -- some pieces of the text are sound, and the one after them has this fault
 pub record HasFault (text : List ℕ) (fault : CondError) : Type 0 where
+  pub pieces : Pieces
+  pub cut : IsCut text pieces
   pub before : Pieces
   pub faulty : List ℕ × Piece
   pub after : Pieces
-  pub cut : IsCut text (before ++ faulty ∷ after)
+  pub parts : named pieces ≡ before ++ faulty ∷ after
   pub clean : All IsSound before
   pub found : fault_at (bytes_of before) faulty.1 ≡ Some fault
 

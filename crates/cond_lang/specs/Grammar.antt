@@ -5,26 +5,31 @@
 --     class = "suit" | "major" | "minor" | "other" | "seat" | "ns" | "ew"
 --     test  = value op value | value "in" number "-" number | "balanced" "(" seat ")"
 --           | ( "shape" | "pattern" ) "(" seat "," item "-" item "-" item "-" item ")"
---           | "stops" "(" seat "," suit ")"
+--           | "stops" "(" seat "," suit ")" | use    of the name of a condition
 --     item  = number | "x"
 --     value = atom ( "+" atom )*
---     atom  = number [ "*" count ] | count
+--     atom  = number [ "*" count ] | count | use     of the name of a value
 --     count = measure "(" seat [ "," suit ] ")" | "len" "(" seat "," suit ")"
 --           | "cards" "(" seat [ "," suit ] "," ranks ")"
 --           | ( "longest" | "second" | "shortest" ) "(" seat ")"
 --     seat  = "north" | "east" | "south" | "west"
 --           | ( "partner" | "left" | "right" ) "(" seat ")"
+--     use   = name [ "(" ( seat | suit | seat "," suit ) ")" ]
 -- Chains group to the left, and brackets leave no node. Inside the brackets of a class its word
 -- is wherever a suit's does, or a seat's: the tree is that of each suit or seat of the class in the
--- word's place, joined by `or` for `any` and by `and` for `every`.
+-- word's place, joined by `or` for `any` and by `and` for `every`. A use of a name is the tree, or
+-- the value, that the name stands for with these arguments.
 --
 -- The rules of the words that came later want the W of their addition: where that is empty the
--- grammar is the one without them. E says which classes are bound, and to which suits and seats.
-use Rattle.std.specs.Prelude.{◌≡◌, ℕ, true, List, [], ◌∷◌, ◌++◌, Some, fold}
+-- grammar is the one without them. E says which classes are bound, and to which suits and seats. N
+-- has what each name stands for, by its number.
+use Rattle.std.specs.Prelude.{◌≡◌, ℕ, true, List, [], ◌∷◌, ◌++◌, Some, fold, slice_get}
 use Rattle.cards.specs.declared.honours.Honours.{Honours}
 use Rattle.cards.specs.declared.hand.Measure.{Measure as AMeasure}
 use Rattle.cards.specs.declared.seat.Seat.{Seat as ASeat}
+use Rattle.cards.specs.declared.seat.Seat.TheVariants.{North}
 use Rattle.cards.specs.declared.suit.Suit.{Suit as ASuit}
+use Rattle.cards.specs.declared.suit.Suit.TheVariants.{Spades}
 use Rattle.conditions.specs.declared.tree.Count.{Count}
 use Rattle.conditions.specs.declared.tree.Item.{Item}
 use Rattle.conditions.specs.declared.tree.Item.TheVariants.{Length, Any}
@@ -34,12 +39,14 @@ use Rattle.cond_lang.specs.declared.classes.Choice.{Choice}
 use Rattle.cond_lang.specs.declared.classes.Class.{Class as AClass}
 use Rattle.cond_lang.specs.declared.classes.Class.TheVariants.{Seat as AnySeat, NorthSouth, EastWest}
 use Rattle.cond_lang.specs.declared.classes.Neighbour.{Neighbour as ANeighbour}
+use Rattle.cond_lang.specs.declared.classes.Params.{Params}
+use Rattle.cond_lang.specs.declared.classes.Params.TheVariants.{Plain, OfSeat, OfSuit, OfBoth}
 use Rattle.cond_lang.specs.declared.classes.Quantifier.{Quantifier as AQuantifier}
 use Rattle.cond_lang.specs.declared.classes.Quantifier.TheVariants.{Any as OneOf, Every}
 use Rattle.cond_lang.specs.declared.scanner.Token.{Token}
-use Rattle.cond_lang.specs.declared.scanner.Token.TheVariants.{Or, And, Not, Balanced, Shape, Pattern, Quantifier, Stops, Measure, Cards, Len, Longest, Second, Shortest, In, X, Seat, Class, Neighbour, Ranks, Number, Open, Close, Comma, Dash, Plus, Star, Relation}
+use Rattle.cond_lang.specs.declared.scanner.Token.TheVariants.{Or, And, Not, Balanced, Shape, Pattern, Quantifier, Stops, Measure, Cards, Len, Longest, Second, Shortest, In, X, Seat, Class, Neighbour, Ranks, Number, Open, Close, Comma, Dash, Plus, Star, Relation, Name}
 use Rattle.conditions.specs.Form.{Amount, sum, number, counted, times, measured, suit_measured, cards_held, suit_cards_held, suit_length, longest, second, shortest, Form, any_of, all_of, negation, compare, within, balanced, shaped, patterned, stops}
-use Rattle.cond_lang.specs.Classes.{unbound, bind, can_bind, members, Names, seat_bound_to, seat_beside}
+use Rattle.cond_lang.specs.Classes.{bind, can_bind, members, Names, choice, seat_bound_to, seat_beside}
 
 -- what came to the language after its first words: `any`, `every`, `second` and `stops`, then the
 -- classes of seats, `partner`, `left` and `right`, and then `*`
@@ -89,13 +96,39 @@ pub data CountedOf (W : Addition → Type 0) (E : Bound) : List Token → Count 
       {c : Token} {Q R : List Token} {q : ASeat} {f : ASeat → Count}
       → CountOf W E c R f → SeatOf W E Q q → CountedOf W E (c ∷ Open ∷ Q ++ R) (f q)
 
--- a number, what counts in a hand, or that many times what counts
-pub data AtomOf (W : Addition → Type 0) (E : Bound) : List Token → Amount → Type 0 where
-  a_number : {n : ℕ} → AtomOf W E (Number n ∷ []) (number n)
-  a_count : {T : List Token} {k : Count} → CountedOf W E T k → AtomOf W E T (counted k)
+-- what a name stands for: a condition's tree, or a value, with each seat and suit as arguments
+pub data Meaning : Type 0 where
+  condition : Params → (Choice → Form) → Meaning
+  value : Params → (Choice → Amount) → Meaning
+
+-- what the names that are given stand for, in their order
+abbrev pub Meanings : Type 0
+Meanings = List Meaning
+
+-- a name's arguments behind it: where it has no seat or no suit, the first one stands for it
+pub data ArgsOf (W : Addition → Type 0) (E : Bound) : Params → List Token → Choice → Type 0 where
+  no_args : ArgsOf W E Plain [] (choice Spades North)
+  seat_arg :
+      {Q : List Token} {q : ASeat} → SeatOf W E Q q
+      → ArgsOf W E OfSeat (Open ∷ Q ++ Close ∷ []) (choice Spades q)
+  suit_arg :
+      {c : Token} {s : ASuit} → Names E c s
+      → ArgsOf W E OfSuit (Open ∷ c ∷ Close ∷ []) (choice s North)
+  both_args :
+      {Q : List Token} {q : ASeat} {c : Token} {s : ASuit} → SeatOf W E Q q → Names E c s
+      → ArgsOf W E OfBoth (Open ∷ Q ++ Comma ∷ c ∷ Close ∷ []) (choice s q)
+
+-- a number, what counts in a hand, that many times what counts, or the name of a value
+pub data AtomOf (W : Addition → Type 0) (N : Meanings) (E : Bound)
+    : List Token → Amount → Type 0 where
+  a_number : {n : ℕ} → AtomOf W N E (Number n ∷ []) (number n)
+  a_count : {T : List Token} {k : Count} → CountedOf W E T k → AtomOf W N E T (counted k)
   multiple :
       {n : ℕ} {T : List Token} {k : Count} → W factors → CountedOf W E T k
-      → AtomOf W E (Number n ∷ Star ∷ T) (times n k)
+      → AtomOf W N E (Number n ∷ Star ∷ T) (times n k)
+  named_value :
+      {n : ℕ} {p : Params} {f : Choice → Amount} {T : List Token} {x : Choice}
+      → slice_get N n ≡ Some (value p f) → ArgsOf W E p T x → AtomOf W N E (Name n ∷ T) (f x)
 
 -- what token lists spell which amounts
 abbrev pub Amounts : Type 1
@@ -141,17 +174,21 @@ pub data HandTestOf (W : Addition → Type 0) (E : Bound)
       {c : Token} {s : ASuit} → W quantifiers → Names E c s
       → HandTestOf W E Stops (Comma ∷ c ∷ Close ∷ []) (λ q. stops q s)
 
--- one test, of values that V spells
-pub data TestOf (W : Addition → Type 0) (E : Bound) (V : Amounts) : List Token → Form → Type 0 where
+-- one test, of values that V spells, or the name of a condition
+pub data TestOf (W : Addition → Type 0) (N : Meanings) (E : Bound) (V : Amounts)
+    : List Token → Form → Type 0 where
   comparison :
       {L R : List Token} {a b : Amount} {o : Op} → V L a → V R b
-      → TestOf W E V (L ++ Relation o ∷ R) (compare a o b)
+      → TestOf W N E V (L ++ Relation o ∷ R) (compare a o b)
   in_range :
       {L : List Token} {a : Amount} {m n : ℕ} → V L a
-      → TestOf W E V (L ++ In ∷ Number m ∷ Dash ∷ Number n ∷ []) (within a m n)
+      → TestOf W N E V (L ++ In ∷ Number m ∷ Dash ∷ Number n ∷ []) (within a m n)
   of_hand :
       {c : Token} {Q R : List Token} {q : ASeat} {f : ASeat → Form}
-      → HandTestOf W E c R f → SeatOf W E Q q → TestOf W E V (c ∷ Open ∷ Q ++ R) (f q)
+      → HandTestOf W E c R f → SeatOf W E Q q → TestOf W N E V (c ∷ Open ∷ Q ++ R) (f q)
+  named_condition :
+      {n : ℕ} {p : Params} {f : Choice → Form} {T : List Token} {x : Choice}
+      → slice_get N n ≡ Some (condition p f) → ArgsOf W E p T x → TestOf W N E V (Name n ∷ T) (f x)
 
 -- `any` of two trees is one of them or both, `every` is both
 abbrev pub joined : AQuantifier → Form → Form → Form
@@ -211,27 +248,26 @@ SpellsCounted E = CountedOf everything E
 abbrev pub SpellsHandTest : Bound → Token → List Token → (ASeat → Form) → Type 0
 SpellsHandTest E = HandTestOf everything E
 
-abbrev pub SpellsAtom : Bound → Amounts
-SpellsAtom E = AtomOf everything E
+abbrev pub SpellsArgs : Bound → Params → List Token → Choice → Type 0
+SpellsArgs E = ArgsOf everything E
 
-abbrev pub SpellsValue : Bound → Amounts
-SpellsValue E = ValueOf (SpellsAtom E)
+abbrev pub SpellsAtom : Meanings → Bound → Amounts
+SpellsAtom N E = AtomOf everything N E
 
-abbrev pub SpellsTest : FormsAt
-SpellsTest E = TestOf everything E (SpellsValue E)
+abbrev pub SpellsValue : Meanings → Bound → Amounts
+SpellsValue N E = ValueOf (SpellsAtom N E)
 
-abbrev pub SpellsUnit : FormsAt
-SpellsUnit = UnitOf everything SpellsTest
+abbrev pub SpellsTest : Meanings → FormsAt
+SpellsTest N E = TestOf everything N E (SpellsValue N E)
 
-abbrev pub SpellsBoth : FormsAt
-SpellsBoth = BothOf everything SpellsTest
+abbrev pub SpellsUnit : Meanings → FormsAt
+SpellsUnit N = UnitOf everything (SpellsTest N)
 
-abbrev pub SpellsCond : FormsAt
-SpellsCond = CondOf everything SpellsTest
+abbrev pub SpellsBoth : Meanings → FormsAt
+SpellsBoth N = BothOf everything (SpellsTest N)
 
-abbrev pub SpellsEach : Bound → AClass → List Choice → List Token → List Form → Type 0
-SpellsEach = EachOf everything SpellsTest
+abbrev pub SpellsCond : Meanings → FormsAt
+SpellsCond N = CondOf everything (SpellsTest N)
 
--- the whole list is one condition
-abbrev pub Spells : List Token → Form → Type 0
-Spells T t = SpellsCond unbound T t
+abbrev pub SpellsEach : Meanings → Bound → AClass → List Choice → List Token → List Form → Type 0
+SpellsEach N = EachOf everything (SpellsTest N)

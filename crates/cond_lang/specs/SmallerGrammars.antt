@@ -1,4 +1,4 @@
--- Smaller grammars: one without factors, one without the words of seats too, one without those of
+-- Smaller grammars, all of conditions that give no name: one without factors, one without the words of seats too, one without those of
 -- quantifiers too, one whose values are atoms alone, one whose only measure is hcp, one in the
 -- words that the language had first, and the first grammar: those words without sums. What they
 -- spell, the whole grammar spells too.
@@ -11,15 +11,15 @@ use Rattle.conditions.specs.declared.tree.Count.{Count}
 use Rattle.conditions.specs.declared.tree.Op.{Op}
 use Rattle.cond_lang.specs.declared.classes.Bound.{Bound}
 use Rattle.cond_lang.specs.declared.scanner.Token.{Token}
-use Rattle.cond_lang.specs.declared.scanner.Token.TheVariants.{Balanced, Shape, Pattern, Quantifier, Stops, Measure, Cards, Len, Longest, Second, Shortest, In, X, Seat, Suit, Class, Neighbour, Ranks, Number, Open, Close, Comma, Dash, Plus, Star, Relation}
+use Rattle.cond_lang.specs.declared.scanner.Token.TheVariants.{Balanced, Shape, Pattern, Quantifier, Stops, Measure, Cards, Len, Longest, Second, Shortest, In, X, Seat, Suit, Class, Neighbour, Ranks, Number, Open, Close, Comma, Dash, Plus, Star, Relation, Let, Is, Name}
 use Rattle.conditions.specs.Form.{Amount, Form, number, counted, times, points, suit_points, cards_held, suit_cards_held, suit_length, longest, second, shortest, compare, balanced, shape, pattern}
 use Rattle.cond_lang.specs.Classes.{unbound, Names}
 use Rattle.cond_lang.specs.Faults.{IsViableIn}
 use Rattle.cond_lang.specs.Grammar.{Addition, quantifiers, seats, factors, addition_of, everything, SpellsSeat, Amounts, SpellsAtom, AtomOf, ValueOf, TestOf, CondOf}
 
--- the rules with the additions W alone
+-- the rules with the additions W alone, where no name is given
 abbrev pub SpellsWith : (Addition → Type 0) → List Token → Form → Type 0
-SpellsWith W T t = CondOf W (λ E. TestOf W E (ValueOf (AtomOf W E))) unbound T t
+SpellsWith W T t = CondOf W (λ E. TestOf W [] E (ValueOf (AtomOf W [] E))) unbound T t
 
 -- the addition that brought a word
 abbrev pub brought_by : Token → Option Addition
@@ -70,7 +70,7 @@ IsEarlier t = brought_by t ≡ None
 -- ---- without sums
 
 abbrev pub SpellsWithoutSums : List Token → Form → Type 0
-SpellsWithoutSums T t = CondOf everything (λ E. TestOf everything E (SpellsAtom E)) unbound T t
+SpellsWithoutSums T t = CondOf everything (λ E. TestOf everything [] E (SpellsAtom [] E)) unbound T t
 
 -- ---- hcp alone
 
@@ -105,7 +105,7 @@ pub data SpellsHcpAtom (E : Bound) : List Token → Amount → Type 0 where
 
 abbrev pub SpellsWithHcpAlone : List Token → Form → Type 0
 SpellsWithHcpAlone T t =
-    CondOf everything (λ E. TestOf everything E (ValueOf (SpellsHcpAtom E))) unbound T t
+    CondOf everything (λ E. TestOf everything [] E (ValueOf (SpellsHcpAtom E))) unbound T t
 
 -- ---- the first words
 
@@ -164,6 +164,9 @@ IsFirst Second = ⊥
 IsFirst (Class c) = ⊥
 IsFirst (Neighbour n) = ⊥
 IsFirst Star = ⊥
+IsFirst Let = ⊥
+IsFirst Is = ⊥
+IsFirst (Name n) = ⊥
 IsFirst t = Unit {0}
 
 -- ---- the first grammar

@@ -4,7 +4,7 @@ use Rattle.cond_lang.specs.declared.scanner.Token.{Token}
 use Rattle.cond_lang.specs.declared.scanner.Placed.{Placed}
 use Rattle.cond_lang.specs.Cut.{HasTokens}
 use Rattle.conditions.specs.Form.{Form}
-use Rattle.cond_lang.specs.Grammar.{Spells}
+use Rattle.cond_lang.specs.Definitions.{Spells}
 
 -- the tokens without their offsets
 abbrev pub kinds : List Placed → List Token

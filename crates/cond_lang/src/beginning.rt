@@ -4,10 +4,9 @@ ghost use Rattle.std.specs.Prelude.{◌≡◌, ◌≢◌, ◌≤◌, ◌↔◌, 
 ghost use Rattle.std.specs.Prelude.{Err, IfOk, IfErr, IsTrue};
 ghost use Rattle.conditions.specs.Form.{Amount};
 ghost use Rattle.cond_lang.specs.Asking.{CanFollowAsking};
-ghost use Rattle.cond_lang.specs.Classes.{unbound};
 ghost use Rattle.cond_lang.specs.Continuations.{CanFollow, IsBeginning};
+ghost use Rattle.cond_lang.specs.Definitions.{SpellsAmount};
 ghost use Rattle.cond_lang.specs.Faults.{IsDue};
-ghost use Rattle.cond_lang.specs.Grammar.{SpellsValue};
 ghost use Rattle.cond_lang.specs.Text.{kinds};
 
 use crate::parser::{read_as_far, read_value};
@@ -104,7 +103,7 @@ impl Beginning {
     /// Whether the tokens are a whole value. The only error is `Memory`.
     fn is_value(&self) -> Result<bool, CondError>
         ensures value { IfOk result (λ b. IsTrue b
-            ↔ ((a : Amount) × SpellsValue unbound self.now a)) }
+            ↔ ((a : Amount) × SpellsAmount self.now a)) }
         ensures memory { IfErr result (λ e. e ≡ CondError.Memory) }
     {
         let tokens = &self.tokens.as_slice()[..self.count];

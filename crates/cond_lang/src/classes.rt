@@ -2,9 +2,11 @@
 
 ghost use Rattle.std.specs.Prelude.{◌≡◌};
 ghost use Rattle.cond_lang.specs.Classes.{bind, bound_to, can_bind, is_bound, is_major, is_member};
+ghost use Rattle.cond_lang.specs.Classes.{choice, given};
 ghost use Rattle.cond_lang.specs.Classes.{is_north_or_south, is_taken, is_this, seat_beside};
 ghost use Rattle.cond_lang.specs.Classes.{seat_bound_to, unbound};
 ghost use Rattle.cond_lang.specs.internal.Reading.{can_quantify};
+ghost use Rattle.cond_lang.specs.internal.Arguments.{argument_at, is_argument, place_of};
 
 use cards::{Seat, Suit};
 
@@ -87,6 +89,67 @@ impl Choice {
         suit: Suit::Clubs,
         seat: Seat::West,
     };
+
+    /// The suit and the seat.
+    pub(crate) fn of(suit: Suit, seat: Seat) -> Choice
+        ensures { result ≡ choice suit seat }
+    {
+        Choice { suit, seat }
+    }
+
+    /// The suit and the seat with this place among the sixteen.
+    pub(crate) fn at(place: usize) -> Choice
+        ensures { result ≡ argument_at place }
+    {
+        let suit = match place / 4 {
+            0 => Suit::Spades,
+            1 => Suit::Hearts,
+            2 => Suit::Diamonds,
+            _ => Suit::Clubs,
+        };
+        let seat = match place % 4 {
+            0 => Seat::North,
+            1 => Seat::East,
+            2 => Seat::South,
+            _ => Seat::West,
+        };
+        Choice { suit, seat }
+    }
+
+    /// Its place among the sixteen.
+    pub(crate) fn place(self) -> usize
+        ensures { result ≡ place_of self }
+    {
+        4 * (self.suit as usize) + (self.seat as usize)
+    }
+}
+
+/// What a name takes in brackets behind it, and its body calls `seat` and `suit`.
+#[derive(Clone, Copy)]
+pub(crate) enum Params {
+    /// Nothing, and no brackets.
+    Plain,
+    /// A seat.
+    OfSeat,
+    /// A suit.
+    OfSuit,
+    /// A seat and a suit.
+    OfBoth,
+}
+
+impl Params {
+    /// Whether the choice is one of arguments alone: the first suit and the first seat stand for
+    /// those that the name doesn't take.
+    pub(crate) fn is_argument(self, choice: Choice) -> bool
+        ensures { result ≡ is_argument self choice }
+    {
+        match self {
+            Params::Plain => choice.place() == 0,
+            Params::OfSeat => choice.suit as u8 == 0,
+            Params::OfSuit => choice.seat as u8 == 0,
+            Params::OfBoth => true,
+        }
+    }
 }
 
 /// The suit or the seat that each class means, where the class is bound.
@@ -114,6 +177,19 @@ impl Bound {
             seat: None,
             north_south: None,
             east_west: None,
+        }
+    }
+
+    /// Inside a name's body, with these arguments.
+    pub(crate) fn given(params: Params, choice: Choice) -> Bound
+        ensures { result ≡ given params choice }
+    {
+        let bound = Bound::none();
+        match params {
+            Params::Plain => bound,
+            Params::OfSeat => bound.with(Class::Seat, choice),
+            Params::OfSuit => bound.with(Class::Suit, choice),
+            Params::OfBoth => bound.with(Class::Seat, choice).with(Class::Suit, choice),
         }
     }
 

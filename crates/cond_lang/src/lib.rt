@@ -12,6 +12,7 @@ mod classes;
 mod condition;
 mod language;
 pub mod laws;
+mod naming;
 mod parser;
 mod question;
 mod scanner;

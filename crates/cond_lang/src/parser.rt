@@ -1,29 +1,36 @@
 //! The parser: it reads the tokens from the left, with one token in sight, and builds the tree as
 //! it goes.
 
-ghost use Rattle.std.specs.Prelude.{◌≡◌, ◌≤◌, ℕ, List, Option, ◌∷◌, length, IfOk};
+ghost use Rattle.std.specs.Prelude.{◌≡◌, ◌≢◌, ◌≤◌, ℕ, List, Option, Some, Err, true, false, ◌∷◌};
+ghost use Rattle.std.specs.Prelude.{length, slice_get, IfOk};
 ghost use Rattle.cond_lang.specs.declared.scanner.Token.{Token as AToken};
-ghost use Rattle.conditions.specs.Form.{Form, amount_of};
-ghost use Rattle.conditions.specs.Limits.{atoms_of};
+ghost use Rattle.cond_lang.specs.declared.classes.Choice.{Choice as AChoice};
+ghost use Rattle.cond_lang.specs.declared.classes.Params.{Params as AreParams};
+ghost use Rattle.cond_lang.specs.declared.scanner.Token.TheVariants.{Name};
+ghost use Rattle.conditions.specs.Form.{Amount, Form};
+ghost use Rattle.cond_lang.specs.Grammar.{condition, value};
 ghost use Rattle.cond_lang.specs.Text.{kinds};
+ghost use Rattle.cond_lang.specs.internal.Arguments.{is_argument};
+ghost use Rattle.cond_lang.specs.internal.Defining.{AreSound, meanings};
 ghost use Rattle.cond_lang.specs.internal.Growing.{AreGrown, GivesBy, IsGrown, IsGrownValue};
-ghost use Rattle.cond_lang.specs.internal.Reading.{Gives, front, rest_of_measure, rest_of_cards};
-ghost use Rattle.cond_lang.specs.internal.Reading.{count_of, rest_of_number, suit_and_ranks};
-ghost use Rattle.cond_lang.specs.internal.Reading.{suit_count};
-ghost use Rattle.cond_lang.specs.internal.Reading.{atom_of, reading, a_value, comparing_by};
+ghost use Rattle.cond_lang.specs.internal.Reading.{front};
+ghost use Rattle.cond_lang.specs.internal.Reading.{atom_of, value_used, reading, a_value};
+ghost use Rattle.cond_lang.specs.internal.Reading.{comparing_by, condition_used_by};
 ghost use Rattle.cond_lang.specs.internal.Reading.{test_by, a_unit, a_both, a_cond};
-ghost use Rattle.cond_lang.specs.internal.Reading.{whole, with_choice_by, quantified_by};
+ghost use Rattle.cond_lang.specs.internal.Reading.{with_choice_by, quantified_by};
 
+mod counts;
 mod grown;
 mod lists;
+mod names;
 mod terminals;
 
 use crate::classes::{Bound, Choice, Class, Quantifier};
 use crate::scanner::{Placed, Token};
-use cards::{Measure, Seat};
-use conditions::{Count, Tree, Value};
+use conditions::{MOST_PARTS, Tree};
 use grown::{Grown, GrownValue};
 pub(crate) use lists::{parse_tokens, read_as_far, read_value};
+use names::Named;
 use std::alloc::{AllocFailed, Global};
 use std::marker::Model;
 
@@ -45,6 +52,13 @@ impl<T: Drop> From<AllocFailed<T>> for Refusal {
     fn from(_failed: AllocFailed<T>) -> Refusal {
         Refusal::Memory
     }
+}
+
+/// A quantifier and its class.
+#[derive(Clone, Copy)]
+struct Each {
+    quantifier: Quantifier,
+    class: Class,
 }
 
 /// The tokens that are left, which is all that contracts see of a parser.
@@ -97,160 +111,119 @@ impl<'a> Parser<'a> {
         self.rest = &self.rest[1..];
     }
 
-    /// A number, that many times what is counted, or what is counted.
+    /// A number, that many times what is counted, what is counted, or the name of a value.
+    #[cycle(values)]
     #[tactic(auto, unfolding(crate::specs::internal::Reading::atom_of))]
-    fn atom(&mut self, bound: Bound) -> Result<Value, Refusal>
-        ensures gives { Gives amount_of result self.new (atom_of bound self.old) }
-        ensures one { IfOk result (λ v. atoms_of (amount_of v) ≡ 1) }
+    fn atom(&mut self, names: &[Named<'a>], bound: Bound) -> Result<GrownValue, Refusal>
+        requires { AreSound names.now }
+        ensures gives { GivesBy IsGrownValue result self.new
+            (atom_of (meanings names.now) bound self.old) }
         ensures shorter { length self.new ≤ length self.old }
     {
         match self.peek() {
-            Some(Token::Number(number)) => {
-                self.advance();
-                self.rest_of_number(bound, number)
-            }
-            _ => Ok(Value::Count(self.count(bound)?)),
+            Some(Token::Name(number)) => self.value_used(names, bound, number),
+            _ => Ok(GrownValue::one(self.number_or_count(bound)?)),
         }
     }
 
-    /// Nothing, or `* counted`, after a number
-    fn rest_of_number(&mut self, bound: Bound, number: u16) -> Result<Value, Refusal>
-        ensures gives { Gives amount_of result self.new (rest_of_number bound number self.old) }
-        ensures one { IfOk result (λ v. atoms_of (amount_of v) ≡ 1) }
-        ensures shorter { length self.new ≤ length self.old }
-    {
-        if let Some(Token::Star) = self.peek() {
-            self.advance();
-            return Ok(Value::Times(number, self.count(bound)?));
-        }
-        Ok(Value::Number(number))
-    }
-
-    /// A measure of a hand or suit, cards of some ranks, or a length.
-    #[tactic(auto, unfolding(crate::specs::internal::Reading::count_of))]
-    fn count(&mut self, bound: Bound) -> Result<Count, Refusal>
-        ensures gives { Gives (λ k. k) result self.new (count_of bound self.old) }
-        ensures shorter { length self.new ≤ length self.old }
-    {
-        match self.peek() {
-            Some(Token::Measure(measure)) => {
-                self.advance();
-                let seat = self.open_seat(bound)?;
-                self.rest_of_measure(bound, measure, seat)
-            }
-            Some(Token::Len) => {
-                self.advance();
-                let (seat, suit) = self.seat_and_suit(bound)?;
-                Ok(Count::Length(seat, suit))
-            }
-            Some(Token::Cards) => {
-                self.advance();
-                let seat = self.open_seat_comma(bound)?;
-                self.rest_of_cards(bound, seat)
-            }
-            _ => self.suit_count(bound),
-        }
-    }
-
-    /// The length of a hand's longest, second longest or shortest suit.
-    fn suit_count(&mut self, bound: Bound) -> Result<Count, Refusal>
-        ensures gives { Gives (λ k. k) result self.new (suit_count bound self.old) }
-        ensures shorter { length self.new ≤ length self.old }
-    {
-        match self.peek() {
-            Some(Token::Longest) => {
-                self.advance();
-                Ok(Count::Longest(self.seat_in_brackets(bound)?))
-            }
-            Some(Token::Second) => {
-                self.advance();
-                Ok(Count::Second(self.seat_in_brackets(bound)?))
-            }
-            Some(Token::Shortest) => {
-                self.advance();
-                Ok(Count::Shortest(self.seat_in_brackets(bound)?))
-            }
-            _ => Err(Refusal::Syntax),
-        }
-    }
-
-    /// `)` or `, suit )` after `measure ( seat`
-    fn rest_of_measure(
+    /// The name of a value, and its arguments.
+    #[cycle(values)]
+    #[inline(never)]
+    fn value_used(
         &mut self,
+        names: &[Named<'a>],
         bound: Bound,
-        measure: Measure,
-        seat: Seat,
-    ) -> Result<Count, Refusal>
-        ensures gives { Gives (λ k. k) result self.new
-            (rest_of_measure bound measure seat self.old) }
+        number: u16,
+    ) -> Result<GrownValue, Refusal>
+        requires sound { AreSound names.now }
+        requires sight { (rest : List AToken) × (self.old ≡ Name number ∷ rest) }
+        ensures gives { (rest : List AToken) → self.old ≡ Name number ∷ rest
+            → GivesBy IsGrownValue result self.new
+            (value_used (slice_get (meanings names.now) number) bound number rest) }
         ensures shorter { length self.new ≤ length self.old }
     {
-        if let Some(Token::Comma) = self.peek() {
-            self.advance();
-            let suit = self.suit(bound)?;
-            self.close()?;
-            return Ok(Count::suit_measured(measure, seat, suit));
+        let Some(named) = names.get(number as usize) else {
+            return Err(Refusal::Syntax);
+        };
+        if !named.is_value {
+            return Err(Refusal::Syntax);
         }
-        self.close()?;
-        Ok(Count::measured(measure, seat))
+        self.advance();
+        let choice = self.args(bound, named.params)?;
+        Parser::amount_named(self.alloc, names, number, choice)
     }
 
-    /// `ranks )` or `suit , ranks )` after `cards ( seat ,`
-    fn rest_of_cards(&mut self, bound: Bound, seat: Seat) -> Result<Count, Refusal>
-        ensures gives { Gives (λ k. k) result self.new (rest_of_cards bound seat self.old) }
-        ensures shorter { length self.new ≤ length self.old }
+    /// What the name of a value stands for with these arguments: its body, read again.
+    #[cycle(values)]
+    #[inline(never)]
+    fn amount_named(
+        alloc: Global,
+        names: &[Named<'a>],
+        number: u16,
+        choice: Choice,
+    ) -> Result<GrownValue, Refusal>
+        requires { AreSound names.now }
+        ensures ok { (p : AreParams) (f : AChoice → Amount)
+            → slice_get (meanings names.now) number ≡ Some (value p f)
+            → is_argument p choice ≡ true → IfOk result (λ v. IsGrownValue v (f choice)) }
+        ensures err { (p : AreParams) (f : AChoice → Amount)
+            → slice_get (meanings names.now) number ≡ Some (value p f)
+            → is_argument p choice ≡ true → result ≢ Err Refusal.Syntax }
     {
-        match self.peek() {
-            Some(Token::Suit(_)) => self.suit_and_ranks(bound, seat),
-            Some(Token::Class(_)) => self.suit_and_ranks(bound, seat),
-            _ => Ok(Count::Cards(seat, self.ranks_close()?)),
+        let index = number as usize;
+        let Some(named) = names.get(index) else {
+            return Err(Refusal::Syntax);
+        };
+        let parts = named.parts[choice.place()];
+        if parts > MOST_PARTS {
+            return Ok(GrownValue { parts, value: None });
         }
-    }
-
-    /// `suit , ranks )` after `cards ( seat ,`
-    fn suit_and_ranks(&mut self, bound: Bound, seat: Seat) -> Result<Count, Refusal>
-        ensures gives { Gives (λ k. k) result self.new (suit_and_ranks bound seat self.old) }
-        ensures shorter { length self.new ≤ length self.old }
-    {
-        let suit = self.suit(bound)?;
-        self.comma()?;
-        Ok(Count::SuitCards(seat, suit, self.ranks_close()?))
+        let mut parser = Parser::new(alloc, named.body);
+        parser.value(&names[..index], Bound::given(named.params, choice))
     }
 
     /// Atoms with `+` between them.
-    fn value(&mut self, bound: Bound) -> Result<GrownValue, Refusal>
-        ensures gives { GivesBy IsGrownValue result self.new (reading bound a_value self.old) }
+    #[cycle(values)]
+    fn value(&mut self, names: &[Named<'a>], bound: Bound) -> Result<GrownValue, Refusal>
+        requires { AreSound names.now }
+        ensures gives { GivesBy IsGrownValue result self.new
+            (reading (meanings names.now) bound a_value self.old) }
         ensures shorter { length self.new ≤ length self.old }
     {
-        let mut left = GrownValue::one(self.atom(bound)?);
+        let mut left = self.atom(names, bound)?;
         while let Some(Token::Plus) = self.peek() {
             self.advance();
-            let right = GrownValue::one(self.atom(bound)?);
+            let right = self.atom(names, bound)?;
             left = GrownValue::sum(self.alloc, left, right)?;
         }
         Ok(left)
     }
 
     /// A value, and `in number - number` or `op value`.
-    fn comparison(&mut self, bound: Bound) -> Result<Grown, Refusal>
-        ensures gives { GivesBy IsGrown result self.new (comparing_by reading bound self.old) }
+    fn comparison(&mut self, names: &[Named<'a>], bound: Bound) -> Result<Grown, Refusal>
+        requires { AreSound names.now }
+        ensures gives { GivesBy IsGrown result self.new
+            (comparing_by (reading (meanings names.now)) bound self.old) }
         ensures shorter { length self.new ≤ length self.old }
     {
-        let left = self.value(bound)?;
+        let left = self.value(names, bound)?;
         if let Some(Token::In) = self.peek() {
             self.advance();
             let (least, most) = self.range()?;
             return Grown::within(self.alloc, left, least, most);
         }
         let op = self.relation()?;
-        let right = self.value(bound)?;
+        let right = self.value(names, bound)?;
         Grown::compare(self.alloc, left, op, right)
     }
 
     /// One test with no `not`, no bracket and no quantifier before it.
+    #[cycle(conditions)]
     #[inline(never)]
-    fn test(&mut self, bound: Bound) -> Result<Grown, Refusal>
-        ensures gives { GivesBy IsGrown result self.new (test_by reading bound self.old) }
+    fn test(&mut self, names: &[Named<'a>], bound: Bound) -> Result<Grown, Refusal>
+        requires { AreSound names.now }
+        ensures gives { GivesBy IsGrown result self.new
+            (test_by (meanings names.now) (reading (meanings names.now)) bound self.old) }
         ensures shorter { length self.new ≤ length self.old }
     {
         match self.peek() {
@@ -275,8 +248,65 @@ impl<'a> Parser<'a> {
                 let (seat, suit) = self.seat_and_suit(bound)?;
                 Grown::one(self.alloc, Tree::Stops(seat, suit))
             }
-            _ => self.comparison(bound),
+            Some(Token::Name(number)) => self.condition_used(names, bound, number),
+            _ => self.comparison(names, bound),
         }
+    }
+
+    /// The name of a condition and its arguments, or a comparison that begins with a name.
+    #[cycle(conditions)]
+    fn condition_used(
+        &mut self,
+        names: &[Named<'a>],
+        bound: Bound,
+        number: u16,
+    ) -> Result<Grown, Refusal>
+        requires sound { AreSound names.now }
+        requires sight { (rest : List AToken) × (self.old ≡ Name number ∷ rest) }
+        ensures gives { (rest : List AToken) → self.old ≡ Name number ∷ rest
+            → GivesBy IsGrown result self.new
+            (condition_used_by (slice_get (meanings names.now) number)
+            (reading (meanings names.now)) bound number rest) }
+        ensures shorter { length self.new ≤ length self.old }
+    {
+        let Some(named) = names.get(number as usize) else {
+            return self.comparison(names, bound);
+        };
+        if named.is_value {
+            return self.comparison(names, bound);
+        }
+        self.advance();
+        let choice = self.args(bound, named.params)?;
+        Parser::tree_named(self.alloc, names, number, choice)
+    }
+
+    /// What the name of a condition stands for with these arguments: its body, read again.
+    #[cycle(conditions)]
+    #[inline(never)]
+    fn tree_named(
+        alloc: Global,
+        names: &[Named<'a>],
+        number: u16,
+        choice: Choice,
+    ) -> Result<Grown, Refusal>
+        requires { AreSound names.now }
+        ensures ok { (p : AreParams) (f : AChoice → Form)
+            → slice_get (meanings names.now) number ≡ Some (condition p f)
+            → is_argument p choice ≡ true → IfOk result (λ g. IsGrown g (f choice)) }
+        ensures err { (p : AreParams) (f : AChoice → Form)
+            → slice_get (meanings names.now) number ≡ Some (condition p f)
+            → is_argument p choice ≡ true → result ≢ Err Refusal.Syntax }
+    {
+        let index = number as usize;
+        let Some(named) = names.get(index) else {
+            return Err(Refusal::Syntax);
+        };
+        let parts = named.parts[choice.place()];
+        if parts > MOST_PARTS {
+            return Ok(Grown { parts, tree: None });
+        }
+        let mut parser = Parser::new(alloc, named.body);
+        parser.cond(&names[..index], Bound::given(named.params, choice))
     }
 
     // A text has up to 1,024 opening brackets, and each keeps a frame of the next three functions
@@ -285,39 +315,41 @@ impl<'a> Parser<'a> {
 
     /// One test.
     #[cycle(conditions)]
-    fn unit(&mut self, bound: Bound) -> Result<Grown, Refusal>
+    fn unit(&mut self, names: &[Named<'a>], bound: Bound) -> Result<Grown, Refusal>
+        requires { AreSound names.now }
         ensures gives { GivesBy IsGrown result self.new
-            (reading bound a_unit self.old) }
+            (reading (meanings names.now) bound a_unit self.old) }
         ensures shorter { length self.new ≤ length self.old }
     {
         match self.peek() {
             Some(Token::Not) => {
                 self.advance();
-                let inner = self.unit(bound)?;
+                let inner = self.unit(names, bound)?;
                 Grown::negation(self.alloc, inner)
             }
             Some(Token::Open) => {
                 self.advance();
-                let inner = self.cond(bound)?;
+                let inner = self.cond(names, bound)?;
                 self.close()?;
                 Ok(inner)
             }
-            Some(Token::Quantifier(_)) => self.quantified(bound),
-            _ => self.test(bound),
+            Some(Token::Quantifier(_)) => self.quantified(names, bound),
+            _ => self.test(names, bound),
         }
     }
 
     /// Tests with `and` between them.
     #[cycle(conditions)]
-    fn both(&mut self, bound: Bound) -> Result<Grown, Refusal>
+    fn both(&mut self, names: &[Named<'a>], bound: Bound) -> Result<Grown, Refusal>
+        requires { AreSound names.now }
         ensures gives { GivesBy IsGrown result self.new
-            (reading bound a_both self.old) }
+            (reading (meanings names.now) bound a_both self.old) }
         ensures shorter { length self.new ≤ length self.old }
     {
-        let mut left = self.unit(bound)?;
+        let mut left = self.unit(names, bound)?;
         while let Some(Token::And) = self.peek() {
             self.advance();
-            let right = self.unit(bound)?;
+            let right = self.unit(names, bound)?;
             left = Grown::joined(self.alloc, Quantifier::Every, left, right)?;
         }
         Ok(left)
@@ -325,15 +357,16 @@ impl<'a> Parser<'a> {
 
     /// What `and` joins, with `or` between.
     #[cycle(conditions)]
-    fn cond(&mut self, bound: Bound) -> Result<Grown, Refusal>
+    fn cond(&mut self, names: &[Named<'a>], bound: Bound) -> Result<Grown, Refusal>
+        requires { AreSound names.now }
         ensures gives { GivesBy IsGrown result self.new
-            (reading bound a_cond self.old) }
+            (reading (meanings names.now) bound a_cond self.old) }
         ensures shorter { length self.new ≤ length self.old }
     {
-        let mut left = self.both(bound)?;
+        let mut left = self.both(names, bound)?;
         while let Some(Token::Or) = self.peek() {
             self.advance();
-            let right = self.both(bound)?;
+            let right = self.both(names, bound)?;
             left = Grown::joined(self.alloc, Quantifier::Any, left, right)?;
         }
         Ok(left)
@@ -343,19 +376,21 @@ impl<'a> Parser<'a> {
     /// seat of the class, from the same token on. At most seven quantifiers enclose each other.
     #[cycle(conditions)]
     #[inline(never)]
-    fn quantified(&mut self, bound: Bound) -> Result<Grown, Refusal>
+    fn quantified(&mut self, names: &[Named<'a>], bound: Bound) -> Result<Grown, Refusal>
+        requires { AreSound names.now }
         ensures gives { GivesBy IsGrown result self.new
-            (quantified_by reading bound self.old) }
+            (quantified_by (reading (meanings names.now)) bound self.old) }
         ensures shorter { length self.new ≤ length self.old }
     {
         let quantifier = self.quantifier(bound)?;
         let class = self.class(bound)?;
         self.open()?;
         let start = self.rest;
-        let first = self.with_choice(start, bound, quantifier, class, Choice::FIRST, None)?;
-        let second = self.with_choice(start, bound, quantifier, class, Choice::SECOND, first)?;
-        let third = self.with_choice(start, bound, quantifier, class, Choice::THIRD, second)?;
-        let last = self.with_choice(start, bound, quantifier, class, Choice::FOURTH, third)?;
+        let each = Each { quantifier, class };
+        let first = self.with_choice(names, start, bound, each, Choice::FIRST, None)?;
+        let second = self.with_choice(names, start, bound, each, Choice::SECOND, first)?;
+        let third = self.with_choice(names, start, bound, each, Choice::THIRD, second)?;
+        let last = self.with_choice(names, start, bound, each, Choice::FOURTH, third)?;
         let Some(tree) = last else {
             return Err(Refusal::Syntax);
         };
@@ -370,37 +405,25 @@ impl<'a> Parser<'a> {
     #[inline(never)]
     fn with_choice(
         &mut self,
+        names: &[Named<'a>],
         start: &'a [Placed],
         bound: Bound,
-        quantifier: Quantifier,
-        class: Class,
+        each: Each,
         choice: Choice,
         left: Option<Grown>,
     ) -> Result<Option<Grown>, Refusal>
-        requires { length self.old ≤ length start.now }
+        requires sound { AreSound names.now }
+        requires passed { length self.old ≤ length start.now }
         ensures gives { (t : Option Form) → AreGrown left t
-            → GivesBy AreGrown result self.new (with_choice_by reading bound quantifier class
-            (kinds start.entry.now) choice t self.old) }
+            → GivesBy AreGrown result self.new (with_choice_by (reading (meanings names.now))
+            bound each.quantifier each.class (kinds start.entry.now) choice t self.old) }
         ensures shorter { length self.new ≤ length start.entry.now }
     {
-        if !bound.is_member(class, choice) {
+        if !bound.is_member(each.class, choice) {
             return Ok(left);
         }
         self.rest = start;
-        let tree = self.cond(bound.with(class, choice))?;
-        Ok(Some(Grown::behind(self.alloc, quantifier, left, tree)?))
-    }
-
-    /// One condition, and no more.
-    #[tactic(auto, unfolding(crate::specs::internal::Reading::whole))]
-    pub(crate) fn whole(&mut self) -> Result<Grown, Refusal>
-        ensures gives { GivesBy IsGrown result self.new (whole self.old) }
-        ensures shorter { length self.new ≤ length self.old }
-    {
-        let tree = self.cond(Bound::none())?;
-        if self.peek().is_some() {
-            return Err(Refusal::Syntax);
-        }
-        Ok(tree)
+        let tree = self.cond(names, bound.with(each.class, choice))?;
+        Ok(Some(Grown::behind(self.alloc, each.quantifier, left, tree)?))
     }
 }

@@ -12,12 +12,14 @@ ghost use Rattle.cond_lang.specs.internal.Scanning.{token_of, begins_with, symbo
 ghost use Rattle.cond_lang.specs.internal.Scanning.{ranks_piece, number_piece, piece_at};
 
 use crate::classes::{Class, Neighbour, Quantifier};
+use crate::naming::Names;
 use crate::words::WORDS;
 use arrayvec::ArrayVec;
 use cards::{Honours, Measure, Seat, Suit};
 use conditions::{CondError, Op};
 
-/// A token of the language: a known word, ranks, a number of at most four digits, or a symbol.
+/// A token of the language: a known word, ranks, a number of at most four digits, a symbol, or a
+/// name.
 #[derive(Clone, Copy, Default)]
 pub enum Token {
     #[default]
@@ -50,6 +52,11 @@ pub enum Token {
     Plus,
     Star,
     Relation(Op),
+    Let,
+    Is,
+    /// A name, by its number: a text's names are counted from 0 in the order in which they first
+    /// come.
+    Name(u16),
 }
 
 /// A token and the offset of its first byte.
@@ -84,18 +91,20 @@ pub(crate) fn scan(text: &[u8]) -> Result<ArrayVec<Placed, 1024>, CondError>
     ensures few { IfOk result (λ v. length v.items ≤ 1024) }
 {
     let mut tokens = ArrayVec::new();
+    let mut names = Names::none();
     let mut rest = text;
     let mut at = 0;
     while !rest.is_empty() {
         let (piece, len) = first_piece(rest);
-        match piece {
+        let (bytes, behind) = rest.split_at(len);
+        match names.named(bytes, piece) {
             Piece::Separator => {}
             Piece::Token(token) => tokens.push(Placed { token, at }),
             Piece::StrayByte => return Err(CondError::Byte { at }),
             Piece::UnknownWord => return Err(CondError::Word { at }),
             Piece::LongNumber => return Err(CondError::Number { at }),
         }
-        rest = rest.split_at(len).1;
+        rest = behind;
         at += len;
     }
     Ok(tokens)

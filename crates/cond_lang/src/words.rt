@@ -3,7 +3,7 @@
 ghost use Rattle.std.specs.Prelude.{◌≡◌, ◌<◌, None, IfSome, length};
 ghost use Rattle.cond_lang.specs.Continuations.{kind_of};
 ghost use Rattle.cond_lang.specs.Cut.{measure_word};
-ghost use Rattle.cond_lang.specs.Kinds.{all_kinds, place_of};
+ghost use Rattle.cond_lang.specs.Kinds.{IsListed, all_kinds, place_of};
 
 use crate::classes::{Class, Neighbour, Quantifier};
 use crate::scanner::Token;
@@ -11,7 +11,7 @@ use cards::{Honours, Measure, Seat, Suit};
 use conditions::Op;
 
 /// The words of the language, each with its token: the table `words` of the definition.
-pub const WORDS: [(&str, Token); 34 + Measure::COUNT] = [
+pub const WORDS: [(&str, Token); 36 + Measure::COUNT] = [
     ("or", Token::Or),
     ("and", Token::And),
     ("not", Token::Not),
@@ -49,6 +49,8 @@ pub const WORDS: [(&str, Token); 34 + Measure::COUNT] = [
     ("major", Token::Class(Class::Major)),
     ("minor", Token::Class(Class::Minor)),
     ("other", Token::Class(Class::Other)),
+    ("let", Token::Let),
+    ("is", Token::Is),
 ];
 
 /// The word of the measure.
@@ -74,9 +76,11 @@ pub(crate) const MEASURE_LINES: &str =
 ";
 
 /// What may come at a place of a condition: a kind of token, or the end. Each word of its own, the
-/// six comparisons, the four seats, the four suits, all ranks and all numbers are one kind each.
+/// six comparisons, the four seats, the four suits, all ranks and all numbers are one kind each,
+/// and each name.
 #[derive(Clone, Copy)]
 pub enum Kind {
+    Let,
     Not,
     Open,
     Balanced,
@@ -103,6 +107,9 @@ pub enum Kind {
     Class(Class),
     Neighbour(Neighbour),
     Ranks,
+    /// The name with this number.
+    Name(u16),
+    Is,
     Close,
     And,
     Or,
@@ -119,11 +126,12 @@ const ACE: Honours = Honours {
 };
 
 impl Kind {
-    /// How many kinds there are.
-    pub const COUNT: usize = 38 + Measure::COUNT;
+    /// How many kinds there are, beside the names.
+    pub const COUNT: usize = 40 + Measure::COUNT;
 
-    /// All kinds, in the order in which a person is told them.
+    /// All kinds but the names, in the order in which a person is told them.
     pub const ALL: [Kind; Kind::COUNT] = [
+        Kind::Let,
         Kind::Not,
         Kind::Open,
         Kind::Balanced,
@@ -161,59 +169,63 @@ impl Kind {
         Kind::Class(Class::Minor),
         Kind::Class(Class::Other),
         Kind::Ranks,
+        Kind::Is,
         Kind::Close,
         Kind::And,
         Kind::Or,
         Kind::End,
     ];
 
-    /// The place of the kind in [`ALL`].
+    /// The place of the kind in [`ALL`], and that of the end of [`ALL`] for a name.
     ///
     /// [`ALL`]: Kind::ALL
     pub fn place(self) -> usize
         ensures value { result ≡ place_of self }
-        ensures within { result < length all_kinds }
+        ensures within { IsListed self → result < length all_kinds }
     {
         match self {
-            Kind::Not => 0,
-            Kind::Open => 1,
-            Kind::Balanced => 2,
-            Kind::Shape => 3,
-            Kind::Pattern => 4,
-            Kind::Quantifier(Quantifier::Any) => 5,
-            Kind::Quantifier(Quantifier::Every) => 6,
-            Kind::Stops => 7,
-            Kind::Number => 8,
-            Kind::Measure(measure) => 9 + measure.place(),
-            Kind::Cards => 9 + Measure::COUNT,
-            Kind::Len => 10 + Measure::COUNT,
-            Kind::Longest => 11 + Measure::COUNT,
-            Kind::Second => 12 + Measure::COUNT,
-            Kind::Shortest => 13 + Measure::COUNT,
-            Kind::Plus => 14 + Measure::COUNT,
-            Kind::Star => 15 + Measure::COUNT,
-            Kind::Relation => 16 + Measure::COUNT,
-            Kind::In => 17 + Measure::COUNT,
-            Kind::Dash => 18 + Measure::COUNT,
-            Kind::X => 19 + Measure::COUNT,
-            Kind::Comma => 20 + Measure::COUNT,
-            Kind::Seat => 21 + Measure::COUNT,
-            Kind::Class(Class::Seat) => 22 + Measure::COUNT,
-            Kind::Class(Class::NorthSouth) => 23 + Measure::COUNT,
-            Kind::Class(Class::EastWest) => 24 + Measure::COUNT,
-            Kind::Neighbour(Neighbour::Partner) => 25 + Measure::COUNT,
-            Kind::Neighbour(Neighbour::Left) => 26 + Measure::COUNT,
-            Kind::Neighbour(Neighbour::Right) => 27 + Measure::COUNT,
-            Kind::Suit => 28 + Measure::COUNT,
-            Kind::Class(Class::Suit) => 29 + Measure::COUNT,
-            Kind::Class(Class::Major) => 30 + Measure::COUNT,
-            Kind::Class(Class::Minor) => 31 + Measure::COUNT,
-            Kind::Class(Class::Other) => 32 + Measure::COUNT,
-            Kind::Ranks => 33 + Measure::COUNT,
-            Kind::Close => 34 + Measure::COUNT,
-            Kind::And => 35 + Measure::COUNT,
-            Kind::Or => 36 + Measure::COUNT,
-            Kind::End => 37 + Measure::COUNT,
+            Kind::Let => 0,
+            Kind::Not => 1,
+            Kind::Open => 2,
+            Kind::Balanced => 3,
+            Kind::Shape => 4,
+            Kind::Pattern => 5,
+            Kind::Quantifier(Quantifier::Any) => 6,
+            Kind::Quantifier(Quantifier::Every) => 7,
+            Kind::Stops => 8,
+            Kind::Number => 9,
+            Kind::Measure(measure) => 10 + measure.place(),
+            Kind::Cards => 10 + Measure::COUNT,
+            Kind::Len => 11 + Measure::COUNT,
+            Kind::Longest => 12 + Measure::COUNT,
+            Kind::Second => 13 + Measure::COUNT,
+            Kind::Shortest => 14 + Measure::COUNT,
+            Kind::Plus => 15 + Measure::COUNT,
+            Kind::Star => 16 + Measure::COUNT,
+            Kind::Relation => 17 + Measure::COUNT,
+            Kind::In => 18 + Measure::COUNT,
+            Kind::Dash => 19 + Measure::COUNT,
+            Kind::X => 20 + Measure::COUNT,
+            Kind::Comma => 21 + Measure::COUNT,
+            Kind::Seat => 22 + Measure::COUNT,
+            Kind::Class(Class::Seat) => 23 + Measure::COUNT,
+            Kind::Class(Class::NorthSouth) => 24 + Measure::COUNT,
+            Kind::Class(Class::EastWest) => 25 + Measure::COUNT,
+            Kind::Neighbour(Neighbour::Partner) => 26 + Measure::COUNT,
+            Kind::Neighbour(Neighbour::Left) => 27 + Measure::COUNT,
+            Kind::Neighbour(Neighbour::Right) => 28 + Measure::COUNT,
+            Kind::Suit => 29 + Measure::COUNT,
+            Kind::Class(Class::Suit) => 30 + Measure::COUNT,
+            Kind::Class(Class::Major) => 31 + Measure::COUNT,
+            Kind::Class(Class::Minor) => 32 + Measure::COUNT,
+            Kind::Class(Class::Other) => 33 + Measure::COUNT,
+            Kind::Ranks => 34 + Measure::COUNT,
+            Kind::Is => 35 + Measure::COUNT,
+            Kind::Close => 36 + Measure::COUNT,
+            Kind::And => 37 + Measure::COUNT,
+            Kind::Or => 38 + Measure::COUNT,
+            Kind::End => 39 + Measure::COUNT,
+            Kind::Name(_) => Kind::COUNT,
         }
     }
 
@@ -224,6 +236,7 @@ impl Kind {
         ensures none { self ≡ Kind.End → result ≡ None }
     {
         let token = match self {
+            Kind::Let => Token::Let,
             Kind::Not => Token::Not,
             Kind::Open => Token::Open,
             Kind::Balanced => Token::Balanced,
@@ -250,6 +263,8 @@ impl Kind {
             Kind::Class(class) => Token::Class(class),
             Kind::Neighbour(neighbour) => Token::Neighbour(neighbour),
             Kind::Ranks => Token::Ranks(ACE),
+            Kind::Name(name) => Token::Name(name),
+            Kind::Is => Token::Is,
             Kind::Close => Token::Close,
             Kind::And => Token::And,
             Kind::Or => Token::Or,

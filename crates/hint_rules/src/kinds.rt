@@ -12,8 +12,11 @@ pub struct Kinds {
 }
 
 impl Kinds {
-    /// Whether the kind is in the set.
+    /// Whether the kind is in the set, which has no names.
     pub(crate) fn has(&self, kind: Kind) -> bool {
-        self.holds[kind.place()]
+        match self.holds.get(kind.place()) {
+            Some(holds) => *holds,
+            None => false,
+        }
     }
 }

@@ -71,6 +71,7 @@ terms can = first_terms can ++ each can part.Other all_kinds
 
 -- the text of a kind, or what describes it
 abbrev pub kind_name : Kind → List ℕ
+kind_name kind.Let = codes "let"
 kind_name kind.Not = codes "not"
 kind_name kind.Open = codes "("
 kind_name kind.Balanced = codes "balanced"
@@ -106,6 +107,8 @@ kind_name (kind.Class Major) = codes "major"
 kind_name (kind.Class Minor) = codes "minor"
 kind_name (kind.Class Other) = codes "other"
 kind_name kind.Ranks = codes "ranks such as akq"
+kind_name (kind.Name n) = codes "a name"
+kind_name kind.Is = codes "is"
 kind_name kind.Close = codes ")"
 kind_name kind.And = codes "and"
 kind_name kind.Or = codes "or"
@@ -118,6 +121,7 @@ is_described kind.Relation = true
 is_described kind.Seat = true
 is_described kind.Suit = true
 is_described kind.Ranks = true
+is_described (kind.Name n) = true
 is_described kind.End = true
 is_described _ = false
 

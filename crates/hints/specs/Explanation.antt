@@ -7,6 +7,7 @@ use Rattle.conditions.specs.declared.error.CondError.TheVariants.{Syntax, TooMan
 use Rattle.cond_lang.specs.declared.words.Kind.{Kind}
 use Rattle.cond_lang.specs.declared.scanner.Token.{Token}
 use Rattle.cond_lang.specs.Faults.{HasFault}
+use Rattle.cond_lang.specs.Kinds.{IsListed}
 use Rattle.hints.specs.declared.asked.Asked.{Asked}
 use Rattle.hints.specs.declared.asked.Asked.TheVariants.{Condition, Question}
 use Rattle.hints.specs.Asked.{Begins, CanStand, asked_name}
@@ -22,12 +23,13 @@ hint_line bytes = codes "  hint: " ++ map shown bytes ++ codes "\n"
 abbrev pub MayHint : List ℕ → Type 0
 MayHint written = (written ≡ []) ⊎ ((bytes : List ℕ) × (written ≡ hint_line bytes))
 
--- the line of all kinds that may come after the longest beginning of the text, and no other
+-- the line of all kinds but names that may come after the longest beginning of the text, and no
+-- other
 pub record TellsAll (asked : Asked) (text written : List ℕ) : Type 0 where
   pub beginning : List Token
   pub begins : Begins asked text beginning
   pub can : Kind → Bool
-  pub all : (k : Kind) → IsTrue (can k) ↔ CanStand asked beginning k
+  pub all : (k : Kind) → IsListed k → IsTrue (can k) ↔ CanStand asked beginning k
   pub is : written ≡ expected_line can
 
 -- the text is too long, or has a piece that isn't in the language

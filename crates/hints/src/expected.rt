@@ -173,7 +173,7 @@ fn is_described(kind: Kind) -> bool
 {
     match kind {
         Kind::Number | Kind::Relation | Kind::Seat => true,
-        Kind::Suit | Kind::Ranks | Kind::End => true,
+        Kind::Suit | Kind::Ranks | Kind::Name(_) | Kind::End => true,
         _ => false,
     }
 }
@@ -183,6 +183,7 @@ fn kind_name(kind: Kind) -> &'static str
     ensures { result.now ≡ kind_name kind }
 {
     match kind {
+        Kind::Let => "let",
         Kind::Not => "not",
         Kind::Open => "(",
         Kind::Balanced => "balanced",
@@ -218,6 +219,8 @@ fn kind_name(kind: Kind) -> &'static str
         Kind::Class(Class::Minor) => "minor",
         Kind::Class(Class::Other) => "other",
         Kind::Ranks => "ranks such as akq",
+        Kind::Name(_) => "a name",
+        Kind::Is => "is",
         Kind::Close => ")",
         Kind::And => "and",
         Kind::Or => "or",

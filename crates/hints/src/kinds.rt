@@ -3,6 +3,7 @@
 ghost use Rattle.std.specs.Prelude.{◌≡◌, ◌↔◌, ◌<◌, IfOk, IfErr, IsTrue};
 ghost use Rattle.std.specs.List.{list_all};
 ghost use Rattle.conditions.specs.declared.error.CondError.TheVariants.{Memory};
+ghost use Rattle.cond_lang.specs.Kinds.{IsListed};
 ghost use Rattle.cond_lang.specs.declared.words.Kind.{Kind as AKind};
 ghost use Rattle.hints.specs.Asked.{CanStand};
 ghost use Rattle.hints.specs.internal.Kinds.{in_set};
@@ -18,10 +19,10 @@ pub(crate) struct KindSet {
 }
 
 impl KindSet {
-    /// The kinds that may come after the beginning of what is asked for. The only error is
-    /// `Memory`.
+    /// The kinds but names that may come after the beginning of what is asked for. The only
+    /// error is `Memory`.
     pub(crate) fn of(asked: Asked, beginning: &Beginning) -> Result<KindSet, CondError>
-        ensures allowed { IfOk result (λ set. (kind : AKind)
+        ensures allowed { IfOk result (λ set. (kind : AKind) → IsListed kind
             → IsTrue (in_set set kind) ↔ CanStand asked beginning.now kind) }
         ensures memory { IfErr result (λ e. e ≡ Memory) }
     {
@@ -32,11 +33,14 @@ impl KindSet {
         Ok(KindSet { holds })
     }
 
-    /// Whether it has the kind.
+    /// Whether it has the kind. It has no names.
     pub(crate) fn has(&self, kind: Kind) -> bool
         ensures { result ≡ in_set self.now kind }
     {
-        self.holds[kind.place()]
+        match self.holds.get(kind.place()) {
+            Some(holds) => *holds,
+            None => false,
+        }
     }
 
     /// The same kinds, as the rules for hints take them.

@@ -1,10 +1,12 @@
 -- Reading from the left with one token in sight, as a function of the tokens that are left: what
 -- the parser's own functions return.
-use Rattle.std.specs.Prelude.{◌≡◌, ℕ, zero, suc, ◌+◌, ◌*◌, List, [], ◌∷◌, length, Result, Ok, Err, Option, Some, None, Bool, ◌||◌, if◌then◌else◌}
+use Rattle.std.specs.Prelude.{◌≡◌, ℕ, zero, suc, ◌+◌, ◌*◌, List, [], ◌∷◌, length, Result, Ok, Err, Option, Some, None, Bool, ◌||◌, if◌then◌else◌, slice_get}
 use Rattle.cards.specs.declared.honours.Honours.{Honours}
 use Rattle.cards.specs.declared.hand.Measure.{Measure as AMeasure}
 use Rattle.cards.specs.declared.seat.Seat.{Seat as ASeat}
+use Rattle.cards.specs.declared.seat.Seat.TheVariants.{North}
 use Rattle.cards.specs.declared.suit.Suit.{Suit as ASuit}
+use Rattle.cards.specs.declared.suit.Suit.TheVariants.{Spades}
 use Rattle.conditions.specs.declared.tree.Count.{Count}
 use Rattle.conditions.specs.declared.tree.Item.{Item}
 use Rattle.conditions.specs.declared.tree.Item.TheVariants.{Length, Any}
@@ -13,14 +15,16 @@ use Rattle.cond_lang.specs.declared.classes.Bound.{Bound}
 use Rattle.cond_lang.specs.declared.classes.Choice.{Choice}
 use Rattle.cond_lang.specs.declared.classes.Class.{Class as AClass}
 use Rattle.cond_lang.specs.declared.classes.Class.TheVariants.{Suit as AnySuit, Major, Minor, Other, Seat as AnySeat, NorthSouth, EastWest}
+use Rattle.cond_lang.specs.declared.classes.Params.{Params}
+use Rattle.cond_lang.specs.declared.classes.Params.TheVariants.{Plain, OfSeat, OfSuit, OfBoth}
 use Rattle.cond_lang.specs.declared.classes.Quantifier.{Quantifier as AQuantifier}
 use Rattle.cond_lang.specs.declared.scanner.Token.{Token}
-use Rattle.cond_lang.specs.declared.scanner.Token.TheVariants.{Or, And, Not, Balanced, Shape, Pattern, Quantifier, Stops, Measure, Cards, Len, Longest, Second, Shortest, In, X, Seat, Suit, Class, Neighbour, Ranks, Number, Open, Close, Comma, Dash, Plus, Star, Relation}
+use Rattle.cond_lang.specs.declared.scanner.Token.TheVariants.{Or, And, Not, Balanced, Shape, Pattern, Quantifier, Stops, Measure, Cards, Len, Longest, Second, Shortest, In, X, Seat, Suit, Class, Neighbour, Ranks, Number, Open, Close, Comma, Dash, Plus, Star, Relation, Name}
 use Rattle.cond_lang.specs.declared.parser.Refusal.{Refusal}
 use Rattle.cond_lang.specs.declared.parser.Refusal.TheVariants.{Syntax, Memory}
 use Rattle.conditions.specs.Form.{Amount, sum, number, counted, times, measured, suit_measured, cards_held, suit_cards_held, suit_length, longest, second, shortest, Form, any_of, all_of, negation, compare, within, balanced, shaped, patterned, stops}
-use Rattle.cond_lang.specs.Classes.{unbound, bound_to, bind, can_bind, is_member, all_choices, seat_bound_to, seat_beside}
-use Rattle.cond_lang.specs.Grammar.{joined}
+use Rattle.cond_lang.specs.Classes.{bound_to, bind, can_bind, is_member, choice, all_choices, seat_bound_to, seat_beside}
+use Rattle.cond_lang.specs.Grammar.{Meaning, Meanings, condition, value, joined}
 
 -- what was read and what is left, or where it stopped
 pub data Outcome (A : Type 0) : Type 0 where
@@ -182,9 +186,29 @@ rest_of_number E n S = got (number n) S
 abbrev pub count_alone : Bound → Reader Amount
 count_alone E S = after (count_of E S) (λ k R. got (counted k) R)
 
-unfoldable pub atom_of : Bound → Reader Amount
-atom_of E (Number n ∷ S) = rest_of_number E n S
-atom_of E S = count_alone E S
+-- ( suit )
+abbrev pub suit_in_brackets : Bound → Reader ASuit
+suit_in_brackets E S = after (opened S) (λ _ S. after (suit E S) closing)
+
+-- a name's arguments
+abbrev pub args : Bound → Params → Reader Choice
+args E Plain S = got (choice Spades North) S
+args E OfSeat S = after (seat_in_brackets E S) (λ q R. got (choice Spades q) R)
+args E OfSuit S = after (suit_in_brackets E S) (λ s R. got (choice s North) R)
+args E OfBoth S = after (seat_and_suit E S) (λ p R. got (choice p.1 p.0) R)
+
+-- the name of a value, by what the name stands for
+abbrev pub value_used : Option Meaning → Bound → ℕ → Reader Amount
+value_used (Some (value p f)) E n S = after (args E p S) (λ x R. got (f x) R)
+value_used m E n S = stuck (Name n ∷ S)
+
+unfoldable pub number_or_count : Bound → Reader Amount
+number_or_count E (Number n ∷ S) = rest_of_number E n S
+number_or_count E S = count_alone E S
+
+unfoldable pub atom_of : Meanings → Bound → Reader Amount
+atom_of N E (Name n ∷ S) = value_used (slice_get N n) E n S
+atom_of N E S = number_or_count E S
 
 unfoldable pub items : Reader (List Item)
 items S =
@@ -235,17 +259,23 @@ related_by r E a S = compared_by r E a S
 abbrev pub comparing_by : Readers → Bound → Reader Form
 comparing_by r E S = after (r E a_value S) (λ a S. related_by r E a S)
 
-abbrev pub sums_by : Readers → Bound → Amount → Reader Amount
-sums_by r E a (Plus ∷ S) = after (atom_of E S) (λ b R. r E (sums (sum a b)) R)
-sums_by r E a S = got a S
+abbrev pub sums_by : Meanings → Readers → Bound → Amount → Reader Amount
+sums_by N r E a (Plus ∷ S) = after (atom_of N E S) (λ b R. r E (sums (sum a b)) R)
+sums_by N r E a S = got a S
+
+-- the name of a condition, or a comparison that begins with one
+abbrev pub condition_used_by : Option Meaning → Readers → Bound → ℕ → Reader Form
+condition_used_by (Some (condition p f)) r E n S = after (args E p S) (λ x R. got (f x) R)
+condition_used_by m r E n S = comparing_by r E (Name n ∷ S)
 
 -- a test with no `not`, no bracket and no quantifier before it
-abbrev pub test_by : Readers → Bound → Reader Form
-test_by r E (Balanced ∷ S) = after (open_seat E S) (λ q R. closing (balanced q) R)
-test_by r E (Shape ∷ S) = after (seat_and_items E S) (λ p R. got (shaped p.0 p.1) R)
-test_by r E (Pattern ∷ S) = after (seat_and_items E S) (λ p R. got (patterned p.0 p.1) R)
-test_by r E (Stops ∷ S) = after (seat_and_suit E S) (λ p R. got (stops p.0 p.1) R)
-test_by r E S = comparing_by r E S
+abbrev pub test_by : Meanings → Readers → Bound → Reader Form
+test_by N r E (Balanced ∷ S) = after (open_seat E S) (λ q R. closing (balanced q) R)
+test_by N r E (Shape ∷ S) = after (seat_and_items E S) (λ p R. got (shaped p.0 p.1) R)
+test_by N r E (Pattern ∷ S) = after (seat_and_items E S) (λ p R. got (patterned p.0 p.1) R)
+test_by N r E (Stops ∷ S) = after (seat_and_suit E S) (λ p R. got (stops p.0 p.1) R)
+test_by N r E (Name n ∷ S) = condition_used_by (slice_get N n) r E n S
+test_by N r E S = comparing_by r E S
 
 -- a tree after those of the choices before it
 abbrev pub behind : AQuantifier → Option Form → Form → Form
@@ -283,11 +313,11 @@ abbrev pub quantified_by : Readers → Bound → Reader Form
 quantified_by r E S =
     after (quantifier E S) (λ k S. after (class E S) (λ c S. bracketed_by r E k c S))
 
-abbrev pub unit_by : Readers → Bound → Reader Form
-unit_by r E (Not ∷ S) = after (r E a_unit S) (λ t R. got (negation t) R)
-unit_by r E (Open ∷ S) = after (r E a_cond S) closing
-unit_by r E (Quantifier k ∷ S) = quantified_by r E (Quantifier k ∷ S)
-unit_by r E S = test_by r E S
+abbrev pub unit_by : Meanings → Readers → Bound → Reader Form
+unit_by N r E (Not ∷ S) = after (r E a_unit S) (λ t R. got (negation t) R)
+unit_by N r E (Open ∷ S) = after (r E a_cond S) closing
+unit_by N r E (Quantifier k ∷ S) = quantified_by r E (Quantifier k ∷ S)
+unit_by N r E S = test_by N r E S
 
 abbrev pub ors_by : Readers → Bound → Form → Reader Form
 ors_by r E a (Or ∷ S) = after (r E a_both S) (λ b R. r E (ors (any_of a b)) R)
@@ -297,18 +327,18 @@ abbrev pub ands_by : Readers → Bound → Form → Reader Form
 ands_by r E a (And ∷ S) = after (r E a_unit S) (λ b R. r E (ands (all_of a b)) R)
 ands_by r E a S = got a S
 
-abbrev pub step : Readers → Bound → (g : Goal) → Reader (Of g)
-step r E a_cond S = after (r E a_both S) (λ a R. r E (ors a) R)
-step r E a_both S = after (r E a_unit S) (λ a R. r E (ands a) R)
-step r E a_unit S = unit_by r E S
-step r E (ors a) S = ors_by r E a S
-step r E (ands a) S = ands_by r E a S
-step r E a_value S = after (atom_of E S) (λ a R. r E (sums a) R)
-step r E (sums a) S = sums_by r E a S
+abbrev pub step : Meanings → Readers → Bound → (g : Goal) → Reader (Of g)
+step N r E a_cond S = after (r E a_both S) (λ a R. r E (ors a) R)
+step N r E a_both S = after (r E a_unit S) (λ a R. r E (ands a) R)
+step N r E a_unit S = unit_by N r E S
+step N r E (ors a) S = ors_by r E a S
+step N r E (ands a) S = ands_by r E a S
+step N r E a_value S = after (atom_of N E S) (λ a R. r E (sums a) R)
+step N r E (sums a) S = sums_by N r E a S
 
-unfoldable pub steps : ℕ → Readers
-steps zero E g S = stuck S
-steps (suc n) E g S = step (steps n) E g S
+unfoldable pub steps : Meanings → ℕ → Readers
+steps N zero E g S = stuck S
+steps N (suc n) E g S = step N (steps N n) E g S
 
 abbrev pub rank : Goal → ℕ
 rank a_cond = 4
@@ -320,17 +350,8 @@ rank (ors a) = 0
 rank (ands a) = 0
 
 -- as many steps as are enough
-unfoldable pub reading : Readers
-reading E g S = steps (suc (rank g + 5 * length S)) E g S
-
--- nothing is left
-abbrev pub ended : Form → Reader Form
-ended t [] = got t []
-ended t (c ∷ S) = stuck (c ∷ S)
-
--- one condition, and no more
-unfoldable pub whole : Reader Form
-whole S = after (reading unbound a_cond S) ended
+unfoldable pub reading : Meanings → Readers
+reading N E g S = steps N (suc (rank g + 5 * length S)) E g S
 
 -- A function returned what is read, and left what is left, unless memory ran out.
 abbrev pub Gives : {X A : Type 0} → (X → A) → Result X Refusal → List Token → Outcome A → Type 0

@@ -1,23 +1,53 @@
 //! What a whole list of tokens is: a condition, a value, or the beginning of a condition.
 
-ghost use Rattle.std.specs.Prelude.{◌≡◌, ◌<◌, ◌≤◌, ◌⊎◌, ◌↔◌, ℕ, IfOk, IfErr, Err, IsTrue};
+ghost use Rattle.std.specs.Prelude.{◌≡◌, ◌<◌, ◌≤◌, ◌⊎◌, ◌↔◌, ℕ, length, IfOk, IfErr, Err, IsTrue};
 ghost use Rattle.std.specs.Prelude.{MatchOption};
 ghost use Rattle.conditions.specs.declared.limits.TheConstants.{MOST_PARTS};
 ghost use Rattle.conditions.specs.Form.{Amount, Form, form_of};
 ghost use Rattle.conditions.specs.Limits.{parts_of};
-ghost use Rattle.cond_lang.specs.Classes.{unbound};
-ghost use Rattle.cond_lang.specs.Grammar.{Spells, SpellsValue};
+ghost use Rattle.cond_lang.specs.Definitions.{Spells, SpellsAmount};
 ghost use Rattle.cond_lang.specs.Text.{kinds};
 ghost use Rattle.cond_lang.specs.Continuations.{IsLongestViable};
 ghost use Rattle.cond_lang.specs.Faults.{offset_of, IsPlace};
-ghost use Rattle.cond_lang.specs.internal.Growing.{IsGrownValue};
+ghost use Rattle.cond_lang.specs.internal.Defining.{whole, whole_value};
+ghost use Rattle.cond_lang.specs.internal.Growing.{GivesBy, IsGrown, IsGrownValue};
 
-use super::grown::GrownValue;
+use super::grown::{Grown, GrownValue};
 use super::{Parser, Refusal};
 use crate::classes::Bound;
 use crate::scanner::Placed;
 use conditions::{CondError, Tree};
 use std::alloc::Global;
+
+impl<'a> Parser<'a> {
+    /// Definitions and one condition, and no more.
+    #[tactic(auto, unfolding(crate::specs::internal::Defining::whole, crate::specs::internal::Defining::cond_alone))]
+    fn whole(&mut self) -> Result<Grown, Refusal>
+        ensures gives { GivesBy IsGrown result self.new (whole self.old) }
+        ensures shorter { length self.new ≤ length self.old }
+    {
+        let names = self.definitions()?;
+        let tree = self.cond(names.as_slice(), Bound::none())?;
+        if self.peek().is_some() {
+            return Err(Refusal::Syntax);
+        }
+        Ok(tree)
+    }
+
+    /// Definitions and one value, and no more.
+    #[tactic(auto, unfolding(crate::specs::internal::Defining::whole_value, crate::specs::internal::Defining::value_alone))]
+    fn whole_value(&mut self) -> Result<GrownValue, Refusal>
+        ensures gives { GivesBy IsGrownValue result self.new (whole_value self.old) }
+        ensures shorter { length self.new ≤ length self.old }
+    {
+        let names = self.definitions()?;
+        let value = self.value(names.as_slice(), Bound::none())?;
+        if self.peek().is_some() {
+            return Err(Refusal::Syntax);
+        }
+        Ok(value)
+    }
+}
 
 /// The tree that the tokens spell, which are those of a text of `end` bytes.
 pub(crate) fn parse_tokens(alloc: Global, tokens: &[Placed], end: usize) -> Result<Tree, CondError>
@@ -50,18 +80,13 @@ pub(crate) fn parse_tokens(alloc: Global, tokens: &[Placed], end: usize) -> Resu
 /// The value that the tokens are, if they are one and no more. The only error is `Memory`.
 pub(crate) fn read_value(alloc: Global, tokens: &[Placed]) -> Result<Option<GrownValue>, CondError>
     ensures value { IfOk result (λ found. MatchOption found
-        ((a : Amount) → SpellsValue unbound (kinds tokens.now) a → ⊥)
-        (λ v. (a : Amount) × IsGrownValue v a × SpellsValue unbound (kinds tokens.now) a)) }
+        ((a : Amount) → SpellsAmount (kinds tokens.now) a → ⊥)
+        (λ v. (a : Amount) × IsGrownValue v a × SpellsAmount (kinds tokens.now) a)) }
     ensures memory { IfErr result (λ e. e ≡ CondError.Memory) }
 {
     let mut parser = Parser::new(alloc, tokens);
-    match parser.value(Bound::none()) {
-        Ok(value) => {
-            if parser.left() > 0 {
-                return Ok(None);
-            }
-            Ok(Some(value))
-        }
+    match parser.whole_value() {
+        Ok(value) => Ok(Some(value)),
         Err(Refusal::Syntax) => Ok(None),
         Err(Refusal::Memory) => Err(CondError::Memory),
     }

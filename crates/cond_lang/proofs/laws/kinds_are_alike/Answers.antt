@@ -1,4 +1,4 @@
-use Rattle.cond_lang.proofs.Alike.{viable_like}
+use Rattle.cond_lang.proofs.AlikeTexts.{viable_like}
 use Rattle.cond_lang.proofs.laws.kinds_are_alike.Goals as goal
 
 pub returns : goal.returns

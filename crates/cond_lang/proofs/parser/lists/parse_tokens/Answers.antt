@@ -1,13 +1,14 @@
 use Rattle.std.proofs.Common.{◌≡◌, ◌-◌, ◌≤◌, ◌<◌, ◌∙◌, List, ap, arith, inr, length, refl, rules, subst, sym}
 use Rattle.cond_lang.specs.declared.scanner.Token.{Token}
-use Rattle.cond_lang.specs.internal.Reading.{stuck, whole}
+use Rattle.cond_lang.specs.internal.Defining.{whole}
+use Rattle.cond_lang.specs.internal.Reading.{stuck}
 use Rattle.conditions.specs.declared.limits.TheConstants.{MOST_PARTS}
 use Rattle.conditions.specs.Form.{form_of}
 use Rattle.conditions.specs.Limits.{parts_of}
-use Rattle.cond_lang.specs.Grammar.{Spells}
+use Rattle.cond_lang.specs.Definitions.{Spells}
 use Rattle.cond_lang.specs.Text.{kinds}
 use Rattle.cond_lang.proofs.Place.{from_ok, from_stuck, never_both, first_fault, same_at, at_place}
-use Rattle.cond_lang.proofs.Spelled.{one_tree}
+use Rattle.cond_lang.proofs.Definitions.{one_tree}
 use Rattle.cond_lang.proofs.parser.lists.parse_tokens.Goals as goal
 
 pub returns-in-Some-clause-spelled : goal.returns-in-Some-clause-spelled

@@ -13,13 +13,13 @@ pub loop-i-preserved : goal.loop-i-preserved
 loop-i-preserved c = (
   grind (arith, common_steps),
   one_answer_more c.loop-i.holds
-      (λ k. CanStand c.args.asked c.args.beginning.now (slice_index_or all_kinds k kind.Not)) c.loop-i.i
+      (λ k. CanStand c.args.asked c.args.beginning.now (slice_index_or all_kinds k kind.Let)) c.loop-i.i
       c.in_ok-holds.field-0 (omega arith) c.loop-i.invariant.1 c.in_ok-holds.ensures.allowed,
 )
 
 pub returns-clause-allowed : goal.returns-clause-allowed
 returns-clause-allowed c =
-    λ k. let within : place_of k < length all_kinds = slice_get_within all_kinds (place_of k) k (kind_listed k) in
-    let there : slice_index_or all_kinds (place_of k) kind.Not ≡ k = get_or_from_slice_get all_kinds (place_of k) k kind.Not (kind_listed k) in
+    λ k l. let within : place_of k < length all_kinds = slice_get_within all_kinds (place_of k) k (kind_listed k l) in
+    let there : slice_index_or all_kinds (place_of k) kind.Let ≡ k = get_or_from_slice_get all_kinds (place_of k) k kind.Let (kind_listed k l) in
     let P : Kind → Type 0 = λ q. IsTrue (slice_index_or c.loop-i.holds (place_of k) false) ↔ CanStand c.args.asked c.args.beginning.now q in
     subst P there (c.loop-i.invariant.1 (place_of k) (omega arith))

@@ -9,4 +9,4 @@ invariant-loop-i l =
     (length l.holds ≡ length all_kinds)
     × ((k : ℕ) → k < l.i
     → IsTrue (slice_index_or l.holds k false)
-    ↔ CanStand l.asked l.beginning (slice_index_or all_kinds k kind.Not))
+    ↔ CanStand l.asked l.beginning (slice_index_or all_kinds k kind.Let))
