@@ -1,7 +1,8 @@
 //! What a whole list of tokens is: a condition, a value, or the beginning of a condition.
 
-ghost use Rattle.std.specs.Prelude.{◌≡◌, ◌<◌, ◌≤◌, ◌⊎◌, ◌↔◌, ℕ, length, IfOk, IfErr, Err, IsTrue};
+ghost use Rattle.std.specs.Prelude.{◌≡◌, ◌≢◌, [], ◌<◌, ◌≤◌, ◌⊎◌, ◌↔◌, ℕ, length, IfOk, IfErr, Err, IsTrue};
 ghost use Rattle.std.specs.Prelude.{MatchOption};
+ghost use Rattle.cond_lang.specs.declared.parser.Refusal.TheVariants.{Syntax};
 ghost use Rattle.conditions.specs.declared.limits.TheConstants.{MOST_PARTS};
 ghost use Rattle.conditions.specs.Form.{Amount, Form, form_of};
 ghost use Rattle.conditions.specs.Limits.{parts_of};
@@ -20,6 +21,17 @@ use conditions::{CondError, Tree};
 use std::alloc::Global;
 
 impl<'a> Parser<'a> {
+    /// No token is left.
+    fn end(&self) -> Result<(), Refusal>
+        ensures ok { IfOk result (λ _. self.now ≡ []) }
+        ensures err { IfErr result (λ e. (e ≡ Syntax) × (self.now ≢ [])) }
+    {
+        if self.left() > 0 {
+            return Err(Refusal::Syntax);
+        }
+        Ok(())
+    }
+
     /// Definitions and one condition, and no more.
     #[tactic(auto, unfolding(crate::specs::internal::Defining::whole, crate::specs::internal::Defining::cond_alone))]
     fn whole(&mut self) -> Result<Grown, Refusal>
@@ -28,9 +40,7 @@ impl<'a> Parser<'a> {
     {
         let names = self.definitions()?;
         let tree = self.cond(names.as_slice(), Bound::none())?;
-        if self.peek().is_some() {
-            return Err(Refusal::Syntax);
-        }
+        self.end()?;
         Ok(tree)
     }
 
@@ -42,9 +52,7 @@ impl<'a> Parser<'a> {
     {
         let names = self.definitions()?;
         let value = self.value(names.as_slice(), Bound::none())?;
-        if self.peek().is_some() {
-            return Err(Refusal::Syntax);
-        }
+        self.end()?;
         Ok(value)
     }
 }
