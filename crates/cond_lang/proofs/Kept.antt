@@ -2,7 +2,6 @@
 use Rattle.std.proofs.Common.{◌≡◌, ℕ, zero, suc, ◌+◌, ◌*◌, ◌≤◌, ◌<◌, Bool, true, false, List, [], ◌∷◌, ◌++◌, Option, Some, None, length, take, get_or, slice_get, refl, sym, ap, ◌∙◌, subst, length-append, arith}
 use Rattle.std.specs.Prelude.{min, Result, Ok, Err, IfOk}
 use Rattle.std.proofs.lemmas.Option.{slice_get_past, slice_get_read, get_or_from_slice_get}
-use Rattle.conditions.specs.declared.limits.TheConstants.{MOST_PARTS}
 use Rattle.conditions.specs.Form.{Amount, Form}
 use Rattle.conditions.specs.Limits.{atoms_of, parts_of}
 use Rattle.cond_lang.specs.declared.parser.Refusal.{Refusal}
@@ -17,7 +16,7 @@ use Rattle.cond_lang.specs.Text.{kinds}
 use Rattle.cond_lang.specs.Classes.{given}
 use Rattle.cond_lang.specs.internal.Arguments.{is_argument, place_of}
 use Rattle.cond_lang.specs.internal.Defining.{new_name, params, is_body, definition, definitions, amount_read, tree_read, as_condition, as_value, meaning, meaning_by, meanings_after, meanings, IsGot, IsRead, AreCounted, IsSound, AreSoundAfter, AreSound, work_of}
-use Rattle.cond_lang.specs.internal.Growing.{GivesBy}
+use Rattle.cond_lang.specs.internal.Growing.{GivesBy, most_counted}
 use Rattle.cond_lang.specs.internal.Reading.{Outcome, got, stuck, after, front, a_cond, a_value, reading}
 use Rattle.cond_lang.proofs.Definitions.{definitions_let}
 
@@ -115,12 +114,12 @@ condition_meaning ms n m s e b = meaning_at ms n m s e ∙ ap (λ b. Some (meani
 
 -- where the body is read again, it is a, and its parts are counted
 pub record AmountAt (ms : List Named) (m : Named) (n : ℕ) (x : Choice) (a : Amount) : Type 0 where
-  pub parts : slice_get m.parts (place_of x) ≡ Some (min (atoms_of a) (MOST_PARTS + 1))
+  pub parts : slice_get m.parts (place_of x) ≡ Some (min (atoms_of a) most_counted)
   pub left : List Token
   pub read : reading (meanings (take n ms)) (given m.params x) a_value (kinds m.body.now) ≡ got a left
 
 pub record TreeAt (ms : List Named) (m : Named) (n : ℕ) (x : Choice) (t : Form) : Type 0 where
-  pub parts : slice_get m.parts (place_of x) ≡ Some (min (parts_of t) (MOST_PARTS + 1))
+  pub parts : slice_get m.parts (place_of x) ≡ Some (min (parts_of t) most_counted)
   pub left : List Token
   pub read : reading (meanings (take n ms)) (given m.params x) a_cond (kinds m.body.now) ≡ got t left
 
@@ -137,28 +136,28 @@ module _ (N : Meanings) (S : List Token) (P : Params) (parts : List ℕ) where
   amount_of :
       (b : Bool) (p : Params) (f : Choice → Amount) (x : Choice)
       → ((y : Choice) → IsRead N b (given P y) S) → AreCounted N P b S parts → meaning_by N b P S ≡ value p f → is_argument p x ≡ true
-      → (slice_get parts (place_of x) ≡ Some (min (atoms_of (f x)) (MOST_PARTS + 1))) × ((R : List Token) × (reading N (given P x) a_value S ≡ got (f x) R))
+      → (slice_get parts (place_of x) ≡ Some (min (atoms_of (f x)) most_counted)) × ((R : List Token) × (reading N (given P x) a_value S ≡ got (f x) R))
   amount_of false p f x read counted e i = absurd (cc)
   amount_of true p f x read counted e i =
       let same : P ≡ p = cc in
       let g : (λ (y : Choice). amount_read (reading N (given P y) a_value S)) ≡ f = cc in
       let is : amount_read (reading N (given P x) a_value S) ≡ f x = ap (λ f. f x) g in
       let o = amount_got (reading N (given P x) a_value S) (read x) in (
-        counted x (ap (λ p. is_argument p x) same ∙ i) ∙ ap (λ a. Some (min (atoms_of a) (MOST_PARTS + 1))) is,
+        counted x (ap (λ p. is_argument p x) same ∙ i) ∙ ap (λ a. Some (min (atoms_of a) most_counted)) is,
         (o.0, o.1 ∙ ap (λ a. got a o.0) is),
       )
 
   tree_of :
       (b : Bool) (p : Params) (f : Choice → Form) (x : Choice)
       → ((y : Choice) → IsRead N b (given P y) S) → AreCounted N P b S parts → meaning_by N b P S ≡ condition p f → is_argument p x ≡ true
-      → (slice_get parts (place_of x) ≡ Some (min (parts_of (f x)) (MOST_PARTS + 1))) × ((R : List Token) × (reading N (given P x) a_cond S ≡ got (f x) R))
+      → (slice_get parts (place_of x) ≡ Some (min (parts_of (f x)) most_counted)) × ((R : List Token) × (reading N (given P x) a_cond S ≡ got (f x) R))
   tree_of true p f x read counted e i = absurd (cc)
   tree_of false p f x read counted e i =
       let same : P ≡ p = cc in
       let g : (λ (y : Choice). tree_read (reading N (given P y) a_cond S)) ≡ f = cc in
       let is : tree_read (reading N (given P x) a_cond S) ≡ f x = ap (λ f. f x) g in
       let o = tree_got (reading N (given P x) a_cond S) (read x) in (
-        counted x (ap (λ p. is_argument p x) same ∙ i) ∙ ap (λ a. Some (min (parts_of a) (MOST_PARTS + 1))) is,
+        counted x (ap (λ p. is_argument p x) same ∙ i) ∙ ap (λ a. Some (min (parts_of a) most_counted)) is,
         (o.0, o.1 ∙ ap (λ a. got a o.0) is),
       )
 

@@ -59,7 +59,7 @@ module _ (N : Meanings) (p : Params) (S : List Token) (E : Bound) (bound : E ≡
   cond_body Q R t f q e = other_body (got t R) Q f q e ∙ ap (λ b. got (meaning_by N b p S) R) (sym f)
 
   pub err_body :
-      (Q R : List Token) (e : Refusal) (r : Result Named Refusal) → b ≡ false → Q ≡ S → r ≡ Err e → GivesBy IsGrown (Err e) R (reading N E a_cond Q)
+      (Q R : List Token) (e : Refusal) (r : Result Named Refusal) → b ≡ false → Q ≡ S → r ≡ Err e → GivesBy (IsGrown 0) (Err e) R (reading N E a_cond Q)
       → Gives (meaning N) r R (body N p S)
   err_body Q R Syntax r f q i h = rw i (other_body (stuck R) Q f q h)
   err_body Q R Memory r f q i h = rw i tt

@@ -27,8 +27,8 @@ mod terminals;
 
 use crate::classes::{Bound, Choice, Class, Quantifier};
 use crate::scanner::{Placed, Token};
-use conditions::{MOST_PARTS, Tree};
-use grown::{Grown, GrownValue};
+use conditions::Tree;
+use grown::{Grown, GrownValue, room_behind};
 pub(crate) use lists::{parse_tokens, read_as_far, read_value};
 use names::Named;
 use std::alloc::{AllocFailed, Global};
@@ -54,11 +54,12 @@ impl<T: Drop> From<AllocFailed<T>> for Refusal {
     }
 }
 
-/// A quantifier and its class.
+/// A quantifier and its class, and how many parts there is room for with all of the class.
 #[derive(Clone, Copy)]
 struct Each {
     quantifier: Quantifier,
     class: Class,
+    room: u32,
 }
 
 /// The tokens that are left, which is all that contracts see of a parser.
@@ -114,15 +115,15 @@ impl<'a> Parser<'a> {
     /// A number, that many times what is counted, what is counted, or the name of a value.
     #[cycle(values)]
     #[tactic(auto, unfolding(crate::specs::internal::Reading::atom_of))]
-    fn atom(&mut self, names: &[Named<'a>], bound: Bound) -> Result<GrownValue, Refusal>
+    fn atom(&mut self, names: &[Named<'a>], room: u32, bound: Bound) -> Result<GrownValue, Refusal>
         requires { AreSound names.now }
-        ensures gives { GivesBy IsGrownValue result self.new
+        ensures gives { GivesBy (IsGrownValue room) result self.new
             (atom_of (meanings names.now) bound self.old) }
         ensures shorter { length self.new ≤ length self.old }
     {
         match self.peek() {
-            Some(Token::Name(number)) => self.value_used(names, bound, number),
-            _ => Ok(GrownValue::one(self.number_or_count(bound)?)),
+            Some(Token::Name(number)) => self.value_used(names, room, bound, number),
+            _ => Ok(GrownValue::one(room, self.number_or_count(bound)?)),
         }
     }
 
@@ -132,13 +133,14 @@ impl<'a> Parser<'a> {
     fn value_used(
         &mut self,
         names: &[Named<'a>],
+        room: u32,
         bound: Bound,
         number: u16,
     ) -> Result<GrownValue, Refusal>
         requires sound { AreSound names.now }
         requires sight { (rest : List AToken) × (self.old ≡ Name number ∷ rest) }
         ensures gives { (rest : List AToken) → self.old ≡ Name number ∷ rest
-            → GivesBy IsGrownValue result self.new
+            → GivesBy (IsGrownValue room) result self.new
             (value_used (slice_get (meanings names.now) number) bound number rest) }
         ensures shorter { length self.new ≤ length self.old }
     {
@@ -150,7 +152,7 @@ impl<'a> Parser<'a> {
         }
         self.advance();
         let choice = self.args(bound, named.params)?;
-        Parser::amount_named(self.alloc, names, number, choice)
+        Parser::amount_named(self.alloc, names, room, number, choice)
     }
 
     /// What the name of a value stands for with these arguments: its body, read again.
@@ -159,13 +161,14 @@ impl<'a> Parser<'a> {
     fn amount_named(
         alloc: Global,
         names: &[Named<'a>],
+        room: u32,
         number: u16,
         choice: Choice,
     ) -> Result<GrownValue, Refusal>
         requires { AreSound names.now }
         ensures ok { (p : AreParams) (f : AChoice → Amount)
             → slice_get (meanings names.now) number ≡ Some (value p f)
-            → is_argument p choice ≡ true → IfOk result (λ v. IsGrownValue v (f choice)) }
+            → is_argument p choice ≡ true → IfOk result (λ v. IsGrownValue room v (f choice)) }
         ensures err { (p : AreParams) (f : AChoice → Amount)
             → slice_get (meanings names.now) number ≡ Some (value p f)
             → is_argument p choice ≡ true → result ≢ Err Refusal.Syntax }
@@ -175,54 +178,56 @@ impl<'a> Parser<'a> {
             return Err(Refusal::Syntax);
         };
         let parts = named.parts[choice.place()];
-        if parts > MOST_PARTS {
+        if parts > room {
             return Ok(GrownValue { parts, value: None });
         }
         let mut parser = Parser::new(alloc, named.body);
-        parser.value(&names[..index], Bound::given(named.params, choice))
+        parser.value(&names[..index], room, Bound::given(named.params, choice))
     }
 
     /// Atoms with `+` between them.
     #[cycle(values)]
-    fn value(&mut self, names: &[Named<'a>], bound: Bound) -> Result<GrownValue, Refusal>
+    fn value(&mut self, names: &[Named<'a>], room: u32, bound: Bound) -> Result<GrownValue, Refusal>
         requires { AreSound names.now }
-        ensures gives { GivesBy IsGrownValue result self.new
+        ensures gives { GivesBy (IsGrownValue room) result self.new
             (reading (meanings names.now) bound a_value self.old) }
         ensures shorter { length self.new ≤ length self.old }
     {
-        let mut left = self.atom(names, bound)?;
+        let mut left = self.atom(names, room, bound)?;
         while let Some(Token::Plus) = self.peek() {
             self.advance();
-            let right = self.atom(names, bound)?;
-            left = GrownValue::sum(self.alloc, left, right)?;
+            let room_behind = room.saturating_sub(left.parts);
+            let right = self.atom(names, room_behind, bound)?;
+            left = GrownValue::sum(self.alloc, room, left, right)?;
         }
         Ok(left)
     }
 
     /// A value, and `in number - number` or `op value`.
-    fn comparison(&mut self, names: &[Named<'a>], bound: Bound) -> Result<Grown, Refusal>
+    fn comparison(&mut self, names: &[Named<'a>], room: u32, bound: Bound) -> Result<Grown, Refusal>
         requires { AreSound names.now }
-        ensures gives { GivesBy IsGrown result self.new
+        ensures gives { GivesBy (IsGrown room) result self.new
             (comparing_by (reading (meanings names.now)) bound self.old) }
         ensures shorter { length self.new ≤ length self.old }
     {
-        let left = self.value(names, bound)?;
+        let left = self.value(names, room, bound)?;
         if let Some(Token::In) = self.peek() {
             self.advance();
             let (least, most) = self.range()?;
             return Grown::within(self.alloc, left, least, most);
         }
         let op = self.relation()?;
-        let right = self.value(names, bound)?;
-        Grown::compare(self.alloc, left, op, right)
+        let room_behind = room.saturating_sub(left.parts);
+        let right = self.value(names, room_behind, bound)?;
+        Grown::compare(self.alloc, room, left, op, right)
     }
 
     /// One test with no `not`, no bracket and no quantifier before it.
     #[cycle(conditions)]
     #[inline(never)]
-    fn test(&mut self, names: &[Named<'a>], bound: Bound) -> Result<Grown, Refusal>
+    fn test(&mut self, names: &[Named<'a>], room: u32, bound: Bound) -> Result<Grown, Refusal>
         requires { AreSound names.now }
-        ensures gives { GivesBy IsGrown result self.new
+        ensures gives { GivesBy (IsGrown room) result self.new
             (test_by (meanings names.now) (reading (meanings names.now)) bound self.old) }
         ensures shorter { length self.new ≤ length self.old }
     {
@@ -231,25 +236,25 @@ impl<'a> Parser<'a> {
                 self.advance();
                 let seat = self.open_seat(bound)?;
                 self.close()?;
-                Grown::one(self.alloc, Tree::Balanced(seat))
+                Grown::one(self.alloc, room, Tree::Balanced(seat))
             }
             Some(Token::Shape) => {
                 self.advance();
                 let (seat, items) = self.seat_and_items(bound)?;
-                Grown::one(self.alloc, Tree::shape(seat, items))
+                Grown::one(self.alloc, room, Tree::shape(seat, items))
             }
             Some(Token::Pattern) => {
                 self.advance();
                 let (seat, items) = self.seat_and_items(bound)?;
-                Grown::one(self.alloc, Tree::pattern(seat, items))
+                Grown::one(self.alloc, room, Tree::pattern(seat, items))
             }
             Some(Token::Stops) => {
                 self.advance();
                 let (seat, suit) = self.seat_and_suit(bound)?;
-                Grown::one(self.alloc, Tree::Stops(seat, suit))
+                Grown::one(self.alloc, room, Tree::Stops(seat, suit))
             }
-            Some(Token::Name(number)) => self.condition_used(names, bound, number),
-            _ => self.comparison(names, bound),
+            Some(Token::Name(number)) => self.condition_used(names, room, bound, number),
+            _ => self.comparison(names, room, bound),
         }
     }
 
@@ -258,26 +263,27 @@ impl<'a> Parser<'a> {
     fn condition_used(
         &mut self,
         names: &[Named<'a>],
+        room: u32,
         bound: Bound,
         number: u16,
     ) -> Result<Grown, Refusal>
         requires sound { AreSound names.now }
         requires sight { (rest : List AToken) × (self.old ≡ Name number ∷ rest) }
         ensures gives { (rest : List AToken) → self.old ≡ Name number ∷ rest
-            → GivesBy IsGrown result self.new
+            → GivesBy (IsGrown room) result self.new
             (condition_used_by (slice_get (meanings names.now) number)
             (reading (meanings names.now)) bound number rest) }
         ensures shorter { length self.new ≤ length self.old }
     {
         let Some(named) = names.get(number as usize) else {
-            return self.comparison(names, bound);
+            return self.comparison(names, room, bound);
         };
         if named.is_value {
-            return self.comparison(names, bound);
+            return self.comparison(names, room, bound);
         }
         self.advance();
         let choice = self.args(bound, named.params)?;
-        Parser::tree_named(self.alloc, names, number, choice)
+        Parser::tree_named(self.alloc, names, room, number, choice)
     }
 
     /// What the name of a condition stands for with these arguments: its body, read again.
@@ -286,13 +292,14 @@ impl<'a> Parser<'a> {
     fn tree_named(
         alloc: Global,
         names: &[Named<'a>],
+        room: u32,
         number: u16,
         choice: Choice,
     ) -> Result<Grown, Refusal>
         requires { AreSound names.now }
         ensures ok { (p : AreParams) (f : AChoice → Form)
             → slice_get (meanings names.now) number ≡ Some (condition p f)
-            → is_argument p choice ≡ true → IfOk result (λ g. IsGrown g (f choice)) }
+            → is_argument p choice ≡ true → IfOk result (λ g. IsGrown room g (f choice)) }
         ensures err { (p : AreParams) (f : AChoice → Form)
             → slice_get (meanings names.now) number ≡ Some (condition p f)
             → is_argument p choice ≡ true → result ≢ Err Refusal.Syntax }
@@ -302,11 +309,11 @@ impl<'a> Parser<'a> {
             return Err(Refusal::Syntax);
         };
         let parts = named.parts[choice.place()];
-        if parts > MOST_PARTS {
+        if parts > room {
             return Ok(Grown { parts, tree: None });
         }
         let mut parser = Parser::new(alloc, named.body);
-        parser.cond(&names[..index], Bound::given(named.params, choice))
+        parser.cond(&names[..index], room, Bound::given(named.params, choice))
     }
 
     // A text has up to 1,024 opening brackets, and each keeps a frame of the next three functions
@@ -315,59 +322,61 @@ impl<'a> Parser<'a> {
 
     /// One test.
     #[cycle(conditions)]
-    fn unit(&mut self, names: &[Named<'a>], bound: Bound) -> Result<Grown, Refusal>
+    fn unit(&mut self, names: &[Named<'a>], room: u32, bound: Bound) -> Result<Grown, Refusal>
         requires { AreSound names.now }
-        ensures gives { GivesBy IsGrown result self.new
+        ensures gives { GivesBy (IsGrown room) result self.new
             (reading (meanings names.now) bound a_unit self.old) }
         ensures shorter { length self.new ≤ length self.old }
     {
         match self.peek() {
             Some(Token::Not) => {
                 self.advance();
-                let inner = self.unit(names, bound)?;
+                let inner = self.unit(names, room, bound)?;
                 Grown::negation(self.alloc, inner)
             }
             Some(Token::Open) => {
                 self.advance();
-                let inner = self.cond(names, bound)?;
+                let inner = self.cond(names, room, bound)?;
                 self.close()?;
                 Ok(inner)
             }
-            Some(Token::Quantifier(_)) => self.quantified(names, bound),
-            _ => self.test(names, bound),
+            Some(Token::Quantifier(_)) => self.quantified(names, room, bound),
+            _ => self.test(names, room, bound),
         }
     }
 
     /// Tests with `and` between them.
     #[cycle(conditions)]
-    fn both(&mut self, names: &[Named<'a>], bound: Bound) -> Result<Grown, Refusal>
+    fn both(&mut self, names: &[Named<'a>], room: u32, bound: Bound) -> Result<Grown, Refusal>
         requires { AreSound names.now }
-        ensures gives { GivesBy IsGrown result self.new
+        ensures gives { GivesBy (IsGrown room) result self.new
             (reading (meanings names.now) bound a_both self.old) }
         ensures shorter { length self.new ≤ length self.old }
     {
-        let mut left = self.unit(names, bound)?;
+        let mut left = self.unit(names, room, bound)?;
         while let Some(Token::And) = self.peek() {
             self.advance();
-            let right = self.unit(names, bound)?;
-            left = Grown::joined(self.alloc, Quantifier::Every, left, right)?;
+            let room_behind = room.saturating_sub(left.parts);
+            let right = self.unit(names, room_behind, bound)?;
+            left = Grown::joined(self.alloc, room, Quantifier::Every, left, right)?;
         }
         Ok(left)
     }
 
     /// What `and` joins, with `or` between.
     #[cycle(conditions)]
-    fn cond(&mut self, names: &[Named<'a>], bound: Bound) -> Result<Grown, Refusal>
+    fn cond(&mut self, names: &[Named<'a>], room: u32, bound: Bound) -> Result<Grown, Refusal>
         requires { AreSound names.now }
-        ensures gives { GivesBy IsGrown result self.new
+        ensures gives { GivesBy (IsGrown room) result self.new
             (reading (meanings names.now) bound a_cond self.old) }
         ensures shorter { length self.new ≤ length self.old }
     {
-        let mut left = self.both(names, bound)?;
+        let mut left = self.both(names, room, bound)?;
         while let Some(Token::Or) = self.peek() {
             self.advance();
-            let right = self.both(names, bound)?;
-            left = Grown::joined(self.alloc, Quantifier::Any, left, right)?;
+            let room_behind = room.saturating_sub(left.parts);
+            let right = self.both(names, room_behind, bound)?;
+            left = Grown::joined(self.alloc, room, Quantifier::Any, left, right)?;
         }
         Ok(left)
     }
@@ -376,9 +385,9 @@ impl<'a> Parser<'a> {
     /// seat of the class, from the same token on. At most seven quantifiers enclose each other.
     #[cycle(conditions)]
     #[inline(never)]
-    fn quantified(&mut self, names: &[Named<'a>], bound: Bound) -> Result<Grown, Refusal>
+    fn quantified(&mut self, names: &[Named<'a>], room: u32, bound: Bound) -> Result<Grown, Refusal>
         requires { AreSound names.now }
-        ensures gives { GivesBy IsGrown result self.new
+        ensures gives { GivesBy (IsGrown room) result self.new
             (quantified_by (reading (meanings names.now)) bound self.old) }
         ensures shorter { length self.new ≤ length self.old }
     {
@@ -386,7 +395,11 @@ impl<'a> Parser<'a> {
         let class = self.class(bound)?;
         self.open()?;
         let start = self.rest;
-        let each = Each { quantifier, class };
+        let each = Each {
+            quantifier,
+            class,
+            room,
+        };
         let first = self.with_choice(names, start, bound, each, Choice::FIRST, None)?;
         let second = self.with_choice(names, start, bound, each, Choice::SECOND, first)?;
         let third = self.with_choice(names, start, bound, each, Choice::THIRD, second)?;
@@ -414,8 +427,8 @@ impl<'a> Parser<'a> {
     ) -> Result<Option<Grown>, Refusal>
         requires sound { AreSound names.now }
         requires passed { length self.old ≤ length start.now }
-        ensures gives { (t : Option Form) → AreGrown left t
-            → GivesBy AreGrown result self.new (with_choice_by (reading (meanings names.now))
+        ensures gives { (t : Option Form) → AreGrown each.room left t
+            → GivesBy (AreGrown each.room) result self.new (with_choice_by (reading (meanings names.now))
             bound each.quantifier each.class (kinds start.entry.now) choice t self.old) }
         ensures shorter { length self.new ≤ length start.entry.now }
     {
@@ -423,7 +436,12 @@ impl<'a> Parser<'a> {
             return Ok(left);
         }
         self.rest = start;
-        let tree = self.cond(names, bound.with(each.class, choice))?;
-        Ok(Some(Grown::behind(self.alloc, each.quantifier, left, tree)?))
+        let room = each.room;
+        let tree = self.cond(
+            names,
+            room_behind(room, &left),
+            bound.with(each.class, choice),
+        )?;
+        Ok(Some(Grown::behind(self.alloc, room, each.quantifier, left, tree)?))
     }
 }

@@ -2,7 +2,6 @@
 use Rattle.std.specs.Prelude.{◌≡◌, ℕ, zero, suc, ◌+◌, ◌*◌, ◌==◌, Bool, true, false, List, [], ◌∷◌, ◌++◌, length, map, min, Some, if◌then◌else◌, slice_get}
 use Rattle.cards.specs.declared.seat.Seat.TheVariants.{North}
 use Rattle.cards.specs.declared.suit.Suit.TheVariants.{Spades}
-use Rattle.conditions.specs.declared.limits.TheConstants.{MOST_PARTS}
 use Rattle.conditions.specs.declared.tree.Op.TheVariants.{Equal}
 use Rattle.cond_lang.specs.declared.classes.Bound.{Bound}
 use Rattle.cond_lang.specs.declared.classes.Choice.{Choice}
@@ -18,6 +17,7 @@ use Rattle.cond_lang.specs.Classes.{unbound, choice, given}
 use Rattle.cond_lang.specs.Grammar.{Meaning, Meanings, condition, value}
 use Rattle.cond_lang.specs.Text.{kinds}
 use Rattle.cond_lang.specs.internal.Arguments.{is_argument, place_of}
+use Rattle.cond_lang.specs.internal.Growing.{most_counted}
 use Rattle.cond_lang.specs.internal.Reading.{Outcome, got, stuck, Reader, after, opened, closing, a_cond, a_value, reading}
 
 -- ---- readers
@@ -150,12 +150,12 @@ meanings_after N (m ∷ ms) = meanings_after (N ++ meaning N m ∷ []) ms
 abbrev pub meanings : List Named → Meanings
 meanings ms = meanings_after [] ms
 
--- how many parts were read, or one more than the limit
+-- how many parts were read
 abbrev pub parts_of_tree : Outcome Form → ℕ
-parts_of_tree o = min (parts_of (tree_read o)) (MOST_PARTS + 1)
+parts_of_tree o = min (parts_of (tree_read o)) most_counted
 
 abbrev pub parts_of_amount : Outcome Amount → ℕ
-parts_of_amount o = min (atoms_of (amount_read o)) (MOST_PARTS + 1)
+parts_of_amount o = min (atoms_of (amount_read o)) most_counted
 
 abbrev pub parts_in : Meanings → Bool → Bound → List Token → ℕ
 parts_in N true E S = parts_of_amount (reading N E a_value S)

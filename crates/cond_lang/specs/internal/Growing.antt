@@ -1,8 +1,7 @@
--- What is kept of a value or of a tree as far as it is read: it itself unless it has too many
--- parts, and how many it has.
-use Rattle.std.specs.Prelude.{◌≡◌, ◌+◌, ◌<◌, ◌≤◌, List, Option, Some, None, Result, Ok, Err}
+-- What is kept of a value or of a tree as far as it is read: how many parts it has, and it itself
+-- if there is room for so many.
+use Rattle.std.specs.Prelude.{◌≡◌, ℕ, ◌-◌, ◌<◌, ◌≤◌, List, Option, Some, None, Result, Ok, Err}
 use Rattle.std.specs.Prelude.{MatchOption, min}
-use Rattle.conditions.specs.declared.limits.TheConstants.{MOST_PARTS}
 use Rattle.conditions.specs.Form.{Amount, Form, amount_of, form_of}
 use Rattle.conditions.specs.Limits.{atoms_of, parts_of}
 use Rattle.cond_lang.specs.declared.parser.Refusal.{Refusal}
@@ -12,23 +11,32 @@ use Rattle.cond_lang.specs.declared.parser.grown.GrownValue.{GrownValue}
 use Rattle.cond_lang.specs.declared.scanner.Token.{Token}
 use Rattle.cond_lang.specs.internal.Reading.{Outcome, got, stuck}
 
--- this is kept of the value
-pub record IsGrownValue (grown : GrownValue) (a : Amount) : Type 0 where
-  pub parts : grown.parts ≡ min (atoms_of a) (MOST_PARTS + 1)
-  pub value : MatchOption grown.value (MOST_PARTS < atoms_of a)
-      (λ v. (amount_of v ≡ a) × (atoms_of a ≤ MOST_PARTS))
+-- counts of parts go no higher
+abbrev pub most_counted : ℕ
+most_counted = 4294967295
+
+-- this is kept of the value, where there is room for so many parts
+pub record IsGrownValue (room : ℕ) (grown : GrownValue) (a : Amount) : Type 0 where
+  pub parts : grown.parts ≡ min (atoms_of a) most_counted
+  pub value : MatchOption grown.value (room < atoms_of a)
+      (λ v. (amount_of v ≡ a) × (atoms_of a ≤ room))
 
 -- this is kept of the tree
-pub record IsGrown (grown : Grown) (t : Form) : Type 0 where
-  pub parts : grown.parts ≡ min (parts_of t) (MOST_PARTS + 1)
-  pub tree : MatchOption grown.tree (MOST_PARTS < parts_of t)
-      (λ b. (form_of b.value ≡ t) × (parts_of t ≤ MOST_PARTS))
+pub record IsGrown (room : ℕ) (grown : Grown) (t : Form) : Type 0 where
+  pub parts : grown.parts ≡ min (parts_of t) most_counted
+  pub tree : MatchOption grown.tree (room < parts_of t)
+      (λ b. (form_of b.value ≡ t) × (parts_of t ≤ room))
 
 -- and of the tree if there is one
-abbrev pub AreGrown : Option Grown → Option Form → Type 0
-AreGrown None None = Unit {0}
-AreGrown (Some grown) (Some t) = IsGrown grown t
-AreGrown _ _ = ⊥
+abbrev pub AreGrown : ℕ → Option Grown → Option Form → Type 0
+AreGrown room None None = Unit {0}
+AreGrown room (Some grown) (Some t) = IsGrown room grown t
+AreGrown room _ _ = ⊥
+
+-- the room behind a tree
+abbrev pub room_behind : ℕ → Option Grown → ℕ
+room_behind room None = room
+room_behind room (Some grown) = room - grown.parts
 
 -- A function returned what it kept of what is read, and left what is left, unless memory ran out.
 abbrev pub GivesBy :

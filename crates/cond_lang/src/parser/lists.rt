@@ -17,7 +17,7 @@ use super::grown::{Grown, GrownValue};
 use super::{Parser, Refusal};
 use crate::classes::Bound;
 use crate::scanner::Placed;
-use conditions::{CondError, Tree};
+use conditions::{CondError, MOST_PARTS, Tree};
 use std::alloc::Global;
 
 impl<'a> Parser<'a> {
@@ -34,24 +34,24 @@ impl<'a> Parser<'a> {
 
     /// Definitions and one condition, and no more.
     #[tactic(auto, unfolding(crate::specs::internal::Defining::whole, crate::specs::internal::Defining::cond_alone))]
-    fn whole(&mut self) -> Result<Grown, Refusal>
-        ensures gives { GivesBy IsGrown result self.new (whole self.old) }
+    fn whole(&mut self, room: u32) -> Result<Grown, Refusal>
+        ensures gives { GivesBy (IsGrown room) result self.new (whole self.old) }
         ensures shorter { length self.new ≤ length self.old }
     {
         let names = self.definitions()?;
-        let tree = self.cond(names.as_slice(), Bound::none())?;
+        let tree = self.cond(names.as_slice(), room, Bound::none())?;
         self.end()?;
         Ok(tree)
     }
 
     /// Definitions and one value, and no more.
     #[tactic(auto, unfolding(crate::specs::internal::Defining::whole_value, crate::specs::internal::Defining::value_alone))]
-    fn whole_value(&mut self) -> Result<GrownValue, Refusal>
-        ensures gives { GivesBy IsGrownValue result self.new (whole_value self.old) }
+    fn whole_value(&mut self, room: u32) -> Result<GrownValue, Refusal>
+        ensures gives { GivesBy (IsGrownValue room) result self.new (whole_value self.old) }
         ensures shorter { length self.new ≤ length self.old }
     {
         let names = self.definitions()?;
-        let value = self.value(names.as_slice(), Bound::none())?;
+        let value = self.value(names.as_slice(), room, Bound::none())?;
         self.end()?;
         Ok(value)
     }
@@ -70,7 +70,7 @@ pub(crate) fn parse_tokens(alloc: Global, tokens: &[Placed], end: usize) -> Resu
         ⊎ ((e ≡ CondError.TooManyParts) ⊎ ((at : ℕ) × (e ≡ CondError.Syntax at)))) }
 {
     let mut parser = Parser::new(alloc, tokens);
-    match parser.whole() {
+    match parser.whole(MOST_PARTS) {
         Ok(grown) => match grown.tree {
             Some(tree) => Ok(Box::into_inner(tree)),
             None => Err(CondError::TooManyParts),
@@ -89,11 +89,11 @@ pub(crate) fn parse_tokens(alloc: Global, tokens: &[Placed], end: usize) -> Resu
 pub(crate) fn read_value(alloc: Global, tokens: &[Placed]) -> Result<Option<GrownValue>, CondError>
     ensures value { IfOk result (λ found. MatchOption found
         ((a : Amount) → SpellsAmount (kinds tokens.now) a → ⊥)
-        (λ v. (a : Amount) × IsGrownValue v a × SpellsAmount (kinds tokens.now) a)) }
+        (λ v. (a : Amount) × IsGrownValue MOST_PARTS v a × SpellsAmount (kinds tokens.now) a)) }
     ensures memory { IfErr result (λ e. e ≡ CondError.Memory) }
 {
     let mut parser = Parser::new(alloc, tokens);
-    match parser.whole_value() {
+    match parser.whole_value(MOST_PARTS) {
         Ok(value) => Ok(Some(value)),
         Err(Refusal::Syntax) => Ok(None),
         Err(Refusal::Memory) => Err(CondError::Memory),
@@ -117,7 +117,7 @@ pub(crate) fn read_as_far(alloc: Global, tokens: &[Placed]) -> Result<Reach, Con
     ensures memory { IfErr result (λ e. e ≡ CondError.Memory) }
 {
     let mut parser = Parser::new(alloc, tokens);
-    match parser.whole() {
+    match parser.whole(0) {
         Ok(_) => Ok(Reach {
             count: tokens.len(),
             is_whole: true,

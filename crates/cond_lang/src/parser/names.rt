@@ -24,8 +24,7 @@ pub(crate) struct Named<'a> {
     pub(super) is_value: bool,
     /// The tokens from its body on: each use reads the body again.
     pub(super) body: &'a [Placed],
-    /// How many parts it has with the arguments of each place, or `MOST_PARTS + 1` if it has more
-    /// than `MOST_PARTS`.
+    /// How many parts it has with the arguments of each place, or `u32::MAX` if it has more.
     pub(super) parts: [u32; 16],
 }
 
@@ -103,7 +102,8 @@ impl<'a> Parser<'a> {
         Ok(named)
     }
 
-    /// A body: a value, if its bracket ends it, and else a condition.
+    /// A body: a value, if its bracket ends it, and else a condition. There is no room for its
+    /// tree, since it is read for its parts alone.
     fn body(&mut self, names: &[Named<'a>], params: Params) -> Result<Named<'a>, Refusal>
         requires { AreSound names.now }
         ensures gives { Gives (meaning (meanings names.now)) result self.new
@@ -116,7 +116,7 @@ impl<'a> Parser<'a> {
         let is_value = self.is_value(names, bound)?;
         if !is_value {
             self.rest = start;
-            self.cond(names, bound)?;
+            self.cond(names, 0, bound)?;
         }
         let parts = Parser::all_parts(self.alloc, names, start, params, is_value)?;
         Ok(Named {
@@ -137,7 +137,7 @@ impl<'a> Parser<'a> {
         ensures err { result ≢ Err Refusal.Syntax }
         ensures shorter { length self.new ≤ length self.old }
     {
-        match self.value(names, bound) {
+        match self.value(names, 0, bound) {
             Ok(_) => Ok(matches!(self.peek(), Some(Token::Close))),
             Err(Refusal::Syntax) => Ok(false),
             Err(Refusal::Memory) => Err(Refusal::Memory),
@@ -183,13 +183,13 @@ impl<'a> Parser<'a> {
     {
         let mut parser = Parser::new(alloc, start);
         if is_value {
-            return match parser.value(names, bound) {
+            return match parser.value(names, 0, bound) {
                 Ok(value) => Ok(value.parts),
                 Err(Refusal::Syntax) => Ok(1),
                 Err(Refusal::Memory) => Err(Refusal::Memory),
             };
         }
-        match parser.cond(names, bound) {
+        match parser.cond(names, 0, bound) {
             Ok(tree) => Ok(tree.parts),
             Err(Refusal::Syntax) => Ok(2),
             Err(Refusal::Memory) => Err(Refusal::Memory),

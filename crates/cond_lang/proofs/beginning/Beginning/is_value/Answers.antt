@@ -1,5 +1,6 @@
 use Rattle.std.proofs.Common.{◌∙◌, ap, subst, take}
 use Rattle.std.specs.Prelude.{IsTrue, ◌↔◌}
+use Rattle.conditions.specs.declared.limits.TheConstants.{MOST_PARTS}
 use Rattle.cond_lang.specs.Text.{kinds}
 use Rattle.cond_lang.specs.internal.Growing.{IsGrownValue}
 use Rattle.cond_lang.proofs.Asking.{IsAValue, some_value}
@@ -12,4 +13,4 @@ returns-clause-value c =
     let same =
     ap (λ xs. kinds (take b.count xs)) c.as_slice.ensures.value ∙ kinds_of_part b.tokens.items b.count ∙ c.self.view_is in
     subst (λ T. IsTrue c.is_some.result ↔ IsAValue T) same
-    (some_value _ IsGrownValue c.in_ok-read_value.field-0 c.is_some.result c.is_some.ensures c.in_ok-read_value.ensures.value)
+    (some_value _ (IsGrownValue MOST_PARTS) c.in_ok-read_value.field-0 c.is_some.result c.is_some.ensures c.in_ok-read_value.ensures.value)

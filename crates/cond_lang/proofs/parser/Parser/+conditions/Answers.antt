@@ -2,10 +2,9 @@ use Rattle.std.proofs.lemmas.Grind.{common_steps}
 use Rattle.std.proofs.Common.{◌≡◌, ◌+◌, ◌∙◌, [], None, Some, Err, ap, arith, get_or, min, rules}
 use Rattle.std.proofs.lemmas.Option.{slice_get_past}
 use Rattle.std.proofs.lemmas.Result.{err_from_is_err_and}
-use Rattle.conditions.specs.declared.limits.TheConstants.{MOST_PARTS}
 use Rattle.conditions.specs.Limits.{parts_of}
 use Rattle.cond_lang.specs.internal.Defining.{meanings}
-use Rattle.cond_lang.specs.internal.Growing.{IsGrown}
+use Rattle.cond_lang.specs.internal.Growing.{IsGrown, most_counted}
 use Rattle.cond_lang.specs.Text.{kinds}
 use Rattle.cond_lang.specs.internal.Reading.{behind, got, quantified_by, reading, with_choice_by}
 use Rattle.cond_lang.proofs.Enough.{reads}
@@ -115,7 +114,7 @@ quantified-returns-clause-gives t c =
     let second = c.in_ok-second.ensures.gives first.0 first.1 in
     let third = c.in_ok-third.ensures.gives second.0 second.1 in
     let last = c.in_ok-last.ensures.gives third.0 third.1 in
-    let found = some_grown c.in_ok-last.last c.in-Some.tree last.0 c.in-Some.is last.1 in
+    let found = some_grown c.args.room c.in_ok-last.last c.in-Some.tree last.0 c.in-Some.is last.1 in
     let read : quantified_by (reading (meanings c.args.names.now)) c.args.bound c.args.self.now ≡ got found.0 c.close.new.self = search rules in
     (found.0, found.1, read)
 
@@ -124,20 +123,20 @@ with_choice-returns-clause-gives t c = λ before held.
     let tree = c.in_ok-tree.ensures.gives in
     let read : with_choice_by (reading (meanings c.args.names.now)) c.args.bound c.args.each.quantifier c.args.each.class (kinds c.args.start.now) c.args.choice before c.args.self.now
     ≡ got (Some (behind c.args.each.quantifier before tree.0)) c.cond.new.self = search rules in
-    (Some (behind c.args.each.quantifier before tree.0), c.in_ok-behind.ensures.ok before tree.0 held tree.1, read)
+    (Some (behind c.args.each.quantifier before tree.0), c.in_ok-behind.ensures.ok before tree.0 held (rw (← c.room_behind.ensures) tree.1), read)
 
 pub tree_named-returns-in_default-clause-err : goal.tree_named-returns-in_default-clause-err
 tree_named-returns-in_default-clause-err t c = λ p f e i same.
     let none = none_at c.args.names.now c.args.number (slice_get_past c.args.names.now c.args.number c.in_default.ensures.lookup.3) in
     cc
 
-pub tree_named-returns-then-parts-gt-MOST_PARTS-clause-ok : goal.tree_named-returns-then-parts-gt-MOST_PARTS-clause-ok
-tree_named-returns-then-parts-gt-MOST_PARTS-clause-ok t c = λ p f e i.
+pub tree_named-returns-then-parts-room-clause-ok : goal.tree_named-returns-then-parts-room-clause-ok
+tree_named-returns-then-parts-room-clause-ok t c = λ p f e i.
     let is = found c.args.names.now c.args.number c.in-Some.named.now c.in-Some.ensures.lookup.3.0 c.in-Some.ensures.lookup.1 in
     let h = tree_at c.args.names.now c.args.number c.in-Some.named.now p f c.args.choice c.requires is e i in
-    let counted : get_or c.in-Some.named.now.parts c.place.result 0 ≡ min (parts_of (f c.args.choice)) (MOST_PARTS + 1) =
+    let counted : get_or c.in-Some.named.now.parts c.place.result 0 ≡ min (parts_of (f c.args.choice)) most_counted =
     count_at c.in-Some.named.now.parts c.place.result _ _ c.place.ensures h.parts in
-    record { parts = counted; tree = omega (arith, counted, c.if-parts-gt-MOST_PARTS.true) }
+    record { parts = counted; tree = omega (arith, counted, c.if-parts-room.true) }
 
 pub tree_named-cond-requires : goal.tree_named-cond-requires
 tree_named-cond-requires t c =
@@ -151,13 +150,13 @@ pub tree_named-returns-clause-ok : goal.tree_named-returns-clause-ok
 tree_named-returns-clause-ok t c = λ p f e i.
     let is = found c.args.names.now c.args.number c.in-Some.named.now c.in-Some.ensures.lookup.3.0 c.in-Some.ensures.lookup.1 in
     let h = tree_at c.args.names.now c.args.number c.in-Some.named.now p f c.args.choice c.requires is e i in
-    kept_of IsGrown c.cond.result c.cond.new.self h.left _ (f c.args.choice) (rw (c.new-parser.ensures, c.given.ensures) h.read) c.cond.ensures.gives
+    kept_of (IsGrown c.args.room) c.cond.result c.cond.new.self h.left _ (f c.args.choice) (rw (c.new-parser.ensures, c.given.ensures) h.read) c.cond.ensures.gives
 
 pub tree_named-returns-clause-err : goal.tree_named-returns-clause-err
 tree_named-returns-clause-err t c = λ p f e i.
     let is = found c.args.names.now c.args.number c.in-Some.named.now c.in-Some.ensures.lookup.3.0 c.in-Some.ensures.lookup.1 in
     let h = tree_at c.args.names.now c.args.number c.in-Some.named.now p f c.args.choice c.requires is e i in
-    no_fault IsGrown c.cond.result c.cond.new.self h.left _ (f c.args.choice) (rw (c.new-parser.ensures, c.given.ensures) h.read) c.cond.ensures.gives
+    no_fault (IsGrown c.args.room) c.cond.result c.cond.new.self h.left _ (f c.args.choice) (rw (c.new-parser.ensures, c.given.ensures) h.read) c.cond.ensures.gives
 
 pub condition_used-returns-in_default-clause-gives : goal.condition_used-returns-in_default-clause-gives
 condition_used-returns-in_default-clause-gives t c = λ rest sight.
@@ -176,7 +175,7 @@ condition_used-returns-in_err-choice-clause-gives t c = λ rest sight.
     let p = err_from_is_err_and c.from_residual.result c.from_residual.ensures.1 in
     let same = same_rest _ _ c.args.self.now c.advance.new.self rest c.advance.ensures.1 sight in
     rw means
-    (used_err IsGrown c.from_residual.result c.in_err-choice.field-0.0 c.args-2.new.self _ _ (p.1 ∙ ap (λ e. Err e) p.2)
+    (used_err (IsGrown c.args.room) c.from_residual.result c.in_err-choice.field-0.0 c.args-2.new.self _ _ (p.1 ∙ ap (λ e. Err e) p.2)
     (rw (← same) c.in_err-choice.ensures.gives))
 
 pub condition_used-returns-clause-gives : goal.condition_used-returns-clause-gives
@@ -185,5 +184,5 @@ condition_used-returns-clause-gives t c = λ rest sight.
     let means = condition_meaning c.args.names.now c.args.number c.in-Some.named.now c.requires.sound is c.if-named.false in
     let same = same_rest _ _ c.args.self.now c.advance.new.self rest c.advance.ensures.1 sight in
     rw means
-    (used_ok IsGrown c.tree_named.result c.args-2.new.self _ c.in_ok-choice.choice _ (rw (← same) c.in_ok-choice.ensures.gives)
+    (used_ok (IsGrown c.args.room) c.tree_named.result c.args-2.new.self _ c.in_ok-choice.choice _ (rw (← same) c.in_ok-choice.ensures.gives)
     (c.tree_named.ensures.ok _ _ means c.in_ok-choice.ensures.argument) (c.tree_named.ensures.err _ _ means c.in_ok-choice.ensures.argument))

@@ -2,9 +2,8 @@ use Rattle.std.proofs.lemmas.Grind.{common_steps}
 use Rattle.std.proofs.Common.{◌≡◌, ◌<◌, ◌∙◌, [], ap, arith, get_or, min, refl, Err, ◌+◌}
 use Rattle.std.proofs.lemmas.Option.{slice_get_past}
 use Rattle.std.proofs.lemmas.Result.{err_from_is_err_and}
-use Rattle.conditions.specs.declared.limits.TheConstants.{MOST_PARTS}
 use Rattle.conditions.specs.Limits.{atoms_of}
-use Rattle.cond_lang.specs.internal.Growing.{GivesBy, IsGrownValue}
+use Rattle.cond_lang.specs.internal.Growing.{IsGrownValue, most_counted}
 use Rattle.cond_lang.specs.internal.Reading.{value_used}
 use Rattle.cond_lang.proofs.Enough.{reads}
 use Rattle.cond_lang.proofs.Growing.{same_rest, used_err, used_ok}
@@ -16,13 +15,13 @@ amount_named-returns-in_default-clause-err t c = λ p f e i same.
     let none = none_at c.args.names.now c.args.number (slice_get_past c.args.names.now c.args.number c.in_default.ensures.lookup.3) in
     cc
 
-pub amount_named-returns-then-parts-gt-MOST_PARTS-clause-ok : goal.amount_named-returns-then-parts-gt-MOST_PARTS-clause-ok
-amount_named-returns-then-parts-gt-MOST_PARTS-clause-ok t c = λ p f e i.
+pub amount_named-returns-then-parts-room-clause-ok : goal.amount_named-returns-then-parts-room-clause-ok
+amount_named-returns-then-parts-room-clause-ok t c = λ p f e i.
     let is = found c.args.names.now c.args.number c.in-Some.named.now c.in-Some.ensures.lookup.3.0 c.in-Some.ensures.lookup.1 in
     let h = amount_at c.args.names.now c.args.number c.in-Some.named.now p f c.args.choice c.requires is e i in
-    let counted : get_or c.in-Some.named.now.parts c.place.result 0 ≡ min (atoms_of (f c.args.choice)) (MOST_PARTS + 1) =
+    let counted : get_or c.in-Some.named.now.parts c.place.result 0 ≡ min (atoms_of (f c.args.choice)) most_counted =
     count_at c.in-Some.named.now.parts c.place.result _ _ c.place.ensures h.parts in
-    record { parts = counted; value = omega (arith, counted, c.if-parts-gt-MOST_PARTS.true) }
+    record { parts = counted; value = omega (arith, counted, c.if-parts-room.true) }
 
 pub amount_named-value-requires : goal.amount_named-value-requires
 amount_named-value-requires t c =
@@ -36,13 +35,13 @@ pub amount_named-returns-clause-ok : goal.amount_named-returns-clause-ok
 amount_named-returns-clause-ok t c = λ p f e i.
     let is = found c.args.names.now c.args.number c.in-Some.named.now c.in-Some.ensures.lookup.3.0 c.in-Some.ensures.lookup.1 in
     let h = amount_at c.args.names.now c.args.number c.in-Some.named.now p f c.args.choice c.requires is e i in
-    kept_of IsGrownValue c.value.result c.value.new.self h.left _ (f c.args.choice) (rw (c.new-parser.ensures, c.given.ensures) h.read) c.value.ensures.gives
+    kept_of (IsGrownValue c.args.room) c.value.result c.value.new.self h.left _ (f c.args.choice) (rw (c.new-parser.ensures, c.given.ensures) h.read) c.value.ensures.gives
 
 pub amount_named-returns-clause-err : goal.amount_named-returns-clause-err
 amount_named-returns-clause-err t c = λ p f e i.
     let is = found c.args.names.now c.args.number c.in-Some.named.now c.in-Some.ensures.lookup.3.0 c.in-Some.ensures.lookup.1 in
     let h = amount_at c.args.names.now c.args.number c.in-Some.named.now p f c.args.choice c.requires is e i in
-    no_fault IsGrownValue c.value.result c.value.new.self h.left _ (f c.args.choice) (rw (c.new-parser.ensures, c.given.ensures) h.read) c.value.ensures.gives
+    no_fault (IsGrownValue c.args.room) c.value.result c.value.new.self h.left _ (f c.args.choice) (rw (c.new-parser.ensures, c.given.ensures) h.read) c.value.ensures.gives
 
 pub value_used-returns-in_default-clause-gives : goal.value_used-returns-in_default-clause-gives
 value_used-returns-in_default-clause-gives t c = λ rest sight.
@@ -61,7 +60,7 @@ value_used-returns-in_err-choice-clause-gives t c = λ rest sight.
     let p = err_from_is_err_and c.from_residual.result c.from_residual.ensures.1 in
     let same = same_rest _ _ c.args.self.now c.advance.new.self rest c.advance.ensures.1 sight in
     rw means
-    (used_err IsGrownValue c.from_residual.result c.in_err-choice.field-0.0 c.args-2.new.self _ _ (p.1 ∙ ap (λ e. Err e) p.2)
+    (used_err (IsGrownValue c.args.room) c.from_residual.result c.in_err-choice.field-0.0 c.args-2.new.self _ _ (p.1 ∙ ap (λ e. Err e) p.2)
     (rw (← same) c.in_err-choice.ensures.gives))
 
 pub value_used-returns-clause-gives : goal.value_used-returns-clause-gives
@@ -70,7 +69,7 @@ value_used-returns-clause-gives t c = λ rest sight.
     let means = value_meaning c.args.names.now c.args.number c.in-Some.named.now c.requires.sound is c.if-not-named.false in
     let same = same_rest _ _ c.args.self.now c.advance.new.self rest c.advance.ensures.1 sight in
     rw means
-    (used_ok IsGrownValue c.amount_named.result c.args-2.new.self _ c.in_ok-choice.choice _ (rw (← same) c.in_ok-choice.ensures.gives)
+    (used_ok (IsGrownValue c.args.room) c.amount_named.result c.args-2.new.self _ c.in_ok-choice.choice _ (rw (← same) c.in_ok-choice.ensures.gives)
     (c.amount_named.ensures.ok _ _ means c.in_ok-choice.ensures.argument) (c.amount_named.ensures.err _ _ means c.in_ok-choice.ensures.argument))
 
 pub value-returns-in_err-left-clause-gives : goal.value-returns-in_err-left-clause-gives
