@@ -6,7 +6,7 @@ use Rattle.cond_lang.specs.declared.scanner.Placed.{Placed}
 use Rattle.cond_lang.specs.declared.scanner.Piece.{Piece}
 use Rattle.cond_lang.specs.declared.scanner.Piece.TheVariants.{Separator, Token as TokenPiece}
 use Rattle.conditions.specs.declared.error.CondError.{CondError}
-use Rattle.cond_lang.specs.Cut.{Pieces, IsCut, end, piece, Naming, no_names, named_piece, naming_after, named_from, named, HasTokens}
+use Rattle.cond_lang.specs.Cut.{Pieces, IsCut, end, piece, Naming, no_names, named_piece, naming_after, named_from, named, naming_behind, HasNames, HasTokens}
 use Rattle.cond_lang.specs.Faults.{HasFault}
 use Rattle.cond_lang.specs.internal.Scanning.{piece_at}
 use Rattle.cond_lang.proofs.Cuts.{some_cut}
@@ -151,3 +151,45 @@ ended text found N at s whole qs c (piece {p} {rest} l i d) e h = absurd (omega 
 -- When nothing is left, what was found are the text's tokens.
 pub none_left : (text : List ℕ) (found : List Placed) (N : Naming) (at : ℕ) (s : List ℕ) → IsLeft text found N at s → length s ≡ 0 → HasTokens text found
 none_left text found N at s l h = ended text found N at s l.whole l.left l.whole_cut l.left_cut l.same h
+
+-- These names are given, and s is left of the text.
+pub record IsNamedTo (text : List ℕ) (N : Naming) (s : List ℕ) : Type 0 where
+  pub whole : Pieces
+  pub whole_cut : IsCut text whole
+  pub left : Pieces
+  pub left_cut : IsCut s left
+  pub same : naming_behind no_names whole ≡ naming_behind N left
+
+pub none_named : (text : List ℕ) → IsNamedTo text no_names text
+none_named text = let c = some_cut text in record { whole = c.0; whole_cut = c.1; left = c.0; left_cut = c.1; same = refl }
+
+named_at :
+    (text : List ℕ) (N : Naming) (s : List ℕ) (first : Piece × ℕ) (whole qs : Pieces)
+    → IsCut text whole → IsCut s qs → naming_behind no_names whole ≡ naming_behind N qs
+    → 0 < length s → first ≡ piece_at s → IsNamedTo text (then_named N s first) (drop first.1 s)
+named_at text N s first whole qs c end e h f = absurd (omega arith)
+named_at text N s first whole qs c (piece {p} {rest} {k = k} {ps} l i d) e h f =
+    let o : first ≡ (k, length p) = f ∙ only_piece i in
+    let n : length p ≡ first.1 = sym (ap (λ x. x.1) o) in
+    let front : p ≡ take first.1 (p ++ rest) = sym (take-append_seam p rest) ∙ ap (λ n. take n (p ++ rest)) n in
+    record {
+      whole = whole;
+      whole_cut = c;
+      left = ps;
+      left_cut = subst (λ L. IsCut L ps) (sym (drop-append_seam p rest) ∙ ap (λ n. drop n (p ++ rest)) n) d;
+      same = e ∙ ap (λ q. naming_behind (naming_after N (q, k)) ps) front
+          ∙ ap (λ j. naming_behind (naming_after N (take first.1 (p ++ rest), j)) ps) (sym (ap (λ x. x.0) o));
+    }
+
+pub named_next :
+    (text : List ℕ) (N : Naming) (s : List ℕ) (first : Piece × ℕ)
+    → IsNamedTo text N s → 0 < length s → first ≡ piece_at s → IsNamedTo text (then_named N s first) (drop first.1 s)
+named_next text N s first l h f = named_at text N s first l.whole l.left l.whole_cut l.left_cut l.same h f
+
+all_named : (text : List ℕ) (N : Naming) (s : List ℕ) (whole qs : Pieces) → IsCut text whole → IsCut s qs → naming_behind no_names whole ≡ naming_behind N qs → length s ≡ 0 → HasNames text N.given
+all_named text N s whole qs c end e h = record { pieces = whole; cut = c; given = sym (ap (λ N. N.given) e) }
+all_named text N s whole qs c (piece {p} {rest} l i d) e h = absurd (omega (arith, length-append p rest))
+
+-- When nothing is left, these are the text's names.
+pub has_names : (text : List ℕ) (N : Naming) (s : List ℕ) → IsNamedTo text N s → length s ≡ 0 → HasNames text N.given
+has_names text N s l h = all_named text N s l.whole l.left l.whole_cut l.left_cut l.same h

@@ -1,5 +1,5 @@
 -- What may come after the tokens that a condition, or what other rules spell, can begin with.
-use Rattle.std.specs.Prelude.{◌≡◌, ◌⊎◌, ◌+◌, ◌<◌, ◌≤◌, ℕ, List, [], ◌∷◌, ◌++◌, length, take}
+use Rattle.std.specs.Prelude.{◌≡◌, ◌⊎◌, ◌+◌, ◌-◌, ◌<◌, ◌≤◌, ℕ, Bool, true, false, Option, Some, slice_get, List, [], ◌∷◌, ◌++◌, length, take}
 use Rattle.cond_lang.specs.declared.words.Kind.{Kind}
 use Rattle.cond_lang.specs.declared.words.Kind.TheVariants as kind
 use Rattle.cond_lang.specs.declared.scanner.Placed.{Placed}
@@ -45,6 +45,14 @@ kind_of Or = kind.Or
 kind_of Let = kind.Let
 kind_of Is = kind.Is
 kind_of (Name n) = kind.Name n
+
+abbrev pub is_let : Option Token → Bool
+is_let (Some Let) = true
+is_let o = false
+
+-- the last token is `let`, after which a new name comes
+abbrev pub ends_with_let : List Token → Bool
+ends_with_let T = is_let (slice_get T (length T - 1))
 
 -- Behind T the list may end, since T spells something by the rules S, or some token of the kind
 -- goes on to what does.

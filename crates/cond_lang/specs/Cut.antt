@@ -240,6 +240,17 @@ named_from N (p ∷ ps) = (p.0, named_piece N p) ∷ named_from (naming_after N 
 abbrev pub named : Pieces → Pieces
 named ps = named_from no_names ps
 
+-- the names after these pieces
+abbrev pub naming_behind : Naming → Pieces → Naming
+naming_behind N [] = N
+naming_behind N (p ∷ ps) = naming_behind (naming_after N p) ps
+
+-- the text gives these names, in this order
+pub record HasNames (text : List ℕ) (names : List (List ℕ)) : Type 0 where
+  pub pieces : Pieces
+  pub cut : IsCut text pieces
+  pub given : names ≡ (naming_behind no_names pieces).given
+
 -- ---- tokens
 
 -- each piece's kind with the offset of its first byte, for pieces that begin at the offset `at`

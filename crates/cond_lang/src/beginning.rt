@@ -4,7 +4,7 @@ ghost use Rattle.std.specs.Prelude.{◌≡◌, ◌≢◌, ◌≤◌, ◌↔◌, 
 ghost use Rattle.std.specs.Prelude.{Err, IfOk, IfErr, IsTrue};
 ghost use Rattle.conditions.specs.Form.{Amount};
 ghost use Rattle.cond_lang.specs.Asking.{CanFollowAsking};
-ghost use Rattle.cond_lang.specs.Continuations.{CanFollow, IsBeginning};
+ghost use Rattle.cond_lang.specs.Continuations.{CanFollow, IsBeginning, ends_with_let};
 ghost use Rattle.cond_lang.specs.Definitions.{SpellsAmount};
 ghost use Rattle.cond_lang.specs.Faults.{IsDue};
 ghost use Rattle.cond_lang.specs.Text.{kinds};
@@ -48,6 +48,7 @@ impl Beginning {
     /// faulty piece, or an allocation failed.
     pub fn of(alloc: Global, text: &[u8]) -> Result<Beginning, CondError>
         ensures begins { IfOk result (λ b. IsBeginning text.now b) }
+        ensures short { IfOk result (λ b. length text.now ≤ 1024) }
         ensures refused { IfErr result (λ e. IsDue text.now e) }
         ensures spared { (at : ℕ) → result ≢ Err (CondError.Syntax at) }
         ensures uncounted { result ≢ Err CondError.TooManyParts }
@@ -62,6 +63,16 @@ impl Beginning {
             tokens,
             count,
         })
+    }
+
+    /// Returns whether the last token is `let`, after which a new name comes.
+    pub fn is_after_let(&self) -> bool
+        ensures { result ≡ ends_with_let self.now }
+    {
+        match self.tokens.as_slice()[..self.count].last() {
+            Some(last) => matches!(last.token, Token::Let),
+            None => false,
+        }
     }
 
     /// Returns whether some token of the kind may come next: some condition begins with these

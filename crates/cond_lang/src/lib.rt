@@ -24,5 +24,5 @@ pub use condition::parse;
 pub use conditions::{Cond, CondError, Count, Item, MOST_PARTS, Op, Question, Tree, Value};
 pub use language::LANGUAGE;
 pub use question::parse_question;
-pub use scanner::{Token, digit_run_len, letter_run_len};
+pub use scanner::{Token, digit_run_len, letter_run_len, names_of};
 pub use words::{Kind, WORDS, measure_word};

@@ -38,6 +38,13 @@ impl<'a> Names<'a> {
         }
     }
 
+    /// The names.
+    pub(crate) fn given(self) -> ArrayVec<&'a [u8], 1024>
+        ensures { map (λ p. p.now) result.items ≡ self.entry.given }
+    {
+        self.given
+    }
+
     /// What the piece of these bytes is behind the names, to which it may add one.
     pub(crate) fn named(&mut self, bytes: &'a [u8], piece: Piece) -> Piece
         requires { length self.old.given < 1024 }

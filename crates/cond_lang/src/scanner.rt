@@ -4,7 +4,7 @@
 ghost use Rattle.std.specs.Prelude.{◌≡◌, ◌<◌, ◌≤◌, ◌==◌, length, map, count_by, true, IfOk, IfErr};
 ghost use Rattle.std.specs.List.{AllByRecursion};
 ghost use Rattle.std.specs.Char.{is_ascii_lowercase, is_ascii_digit};
-ghost use Rattle.cond_lang.specs.Cut.{HasTokens, decimal, is_separator, is_in_comment, is_rank};
+ghost use Rattle.cond_lang.specs.Cut.{HasNames, HasTokens, decimal, is_separator, is_in_comment, is_rank};
 ghost use Rattle.cond_lang.specs.Cut.{are_ranks, has_letter, named_by};
 ghost use Rattle.cond_lang.specs.Faults.{HasFault};
 ghost use Rattle.cond_lang.specs.Runs.{run};
@@ -108,6 +108,25 @@ pub(crate) fn scan(text: &[u8]) -> Result<ArrayVec<Placed, 1024>, CondError>
         at += len;
     }
     Ok(tokens)
+}
+
+/// Returns the names that a text gives, in the order in which they first come. Those of a text of
+/// more than 1,024 bytes aren't looked for.
+pub fn names_of<'a>(text: &'a [u8]) -> ArrayVec<&'a [u8], 1024>
+    ensures { length text.now ≤ 1024 → HasNames text.now (map (λ p. p.now) result.items) }
+{
+    let mut names = Names::none();
+    if text.len() > MAX_BYTES {
+        return names.given();
+    }
+    let mut rest = text;
+    while !rest.is_empty() {
+        let (piece, len) = first_piece(rest);
+        let (bytes, behind) = rest.split_at(len);
+        names.named(bytes, piece);
+        rest = behind;
+    }
+    names.given()
 }
 
 /// The first piece of a text, and its length.

@@ -1,9 +1,10 @@
 -- What a text was read as: a condition, or a question, which is a condition or a value.
-use Rattle.std.specs.Prelude.{ℕ, List, codes}
+use Rattle.std.specs.Prelude.{ℕ, ◌<◌, List, codes}
 use Rattle.cond_lang.specs.Asking.{CanFollowAsking, IsAskBeginning}
 use Rattle.cond_lang.specs.Continuations.{CanFollow, IsBeginning}
 use Rattle.cond_lang.specs.declared.scanner.Token.{Token}
 use Rattle.cond_lang.specs.declared.words.Kind.{Kind}
+use Rattle.cond_lang.specs.declared.words.Kind.TheVariants as kind
 use Rattle.hints.specs.declared.asked.Asked.{Asked}
 use Rattle.hints.specs.declared.asked.Asked.TheVariants.{Condition, Question}
 
@@ -21,3 +22,8 @@ Begins Question text T = IsAskBeginning text T
 abbrev pub CanStand : Asked → List Token → Kind → Type 0
 CanStand Condition T k = CanFollow T k
 CanStand Question T k = CanFollowAsking T k
+
+-- a person is told of the kind, in a text with so many names
+abbrev pub IsTold : ℕ → Kind → Type 0
+IsTold count (kind.Name n) = n < count
+IsTold count k = Unit {0}

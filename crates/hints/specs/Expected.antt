@@ -1,6 +1,6 @@
 -- What is said of the kinds that may come at a fault.
 use Rattle.std.specs.Prelude.{ℕ, zero, suc, Bool, true, false, not, ◌&&◌, ◌||◌, List, [], ◌∷◌, ◌++◌}
-use Rattle.std.specs.Prelude.{codes, length, map, if◌then◌else◌}
+use Rattle.std.specs.Prelude.{codes, length, map, slice_index_or, if◌then◌else◌}
 use Rattle.std.specs.List.{filter, list_all}
 use Rattle.cond_lang.specs.Cut.{measure_word}
 use Rattle.cond_lang.specs.Kinds.{all_kinds}
@@ -9,6 +9,7 @@ use Rattle.cond_lang.specs.declared.classes.Neighbour.TheVariants.{Partner, Left
 use Rattle.cond_lang.specs.declared.classes.Quantifier.TheVariants.{Any, Every}
 use Rattle.cond_lang.specs.declared.words.Kind.{Kind}
 use Rattle.cond_lang.specs.declared.words.Kind.TheVariants as kind
+use Rattle.sinks.specs.Shown.{shown}
 use Rattle.hints.specs.declared.expected.Part.{Part}
 use Rattle.hints.specs.declared.expected.Part.TheVariants as part
 use Rattle.hints.specs.declared.expected.Term.{Term}
@@ -63,9 +64,18 @@ first_terms can =
     if has_all can part.Test all_kinds && has_all can part.Value all_kinds then term.Condition ∷ []
     else each can part.Test all_kinds ++ value_terms can
 
--- the terms for the kinds that may come there
-unfoldable pub terms : (Kind → Bool) → List Term
-terms can = first_terms can ++ each can part.Other all_kinds
+-- the names that may come there, of those from the number n on
+abbrev pub names_from : (Kind → Bool) → ℕ → List (List ℕ) → List Term
+names_from can n [] = []
+names_from can n (name ∷ more) =
+    (if can (kind.Name n) then term.One (kind.Name n) ∷ [] else []) ++ names_from can (suc n) more
+
+-- the terms for the kinds that may come there, and for the text's names; after `let` only a new
+-- name may
+unfoldable pub terms : Bool → List (List ℕ) → (Kind → Bool) → List Term
+terms is_new names can =
+    if is_new then term.NewName ∷ []
+    else first_terms can ++ names_from can 0 names ++ each can part.Other all_kinds
 
 -- ---- how they are written
 
@@ -107,7 +117,7 @@ kind_name (kind.Class Major) = codes "major"
 kind_name (kind.Class Minor) = codes "minor"
 kind_name (kind.Class Other) = codes "other"
 kind_name kind.Ranks = codes "ranks such as akq"
-kind_name (kind.Name n) = codes "a name"
+kind_name (kind.Name n) = []
 kind_name kind.Is = codes "is"
 kind_name kind.Close = codes ")"
 kind_name kind.And = codes "and"
@@ -121,19 +131,22 @@ is_described kind.Relation = true
 is_described kind.Seat = true
 is_described kind.Suit = true
 is_described kind.Ranks = true
-is_described (kind.Name n) = true
 is_described kind.End = true
 is_described _ = false
 
--- a text is named in quotes
-abbrev pub kind_text : Kind → List ℕ
-kind_text k =
-    if is_described k then kind_name k else codes "\"" ++ kind_name k ++ codes "\""
+abbrev pub quoted : List ℕ → List ℕ
+quoted text = codes "\"" ++ text ++ codes "\""
 
-abbrev pub term_text : Term → List ℕ
-term_text term.Condition = codes "a condition such as balanced(north)"
-term_text term.Value = codes "a value such as hcp(north)"
-term_text (term.One k) = kind_text k
+-- a text is named in quotes, and one of the text's names by its letters
+abbrev pub kind_text : List (List ℕ) → Kind → List ℕ
+kind_text names (kind.Name n) = quoted (map shown (slice_index_or names n []))
+kind_text names k = if is_described k then kind_name k else quoted (kind_name k)
+
+abbrev pub term_text : List (List ℕ) → Term → List ℕ
+term_text names term.Condition = codes "a condition such as balanced(north)"
+term_text names term.Value = codes "a value such as hcp(north)"
+term_text names term.NewName = codes "a new name"
+term_text names (term.One k) = kind_text names k
 
 -- what comes after a term with this many more to come
 abbrev pub separator : ℕ → List ℕ
@@ -142,10 +155,12 @@ separator (suc zero) = codes " or "
 separator (suc (suc more)) = codes ", "
 
 -- the terms, with commas and `or` between them
-abbrev pub joined : List Term → List ℕ
-joined [] = []
-joined (t ∷ more) = term_text t ++ separator (length more) ++ joined more
+abbrev pub joined : List (List ℕ) → List Term → List ℕ
+joined names [] = []
+joined names (t ∷ more) = term_text names t ++ separator (length more) ++ joined names more
 
--- the line that says what may come there, for the set of the kinds that can
-abbrev pub expected_line : (Kind → Bool) → List ℕ
-expected_line can = codes "  expected " ++ joined (terms can) ++ codes "\n"
+-- the line that says what may come there, for the set of the kinds that can, in a text with these
+-- names
+abbrev pub expected_line : Bool → List (List ℕ) → (Kind → Bool) → List ℕ
+expected_line is_new names can =
+    codes "  expected " ++ joined names (terms is_new names can) ++ codes "\n"

@@ -7,10 +7,11 @@ use Rattle.conditions.specs.declared.error.CondError.TheVariants.{Syntax, TooMan
 use Rattle.cond_lang.specs.declared.words.Kind.{Kind}
 use Rattle.cond_lang.specs.declared.scanner.Token.{Token}
 use Rattle.cond_lang.specs.Faults.{HasFault}
-use Rattle.cond_lang.specs.Kinds.{IsListed}
+use Rattle.cond_lang.specs.Continuations.{ends_with_let}
+use Rattle.cond_lang.specs.Cut.{HasNames}
 use Rattle.hints.specs.declared.asked.Asked.{Asked}
 use Rattle.hints.specs.declared.asked.Asked.TheVariants.{Condition, Question}
-use Rattle.hints.specs.Asked.{Begins, CanStand, asked_name}
+use Rattle.hints.specs.Asked.{Begins, CanStand, IsTold, asked_name}
 use Rattle.sinks.specs.Shown.{shown}
 use Rattle.hints.specs.Excerpt.{IsExcerpt}
 use Rattle.hints.specs.Expected.{expected_line}
@@ -23,14 +24,16 @@ hint_line bytes = codes "  hint: " ++ map shown bytes ++ codes "\n"
 abbrev pub MayHint : List ℕ → Type 0
 MayHint written = (written ≡ []) ⊎ ((bytes : List ℕ) × (written ≡ hint_line bytes))
 
--- the line of all kinds but names that may come after the longest beginning of the text, and no
--- other
+-- the line of all kinds that may come after the longest beginning of the text, and of its names,
+-- and no other
 pub record TellsAll (asked : Asked) (text written : List ℕ) : Type 0 where
   pub beginning : List Token
   pub begins : Begins asked text beginning
+  pub names : List (List ℕ)
+  pub has : HasNames text names
   pub can : Kind → Bool
-  pub all : (k : Kind) → IsListed k → IsTrue (can k) ↔ CanStand asked beginning k
-  pub is : written ≡ expected_line can
+  pub all : (k : Kind) → IsTold (length names) k → IsTrue (can k) ↔ CanStand asked beginning k
+  pub is : written ≡ expected_line (ends_with_let beginning) names can
 
 -- the text is too long, or has a piece that isn't in the language
 abbrev pub IsFaulty : List ℕ → Type 0

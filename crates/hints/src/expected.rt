@@ -1,13 +1,16 @@
 //! What may come at a fault, as a line of text.
 
-ghost use Rattle.std.specs.Prelude.{◌≡◌, ◌++◌, length, string_bytes, IfOk, OnOk};
+ghost use Rattle.std.specs.Prelude.{◌≡◌, ◌≤◌, ◌++◌, [], length, map, string_bytes, IfOk, OnOk};
+ghost use Rattle.cond_lang.specs.Kinds.{IsListed};
+ghost use Rattle.cond_lang.specs.declared.words.Kind.{Kind as AKind};
 ghost use Rattle.hints.specs.Expected.{begins_test, begins_value, each, expected_line, has_all};
 ghost use Rattle.hints.specs.Expected.{is_described, is_in, joined, kind_name, kind_text};
-ghost use Rattle.hints.specs.Expected.{separator, term_text, terms};
+ghost use Rattle.hints.specs.Expected.{names_from, separator, term_text, terms};
 ghost use Rattle.hints.specs.internal.Kinds.{in_set};
 
 use crate::kinds::KindSet;
 use cond_lang::{Class, Kind, Neighbour, Quantifier, measure_word};
+use sinks::put_shown;
 use std::alloc::{AllocError, Global};
 
 /// What a person is told may come there: a kind, or all kinds that begin a value or a condition.
@@ -15,6 +18,7 @@ use std::alloc::{AllocError, Global};
 pub(crate) enum Term {
     Condition,
     Value,
+    NewName,
     One(Kind),
 }
 
@@ -62,23 +66,42 @@ fn is_in(part: Part, kind: Kind) -> bool
     }
 }
 
-/// Appends the line that says what may come there.
-pub(crate) fn put_expected(alloc: Global, out: &mut String, can: &KindSet) -> Result<(), AllocError>
-    ensures { OnOk result (string_bytes out.new
-        ≡ string_bytes out.old ++ expected_line (in_set can.now)) }
+/// Appends the line that says what may come there, in a text with these names; after `let` only a
+/// new one may.
+pub(crate) fn put_expected(
+    alloc: Global,
+    out: &mut String,
+    can: &KindSet,
+    names: &[&[u8]],
+    is_new: bool,
+) -> Result<(), AllocError>
+    requires { length names.now ≤ 1024 }
+    ensures { OnOk result (string_bytes out.new ≡ string_bytes out.old
+        ++ expected_line is_new (map (λ p. p.now) names.now) (in_set can.now)) }
 {
-    let terms = terms(alloc, can)?;
+    let terms = terms(alloc, can, names, is_new)?;
     out.push_str("  expected ")?;
-    put_joined(out, terms.as_slice())?;
+    put_joined(out, names, terms.as_slice())?;
     out.push_str("\n")
 }
 
-/// The terms for the kinds of the set.
+/// The terms for the kinds of the set, and for the names.
 #[tactic(auto, unfolding(crate::specs::Expected::terms))]
-fn terms(alloc: Global, can: &KindSet) -> Result<Vec<Term>, AllocError>
-    ensures { IfOk result (λ ts. ts.items ≡ terms (in_set can.now)) }
+fn terms(
+    alloc: Global,
+    can: &KindSet,
+    names: &[&[u8]],
+    is_new: bool,
+) -> Result<Vec<Term>, AllocError>
+    requires { length names.now ≤ 1024 }
+    ensures { IfOk result (λ ts. ts.items
+        ≡ terms is_new (map (λ p. p.now) names.now) (in_set can.now)) }
 {
     let mut terms = Vec::new(alloc);
+    if is_new {
+        terms.push(Term::NewName)?;
+        return Ok(terms);
+    }
     let value = has_all(can, Part::Value, &Kind::ALL);
     if has_all(can, Part::Test, &Kind::ALL) && value {
         terms.push(Term::Condition)?;
@@ -90,8 +113,27 @@ fn terms(alloc: Global, can: &KindSet) -> Result<Vec<Term>, AllocError>
             put_each(&mut terms, can, Part::Value, &Kind::ALL)?;
         }
     }
+    put_names(&mut terms, can, names)?;
     put_each(&mut terms, can, Part::Other, &Kind::ALL)?;
     Ok(terms)
+}
+
+/// Appends those of the names that are in the set.
+fn put_names(terms: &mut Vec<Term>, can: &KindSet, mut names: &[&[u8]]) -> Result<(), AllocError>
+    requires { length names.now ≤ 1024 }
+    ensures { OnOk result (terms.new.items ≡ terms.old.items
+        ++ names_from (in_set can.now) 0 (map (λ p. p.now) names.entry.now)) }
+{
+    let mut number: u16 = 0;
+    while let [_, more @ ..] = names {
+        let name = Kind::Name(number);
+        if can.has(name) {
+            terms.push(Term::One(name))?;
+        }
+        number += 1;
+        names = more;
+    }
+    Ok(())
 }
 
 /// Whether all these kinds that are in the part are in the set.
@@ -122,11 +164,12 @@ fn put_each(
 }
 
 /// Appends the terms, with commas and `or` between them.
-fn put_joined(out: &mut String, mut terms: &[Term]) -> Result<(), AllocError>
-    ensures { OnOk result (string_bytes out.new ≡ string_bytes out.old ++ joined terms.entry.now) }
+fn put_joined(out: &mut String, names: &[&[u8]], mut terms: &[Term]) -> Result<(), AllocError>
+    ensures { OnOk result (string_bytes out.new ≡ string_bytes out.old
+        ++ joined (map (λ p. p.now) names.now) terms.entry.now) }
 {
     while let [term, more @ ..] = terms {
-        put_term(out, *term)?;
+        put_term(out, names, *term)?;
         out.push_str(separator(more.len()))?;
         terms = more;
     }
@@ -145,19 +188,35 @@ fn separator(more: usize) -> &'static str
 }
 
 /// Appends what the term is called.
-fn put_term(out: &mut String, term: Term) -> Result<(), AllocError>
-    ensures { OnOk result (string_bytes out.new ≡ string_bytes out.old ++ term_text term) }
+fn put_term(out: &mut String, names: &[&[u8]], term: Term) -> Result<(), AllocError>
+    ensures { OnOk result (string_bytes out.new ≡ string_bytes out.old
+        ++ term_text (map (λ p. p.now) names.now) term) }
 {
     match term {
         Term::Condition => out.push_str("a condition such as balanced(north)"),
         Term::Value => out.push_str("a value such as hcp(north)"),
+        Term::NewName => out.push_str("a new name"),
+        Term::One(Kind::Name(number)) => put_name(out, names, number),
         Term::One(kind) => put_kind(out, kind),
     }
 }
 
+/// Appends the name with this number, in quotes.
+fn put_name(out: &mut String, names: &[&[u8]], number: u16) -> Result<(), AllocError>
+    ensures { OnOk result (string_bytes out.new ≡ string_bytes out.old
+        ++ kind_text (map (λ p. p.now) names.now) (AKind.Name number)) }
+{
+    out.push_str("\"")?;
+    if let Some(name) = names.get(number as usize) {
+        put_shown(out, name)?;
+    }
+    out.push_str("\"")
+}
+
 /// Appends what the kind is called, in quotes if it is written so.
 fn put_kind(out: &mut String, kind: Kind) -> Result<(), AllocError>
-    ensures { OnOk result (string_bytes out.new ≡ string_bytes out.old ++ kind_text kind) }
+    requires { IsListed kind }
+    ensures { OnOk result (string_bytes out.new ≡ string_bytes out.old ++ kind_text [] kind) }
 {
     if is_described(kind) {
         return out.push_str(kind_name(kind));
@@ -173,7 +232,7 @@ fn is_described(kind: Kind) -> bool
 {
     match kind {
         Kind::Number | Kind::Relation | Kind::Seat => true,
-        Kind::Suit | Kind::Ranks | Kind::Name(_) | Kind::End => true,
+        Kind::Suit | Kind::Ranks | Kind::End => true,
         _ => false,
     }
 }
@@ -219,7 +278,7 @@ fn kind_name(kind: Kind) -> &'static str
         Kind::Class(Class::Minor) => "minor",
         Kind::Class(Class::Other) => "other",
         Kind::Ranks => "ranks such as akq",
-        Kind::Name(_) => "a name",
+        Kind::Name(_) => "",
         Kind::Is => "is",
         Kind::Close => ")",
         Kind::And => "and",

@@ -1,28 +1,34 @@
 //! The kinds of tokens that may come at a fault.
 
-ghost use Rattle.std.specs.Prelude.{◌≡◌, ◌↔◌, ◌<◌, IfOk, IfErr, IsTrue};
+ghost use Rattle.std.specs.Prelude.{◌≡◌, ◌↔◌, ◌<◌, ◌≤◌, ℕ, false, slice_index_or, IfOk, IfErr, IsTrue};
 ghost use Rattle.std.specs.List.{list_all};
 ghost use Rattle.conditions.specs.declared.error.CondError.TheVariants.{Memory};
-ghost use Rattle.cond_lang.specs.Kinds.{IsListed};
 ghost use Rattle.cond_lang.specs.declared.words.Kind.{Kind as AKind};
-ghost use Rattle.hints.specs.Asked.{CanStand};
+ghost use Rattle.hints.specs.Asked.{CanStand, IsTold};
 ghost use Rattle.hints.specs.internal.Kinds.{in_set};
 
 use crate::asked::Asked;
+use arrayvec::ArrayVec;
 use cond_lang::{Beginning, CondError, Kind};
 use hint_rules::Kinds;
 
-/// A set of kinds.
-#[derive(Clone, Copy)]
+/// A set of kinds, and of a text's names.
+#[derive(Drop)]
 pub(crate) struct KindSet {
     holds: [bool; Kind::COUNT],
+    names: ArrayVec<bool, 1024>,
 }
 
 impl KindSet {
-    /// The kinds but names that may come after the beginning of what is asked for. The only
-    /// error is `Memory`.
-    pub(crate) fn of(asked: Asked, beginning: &Beginning) -> Result<KindSet, CondError>
-        ensures allowed { IfOk result (λ set. (kind : AKind) → IsListed kind
+    /// The kinds, and so many names, that may come after the beginning of what is asked for. The
+    /// only error is `Memory`.
+    pub(crate) fn of(
+        asked: Asked,
+        beginning: &Beginning,
+        count: usize,
+    ) -> Result<KindSet, CondError>
+        requires { count ≤ 1024 }
+        ensures allowed { IfOk result (λ set. (kind : AKind) → IsTold count kind
             → IsTrue (in_set set kind) ↔ CanStand asked beginning.now kind) }
         ensures memory { IfErr result (λ e. e ≡ Memory) }
     {
@@ -30,14 +36,19 @@ impl KindSet {
         for (i, kind) in Kind::ALL.iter().enumerate() {
             holds[i] = asked.allows(beginning, *kind)?;
         }
-        Ok(KindSet { holds })
+        let names = names_that_may_come(asked, beginning, count)?;
+        Ok(KindSet { holds, names })
     }
 
-    /// Whether it has the kind. It has no names.
+    /// Whether it has the kind.
     pub(crate) fn has(&self, kind: Kind) -> bool
         ensures { result ≡ in_set self.now kind }
     {
-        match self.holds.get(kind.place()) {
+        let held = match kind {
+            Kind::Name(number) => self.names.get(number as usize),
+            _ => self.holds.get(kind.place()),
+        };
+        match held {
             Some(holds) => *holds,
             None => false,
         }
@@ -47,4 +58,23 @@ impl KindSet {
     pub(crate) fn kinds(&self) -> Kinds {
         Kinds { holds: self.holds }
     }
+}
+
+/// Of each of so many names, whether it may come. The only error is `Memory`.
+fn names_that_may_come(
+    asked: Asked,
+    beginning: &Beginning,
+    count: usize,
+) -> Result<ArrayVec<bool, 1024>, CondError>
+    requires { count ≤ 1024 }
+    ensures allowed { IfOk result (λ names. (n : ℕ) → n < count
+        → IsTrue (slice_index_or names.items n false)
+        ↔ CanStand asked beginning.now (AKind.Name n)) }
+    ensures memory { IfErr result (λ e. e ≡ Memory) }
+{
+    let mut names = ArrayVec::new();
+    for number in 0..count {
+        names.push(asked.allows(beginning, Kind::Name(number as u16))?);
+    }
+    Ok(names)
 }

@@ -1,6 +1,6 @@
 //! All that is written of a refusal.
 
-ghost use Rattle.std.specs.Prelude.{◌≡◌, ◌++◌, IfOk, MatchOption, OnOk, string_bytes};
+ghost use Rattle.std.specs.Prelude.{◌≡◌, ◌≤◌, ◌++◌, IfOk, MatchOption, OnOk, length, string_bytes};
 ghost use Rattle.cond_lang.specs.Continuations.{IsBeginning};
 ghost use Rattle.hints.specs.Explanation.{Explains, ExplainsAs, ExplainsQuestion, IsFaulty};
 ghost use Rattle.hints.specs.Explanation.{MayHint, MayTell, Nothing, Shows, length_line};
@@ -11,7 +11,7 @@ use crate::excerpt::put_excerpt;
 use crate::expected::put_expected;
 use crate::kinds::KindSet;
 use crate::never::is_never;
-use cond_lang::{Beginning, CondError, parse};
+use cond_lang::{Beginning, CondError, names_of, parse};
 use hint_rules::{Said, of_piece, of_syntax, suggested};
 use itoa::Buffer;
 use sinks::put_shown;
@@ -90,16 +90,18 @@ fn put_syntax(
     let Some(beginning) = beginning_of(alloc, text)? else {
         return Ok(());
     };
-    let Ok(can) = KindSet::of(asked, &beginning) else {
+    let names = names_of(text);
+    let Ok(can) = KindSet::of(asked, &beginning, names.len()) else {
         return Err(AllocError);
     };
-    put_expected(alloc, out, &can)?;
+    put_expected(alloc, out, &can, names.as_slice(), beginning.is_after_let())?;
     put_hint(alloc, out, of_syntax(alloc, text, at, &can.kinds()))
 }
 
 /// The beginning of the text, if it has tokens.
 fn beginning_of(alloc: Global, text: &[u8]) -> Result<Option<Beginning>, AllocError>
-    ensures { IfOk result (λ found. MatchOption found (IsFaulty text.now) (IsBeginning text.now)) }
+    ensures { IfOk result (λ found. MatchOption found (IsFaulty text.now)
+        (λ b. IsBeginning text.now b × (length text.now ≤ 1024))) }
 {
     match Beginning::of(alloc, text) {
         Ok(beginning) => Ok(Some(beginning)),

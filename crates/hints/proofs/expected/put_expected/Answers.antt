@@ -1,4 +1,4 @@
-use Rattle.std.proofs.Common.{◌∙◌, ◌++◌, ap, codes, string_bytes}
+use Rattle.std.proofs.Common.{◌∙◌, ◌++◌, ap, codes, map, string_bytes}
 use Rattle.hints.specs.Expected.{joined, terms}
 use Rattle.hints.specs.internal.Kinds.{in_set}
 use Rattle.hints.proofs.Appending.{if_put, then_three}
@@ -6,9 +6,10 @@ use Rattle.hints.proofs.expected.put_expected.Goals as goal
 
 pub returns : goal.returns
 returns c =
-    then_three c.push_str-2.result (string_bytes c.args.out.now) (codes "  expected ") (joined (terms (in_set c.args.can.now)))
+    let names = map (λ p. p.now) c.args.names.now in
+    then_three c.push_str-2.result (string_bytes c.args.out.now) (codes "  expected ") (joined names (terms c.args.is_new names (in_set c.args.can.now)))
     (codes "\n") (string_bytes c.push_str.new.self) (string_bytes c.put_joined.new.out) (string_bytes c.push_str-2.new.self)
     c.in_ok-push_str.ensures.bytes
     (c.in_ok-put_joined.ensures
-    ∙ ap (λ ts. string_bytes c.push_str.new.self ++ joined ts) (c.as_slice.ensures.value ∙ c.in_ok-terms.ensures))
+    ∙ ap (λ ts. string_bytes c.push_str.new.self ++ joined names ts) (c.as_slice.ensures.value ∙ c.in_ok-terms.ensures))
     (if_put c.push_str-2.result _ _ _ c.push_str-2.ensures.bytes)

@@ -1,5 +1,7 @@
-use Rattle.std.proofs.Common.{[], Ok, append-nil, inl, inr, refl, string_bytes, sym}
+use Rattle.std.proofs.Common.{[], Ok, append-nil, inl, inr, refl, map, string_bytes, sym, ap, ◌∙◌, ◌≡◌, length, subst}
 use Rattle.std.specs.declared.alloc.AllocError.{AllocError}
+use Rattle.std.proofs.lemmas.List.{length-map}
+use Rattle.hints.specs.Asked.{IsTold}
 use Rattle.hints.specs.Expected.{expected_line}
 use Rattle.hints.specs.Explanation.{MayTell}
 use Rattle.hints.specs.internal.Kinds.{in_set}
@@ -9,11 +11,14 @@ use Rattle.hints.proofs.refusal.put_syntax.Goals as goal
 
 pub returns : goal.returns
 returns c =
+    let found = rw c.in-Some.is at c.in_ok-beginning.ensures in
+    let names = map (λ p. p.now) c.as_slice.result.now in
+    let count : length names ≡ c.len.result = length-map c.as_slice.result.now (λ p. p.now) ∙ ap length c.as_slice.ensures.value ∙ sym c.len.ensures.value in
     shows c.put_hint.result (MayTell c.args.asked c.args.text.now) c.args.text.now c.args.at
     (string_bytes c.args.out.now) (string_bytes c.put_excerpt.new.out) (string_bytes c.put_expected.new.out)
-    (string_bytes c.put_hint.new.out) (expected_line (in_set c.in-Ok.can)) c.in_ok-put_excerpt.ensures
+    (string_bytes c.put_hint.new.out) (expected_line c.is_after_let.result names (in_set c.in-Ok.can)) c.in_ok-put_excerpt.ensures
     c.in_ok-put_expected.ensures
-    (inl (record { beginning = c.in-Some.beginning; begins = begins c.args.asked c.args.text.now c.in-Some.beginning (rw c.in-Some.is at c.in_ok-beginning.ensures); can = in_set c.in-Ok.can; all = c.in-Ok.ensures.allowed; is = refl }))
+    (inl (record { beginning = c.in-Some.beginning; begins = begins c.args.asked c.args.text.now c.in-Some.beginning found.0; names = names; has = rw c.as_slice.ensures.value (c.names_of-names.ensures found.1); can = in_set c.in-Ok.can; all = λ k told. c.in-Ok.ensures.allowed k (subst (λ n. IsTold n k) count told); is = ap (λ b. expected_line b names (in_set c.in-Ok.can)) c.is_after_let.ensures }))
     c.put_hint.ensures
 
 pub returns-in_default : goal.returns-in_default

@@ -3,7 +3,9 @@ use Rattle.std.proofs.Common.{◌≡◌, length, ◌↔◌, ◌<◌, IsTrue, ari
 use Rattle.std.proofs.lemmas.Grind.{common_steps}
 use Rattle.cond_lang.specs.declared.words.Kind.{Kind}
 use Rattle.cond_lang.specs.declared.words.Kind.TheVariants as kind
-use Rattle.hints.specs.Asked.{CanStand}
+use Rattle.hints.specs.Asked.{CanStand, IsTold}
+use Rattle.hints.specs.internal.Kinds.{in_set}
+use Rattle.cond_lang.specs.Kinds.{IsListed}
 use Rattle.cond_lang.specs.Kinds.{all_kinds, place_of}
 use Rattle.cond_lang.proofs.EachKind.{kind_listed}
 use Rattle.hints.proofs.KindLemmas.{one_answer_more}
@@ -18,8 +20,15 @@ loop-i-preserved c = (
 )
 
 pub returns-clause-allowed : goal.returns-clause-allowed
-returns-clause-allowed c =
-    λ k l. let within : place_of k < length all_kinds = slice_get_within all_kinds (place_of k) k (kind_listed k l) in
-    let there : slice_index_or all_kinds (place_of k) kind.Let ≡ k = get_or_from_slice_get all_kinds (place_of k) k kind.Let (kind_listed k l) in
-    let P : Kind → Type 0 = λ q. IsTrue (slice_index_or c.loop-i.holds (place_of k) false) ↔ CanStand c.args.asked c.args.beginning.now q in
-    subst P there (c.loop-i.invariant.1 (place_of k) (omega arith))
+returns-clause-allowed c = each
+  where
+    listed : (k : Kind) → IsListed k → IsTrue (slice_index_or c.loop-i.holds (place_of k) false) ↔ CanStand c.args.asked c.args.beginning.now k
+    listed k l =
+        let within : place_of k < length all_kinds = slice_get_within all_kinds (place_of k) k (kind_listed k l) in
+        let there : slice_index_or all_kinds (place_of k) kind.Let ≡ k = get_or_from_slice_get all_kinds (place_of k) k kind.Let (kind_listed k l) in
+        let P : Kind → Type 0 = λ q. IsTrue (slice_index_or c.loop-i.holds (place_of k) false) ↔ CanStand c.args.asked c.args.beginning.now q in
+        subst P there (c.loop-i.invariant.1 (place_of k) (omega arith))
+
+    each : (k : Kind) → IsTold c.args.count k → IsTrue (in_set (record { holds = c.loop-i.holds; names = c.in_ok-names.names }) k) ↔ CanStand c.args.asked c.args.beginning.now k
+    each (kind.Name n) l = c.in_ok-names.ensures.allowed n l
+    each k l = listed k tt
