@@ -51,7 +51,7 @@ pub record At (N : Meanings) (ms : List Named) (n : ℕ) (m : Named) : Type 0 wh
   pub means : slice_get (meanings_after N ms) (length N + n) ≡ Some (meaning (meanings_after N (take n ms)) m)
   pub less : work_of (take n ms) + (20 + 12 * length (kinds m.body.now)) ≤ work_of ms
 
-get_behind : {A : Type 0} (xs : List A) (y : A) (ys : List A) → slice_get (xs ++ y ∷ ys) (length xs) ≡ Some y
+pub get_behind : {A : Type 0} (xs : List A) (y : A) (ys : List A) → slice_get (xs ++ y ∷ ys) (length xs) ≡ Some y
 get_behind {A} [] y ys = refl
 get_behind {A} (x ∷ xs) y ys = get_behind xs y ys
 
