@@ -1,6 +1,6 @@
 -- A condition stays one if a token gives way to another of its kind, and if the bound classes stand
 -- for others of their members.
-use Rattle.std.proofs.Common.{◌≡◌, ℕ, true, List, [], ◌∷◌, ◌++◌, Option, Some, None, slice_get, refl, sym, ap, ◌∙◌, subst}
+use Rattle.std.proofs.Common.{◌≡◌, ℕ, true, List, [], ◌∷◌, ◌++◌, Option, Some, None, refl, sym, ap, ◌∙◌, subst}
 use Rattle.std.specs.Prelude.{is_some, fold}
 use Rattle.cards.specs.declared.honours.Honours.{Honours}
 use Rattle.cards.specs.declared.hand.Measure.{Measure as AMeasure}
@@ -27,7 +27,7 @@ use Rattle.conditions.specs.Form.{Amount, sum, number, counted, times, measured,
 use Rattle.cond_lang.specs.Classes.{bound_to, choice, seat_bound_to, seat_beside, bind, members, Names, by_suit, by_class}
 use Rattle.cond_lang.specs.Grammar.{Meanings, SpellsArgs, no_args, seat_arg, suit_arg, both_args, named_value, named_condition, SpellsCounted, a_count, multiple, SpellsSeat, by_word, by_bound, beside, SpellsCount, SpellsHandTest, SpellsAtom, SpellsValue, atom, plus, a_number, count, measure, measure_in, len, cards, cards_in, longest_suit, second_suit, shortest_suit, item_token, four, SpellsCond, both, or, SpellsBoth, unit, and, SpellsUnit, not, brackets, quantified, test, SpellsTest, comparison, in_range, of_hand, is_balanced, has_shape, has_pattern, has_stopper, joined, SpellsEach, none as no_more, one_more}
 use Rattle.cond_lang.proofs.LikeNames.{LikeNames, like_names, condition_at, value_at}
-use Rattle.cond_lang.proofs.Scopes.{SameScope, same_scope, bind_same, can_bind_same, some_of, members_some, suits_alike, seats_alike}
+use Rattle.cond_lang.proofs.Scopes.{SameScope, bind_same, can_bind_same, some_of, members_some, suits_alike, seats_alike}
 
 -- the lists have tokens of the same kinds
 pub data Alike : List Token → List Token → Type 0 where

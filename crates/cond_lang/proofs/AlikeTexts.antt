@@ -1,18 +1,18 @@
 -- A text stays one if a token gives way to another of its kind.
-use Rattle.std.proofs.Common.{◌≡◌, List, [], ◌∷◌, ◌++◌, length, refl, sym, ap, ◌∙◌}
+use Rattle.std.proofs.Common.{◌≡◌, List, [], ◌∷◌, ◌++◌, length, refl, ap, ◌∙◌}
 use Rattle.cond_lang.specs.declared.classes.Choice.{Choice}
 use Rattle.cond_lang.specs.declared.classes.Class.TheVariants.{Suit as AnySuit, Seat as AnySeat}
 use Rattle.cond_lang.specs.declared.classes.Params.{Params}
 use Rattle.cond_lang.specs.declared.classes.Params.TheVariants.{OfSeat, OfSuit, OfBoth}
 use Rattle.cond_lang.specs.declared.scanner.Token.{Token}
-use Rattle.cond_lang.specs.declared.scanner.Token.TheVariants.{Class, Open, Close, Comma, Let, Is, Name}
+use Rattle.cond_lang.specs.declared.scanner.Token.TheVariants.{Open, Close, Comma, Let, Is, Name}
 use Rattle.conditions.specs.Form.{Form}
 use Rattle.cond_lang.specs.Classes.{unbound, given}
 use Rattle.cond_lang.specs.Continuations.{kind_of}
 use Rattle.cond_lang.specs.Definitions.{HasParams, no_params, a_seat, a_suit, seat_and_suit, IsBody, a_condition, a_value, IsDefinition, defines, AreDefinitions, none as no_more, one_more, defined, Spells}
 use Rattle.cond_lang.specs.Faults.{IsViable}
 use Rattle.cond_lang.specs.Grammar.{Meaning, Meanings, condition, value}
-use Rattle.cond_lang.proofs.Alike.{Alike, none, more, alike_refl, alike_append, join, moved, same, same_class, nothing_like, between, Parts, parts, split_is, ends_with, SomeCond, SomeValue, keep_cond, keep_value}
+use Rattle.cond_lang.proofs.Alike.{Alike, none, more, alike_refl, alike_append, join, moved, same, same_class, between, parts, ends_with, SomeCond, SomeValue, keep_cond, keep_value}
 use Rattle.cond_lang.proofs.LikeNames.{LikeMeaning, conditions, values, LikeNames, none as no_names, like_one_more, like_length}
 use Rattle.cond_lang.proofs.Scopes.{same_scope}
 

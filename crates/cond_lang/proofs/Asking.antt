@@ -1,6 +1,6 @@
 -- Questions: what a list asks, that it asks one thing at most, and that lists go wrong as questions where they do as
 -- conditions.
-use Rattle.std.proofs.Common.{◌≡◌, ℕ, ◌+◌, ◌*◌, ◌<◌, ◌⊎◌, drop, take-append-drop, List, [], ◌∷◌, ◌++◌, length, take, Option, Some, None, Result, Ok, Err, IfErr, refl, sym, ap, ◌∙◌, subst, inl, inr, append_assoc, append-nil, arith}
+use Rattle.std.proofs.Common.{◌≡◌, ℕ, ◌+◌, ◌<◌, ◌⊎◌, drop, take-append-drop, List, [], ◌∷◌, ◌++◌, length, take, Option, Some, None, Result, Ok, Err, IfErr, refl, sym, ap, ◌∙◌, subst, inl, inr, append_assoc, append-nil, arith}
 use Rattle.std.specs.Prelude.{◌↔◌, IsTrue, Bool, true, false, MatchOption}
 use Rattle.std.specs.Prelude.{IfOk, is_some}
 use Rattle.std.proofs.lemmas.Bool.{false≢true}
@@ -39,7 +39,6 @@ use Rattle.cond_lang.proofs.Texts.{one_tokens}
 
 -- reading a condition, a value is read to its end, and there its comparison is missing
 value_ends : (N : Meanings) (T : List Token) (a : Amount) → SpellsValue N unbound T a → cond_alone N T ≡ stuck []
-unfolding cond_alone
 value_ends N T a h =
     let read : reading N unbound a_value T ≡ got a [] = ap (reading N unbound a_value) (sym (append-nil T)) ∙ value_read h [] (λ e. cc, λ e. cc) in
     let as_unit : reading N unbound a_unit T ≡ stuck [] =

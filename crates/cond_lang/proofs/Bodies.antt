@@ -1,5 +1,5 @@
 -- What the body of a name is read as.
-use Rattle.std.proofs.Common.{◌≡◌, ◌≢◌, ℕ, ◌+◌, ◌≤◌, Bool, true, false, List, [], ◌∷◌, ◌++◌, Option, Some, None, slice_get, length, drop, refl, sym, ap, ◌∙◌, subst, append_assoc, append-nil, length-append, le_trans, arith}
+use Rattle.std.proofs.Common.{◌≡◌, ℕ, ◌≤◌, false, List, [], ◌∷◌, ◌++◌, Option, Some, None, slice_get, length, drop, refl, sym, ap, ◌∙◌, subst, append_assoc, length-append, le_trans, arith}
 use Rattle.std.proofs.Math.Path.{fun_ext}
 use Rattle.std.proofs.lemmas.List.{append_cancel_left, append_cancel_right}
 use Rattle.cond_lang.specs.declared.classes.Bound.{Bound}
@@ -10,7 +10,7 @@ use Rattle.cond_lang.specs.declared.classes.Params.TheVariants.{Plain, OfSeat, O
 use Rattle.cond_lang.specs.declared.scanner.Token.{Token}
 use Rattle.cond_lang.specs.declared.scanner.Token.TheVariants.{Not, Balanced, Shape, Pattern, Quantifier, Stops, Open, Close, Name}
 use Rattle.conditions.specs.Form.{Amount, Form}
-use Rattle.cond_lang.specs.Classes.{unbound, bind, given}
+use Rattle.cond_lang.specs.Classes.{unbound, given}
 use Rattle.cond_lang.specs.Definitions.{IsBody, a_condition, a_value as a_value_body}
 use Rattle.cond_lang.specs.Grammar.{Meaning, Meanings, condition, value, SpellsCond, SpellsValue}
 use Rattle.cond_lang.specs.internal.Defining.{first, tree_read, amount_read, as_condition, as_value, ends_body, body_by, body}
@@ -21,7 +21,7 @@ use Rattle.cond_lang.proofs.Scopes.{SameScope, same_scope, bind_same}
 use Rattle.cond_lang.proofs.Sequences.{Reads, HasSome, rest, onto, front-append}
 use Rattle.cond_lang.proofs.Shapes.{shape, shape_got, conds_alike, values_alike}
 use Rattle.cond_lang.proofs.Spelled.{cond_read, value_read, unit_compares}
-use Rattle.cond_lang.proofs.Steps.{Means, Relates, related, sample, sampled, sample_cond}
+use Rattle.cond_lang.proofs.Steps.{Means, related, sample, sampled, sample_cond}
 
 -- ---- a condition is read at least as far as a value
 

@@ -14,12 +14,12 @@ use Rattle.cond_lang.specs.declared.classes.Neighbour.TheVariants.{Partner}
 use Rattle.cond_lang.specs.declared.classes.Quantifier.{Quantifier as AQuantifier}
 use Rattle.cond_lang.specs.declared.classes.Quantifier.TheVariants.{Any, Every}
 use Rattle.cond_lang.specs.declared.scanner.Token.{Token}
-use Rattle.cond_lang.specs.declared.scanner.Token.TheVariants.{Not, Quantifier, Class, Open, Close, Plus, Star, Relation, In, Number, Dash}
+use Rattle.cond_lang.specs.declared.scanner.Token.TheVariants.{Not, Quantifier, Class, Open, Close, Plus, Relation, In, Number, Dash}
 use Rattle.conditions.specs.declared.tree.Count.{Count}
 use Rattle.conditions.specs.Form.{Amount, Form, any_of, all_of, negation}
 use Rattle.conditions.specs.Meaning.{holds}
 use Rattle.cond_lang.specs.Classes.{bind, can_bind, choice, members, seat_beside}
-use Rattle.cond_lang.specs.Grammar.{Meanings, SpellsArgs, named_value, named_condition, a_count, multiple, SpellsCount, SpellsAtom, SpellsValue, atom, plus, a_number, count, measure, measure_in, len, cards, cards_in, longest_suit, second_suit, shortest_suit, SpellsCond, both, unit, SpellsUnit, not as negated, brackets, quantified, test, SpellsEach, none, one_more, joined, SpellsTest, comparison, in_range, of_hand, is_balanced, has_shape, has_pattern, has_stopper}
+use Rattle.cond_lang.specs.Grammar.{Meanings, named_value, named_condition, a_count, multiple, SpellsCount, SpellsAtom, SpellsValue, atom, plus, a_number, count, measure, measure_in, len, cards, cards_in, longest_suit, second_suit, shortest_suit, SpellsCond, both, unit, SpellsUnit, not as negated, brackets, quantified, test, SpellsEach, none, one_more, joined, SpellsTest, comparison, in_range, of_hand, is_balanced, has_shape, has_pattern, has_stopper}
 use Rattle.cond_lang.specs.internal.Reading.{front}
 use Rattle.cond_lang.proofs.Quantified.{AreEach}
 

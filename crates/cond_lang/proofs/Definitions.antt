@@ -1,6 +1,5 @@
 -- Reading definitions, and texts that begin with them.
 use Rattle.std.proofs.Common.{◌≡◌, ◌≢◌, ℕ, zero, suc, ◌+◌, ◌<◌, ◌≤◌, ◌==◌, Bool, true, false, cond, List, [], ◌∷◌, ◌++◌, Some, length, refl, sym, ap, ◌∙◌, subst, append_assoc, append-nil, length-append, arith}
-use Rattle.std.specs.Prelude.{IsTrue}
 use Rattle.std.proofs.lemmas.Bool.Decides.{nat_tests}
 use Rattle.std.proofs.lemmas.List.{append_cancel_right}
 use Rattle.cond_lang.specs.declared.classes.Bound.{Bound}
@@ -11,10 +10,10 @@ use Rattle.cond_lang.specs.declared.scanner.Token.{Token}
 use Rattle.cond_lang.specs.declared.scanner.Token.TheVariants.{Number, Class, Open, Close, Comma, Let, Is, Name}
 use Rattle.conditions.specs.Form.{Amount, Form, number}
 use Rattle.cond_lang.specs.Classes.{unbound}
-use Rattle.cond_lang.specs.Definitions.{HasParams, no_params, a_seat, a_suit, seat_and_suit, IsBody, IsDefinition, defines, AreDefinitions, none, one_more, Defined, defined, Spells, SpellsAmount}
+use Rattle.cond_lang.specs.Definitions.{HasParams, no_params, a_seat, a_suit, seat_and_suit, IsBody, IsDefinition, defines, AreDefinitions, none, one_more, defined, Spells, SpellsAmount}
 use Rattle.cond_lang.specs.Grammar.{Meaning, Meanings, SpellsCond, SpellsValue, atom, a_number}
 use Rattle.cond_lang.specs.internal.Defining.{new_name, word_is, word_suit, behind_seat, param, params, body, is_body, definition, definitions_by, definitions, ended, cond_alone, value_alone, whole, whole_value}
-use Rattle.cond_lang.specs.internal.Reading.{Outcome, got, stuck, Reader, after, front, opened, closed, closing, a_cond, a_both, a_unit, a_value, ors, ands, sums, related_by, atom_of, number_or_count, count_of, reading}
+use Rattle.cond_lang.specs.internal.Reading.{Outcome, got, stuck, Reader, after, front, opened, closing, a_cond, a_both, a_unit, a_value, ors, ands, related_by, atom_of, number_or_count, count_of, reading}
 use Rattle.cond_lang.proofs.Bodies.{some_body, reads_body, body_read}
 use Rattle.cond_lang.proofs.Enough.{after_same, reads, reading_reads}
 use Rattle.cond_lang.proofs.Sequences.{Reads, HasSome, rest, onto, reads_after, reads_token, gets_token, gets_at, gets_at_end, stops_at, stops_at_end}
@@ -236,13 +235,11 @@ reads_ended {A} x [] = gets_at_end _ (ended x) x (refl, refl) refl
 reads_ended {A} x (c ∷ S) = stops_at _ c (ended x) S ([], x, (refl, refl)) (λ X. refl)
 
 reads_cond_alone : (N : Meanings) (S : List Token) → Reads (SpellsCond N unbound) (cond_alone N) S (cond_alone N S)
-unfolding cond_alone
 reads_cond_alone N S =
     reads_after (SpellsCond N unbound) EndsWith (SpellsCond N unbound) (reading N unbound a_cond) ended S (reading N unbound a_cond S)
     (λ P Q a t h m. rw (m.0, m.1, append-nil P) h) (λ a. ([], a, (refl, refl))) (reading_reads N unbound a_cond S) reads_ended
 
 reads_value_alone : (N : Meanings) (S : List Token) → Reads (SpellsValue N unbound) (value_alone N) S (value_alone N S)
-unfolding value_alone
 reads_value_alone N S =
     reads_after (SpellsValue N unbound) EndsWith (SpellsValue N unbound) (reading N unbound a_value) ended S (reading N unbound a_value S)
     (λ P Q a t h m. rw (m.0, m.1, append-nil P) h) (λ a. ([], a, (refl, refl))) (reading_reads N unbound a_value S) reads_ended
@@ -261,14 +258,14 @@ reads_whole_value S =
 
 -- What is spelled is read.
 pub whole_spelled : {T : List Token} {t : Form} → Spells T t → whole T ≡ got t []
-unfolding whole cond_alone
+unfolding whole
 whole_spelled (defined {D} {T} {N} {x = t} d h) =
     ap (λ o. after o (λ N R. cond_alone N R)) (definitions_read d T (no_let h))
     ∙ ap (λ T. after (reading N unbound a_cond T) ended) (sym (append-nil T))
     ∙ ap (λ o. after o ended) (cond_read h [] (λ e. cc) (λ e. cc) (λ e. cc, λ e. cc))
 
 pub whole_value_spelled : {T : List Token} {a : Amount} → SpellsAmount T a → whole_value T ≡ got a []
-unfolding whole_value value_alone
+unfolding whole_value
 whole_value_spelled (defined {D} {T} {N} {x = a} d h) =
     ap (λ o. after o (λ N R. value_alone N R)) (definitions_read d T (no_let_value h))
     ∙ ap (λ T. after (reading N unbound a_value T) ended) (sym (append-nil T))
@@ -285,11 +282,11 @@ after_nil (got x S) f y R h e = h x S e
 after_nil (stuck S) f y R h e = absurd (cc)
 
 pub whole_nil : (T R : List Token) (t : Form) → whole T ≡ got t R → R ≡ []
-unfolding whole cond_alone
+unfolding whole
 whole_nil T R t e = after_nil (definitions [] T) (λ N R. cond_alone N R) t R (λ N S i. ended_nil (reading N unbound a_cond S) t R i) e
 
 pub whole_value_nil : (T R : List Token) (a : Amount) → whole_value T ≡ got a R → R ≡ []
-unfolding whole_value value_alone
+unfolding whole_value
 whole_value_nil T R a e = after_nil (definitions [] T) (λ N R. value_alone N R) a R (λ N S i. ended_nil (reading N unbound a_value S) a R i) e
 
 -- What is read is spelled.

@@ -1,5 +1,5 @@
 -- Whether the last of some tokens is `let`.
-use Rattle.std.proofs.Common.{◌≡◌, ◌-◌, false, List, Option, Some, None, length, map, refl, sym, ap, ◌∙◌, arith, slice_get}
+use Rattle.std.proofs.Common.{◌≡◌, ◌-◌, false, List, Option, Some, length, refl, sym, ap, ◌∙◌, arith, slice_get}
 use Rattle.std.specs.Option.{option_map}
 use Rattle.std.proofs.lemmas.List.{length-map}
 use Rattle.std.proofs.lemmas.Option.{slice_get-map}

@@ -1,11 +1,11 @@
 -- Texts that give no name.
-use Rattle.std.proofs.Common.{◌≡◌, ℕ, ◌+◌, List, [], ◌∷◌, ◌++◌, take, refl, subst, arith}
+use Rattle.std.proofs.Common.{◌≡◌, List, [], ◌∷◌, ◌++◌, refl, arith}
 use Rattle.std.specs.Prelude.{Contains, ◌↔◌}
 use Rattle.cond_lang.specs.declared.scanner.Token.{Token}
 use Rattle.cond_lang.specs.declared.scanner.Token.TheVariants.{Let}
 use Rattle.conditions.specs.Form.{Form}
 use Rattle.cond_lang.specs.Classes.{unbound}
-use Rattle.cond_lang.specs.Definitions.{AreDefinitions, none, one_more, defined, Spells, SpellsNameless}
+use Rattle.cond_lang.specs.Definitions.{none, one_more, defined, Spells, SpellsNameless}
 use Rattle.cond_lang.specs.Faults.{IsViableIn, IsViable}
 use Rattle.cond_lang.proofs.Steps.{sample, sampled, sample_cond}
 

@@ -1,5 +1,5 @@
 -- Where reading stops is the first fault.
-use Rattle.std.proofs.Common.{◌≡◌, ℕ, ◌+◌, ◌*◌, ◌-◌, ◌<◌, List, [], ◌∷◌, ◌++◌, length, take, refl, sym, ap, ◌∙◌, subst, append_assoc, append-nil, length-append, arith, Result, Err}
+use Rattle.std.proofs.Common.{◌≡◌, ℕ, ◌+◌, ◌-◌, ◌<◌, List, [], ◌∷◌, ◌++◌, length, take, refl, sym, ap, ◌∙◌, subst, append_assoc, length-append, arith, Result, Err}
 use Rattle.std.proofs.lemmas.List.{length-map}
 use Rattle.cond_lang.specs.declared.scanner.Placed.{Placed}
 use Rattle.conditions.specs.declared.error.CondError.{CondError}
@@ -12,7 +12,7 @@ use Rattle.conditions.specs.Form.{Form}
 use Rattle.cond_lang.specs.Definitions.{Spells}
 use Rattle.cond_lang.specs.Faults.{IsViable, IsFirstFault}
 use Rattle.cond_lang.specs.internal.Defining.{whole}
-use Rattle.cond_lang.specs.internal.Reading.{Outcome, got, stuck, front}
+use Rattle.cond_lang.specs.internal.Reading.{got, stuck, front}
 use Rattle.cond_lang.proofs.Definitions.{reads_whole, whole_spelled, whole_right}
 use Rattle.cond_lang.proofs.Sequences.{Reads}
 

@@ -1,5 +1,5 @@
 -- Bodies as the parser's function finds them.
-use Rattle.std.proofs.Common.{◌≡◌, Bool, true, false, List, [], ◌∷◌, ◌++◌, Result, Ok, Err, refl, sym, ap, ◌∙◌, subst}
+use Rattle.std.proofs.Common.{◌≡◌, Bool, true, false, List, [], ◌∷◌, Result, Err, refl, sym, ap, ◌∙◌, subst}
 use Rattle.cond_lang.specs.declared.classes.Bound.{Bound}
 use Rattle.cond_lang.specs.declared.classes.Choice.{Choice}
 use Rattle.cond_lang.specs.declared.classes.Params.{Params}
@@ -10,7 +10,7 @@ use Rattle.cond_lang.specs.declared.scanner.Token.{Token}
 use Rattle.cond_lang.specs.declared.scanner.Token.TheVariants.{Close}
 use Rattle.conditions.specs.Form.{Amount, Form}
 use Rattle.cond_lang.specs.Classes.{given}
-use Rattle.cond_lang.specs.Grammar.{Meaning, Meanings}
+use Rattle.cond_lang.specs.Grammar.{Meanings}
 use Rattle.cond_lang.specs.internal.Defining.{first, as_condition, as_value, ends_body, left_by, body_by, body, meaning, meaning_by, IsGot, IsRead}
 use Rattle.cond_lang.specs.internal.Growing.{GivesBy, IsGrown}
 use Rattle.cond_lang.specs.internal.Reading.{Outcome, got, stuck, after, Gives, a_cond, a_value, reading}

@@ -15,7 +15,7 @@ use Rattle.cond_lang.specs.declared.scanner.Token.TheVariants.{Or, And, Not, Bal
 use Rattle.conditions.specs.Form.{Amount, measured, suit_measured, cards_held, Form, balanced}
 use Rattle.cond_lang.specs.Classes.{bound_to, seat_bound_to, seat_beside, bind, all_choices, members}
 use Rattle.cond_lang.specs.Grammar.{Meaning, Meanings, condition, value}
-use Rattle.cond_lang.specs.internal.Reading.{Outcome, got, stuck, Reader, after, opened, comma, class_seat, seat, open_seat, open_seat_comma, seat_in_brackets, seat_and_items, items, comma_ranks_close, ranks_close, relation, range, class_suit, suit, quantifier, class, closing, closed, comma_suit_close, rest_of_measure, suit_and_ranks, rest_of_cards, seat_and_suit, count_of, count_alone, rest_of_number, number_or_count, suit_in_brackets, args, value_used, atom_of, condition_used_by, test_by, Goal, a_cond, a_both, a_unit, ors, ands, a_value, sums, Readers, compared_by, related_by, comparing_by, sums_by, each_by, bracketed_by, quantified_by, unit_by, ors_by, ands_by, step, steps}
+use Rattle.cond_lang.specs.internal.Reading.{Outcome, got, stuck, Reader, after, opened, comma, class_seat, seat, open_seat, open_seat_comma, seat_in_brackets, seat_and_items, items, comma_ranks_close, ranks_close, relation, range, class_suit, suit, quantifier, class, closing, closed, comma_suit_close, rest_of_measure, suit_and_ranks, rest_of_cards, seat_and_suit, count_of, count_alone, rest_of_number, number_or_count, suit_in_brackets, args, value_used, atom_of, condition_used_by, Goal, a_cond, a_both, a_unit, ors, ands, a_value, sums, Readers, compared_by, related_by, comparing_by, sums_by, each_by, bracketed_by, quantified_by, unit_by, ors_by, ands_by, step, steps}
 use Rattle.cond_lang.proofs.Scopes.{SameScope, suits_alike, seats_alike, first, same_scope, bind_same, can_bind_same, can_quantify_same, members_some}
 use Rattle.cond_lang.proofs.Members.{ReadsEach, each_got, each_stuck}
 

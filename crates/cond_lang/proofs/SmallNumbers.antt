@@ -6,10 +6,7 @@ use Rattle.std.specs.Prelude.{All, Contains, fold}
 use Rattle.std.specs.List.{AllByRecursion, filter_map, list_any}
 use Rattle.std.proofs.lemmas.List.Elements.{All-from_recursion}
 use Rattle.std.specs.Char.{is_ascii_digit}
-use Rattle.cards.specs.declared.hand.Measure.{Measure}
-use Rattle.cards.specs.declared.hand.Measure.TheVariants.{Hcp}
 use Rattle.cards.specs.declared.seat.Seat.{Seat}
-use Rattle.cards.specs.declared.suit.Suit.{Suit}
 use Rattle.cond_lang.specs.declared.classes.Bound.{Bound}
 use Rattle.cond_lang.specs.declared.classes.Choice.{Choice}
 use Rattle.cond_lang.specs.declared.classes.Class.{Class as AClass}
@@ -17,17 +14,16 @@ use Rattle.cond_lang.specs.declared.classes.Params.{Params}
 use Rattle.cond_lang.specs.declared.classes.Quantifier.{Quantifier as AQuantifier}
 use Rattle.cond_lang.specs.declared.classes.Quantifier.TheVariants.{Any as OneOf, Every}
 use Rattle.cond_lang.specs.declared.scanner.Token.{Token}
-use Rattle.cond_lang.specs.declared.scanner.Token.TheVariants.{Or, And, In, Dash, Number, Class, Open, Close, Comma, Plus, Star, Relation, Let, Is, Name}
+use Rattle.cond_lang.specs.declared.scanner.Token.TheVariants.{Or, And, In, Dash, Number, Open, Close, Plus, Relation, Is, Name}
 use Rattle.cond_lang.specs.declared.scanner.Placed.{Placed}
 use Rattle.cond_lang.specs.declared.scanner.Piece.{Piece}
 use Rattle.cond_lang.specs.declared.scanner.Piece.TheVariants.{Separator, Token as TokenPiece, StrayByte, UnknownWord, LongNumber}
 use Rattle.cond_lang.specs.Cut.{words, symbols, decimal, IsPiece, blank, comment, word, ranks, no_word, number as number_piece, long, symbol, stray, Pieces, IsCut, end, piece, placed_from, token_at, HasTokens, Naming, no_names, name_number, name_or, named_piece, naming_after, named_from, named}
-use Rattle.conditions.specs.Form.{Amount, Form, measured, suit_measured, shape, pattern, loose_shape, loose_pattern, is_any, number_of, shaped, patterned}
+use Rattle.conditions.specs.Form.{Amount, Form, shape, pattern, loose_shape, loose_pattern, is_any, number_of, shaped, patterned}
 use Rattle.conditions.specs.declared.tree.Item.{Item}
 use Rattle.conditions.specs.declared.tree.Item.TheVariants.{Length, Any}
-use Rattle.cond_lang.specs.Classes.{unbound}
-use Rattle.cond_lang.specs.Definitions.{HasParams, no_params, a_seat, a_suit, seat_and_suit, IsBody, a_condition, a_value, IsDefinition, defines, AreDefinitions, none as no_more, one_more as one_name, defined, Spells, SpellsAmount}
-use Rattle.cond_lang.specs.Grammar.{Meaning, Meanings, condition, value, SpellsArgs, named_value, named_condition, a_count, multiple, SpellsCount, SpellsHandTest, SpellsAtom, SpellsValue, atom, plus, a_number, count, measure, measure_in, len, cards, cards_in, longest_suit, second_suit, shortest_suit, item_token, SpellsCond, both, or, SpellsBoth, unit, and, SpellsUnit, not, brackets, quantified, SpellsEach, none, one_more, joined, test, comparison, in_range, of_hand, is_balanced, has_shape, has_pattern, has_stopper}
+use Rattle.cond_lang.specs.Definitions.{IsBody, a_condition, a_value, IsDefinition, defines, AreDefinitions, none as no_more, one_more as one_name, defined, Spells, SpellsAmount}
+use Rattle.cond_lang.specs.Grammar.{Meaning, Meanings, condition, value, named_value, named_condition, a_count, multiple, SpellsHandTest, SpellsAtom, SpellsValue, atom, plus, a_number, item_token, SpellsCond, both, or, SpellsBoth, unit, and, SpellsUnit, not, brackets, quantified, SpellsEach, none, one_more, joined, test, comparison, in_range, of_hand, is_balanced, has_shape, has_pattern, has_stopper}
 use Rattle.conditions.specs.Limits.{AddsNumbersUpTo, HasNumbersUpTo}
 use Rattle.cond_lang.specs.Text.{kinds}
 use Rattle.cond_lang.proofs.Tables.{Table, EachEntry, at_entry, pick}

@@ -1,5 +1,5 @@
 -- What is spelled is read.
-use Rattle.std.proofs.Common.{◌≡◌, ◌≢◌, ℕ, true, cond, List, [], ◌∷◌, ◌++◌, Some, slice_get, refl, sym, ap, ◌∙◌, append_assoc}
+use Rattle.std.proofs.Common.{◌≡◌, ◌≢◌, ℕ, true, cond, List, [], ◌∷◌, ◌++◌, Some, refl, ap, ◌∙◌, append_assoc}
 use Rattle.cards.specs.declared.seat.Seat.{Seat as ASeat}
 use Rattle.cards.specs.declared.seat.Seat.TheVariants.{North}
 use Rattle.cards.specs.declared.suit.Suit.{Suit as ASuit}

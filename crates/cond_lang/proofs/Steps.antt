@@ -8,7 +8,7 @@ use Rattle.cond_lang.specs.declared.classes.Bound.{Bound}
 use Rattle.cond_lang.specs.declared.classes.Class.{Class as AClass}
 use Rattle.cond_lang.specs.declared.classes.Quantifier.{Quantifier as AQuantifier}
 use Rattle.cond_lang.specs.declared.scanner.Token.{Token}
-use Rattle.cond_lang.specs.declared.scanner.Token.TheVariants.{Or, And, Not, Balanced, Shape, Pattern, Quantifier, Stops, In, Class, Number, Dash, Open, Close, Plus, Star, Relation, Name}
+use Rattle.cond_lang.specs.declared.scanner.Token.TheVariants.{Or, And, Not, Balanced, Shape, Pattern, Quantifier, Stops, In, Class, Number, Dash, Open, Close, Plus, Relation, Name}
 use Rattle.conditions.specs.Form.{Amount, sum, number, Form, any_of, all_of, negation, compare, within, balanced, shaped, patterned, stops}
 use Rattle.cond_lang.specs.Classes.{bind, can_bind}
 use Rattle.cond_lang.specs.Grammar.{Meaning, Meanings, condition, value, named_condition, SpellsAtom, SpellsValue, atom, plus, a_number, SpellsCond, both, or, SpellsBoth, unit, and, SpellsUnit, not, brackets, quantified, test, comparison, in_range, of_hand, is_balanced, has_shape, has_pattern, has_stopper}

@@ -18,7 +18,7 @@ use Rattle.conditions.specs.declared.tree.Item.TheVariants.{Length, Any}
 use Rattle.conditions.specs.declared.tree.Op.TheVariants.{Equal}
 use Rattle.cond_lang.specs.declared.scanner.Token.{Token}
 use Rattle.cond_lang.specs.declared.scanner.Token.TheVariants.{Star, Measure, Cards, Len, Longest, Second, Shortest, X, Seat, Suit, Class, Neighbour, Ranks, Number, Open, Close, Comma, Dash, Relation, Name}
-use Rattle.conditions.specs.Form.{Amount, number, counted, times, measured, suit_measured, cards_held, suit_cards_held, suit_length, longest, second, shortest}
+use Rattle.conditions.specs.Form.{number, counted, times, measured, suit_measured, cards_held, suit_cards_held, suit_length, longest, second, shortest}
 use Rattle.cond_lang.specs.Classes.{bound_to, seat_bound_to, can_bind, Names, by_suit, by_class, choice, seat_beside}
 use Rattle.cond_lang.specs.Grammar.{Meaning, Meanings, condition, value, SpellsArgs, no_args, seat_arg, suit_arg, both_args, named_value, SpellsCounted, a_count, multiple, SpellsSeat, by_word, by_bound, beside, SpellsAtom, a_number, count, measure, measure_in, len, cards, cards_in, longest_suit, second_suit, shortest_suit, item_token, four}
 use Rattle.cond_lang.specs.internal.Reading.{Outcome, got, stuck, Reader, after, opened, closed, comma, dash, seat, class_seat, suit, class_suit, class, digits, ranks, item, relation, closing, comma_suit_close, rest_of_measure, ranks_close, comma_ranks_close, suit_and_ranks, rest_of_cards, count_of, count_alone, rest_of_number, number_or_count, open_seat, seat_in_brackets, seat_and_suit, open_seat_comma, range, suit_in_brackets, args, value_used, atom_of, items, seat_and_items}

@@ -1,5 +1,5 @@
 -- A use of a name is its body with the arguments in the place of the parameters.
-use Rattle.std.proofs.Common.{◌≡◌, List, [], ◌∷◌, ◌++◌, Some, length, slice_get, refl, sym, ap, ◌∙◌, subst, append-nil}
+use Rattle.std.proofs.Common.{◌≡◌, List, [], ◌∷◌, ◌++◌, length, refl, subst}
 use Rattle.std.specs.Prelude.{◌↔◌}
 use Rattle.cond_lang.specs.declared.classes.Bound.{Bound}
 use Rattle.cond_lang.specs.declared.classes.Choice.{Choice}
@@ -10,7 +10,6 @@ use Rattle.conditions.specs.Form.{Amount, Form}
 use Rattle.cond_lang.specs.Classes.{given}
 use Rattle.cond_lang.specs.Definitions.{IsBody, a_condition, a_value}
 use Rattle.cond_lang.specs.Grammar.{Meaning, Meanings, condition, value, SpellsArgs, SpellsUnit, SpellsCond, SpellsValue, brackets, test, named_condition, atom, named_value}
-use Rattle.cond_lang.specs.internal.Reading.{got, a_unit, a_value as to_value, reading}
 use Rattle.cond_lang.proofs.Kept.{get_behind}
 use Rattle.cond_lang.proofs.Spelled.{spelled_unit, value_read}
 

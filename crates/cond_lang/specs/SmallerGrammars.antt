@@ -1,7 +1,7 @@
--- Smaller grammars, all of conditions that give no name: one without factors, one without the words of seats too, one without those of
--- quantifiers too, one whose values are atoms alone, one whose only measure is hcp, one in the
--- words that the language had first, and the first grammar: those words without sums. What they
--- spell, the whole grammar spells too.
+-- Smaller grammars, all of conditions that give no name: one without factors, one without the words
+-- of seats too, one without those of quantifiers too, one whose values are atoms alone, one whose
+-- only measure is hcp, one in the words that the language had first, and the first grammar: those
+-- words without sums. What they spell, the whole grammar spells too.
 use Rattle.std.specs.Prelude.{◌≡◌, ◌≢◌, ℕ, List, [], ◌∷◌, ◌++◌, Option, Some, None}
 use Rattle.cards.specs.declared.honours.Honours.{Honours}
 use Rattle.cards.specs.declared.hand.Measure.TheVariants.{Hcp}
@@ -70,7 +70,8 @@ IsEarlier t = brought_by t ≡ None
 -- ---- without sums
 
 abbrev pub SpellsWithoutSums : List Token → Form → Type 0
-SpellsWithoutSums T t = CondOf everything (λ E. TestOf everything [] E (SpellsAtom [] E)) unbound T t
+SpellsWithoutSums T t =
+    CondOf everything (λ E. TestOf everything [] E (SpellsAtom [] E)) unbound T t
 
 -- ---- hcp alone
 

@@ -14,15 +14,16 @@ use crate::scanner::{MAX_BYTES, scan};
 use conditions::{Cond, CondError};
 use std::alloc::Global;
 
-/// Returns the condition that a text spells.
+/// Returns the condition that a text spells, where each use of a name that the text gives is what
+/// the name stands for.
 ///
 /// # Errors
 /// A text of more than 1,024 bytes is `TooLong`. Otherwise the leftmost faulty piece of the whole
 /// text is refused, as `Byte`, `Word` or `Number` with its offset. A text without one that spells
 /// no condition is `Syntax`, at the first token that no condition goes on with, or at the text's
 /// length. A text without a fault whose condition has more than `MOST_PARTS` parts, once it is
-/// written out for each suit and seat of its classes, is `TooManyParts`. `Memory` if an allocation
-/// failed.
+/// written out for each name and for each suit and seat of its classes, is `TooManyParts`. `Memory`
+/// if an allocation failed.
 pub fn parse(alloc: Global, text: &[u8]) -> Result<Cond, CondError>
     ensures too_long { (result ≡ Err CondError.TooLong) ↔ (1024 < length text.now) }
     ensures fault { (e : Fault) → length text.now ≤ 1024 → HasFault text.now e → result ≡ Err e }

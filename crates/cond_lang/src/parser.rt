@@ -1,5 +1,10 @@
 //! The parser: it reads the tokens from the left, with one token in sight, and builds the tree as
 //! it goes.
+//!
+//! `names` are those given before, and each use reads its name's body again, with the arguments
+//! bound. `room` is how many parts a tree may have to be kept: a use of a name that has more isn't
+//! read, and its parts are counted alone. So the time that a text takes is bounded by the parts
+//! that are kept, however many it has.
 
 ghost use Rattle.std.specs.Prelude.{◌≡◌, ◌≢◌, ◌≤◌, ℕ, List, Option, Some, Err, true, false, ◌∷◌};
 ghost use Rattle.std.specs.Prelude.{length, slice_get, IfOk};
@@ -428,8 +433,9 @@ impl<'a> Parser<'a> {
         requires sound { AreSound names.now }
         requires passed { length self.old ≤ length start.now }
         ensures gives { (t : Option Form) → AreGrown each.room left t
-            → GivesBy (AreGrown each.room) result self.new (with_choice_by (reading (meanings names.now))
-            bound each.quantifier each.class (kinds start.entry.now) choice t self.old) }
+            → GivesBy (AreGrown each.room) result self.new
+            (with_choice_by (reading (meanings names.now)) bound each.quantifier each.class
+            (kinds start.entry.now) choice t self.old) }
         ensures shorter { length self.new ≤ length start.entry.now }
     {
         if !bound.is_member(each.class, choice) {

@@ -13,7 +13,8 @@ use crate::scanner::{MAX_BYTES, scan};
 use conditions::{Cond, CondError, Question};
 use std::alloc::Global;
 
-/// Returns the question that a text spells, which is a whole condition or a whole value.
+/// Returns the question that a text spells, which is a whole condition or a whole value, behind the
+/// definitions of its names.
 ///
 /// # Errors
 /// Those of `parse`. A text of tokens that are neither is `Syntax`, at the first token that neither

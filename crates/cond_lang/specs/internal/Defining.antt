@@ -1,5 +1,5 @@
 -- Reading definitions from the left, and what the parser keeps of the names that they give.
-use Rattle.std.specs.Prelude.{◌≡◌, ℕ, zero, suc, ◌+◌, ◌*◌, ◌==◌, Bool, true, false, List, [], ◌∷◌, ◌++◌, length, map, min, Some, if◌then◌else◌, slice_get}
+use Rattle.std.specs.Prelude.{◌≡◌, ℕ, zero, suc, ◌+◌, ◌*◌, ◌==◌, Bool, true, false, List, [], ◌∷◌, ◌++◌, length, min, Some, if◌then◌else◌, slice_get}
 use Rattle.cards.specs.declared.seat.Seat.TheVariants.{North}
 use Rattle.cards.specs.declared.suit.Suit.TheVariants.{Spades}
 use Rattle.conditions.specs.declared.tree.Op.TheVariants.{Equal}
@@ -117,11 +117,11 @@ ended t [] = got t []
 ended t (c ∷ S) = stuck (c ∷ S)
 
 -- one condition, and no more
-unfoldable pub cond_alone : Meanings → Reader Form
+abbrev pub cond_alone : Meanings → Reader Form
 cond_alone N S = after (reading N unbound a_cond S) ended
 
 -- one value, and no more
-unfoldable pub value_alone : Meanings → Reader Amount
+abbrev pub value_alone : Meanings → Reader Amount
 value_alone N S = after (reading N unbound a_value S) ended
 
 -- definitions and one condition, and no more

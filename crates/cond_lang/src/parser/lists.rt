@@ -1,7 +1,8 @@
-//! What a whole list of tokens is: a condition, a value, or the beginning of a condition.
+//! What a whole list of tokens is: behind its definitions a condition, a value, or the beginning of
+//! a condition.
 
-ghost use Rattle.std.specs.Prelude.{◌≡◌, ◌≢◌, [], ◌<◌, ◌≤◌, ◌⊎◌, ◌↔◌, ℕ, length, IfOk, IfErr, Err, IsTrue};
-ghost use Rattle.std.specs.Prelude.{MatchOption};
+ghost use Rattle.std.specs.Prelude.{◌≡◌, ◌≢◌, [], ◌<◌, ◌≤◌, ◌⊎◌, ◌↔◌, ℕ, length, IfOk};
+ghost use Rattle.std.specs.Prelude.{IfErr, Err, IsTrue, MatchOption};
 ghost use Rattle.cond_lang.specs.declared.parser.Refusal.TheVariants.{Syntax};
 ghost use Rattle.conditions.specs.declared.limits.TheConstants.{MOST_PARTS};
 ghost use Rattle.conditions.specs.Form.{Amount, Form, form_of};
@@ -33,7 +34,7 @@ impl<'a> Parser<'a> {
     }
 
     /// Definitions and one condition, and no more.
-    #[tactic(auto, unfolding(crate::specs::internal::Defining::whole, crate::specs::internal::Defining::cond_alone))]
+    #[tactic(auto, unfolding(crate::specs::internal::Defining::whole))]
     fn whole(&mut self, room: u32) -> Result<Grown, Refusal>
         ensures gives { GivesBy (IsGrown room) result self.new (whole self.old) }
         ensures shorter { length self.new ≤ length self.old }
@@ -45,7 +46,7 @@ impl<'a> Parser<'a> {
     }
 
     /// Definitions and one value, and no more.
-    #[tactic(auto, unfolding(crate::specs::internal::Defining::whole_value, crate::specs::internal::Defining::value_alone))]
+    #[tactic(auto, unfolding(crate::specs::internal::Defining::whole_value))]
     fn whole_value(&mut self, room: u32) -> Result<GrownValue, Refusal>
         ensures gives { GivesBy (IsGrownValue room) result self.new (whole_value self.old) }
         ensures shorter { length self.new ≤ length self.old }

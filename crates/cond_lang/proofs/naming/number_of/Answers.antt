@@ -1,5 +1,5 @@
-use Rattle.std.proofs.Common.{◌≡◌, ◌+◌, ◌<◌, length, drop, ℕ, true, sym, ap, ◌∙◌, arith}
-use Rattle.std.specs.List.{position, position_or_len}
+use Rattle.std.proofs.Common.{◌≡◌, length, drop, ℕ, sym, ◌∙◌, arith}
+use Rattle.std.specs.List.{position_or_len}
 use Rattle.std.specs.Str.{bytes_eq}
 use Rattle.cond_lang.proofs.NamesFound.{position-map, position_is, position_none, passes_here, none_passes}
 use Rattle.cond_lang.proofs.naming.number_of.Goals as goal

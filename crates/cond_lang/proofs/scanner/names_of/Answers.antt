@@ -1,4 +1,4 @@
-use Rattle.std.proofs.Common.{◌≡◌, ◌<◌, length, arith}
+use Rattle.std.proofs.Common.{◌<◌, length, arith}
 use Rattle.cond_lang.proofs.Scanned.{none_named, named_next, names_then}
 use Rattle.cond_lang.proofs.scanner.names_of.Goals as goal
 

@@ -1,5 +1,4 @@
-use Rattle.std.proofs.Common.{◌≡◌, Option, true, false, Some, None, sym, ap, ◌∙◌, take}
-use Rattle.cond_lang.specs.declared.scanner.Placed.{Placed}
+use Rattle.std.proofs.Common.{Some, None, sym, ap, ◌∙◌, take}
 use Rattle.cond_lang.specs.Continuations.{is_let}
 use Rattle.cond_lang.specs.Text.{kinds}
 use Rattle.cond_lang.proofs.Beginnings.{kinds_of_part}

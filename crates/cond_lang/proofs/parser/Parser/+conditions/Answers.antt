@@ -1,5 +1,5 @@
 use Rattle.std.proofs.lemmas.Grind.{common_steps}
-use Rattle.std.proofs.Common.{◌≡◌, ◌+◌, ◌∙◌, [], None, Some, Err, ap, arith, get_or, min, rules}
+use Rattle.std.proofs.Common.{◌≡◌, ◌∙◌, [], None, Some, Err, ap, arith, get_or, min, rules}
 use Rattle.std.proofs.lemmas.Option.{slice_get_past}
 use Rattle.std.proofs.lemmas.Result.{err_from_is_err_and}
 use Rattle.conditions.specs.Limits.{parts_of}

@@ -1,10 +1,9 @@
 use Rattle.std.proofs.lemmas.Grind.{common_steps}
-use Rattle.std.proofs.Common.{◌≡◌, ◌<◌, ◌∙◌, [], ap, arith, get_or, min, refl, Err, ◌+◌}
+use Rattle.std.proofs.Common.{◌≡◌, ◌∙◌, [], ap, arith, get_or, min, refl, Err}
 use Rattle.std.proofs.lemmas.Option.{slice_get_past}
 use Rattle.std.proofs.lemmas.Result.{err_from_is_err_and}
 use Rattle.conditions.specs.Limits.{atoms_of}
 use Rattle.cond_lang.specs.internal.Growing.{IsGrownValue, most_counted}
-use Rattle.cond_lang.specs.internal.Reading.{value_used}
 use Rattle.cond_lang.proofs.Enough.{reads}
 use Rattle.cond_lang.proofs.Growing.{same_rest, used_err, used_ok}
 use Rattle.cond_lang.proofs.Kept.{amount_at, at, count_at, condition_meaning, found, kept_of, no_fault, none_at, value_meaning}

@@ -1,4 +1,3 @@
-use Rattle.std.proofs.Common.{ℕ}
 use Rattle.cond_lang.specs.Text.{kinds}
 use Rattle.cond_lang.specs.internal.Defining.{meanings}
 use Rattle.cond_lang.proofs.Counting.{CountedBelow}

@@ -1,9 +1,7 @@
-use Rattle.std.proofs.Common.{◌≡◌, ◌∙◌, List, ap, sym, Err, subst}
+use Rattle.std.proofs.Common.{◌≡◌, ◌∙◌, ap, sym, Err, subst}
 use Rattle.std.proofs.lemmas.Result.{err_from_is_err_and}
-use Rattle.cond_lang.specs.declared.scanner.Token.{Token}
 use Rattle.cond_lang.specs.Classes.{given}
-use Rattle.cond_lang.specs.Text.{kinds}
-use Rattle.cond_lang.specs.internal.Defining.{body, meaning_by, meanings, AreCounted, IsRead}
+use Rattle.cond_lang.specs.internal.Defining.{body, meaning_by, meanings, IsRead}
 use Rattle.cond_lang.specs.internal.Reading.{got}
 use Rattle.cond_lang.proofs.Reread.{value_body, cond_body, err_body, value_read_each, cond_read_each}
 use Rattle.cond_lang.proofs.parser.Parser.body.Goals as goal
