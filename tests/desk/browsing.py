@@ -73,6 +73,9 @@ class Window:
         field.clear()
         field.send_keys(text)
 
+    def choose(self, name, text):
+        self.find(f"[name={name}]").find_element("xpath", f"option[.=\"{text}\"]").click()
+
     def press(self, text):
         """Clicks a button, as a person can: it has to be in sight and nothing before it."""
         found = self.button(text)
@@ -202,6 +205,26 @@ def handout(window, desk):
         yield from fits(window, "a handout")
 
 
+def one_hand(window, desk):
+    """The page shows the hands that were chosen, without points, and prints by its button."""
+    window.go(f"{desk.address}/lesson?boards=2&seed=7")
+    window.driver.find_element("xpath", "//summary[.='What the page shows']").click()
+    window.choose("show", "South's")
+    window.choose("points", "hidden")
+    window.press("Deal")
+    window.until(lambda: "Board 2" in window.frame_text(), "the boards")
+    yield "one hand a board", window.frame_text().count("\u2660") == 2
+    yield "its line says so", "--show=south --points=hide --format=html" in window.shown_lines()[0]
+    yield "the choice stays", window.find("[name=show]").get_attribute("value") == "south"
+    yield from fits(window, "a page of one hand")
+    if window.find(".print").is_displayed():
+        window.driver.execute_script(
+            "document.querySelector('#result iframe').contentWindow.print = () => { window.printed = true; }"
+        )
+        window.press("Print")
+        yield "the boards are printed", window.driver.execute_script("return window.printed") is True
+
+
 def two_tabs(window, desk):
     """What another tab does with the night changes nothing in this one."""
     window.go(desk.address)
@@ -324,11 +347,11 @@ def by_keyboard(window, desk):
     window.until(lambda: "Stopped" in window.find("[role=status]").text, "the end")
 
 
-WAYS = (tonight, sheet, lesson, handout, two_tabs, mistake, hands, counted, searched, contracts, by_keyboard)
+WAYS = (tonight, sheet, lesson, handout, one_hand, two_tabs, mistake, hands, counted, searched, contracts, by_keyboard)
 
 
 # The ways that need no scripts; a mistake is told without them too, when the form is sent.
-PLAIN = (tonight, sheet, lesson, handout, two_tabs, hands, counted, searched, contracts, by_keyboard)
+PLAIN = (tonight, sheet, lesson, handout, one_hand, two_tabs, hands, counted, searched, contracts, by_keyboard)
 
 
 def dark(window, desk):

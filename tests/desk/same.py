@@ -13,8 +13,12 @@ LESSONS = [
     {"boards": "6", "seed": "7", "where": WHERE, "turn": "turn"},
     {"boards": "3", "seed": "4294967295", "where": "1==1\nand hcp(south)>=9", "turn": "N", "vulnerable": "EW"},
     {"boards": "2", "seed": "0", "turn": "", "south": "AQ742.K5.KJ3.842", "event": "It's <one> & two", "site": "$(id)"},
+    {"boards": "3", "seed": "7", "turn": "turn", "where": WHERE, "show": "ns", "points": "hide"},
+    {"boards": "3", "seed": "7", "turn": "E", "show": "dealer"},
     {"boards": "2", "seed": "7", "turn": "turn", "where": "len(south,spades)>=5", "makes": "4S-NS", "beaten": "3NT-NS"},
 ]
+# The options of the fields that change how a file looks.
+LOOKS = {"show": "--show=", "points": "--points="}
 COUNTS = [
     {"candidates": "3000", "seed": "7", "where": WHERE, "of": "len(south,spades)"},
     {"candidates": "1000", "seed": "7", "of": "hcp(north)", "by": "len(north,spades)"},
@@ -37,8 +41,9 @@ def lessons(desk):
         for name in files.LESSON:
             if "makes" in form and files.BY_NAME[name].tricks:
                 continue
-            options = files.BY_NAME[name].look
-            other = line.replace("--format=html", " ".join(options))
+            options = [LOOKS[field] + form[field] for field in files.BY_NAME[name].asks if form.get(field)]
+            plain = re.sub(r" --(show|points)=\w+", "", line)
+            other = plain.replace("--format=html", " ".join([*options, *files.BY_NAME[name].look]))
             if files.BY_NAME[name].tricks:
                 continue
             given = desk.get(f"/lesson/{name}", form)

@@ -76,7 +76,8 @@ def written(output: bytes, file: File, name: str) -> Response:
 
 def command_of(file: File, form: words.Form) -> words.Command:
     """The command that makes a file of the boards that a form asks for."""
-    return words.with_tricks(form, file.look) if file.tricks else words.boards(form, file.look)
+    look = (*words.words_of(form, file.asks), *file.look)
+    return words.with_tricks(form, look) if file.tricks else words.boards(form, look)
 
 
 def lines(files: Iterable[File], form: words.Form) -> dict[str, str]:

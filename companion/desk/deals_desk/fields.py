@@ -47,6 +47,15 @@ VULNERABLE = (
     ("All", "all"),
 )
 
+SHOWN = (
+    ("", "all four"),
+    ("dealer", "the dealer's"),
+    *((seat, f"{seat.title()}'s") for seat in SEATS),
+    ("ns", "North's and South's"),
+    ("ew", "East's and West's"),
+)
+POINTS = (("", "shown"), ("hide", "hidden"))
+
 CONDITION_NOTE = "Each deal has to meet it; leave it empty for any deal."
 HAND_EXAMPLE = "AKQ32.K..A"
 
@@ -64,6 +73,8 @@ FIELDS = (
           note="A second value or condition, or nothing."),
     Field("turn", "Dealer", "", Kind.CHOICE, TURNING, TURNS),
     Field("vulnerable", "Vulnerable", "--vulnerable", Kind.CHOICE, "", VULNERABLE),
+    Field("show", "Hands on the page", "--show", Kind.CHOICE, "", SHOWN),
+    Field("points", "Points of each hand", "--points", Kind.CHOICE, "", POINTS),
     *(Field(seat, seat.title(), f"--{seat}", example=HAND_EXAMPLE) for seat in SEATS),
     Field("event", "Event", "--event", example="Club night"),
     Field("site", "Club", "--site", example="Riverside"),
@@ -76,7 +87,7 @@ BY_NAME = {field.name: field for field in FIELDS}
 LABELS = ("event", "site", "date")
 # The fields of each page, in the order of its words.
 TONIGHT = ("seed", "boards", "first_board", *LABELS)
-LESSON = ("seed", "boards", "where", "turn", "vulnerable", *SEATS, *LABELS, "makes", "beaten")
+LESSON = ("seed", "boards", "where", "turn", "vulnerable", "show", "points", *SEATS, *LABELS, "makes", "beaten")
 COUNT = ("seed", "candidates", "where", "of", "by")
 SEARCH = ("seed", "boards", "first", "candidates", "where", *SEATS)
 

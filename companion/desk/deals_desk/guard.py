@@ -9,10 +9,10 @@ PAGE_POLICY = (
     "default-src 'none'; style-src 'self'; script-src 'self'; img-src 'self'; connect-src 'self'; frame-src 'self'; "
     "form-action 'self'; base-uri 'none'; frame-ancestors 'none'"
 )
-# What `deals` wrote has its style in it, and nothing else.
+# What `deals` wrote has its style in it, and nothing else: no scripts, but the page around it may print it.
 WRITTEN_POLICY = (
     "default-src 'none'; style-src 'unsafe-inline'; base-uri 'none'; form-action 'none'; frame-ancestors 'self'; "
-    "sandbox"
+    "sandbox allow-same-origin allow-modals"
 )
 HEADERS = {
     "X-Content-Type-Options": "nosniff",

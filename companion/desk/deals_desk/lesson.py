@@ -38,7 +38,7 @@ def lesson() -> Response:
             noted = note(checked(words.check(form), form).said)
         except Refused as refused:
             answer = refused.answer
-    line = words.boards(form, files.BY_NAME["boards"].look).line()
+    line = command_of(files.BY_NAME["boards"], form).line()
     return page(
         "lesson.html", 422 if answer else 200, form=form, answer=answer, noted=noted, files=offered(form), address=address(form),
         is_dealt=is_asked and not answer, line=line, groups=starts.groups(desk().runner.programs.get(DEALS, "")), has_solver=desk().runner.has(TRICKS),

@@ -145,6 +145,12 @@ function watchCopy(copy) {
   });
 }
 
+// Prints the boards that the page shows.
+function watchPrint(print) {
+  print.hidden = false;
+  print.addEventListener("click", () => document.querySelector("#result iframe").contentWindow.print());
+}
+
 // The lines to be typed follow the form.
 function watchLines(form) {
   form.addEventListener("change", async () => {
@@ -174,5 +180,6 @@ function watchSearch(bar) {
 
 document.querySelectorAll("[data-check]").forEach(watchText);
 document.querySelectorAll(".copy").forEach(watchCopy);
+document.querySelectorAll(".print").forEach(watchPrint);
 document.querySelectorAll("[data-lines]").forEach(watchLines);
 document.querySelectorAll("[data-state]").forEach(watchSearch);
