@@ -100,7 +100,8 @@ def complaint(condition, deals):
 def randoms():
     """Random conditions, the same in each run."""
     dice = random.Random(2026)
-    found = (random_conditions.test(dice, []) for _ in range(RANDOM))
+    makers = [random_conditions.named, lambda dice: random_conditions.test(dice, []), lambda dice: random_conditions.test(dice, [])]
+    found = (dice.choice(makers)(dice) for _ in range(RANDOM))
     return [condition for condition in found if len(condition) <= 1024]
 
 

@@ -57,6 +57,17 @@ def losers(hand, suits):
 MEASURES = {"hcp": weighed({0: 4, 1: 3, 2: 2, 3: 1}), "controls": weighed({0: 2, 1: 1}), "losers": losers}
 
 
+# The words that aren't names; ranks aren't either.
+WORDS = [
+    *["or", "and", "not", "balanced", "shape", "pattern", "any", "every", "stops", "cards", "len", "longest", "second"],
+    *["shortest", "in", "x", "let", "is", *MEASURES, *SEATS, *SUITS, *CLASSES, *SIDES, *BESIDE],
+]
+
+
+def is_known(word):
+    return word in WORDS or (set(word) <= set(RANKS) and len(set(word)) == len(word))
+
+
 def tokens_of(text):
     tokens, at = [], 0
     while at < len(text):
@@ -69,14 +80,85 @@ def tokens_of(text):
     return tokens
 
 
+# What a name may have in its brackets.
+PARAMETERS = (["seat"], ["suit"], ["seat", "suit"])
+
+
+class Name:
+    """A name that is given: its parameters, what its body asks, and whether that is a value."""
+
+    def __init__(self, tokens, parameters, names):
+        self.parameters = parameters
+        left = list(tokens)
+        try:
+            self.read(tokens, names, Reader.condition)
+            self.is_value = False
+        except (ValueError, KeyError):
+            tokens[:] = left
+            self.read(tokens, names, Reader.value)
+            self.is_value = True
+
+    def read(self, tokens, names, rule):
+        self.reader = Reader(tokens, names, self.parameters)
+        self.body = rule(self.reader)
+        self.reader.expect(")")
+
+    def ask(self, members, hands):
+        """The answer of the body with these members in the place of the parameters."""
+        around, self.reader.bound = self.reader.bound, dict(zip(self.parameters, members))
+        answer = self.body(hands)
+        self.reader.bound = around
+        return answer
+
+
 class Reader:
     """Reads tokens from the left; each rule returns a function of the four hands."""
 
-    def __init__(self, tokens):
+    def __init__(self, tokens, names=(), around=()):
         self.tokens = tokens
+        # The names that are given.
+        self.names = dict(names)
         # The classes around what is read; and, when the condition is asked, the suit or seat that each stands for.
-        self.around = []
+        self.around = list(around)
         self.bound = {}
+
+    def definitions(self):
+        """Reads the names that are given before the condition or value."""
+        while self.sees("let"):
+            self.next()
+            name = self.next()
+            if not name.isalpha() or is_known(name) or name in self.names:
+                raise ValueError(f"{name!r} for a new name")
+            parameters = self.parameters() if self.sees("(") else []
+            self.expect("is")
+            self.expect("(")
+            self.names[name] = Name(self.tokens, parameters, self.names)
+
+    def parameters(self):
+        self.expect("(")
+        found = [self.next()]
+        while self.sees(","):
+            self.next()
+            found.append(self.next())
+        self.expect(")")
+        if found not in PARAMETERS:
+            raise ValueError(f"{found} for parameters")
+        return found
+
+    def used(self, name):
+        """What a name asks here."""
+        members = []
+        for sign, parameter in zip("(,", name.parameters):
+            self.expect(sign)
+            members.append(self.seat() if parameter == "seat" else self.suit())
+        if members:
+            self.expect(")")
+        return lambda hands: name.ask([member() for member in members], hands)
+
+    def sees_name(self, is_value):
+        """Whether a name of a value, or of a condition, comes next."""
+        name = self.names.get(self.tokens[0]) if self.tokens else None
+        return name is not None and name.is_value == is_value
 
     def sees(self, *words):
         return bool(self.tokens) and self.tokens[0] in words
@@ -124,6 +206,8 @@ class Reader:
             return self.quantified(any if self.next() == "any" else all)
         if self.sees("stops"):
             return self.stopper()
+        if self.sees_name(is_value=False):
+            return self.used(self.names[self.next()])
         return self.comparison()
 
     def quantified(self, of):
@@ -222,6 +306,8 @@ class Reader:
         return lambda hands: sum(part(hands) for part in parts)
 
     def atom(self):
+        if self.sees_name(is_value=True):
+            return self.used(self.names[self.next()])
         word = self.next()
         if not word.isdigit():
             return self.count(word)
@@ -272,6 +358,7 @@ def value(text):
 def whole(rule, text):
     """What a rule makes of the whole text."""
     reader = Reader(tokens_of(text))
+    reader.definitions()
     found = rule(reader)
     if reader.tokens:
         raise ValueError(f"{reader.tokens[0]!r} comes after the end")

@@ -10,20 +10,51 @@ HONOURS = ["a", "k", "akq", "qjt", "akqjt", "aj"]
 DEEPEST = 4
 
 
-def test(dice, around, depth=0):
-    """A test; `around` are the classes that are bound around it."""
+# What names may have in their brackets.
+PARAMETERS = [[], ["seat"], ["suit"], ["seat", "suit"]]
+
+
+def named(dice):
+    """Definitions, and a test in which names are used."""
+    names, given = [], []
+    for letters in dice.sample(["strong", "weak", "fit", "side"], dice.randrange(1, 4)):
+        parameters, is_value = dice.choice(PARAMETERS), dice.randrange(3) == 0
+        body = of_hand(dice, parameters)[0] if is_value else test(dice, parameters, DEEPEST - 2, names)
+        if is_value and dice.randrange(2):
+            body += f"+{of_hand(dice, parameters)[0]}"
+        brackets = f"({','.join(parameters)})" if parameters else ""
+        given.append(f"let {letters}{brackets} is ({body})")
+        names = [*names, (letters, parameters, is_value)]
+    return " ".join([*given, test(dice, [], 1, names)])
+
+
+def used(dice, around, name):
+    """A use of a name: a test."""
+    letters, parameters, is_value = name
+    members = [hand(dice, around) if parameter == "seat" else suit(dice, around) for parameter in parameters]
+    use = f"{letters}({','.join(members)})" if members else letters
+    if not is_value:
+        return use
+    value, about = of_hand(dice, around)
+    return dice.choice([f"{use}{dice.choice(RELATIONS)}{value}", f"{use}>={dice.randrange(12)}", f"{value}+{use}<{about + 5}"])
+
+
+def test(dice, around, depth=0, names=()):
+    """A test; `around` are the classes that are bound around it, and `names` those that are given."""
     classes = [*language.CLASSES, *language.SIDES]
     has_suit = any(name in language.CLASSES for name in around)
     free = [name for name in classes if name not in around and (name != "other" or has_suit)]
     kind = dice.randrange(10 if depth < DEEPEST else 5)
+    if names and kind < 4:
+        return used(dice, around, dice.choice(names))
     if kind < 5 or (kind < 7 and not free):
         return single(dice, around)
     if kind < 7:
         name = dice.choice(free)
-        return f"{dice.choice(['any', 'every'])} {name} ({test(dice, [*around, name], depth + 1)})"
+        return f"{dice.choice(['any', 'every'])} {name} ({test(dice, [*around, name], depth + 1, names)})"
     if kind == 7:
-        return f"not {test(dice, around, DEEPEST)}"
-    joined = dice.choice([" and ", " or "]).join(test(dice, around, depth + 1) for _ in range(2))
+        return f"not {test(dice, around, DEEPEST, names)}"
+    joined = dice.choice([" and ", " or "]).join(test(dice, around, depth + 1, names) for _ in range(2))
     return f"({joined})"
 
 

@@ -9,6 +9,8 @@ SPELLED = {
     "number": ["0", "13", "9999"],
     "ranks": ["a", "kqt", "jtakq"],
 }
+# Names for the definitions of a text, in their order.
+NEW = ["strong", "weak", "fit", "side", *(f"z{letter}" for letter in "bcdefghilmnopqrstuvwxyz")]
 # The words and signs of the language, some ranks, numbers and comments, and whole tests, so that more than the first
 # token is read.
 PIECES = [
@@ -19,20 +21,25 @@ PIECES = [
     *["2*", "3*hcp(south)", "9999*len(east,spades)"],
     *["hcp(north) in", "balanced(west)", "shape(west,4-3-3-3)", "shape(west,x-x-3-3)", "pattern(north,5-4-3-1)"],
     *["any suit (", "every major (", "any other (", "len(north,suit)", "stops(east,minor)", "second(west)", ")"],
+    *["let strong(seat) is (hcp(seat)>=15)", "let fit(suit) is (len(north,suit)+len(south,suit))", "let weak is (", "let"],
+    *["strong", "strong(north)", "fit", "fit(hearts)>=8", "weak", "strong(left(seat))", "fit(suit)"],
     *["any seat (", "every ns (", "hcp(seat)", "len(partner(ew),suit)", "balanced(left(north))", "shape(right(ns),"],
 ]
 
 
 def sentence(dice):
     """Tokens that mostly may follow those before them."""
-    machine, is_sound, words = grammar.Machine(), True, []
+    machine, is_sound, words = grammar.Text(), True, []
     for _ in range(dice.randrange(30)):
-        allowed = sorted(machine.kinds() & SPELLED.keys())
-        kind = dice.choice(allowed if allowed and dice.randrange(16) else list(SPELLED))
+        spelled = {**SPELLED, "new": [NEW[len(machine.names)]]}
+        spelled |= {f"name {at}": [name.letters] for at, name in enumerate(machine.names)}
+        allowed = sorted(machine.kinds() & spelled.keys())
+        kind = dice.choice(allowed if allowed and dice.randrange(16) else list(spelled))
+        word = dice.choice(spelled[kind])
         is_sound = is_sound and kind in allowed
         if is_sound:
-            machine.take(kind)
-        words.append(dice.choice(SPELLED[kind]))
+            machine.take(kind, word)
+        words.append(word)
     return "".join(f"{word} " for word in words)
 
 
@@ -45,11 +52,25 @@ def pieces(dice):
 def large(dice):
     """Classes around a sum, with about as many parts as a condition may have; in one text of four it goes wrong."""
     names = dice.sample(["suit", "major", "minor", "other", "seat", "ns", "ew"], dice.choice([5, 6, 6, 7, 7]))
-    most = grammar.MOST_PARTS // grammar.ways(names) + dice.randrange(-1, 3)
+    most = grammar.MOST_PARTS // grammar.ways(names, 1, {}) + dice.randrange(-1, 3)
     total = "+".join(dice.choice(["0", "1", "2*hcp(west)"]) for _ in range(max(1, min(most, 90))))
     tests = dice.choice([f"{total}==0", f"{total} in 0-9", f"{total} in 1-2 or stops(east,clubs)"])
     around = "".join(f"any {name} (" for name in names)
     return around + tests + ")" * len(names) + dice.choice(["", "", " or balanced(west)", ")"])
+
+
+def doubled(dice):
+    """Names each of which is some uses of the one before it, with about as many parts as a condition may have."""
+    most, text, before, parts = dice.choice([2**14, 2**14, 2**15]), "let strong is (0==0)", "strong", 2
+    for letters in NEW[1:]:
+        uses = min(dice.randrange(2, 9), most // parts)
+        if uses < 2:
+            break
+        body = dice.choice([" or ", " and "]).join([before] * uses)
+        text += f" let {letters} is ({body})"
+        before, parts = letters, parts * uses
+    rest = " or ".join(["0==0", *["balanced(north)"] * dice.randrange(4)])
+    return f"{text} {before}" + dice.choice(["", "", f" and ({rest})", " or", " (", f" or {before}"])
 
 
 def characters(dice):

@@ -16,7 +16,7 @@ import report
 SECONDS = 60
 # How many texts there are of each kind.
 RANDOM = [(random_texts.sentence, 10_000), (random_texts.pieces, 5_000), (random_texts.characters, 1_000)]
-RANDOM += [(random_texts.large, 200)]
+RANDOM += [(random_texts.large, 200), (random_texts.doubled, 200)]
 TIMES = 10 if report.has("many") else 1
 NEVER = "note: no deal meets this condition"
 MIXED = 'note: "and" binds first: A and B or C is (A and B) or C; brackets would say so\n'
