@@ -42,6 +42,9 @@ Some suit:    any suit (len(north,suit)>=6) is true with some suit in the place
               any other (..) goes through all suits but that one
 Some seat:    any seat (hcp(seat)>=20) likewise with some seat, every seat (..)
               with each of the four; ns is north or south, ew east or west
+Names:        before the condition, let quiet(seat) is (hcp(seat)<9) gives a
+              test or a value a name: quiet(east), quiet(partner(north)); a name
+              has (seat), (suit), (seat,suit) or no brackets
 
 Everything is written in small letters. Spaces and new lines don't matter, and a
 comment goes from # to the end of its line. A condition has at most 1024 bytes,
@@ -66,6 +69,6 @@ Examples:
     pattern(north,5-5-x-x)
   a void with South
     shortest(south)==0
-  not a notrump hand with either opponent
-    not (balanced(east) or balanced(west))
+  a notrump hand with quiet opponents
+    let quiet(seat) is (hcp(seat)<9) balanced(north) and every ew (quiet(ew))
 ";

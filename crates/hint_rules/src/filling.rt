@@ -20,6 +20,7 @@
 //! | `%cN` | a comparison for that value |
 //! | `%wN` | the word of the call that has the fault |
 //! | `%eN` | what comes after the word `%bN` and a seat; `%e0` of the call |
+//! | `%hN` | the brackets after the name `%bN`; `%h0` of the call |
 
 use crate::amounts::{Amount, amount_at, counted_at, ordered};
 use crate::hint::Said;
@@ -233,6 +234,8 @@ fn text_of<'t>(parts: &'t Parts, kind: u8, back: usize, next: usize) -> &'t [u8]
         b'z' => without_zeros(parts.at(next)),
         b'c' => comparison(parts, back).as_bytes(),
         b't' if is(parts.at(back), "!=") => b"not ",
+        b'h' if back == parts.fault => parts.arguments_of(parts.call()).as_bytes(),
+        b'h' => parts.arguments_of(parts.at(back)).as_bytes(),
         b'k' => counted_at(parts, next).0.as_bytes(),
         b's' => counted_at(parts, next).1.as_bytes(),
         _ => b"",

@@ -4,7 +4,7 @@ use crate::filling::first_in;
 use crate::kinds::Kinds;
 use crate::parts::Parts;
 use crate::tables::{
-    calls, classes, compared, factors, honours, instead, joins, lessons, letters, limits, lists,
+    calls, classes, compared, factors, given, honours, instead, joins, lessons, letters, limits, lists,
     more_or_less, names, nouns, or_more, phrases, plain, ranges, ranks, rest, scripts, several,
     shapes, short, sides, signs, suits, texts, whole,
 };
@@ -22,6 +22,7 @@ enum Source {
     Classes,
     Compared,
     Factors,
+    Given,
     Honours,
     Instead,
     Joins,
@@ -52,7 +53,8 @@ enum Source {
 }
 
 /// What is asked of a piece that isn't in the language, and of a token that isn't allowed there.
-static EITHER: [Source; 13] = [
+static EITHER: [Source; 14] = [
+    Source::Given,
     Source::Texts,
     Source::Whole,
     Source::Plain,
@@ -156,6 +158,7 @@ fn rules_of(source: Source) -> &'static str {
         Source::Classes => classes::RULES,
         Source::Compared => compared::RULES,
         Source::Factors => factors::RULES,
+        Source::Given => given::RULES,
         Source::Honours => honours::RULES,
         Source::Instead => instead::RULES,
         Source::Joins => joins::RULES,

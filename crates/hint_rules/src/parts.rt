@@ -162,6 +162,32 @@ impl<'t> Parts<'t> {
         self.parts.iter().any(|part| is_one_of(part.bytes, texts))
     }
 
+    /// Where the text gives the name after a `let`. At 0, if it doesn't.
+    pub(crate) fn given_at(&self, name: &[u8]) -> usize {
+        for i in 1..self.count() {
+            if self.at(i) == name && is(self.at(i - 1), "let") {
+                return i;
+            }
+        }
+        0
+    }
+
+    /// What comes after a use of the name, for a seat and a suit.
+    pub(crate) fn arguments_of(&self, name: &[u8]) -> &'static str {
+        let given = self.given_at(name);
+        let parameter = self.at(given.saturating_add(2));
+        let has_suit_too = is(self.at(given.saturating_add(3)), ",");
+        if !is(self.at(given.saturating_add(1)), "(") {
+            ""
+        } else if is(parameter, "suit") {
+            "(spades)"
+        } else if has_suit_too {
+            "(north,spades)"
+        } else {
+            "(north)"
+        }
+    }
+
     /// The last seat before the fault, or North.
     pub(crate) fn last_seat(&self) -> &'t [u8] {
         for back in 0..self.fault {

@@ -20,6 +20,9 @@
 //! | `Length` | a number, or `x` |
 //! | `Above`, `Follows` | a number above that of two parts before, or the one after it |
 //! | `Relation`, `Seat`, `Suit`, `Word` | what they say |
+//! | `Known`, `Name` | a word of the language; one that is neither that nor ranks |
+//! | `InName` | the fault is in the brackets of such a word |
+//! | `Later` | a word that the text gives as a name further on |
 //! | `Ranks` | ranks, whether or not one occurs twice |
 //! | `Capital` | a word that has letters that aren't small |
 //! | `CapitalWord`, `CapitalRanks` | one that is known, or ranks, once they are |
@@ -36,7 +39,7 @@ use crate::amounts::{amount_at, counted_at};
 use crate::lists::listed;
 use crate::parts::Parts;
 use crate::words::{
-    are_ranks, is, is_call, is_measure, is_number, is_relation, is_seat, is_suit, is_word, number,
+    are_ranks, is, is_call, is_measure, is_name, is_number, is_relation, is_seat, is_suit, is_word, number,
     token_of,
 };
 use cond_lang::{Class, Kind};
@@ -66,6 +69,10 @@ enum Want {
     Seat,
     Suit,
     Word,
+    Known,
+    Name,
+    InName,
+    Later,
     Ranks,
     Capital,
     CapitalWord,
@@ -81,7 +88,7 @@ enum Want {
     Counted,
 }
 
-static WANTS: [(&str, Want); 35] = [
+static WANTS: [(&str, Want); 39] = [
     ("Can", Want::Can),
     ("Cannot", Want::Cannot),
     ("In", Want::In),
@@ -104,6 +111,10 @@ static WANTS: [(&str, Want); 35] = [
     ("Seat", Want::Seat),
     ("Suit", Want::Suit),
     ("Word", Want::Word),
+    ("Known", Want::Known),
+    ("Name", Want::Name),
+    ("InName", Want::InName),
+    ("Later", Want::Later),
     ("Ranks", Want::Ranks),
     ("Capital", Want::Capital),
     ("CapitalWord", Want::CapitalWord),
@@ -120,7 +131,9 @@ static WANTS: [(&str, Want); 35] = [
 ];
 
 /// The kinds of tokens that rules ask for.
-static KINDS: [(&str, Kind); 15] = [
+static KINDS: [(&str, Kind); 17] = [
+    ("Let", Kind::Let),
+    ("Is", Kind::Is),
     ("Not", Kind::Not),
     ("Open", Kind::Open),
     ("Number", Kind::Number),
@@ -223,6 +236,10 @@ fn is_met(parts: &Parts, i: usize, want: Want, texts: &str) -> bool {
         Want::Seat => is_seat(part),
         Want::Suit => is_suit(part),
         Want::Word => is_word(part),
+        Want::Known => token_of(part).is_some(),
+        Want::Name => is_name(part),
+        Want::InName => is_name(parts.call()),
+        Want::Later => is_name(part) && parts.given_at(part) > i,
         Want::Ranks => is_word(part) && are_ranks(part),
         Want::Measure => is_measure(part),
         Want::NoValue => !is_number(part) && !is_measure(part),

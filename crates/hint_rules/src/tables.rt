@@ -5,6 +5,7 @@ pub(crate) mod classes;
 pub(crate) mod compared;
 pub(crate) mod counted;
 pub(crate) mod factors;
+pub(crate) mod given;
 pub(crate) mod honours;
 pub(crate) mod instead;
 pub(crate) mod joins;

@@ -67,6 +67,11 @@ pub(crate) fn is_word(part: &[u8]) -> bool {
     matches!(part, [b'a'..=b'z' | b'A'..=b'Z', ..])
 }
 
+/// Whether the part is a word that is neither in the language nor ranks.
+pub(crate) fn is_name(part: &[u8]) -> bool {
+    is_word(part) && token_of(part).is_none() && !are_ranks(part)
+}
+
 /// Whether the letters are ranks, whether or not one occurs twice.
 pub(crate) fn are_ranks(word: &[u8]) -> bool {
     for letter in word {

@@ -3,7 +3,9 @@
 pub(crate) const RULES: &str = "
     ^ dealer => with --rotate the dealer has the hand that is north's here
     ^ vul|vulnerable|vulnerability => a condition asks of the four hands alone, and not of the board
-    Nothing ^ Word = Word => tests have no names: in place of a name write the test itself
+    Nothing ^ Word = Word => give a test a name before the condition: let %n0 is (hcp(north)>=15)
+    Nothing ^ Named:define|def|set|alias Word => \
+        give a test a name before the condition: let %n1 is (hcp(north)>=15)
     Nothing ^ produce => write the condition alone: --boards 36 says how many boards
     Nothing ^ generate => write the condition alone: --candidates 1000 says how many deals are tried
     Nothing ^ predeal => cards that a seat gets come after an option, as in --north AKQ32.K..A
