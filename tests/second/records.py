@@ -4,7 +4,7 @@ A line ends with LF, and a CR before it is dropped. A line that begins with `%` 
 braces, which may go over lines, and text from `;` to the end of its line, outside a tag. A tag is `[`, a name of
 letters, digits and `_`, blanks, a value in quotes, in which a backslash takes the next byte with it, blanks, `]`. All
 else but blanks is skipped up to the next line that begins with `[`. A game ends at an empty line, at a tag of a kind
-that it has, or at the end of the text; one with a Deal tag is a board.
+that it has, or at the end of the text; one with a Deal tag is a board. Three tags tell of its tricks.
 
 Here a text is split at its line ends, and each line is read with regular expressions.
 """
@@ -19,7 +19,12 @@ SEATS = "NESW"
 DEALERS = "NESWNESWNESWNESW"
 SIDES = "None NS EW All NS EW All None EW All None NS All None NS EW".split()
 VULNERABLE = {"none": "None", "-": "None", "love": "None", "ns": "NS", "ew": "EW", "all": "All", "both": "All"}
-KINDS = ("Event", "Site", "Date", "Board", "Dealer", "Vulnerable", "Deal")
+TRICKS = {
+    "DoubleDummyTricks": r"[0-9a-dA-D]{20}",
+    "OptimumScore": r"(NS|EW) [0-9]{1,4}",
+    "ParContract": r"[A-Za-z0-9+\-*=,/]{1,24}",
+}
+KINDS = ("Event", "Site", "Date", "Board", "Dealer", "Vulnerable", "Deal", *TRICKS)
 
 TAG = re.compile(rb'\[([A-Za-z0-9_]+)[ \t]*"((?:[^"\\]|\\.)*)"[ \t]*\]', re.DOTALL)
 RANKS = "AKQJT98765432"
@@ -43,6 +48,7 @@ class Board:
     vulnerable: str
     hands: list[list[str]]
     labels: list[tuple[str, str]] = field(default_factory=list)
+    tricks: tuple[str, str, str] = ("", "", "")
 
     def deal(self) -> str:
         """The value of a Deal tag, from North on."""
@@ -80,6 +86,17 @@ def labels_of(game: Game) -> list[tuple[str, str]]:
     return [(name, value) for name, value in values.items() if value not in ("?", "#") and re.fullmatch(forms[name], value)]
 
 
+def tricks_of(game: Game) -> tuple[str, str, str]:
+    """The digits, par and its contract that a game tells: each only if it is of its form, and the one before is there."""
+    told = ["", "", ""]
+    for place, (name, form) in enumerate(TRICKS.items()):
+        value = game.tags[name][1] if name in game.tags else ""
+        if not re.fullmatch(form, value):
+            break
+        told[place] = value if place else value.lower()
+    return told[0], told[1], told[2]
+
+
 def board_of(game: Game, last: int) -> Board | None:
     """The board of a game that ends, after the one of number `last`."""
     if "Deal" not in game.tags:
@@ -114,6 +131,7 @@ def board_of(game: Game, last: int) -> Board | None:
         SIDES[(number - 1) % 16] if vulnerable == "?" else vulnerable,
         hands,
         labels_of(game),
+        tricks_of(game),
     )
 
 

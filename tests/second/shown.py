@@ -20,6 +20,8 @@ PLAYERS = ("West", "North", "East", "South", "Scoring", "Declarer", "Contract", 
 COMMENTS = ("; a remark", "{one line}", "{over\n[Board \"9\"]\n\nlines}", "% an escape [Deal]", "{a {b} c", "}", ";{")
 TABLES = ("[Auction \"N\"]\n1NT Pass 3NT\nPass Pass", "[Play \"W\"]\nSA S2 S3 S4\n*", "\t", "AP", "-- [Deal \"no\"]")
 BAD_DEALS = ("N:.... ... ... ...", "", "X:AKQ.J.T.9", "N:AK.AK.AK.AK - - -", "n:AKQJT98765432... - - -", "N:")
+SCORES = ("NS 450", "EW 1400", "NS 0", "NS -50", "NS", "ns 50", "EW 12345", "NS 50 ", "")
+CONTRACTS = ("4H-NS+1", "3NT-N=,3NT-S=", "5C*-EW-2", "NS 4H", "4H/N", "a" * 24, "a" * 25, "")
 BAD_TAGS = ("[", "[Deal", "[Deal \"N", "[De al \"x\"]", "[\"x\"]", "[Deal \"x\"", "[Deal \"x\" y]", "[Deal x]", "[Deal \"x\\\"]")
 
 
@@ -49,6 +51,13 @@ def random_value(rng: random.Random, name: str) -> str:
         return "both sides" if spoiled else rng.choice(["None", "NS", "EW", "All", "Both", "love", "-", "?", "ns", "aLL"])
     if name == "Date":
         return rng.choice(["2026.11.29", "????.??.??", "2026.1.2", "?", "#", ""])
+    if name == "DoubleDummyTricks":
+        digits = "".join(rng.choice("0123456789abcdABCD") for _ in range(20))
+        return rng.choice([digits[1:], digits + "0", digits[:-1] + "e", "", "*"]) if rng.random() < 0.2 else digits
+    if name == "OptimumScore":
+        return rng.choice(SCORES)
+    if name == "ParContract":
+        return rng.choice(CONTRACTS)
     if name in ("Event", "Site"):
         return rng.choice(["Club night", "?", "#", "", "a" * 100, "a" * 101, r"an \"open\" one", "<b>", "caf\xe9", "  "])
     return rng.choice(["?", "x", r"back\\slash", "[{;%"])
@@ -89,11 +98,11 @@ def random_text(rng: random.Random, games: int) -> bytes:
 
 
 def written(form: str, boards: list[records.Board], whole: bool) -> bytes:
-    """The boards in a format, under the labels of the first."""
+    """The boards in a format with their tricks, under the labels of the first, whose tricks decide on a page's style."""
     labels = boards[0].labels if boards else []
-    parts = [notation.header(form, labels)]
+    parts = [notation.header(form, labels, bool(boards and boards[0].tricks[0]))]
     for board in boards:
-        dealer, tricks = model.SEATS.index(board.dealer), ("", "", "")
+        dealer, tricks = model.SEATS.index(board.dealer), board.tricks
         hands = [[13 * suit + model.RANKS.index(r) for suit in range(4) for r in hand[suit]] for hand in board.hands]
         if form == "pbn":
             parts.append(notation.game(board.number, dealer, board.vulnerable, hands, tricks, labels))

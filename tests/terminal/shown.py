@@ -56,6 +56,15 @@ INPUTS = [
     (b" " * 4096 + b"\n" + DEAL, 0, LINE, b""),
 ]
 
+# Lines of tricks for six boards: with par and without, and of one nothing is known.
+TRICKS = b"""97b8997b892624426244 NS 450 4H-NS+1
+67b8967b89D624Cd6240 EW 1400
+0123456789abcd012345
+-
+77777777777777777777 NS 0
+88888888885555555555 EW 90 1NT-N=,2C*-S-1
+"""
+
 # How many boards are read, and in which time at most, in seconds.
 MANY = 100_000
 LONGEST = 20
@@ -90,6 +99,19 @@ def made_and_shown():
                 same = shown.stdout == without_numbers(right.stdout) != b""
                 ends = (shown.returncode, shown.stderr, right.returncode) == (0, b"", 0)
                 yield " ".join(["make", *made, "| show", *words]), None if same and ends else "isn't what make writes"
+
+
+def made_with_tricks():
+    """Boards that have their tricks in tags are shown as `make` writes them with these tricks."""
+    games = harness.deals(*BOARDS, "--tricks", given=TRICKS).stdout
+    for form in FORMATS:
+        for both in BOTH:
+            words = ["--format", form, *both]
+            shown = harness.deals("show", *words, given=games)
+            right = harness.deals(*BOARDS, "--tricks", *words, given=TRICKS)
+            same = shown.stdout == without_numbers(right.stdout) != b""
+            ends = (shown.returncode, shown.stderr, right.returncode) == (0, b"", 0)
+            yield " ".join(["make --tricks | show", *words]), None if same and ends else "isn't what make writes"
 
 
 def other_inputs():
@@ -139,5 +161,5 @@ def many_games():
 
 def shown():
     """Whether `show` writes the boards of its input."""
-    for part in (inputs, made_and_shown, other_inputs, game_by_game, many_games):
+    for part in (inputs, made_and_shown, made_with_tricks, other_inputs, game_by_game, many_games):
         yield from part()

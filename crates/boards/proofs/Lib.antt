@@ -1,4 +1,4 @@
-mod Rotating
+pub mod Rotating
 pub mod Copies
 pub mod Dates
 pub mod Sets

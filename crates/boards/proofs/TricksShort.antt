@@ -1,5 +1,5 @@
 -- A line that tells of tricks is short.
-use Rattle.std.proofs.Common.{◌≡◌, ◌≤◌, ℕ, ◌+◌, ◌&&◌, ◌==◌, ◌∙◌, Bool, true, false, List, [], ◌∷◌, ◌++◌, length, Option, None, Some, refl, sym, ap, subst, arith, bytes_eq, codes, eqb-true, length-append}
+use Rattle.std.proofs.Common.{◌≡◌, ◌≤◌, ℕ, ◌+◌, ◌&&◌, ◌==◌, ◌∙◌, Bool, true, false, List, [], ◌∷◌, length, None, Some, refl, ap, subst, arith, bytes_eq, codes, eqb-true}
 use Rattle.std.specs.List.{list_all, join_with_byte}
 use Rattle.std.specs.Int.{is_in_range}
 use Rattle.std.proofs.lemmas.Bool.{and_parts}

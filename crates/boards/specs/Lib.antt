@@ -7,4 +7,5 @@ pub mod Letters
 pub mod Formats
 pub mod Show
 pub mod TricksLines
+pub mod TricksTags
 pub mod internal

@@ -15,6 +15,7 @@ pub mod laws;
 mod notation;
 mod setting;
 mod show;
+mod solved;
 mod style;
 mod tricks;
 
@@ -25,5 +26,6 @@ pub use heading::{Date, Heading, Label, MAX_LABEL_LEN};
 pub use notation::Notation;
 pub use setting::{Setting, Vul, dealer, vulnerable};
 pub use show::{POINTS, SHOW_WORDS, SHOWS, Seats, Show};
+pub use solved::SolvedNotation;
 pub use style::{STYLE_WORDS, STYLES, Style};
 pub use tricks::Tricks;

@@ -10,10 +10,12 @@ ghost use Rattle.std.specs.Prelude.{◌≡◌, ◌≤◌, ◌++◌, ◌∷◌, [
 ghost use Rattle.std.specs.Char.{to_ascii_lowercase};
 ghost use Rattle.boards.specs.TricksLines.{IsTold, are_tricks, are_with_par};
 ghost use Rattle.boards.specs.TricksLines.{known, nothing_known, told, told_by};
+ghost use Rattle.boards.specs.TricksTags.{tagged};
+ghost use Rattle.boards.specs.internal.TricksWords.{IsScored};
 
 mod words;
 
-use self::words::{are_tricks, are_with_par, is_contract, split_word};
+use self::words::{are_tricks, are_with_par, is_contract, is_score, split_word};
 use arrayvec::ArrayVec;
 use std::marker::Model;
 
@@ -75,16 +77,55 @@ impl Tricks {
         Some(Tricks::with_par(tricks, side, points, contract))
     }
 
+    /// Returns what the values of the tags `DoubleDummyTricks`, `OptimumScore` and `ParContract`
+    /// tell, which are empty where there is no such tag. A value that isn't of its form tells
+    /// nothing, nor does par without tricks, nor a contract without its score.
+    #[tactic(auto, using(crate::proofs::TricksTold::no_score, crate::proofs::TricksTold::score_alone, crate::proofs::TricksTold::score_and_contract), unfolding(crate::specs::TricksTags::tagged))]
+    pub fn tagged(tricks: &[u8], score: &[u8], contract: &[u8]) -> Tricks
+        ensures { result ≡ tagged tricks.now score.now contract.now }
+    {
+        if !are_tricks(tricks) {
+            return Tricks::none();
+        }
+        if !is_score(score) {
+            return Tricks::scored(tricks, &[], &[]);
+        }
+        if !is_contract(contract) {
+            return Tricks::scored(tricks, score, &[]);
+        }
+        Tricks::scored(tricks, score, contract)
+    }
+
+    /// Nothing is known.
+    fn none() -> Tricks
+        ensures { result ≡ nothing_known }
+    {
+        Tricks {
+            digits: ArrayVec::new(),
+            score: ArrayVec::new(),
+            contract: ArrayVec::new(),
+        }
+    }
+
+    /// Returns tricks with a score, if it isn't empty, and its contract, if that isn't.
+    fn scored(tricks: &[u8], score: &[u8], contract: &[u8]) -> Tricks
+        requires tricks { are_tricks tricks.now ≡ true }
+        requires score { IsScored score.now contract.now }
+        ensures { result ≡ known tricks.now score.now contract.now }
+    {
+        Tricks {
+            digits: small(tricks),
+            score: kept(score),
+            contract: kept(contract),
+        }
+    }
+
     /// Returns what a word tells by itself.
     fn alone(word: &[u8]) -> Option<Tricks>
         ensures { result ≡ told_by (word.now ∷ []) }
     {
         if word == b"-".as_slice() {
-            return Some(Tricks {
-                digits: ArrayVec::new(),
-                score: ArrayVec::new(),
-                contract: ArrayVec::new(),
-            });
+            return Some(Tricks::none());
         }
         if !are_tricks(word) {
             return None;
@@ -161,12 +202,12 @@ fn score_of(side: &[u8], points: &[u8]) -> ArrayVec<u8, 7>
     score
 }
 
-/// Returns the contract's bytes.
-fn kept(contract: &[u8]) -> ArrayVec<u8, 24>
-    requires { length contract.now ≤ 24 }
-    ensures { result.items ≡ contract.now }
+/// Returns the bytes of a text.
+fn kept<const N: usize>(text: &[u8]) -> ArrayVec<u8, N>
+    requires { length text.now ≤ N }
+    ensures { result.items ≡ text.now }
 {
     let mut bytes = ArrayVec::new();
-    let _fits = bytes.try_extend_from_slice(contract);
+    let _fits = bytes.try_extend_from_slice(text);
     bytes
 }

@@ -56,8 +56,11 @@ pub(crate) const SHOW_EXAMPLES: &str = "Examples:
   The same boards for BBO:
     deals show --format lin < boards.pbn > boards.lin
 
-Reads boards in PBN from standard input, and deals none. Their numbers, dealers
-and vulnerabilities stay; tricks and par are left out.";
+  The same boards with tricks and par:
+    deals-tricks --add < boards.pbn | deals show --format sheet > records.html
+
+Reads boards in PBN from standard input, and deals none. Their numbers, dealers,
+vulnerabilities, tricks and par stay.";
 
 pub(crate) const CONDITIONS_EXAMPLES: &str = "Examples:
   Page by page:

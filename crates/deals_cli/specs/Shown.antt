@@ -1,11 +1,12 @@
--- What a `show` writes: the boards that the input has, under the labels of the options, or else of
+-- What a `show` writes: the boards that the input has, with their tricks, under the labels of the options, or else of
 -- the game of the first board.
-use Rattle.std.specs.Prelude.{ℕ, List, Option, Result, Ok, Err}
+use Rattle.std.specs.Prelude.{ℕ, Bool, false, List, Option, Result, Ok, Err, length, nat_lt}
 use Rattle.std.specs.Option.{option_or}
 use Rattle.boards.specs.Headings.{HeadingView, no_heading}
 use Rattle.boards.specs.declared.format.Format.{Format}
 use Rattle.boards.specs.declared.show.Show.{Show}
-use Rattle.notations.specs.Formats.{layout_showing}
+use Rattle.boards.specs.TricksLines.{TricksView}
+use Rattle.notations.specs.Formats.{layout_solved}
 use Rattle.records.specs.Readers.{IsFresh, ReadsNext}
 use Rattle.records.specs.Shown.{EndsBy, Shows}
 use Rattle.records.specs.declared.reader.BoardReader.{BoardReader}
@@ -29,6 +30,15 @@ labels_told (Ok (Board told)) = told.heading
 labels_told (Ok (Last told)) = told.heading
 labels_told _ = no_heading
 
+abbrev pub are_known : TricksView → Bool
+are_known tricks = nat_lt 0 (length tricks.digits)
+
+-- whether the first board has tricks: then they are expected of the others
+abbrev pub expects : Result Next ReadFault → Bool
+expects (Ok (Board told)) = are_known told.tricks
+expects (Ok (Last told)) = are_known told.tricks
+expects _ = false
+
 -- a line that the first read refused ends it, unless the output fails
 abbrev pub GoesOn : Result Next ReadFault → Result ℕ ShowFault → Type 0
 GoesOn (Ok next) result = Unit {0}
@@ -46,5 +56,6 @@ pub record ShowsUnder (format : Format) (show : Show) (given : HeadingView)
   pub fresh : IsFresh start
   pub reads : ReadsNext start next first before rest
   pub goes_on : GoesOn first result
-  pub shows : Shows (layout_showing format show (labelled given (labels_told first))) result
+  pub shows : Shows
+      (layout_solved format show (labelled given (labels_told first)) (expects first)) result
       before after old new

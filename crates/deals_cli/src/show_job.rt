@@ -2,12 +2,12 @@
 
 ghost use Rattle.std.specs.Prelude.{◌≡◌, ◌-◌, ◌+◌, ◌^◌, ◌<◌, IfErr, IfOk};
 ghost use Rattle.jobs.specs.Failures.{CountsInput, faults_in, status_of};
-ghost use Rattle.deals_cli.specs.Shown.{labelled, labels_told};
+ghost use Rattle.deals_cli.specs.Shown.{expects, labelled, labels_told};
 ghost use Rattle.deals_cli.specs.internal.Ends.{CountsShown, EndsShowing, EndsShown, FaultsShown};
 
 use boards::Heading;
 use jobs::{Failure, ShowJob};
-use notations::AnyPrinter;
+use notations::SolvedPrinter;
 use picking::Source;
 use plans::Cause;
 use records::{BoardReader, Next, ReadFault, ShowFault, show};
@@ -26,6 +26,16 @@ fn labelled(given: &Heading, first: &Result<Next, ReadFault>) -> Heading
         event: given.event.or(game.event),
         site: given.site.or(game.site),
         date: given.date.or(game.date),
+    }
+}
+
+/// Whether the board that was read first has tricks.
+fn expects(first: &Result<Next, ReadFault>) -> bool
+    ensures { result ≡ expects first.now }
+{
+    match first {
+        Ok(Next::Board(told) | Next::Last(told)) => !told.tricks.digits().is_empty(),
+        _ => false,
     }
 }
 
@@ -50,7 +60,8 @@ fn show_read<I: Source, O: Sink>(
         return Ok(Err(ShowFault::Input));
     }
     let heading = labelled(&job.heading, &first);
-    let mut printer = AnyPrinter::showing(alloc, job.format, job.show, &heading)?;
+    let expects = expects(&first);
+    let mut printer = SolvedPrinter::new(alloc, job.format, job.show, &heading, expects)?;
     Ok(show(&mut reader, first, &mut printer, input, out))
 }
 

@@ -3,4 +3,5 @@ pub mod TwoColumns
 pub mod LineLemmas
 pub mod Pairs
 pub mod GameLemmas
+pub mod Solving
 pub mod LayoutLemmas

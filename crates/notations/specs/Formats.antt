@@ -1,8 +1,8 @@
 -- What each format makes of boards.
-use Rattle.std.specs.Prelude.{◌≡◌, ℕ, ◌+◌, ◌-◌, min, nat_lt, List, [], Option, None, Some}
+use Rattle.std.specs.Prelude.{◌≡◌, ℕ, ◌+◌, ◌-◌, min, nat_lt, List, [], Option, None, Some, Bool, true, false}
 use Rattle.std.specs.Prelude.{length, if◌then◌else◌, slice_get, ⊤, refl}
 use Rattle.boards.specs.declared.board.Board.{Board}
-use Rattle.boards.specs.Layouts.{EndsAlike, Layout, ends_with}
+use Rattle.boards.specs.Layouts.{EndsAlike, Layout, SolvedLayout, ends_with}
 use Rattle.pbn_text.specs.Games.{HeadingView, header, pbn}
 use Rattle.boards.specs.declared.format.Format.{Format}
 use Rattle.boards.specs.declared.format.Format.TheVariants.{Pbn, Hands, Lin, Html, Sheet, Slips, Json}
@@ -104,6 +104,19 @@ layout_with format show heading first table = record {
       if nat_lt (length table) (length boards) then [] else footer_of format;
 }
 
+-- with these hands, and with what is known of the tricks of each board; the header is one before
+-- boards with tricks where these are expected
+abbrev pub header_where : Bool → Format → HeadingView → List ℕ
+header_where true format heading = header_with_tricks format heading
+header_where false format heading = header_of format heading
+
+abbrev pub layout_solved : Format → Show → HeadingView → (expects : Bool) → SolvedLayout
+layout_solved format show heading expects = record {
+  header = header_where expects format heading;
+  board = λ tricks board. board_text format show heading (beside_hands show tricks) board;
+  footer = footer_of format;
+}
+
 -- no footer depends on how many candidates were tried
 pub ends_alike : (format : Format) (heading : HeadingView) → EndsAlike (layout_of format heading)
 ends_alike Pbn heading boards m n = refl
@@ -132,6 +145,14 @@ pub record PrintingAs : Type 0 where
   pub tricks : Option TableView
   pub text : List ℕ
   pub boards : ℕ
+
+-- the same of one for boards of which some have tricks, and whether these are expected
+pub record SolvingAs : Type 0 where
+  pub format : Format
+  pub show : Show
+  pub heading : HeadingView
+  pub expects : Bool
+  pub text : List ℕ
 
 -- how a printer lays a text out
 abbrev pub layout_in : Format → Show → HeadingView → Option TableView → Layout

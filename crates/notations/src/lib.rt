@@ -3,7 +3,7 @@
 //! numbers of candidates.
 //!
 //! A format is a `Format`, and an `AnyPrinter` prints boards in it, with the hands that a `Show`
-//! asks for, and with tricks. A file has what one format writes: `pbn.rt`, `hands.rt`, `lin.rt`,
+//! asks for, and with tricks; a `SolvedPrinter` does where some boards may have tricks. A file has what one format writes: `pbn.rt`, `hands.rt`, `lin.rt`,
 //! `page.rt`, `sheet.rt`, `slips.rt`, `json.rt` and `numbers.rt`.
 #![tactic(auto)]
 
@@ -22,7 +22,9 @@ mod results;
 mod sheet;
 mod shown;
 mod slips;
+mod solved;
 mod table;
 
 pub use boards::{FORMAT_WORDS, FORMATS, Format, SHOW_WORDS, SHOWS, Show};
 pub use printer::AnyPrinter;
+pub use solved::SolvedPrinter;

@@ -1,8 +1,9 @@
 //! The printer of any format that boards are written in.
 
 ghost use Rattle.std.specs.Prelude.{◌≡◌, ◌≢◌, [], IfOk, None, Some};
-ghost use Rattle.notations.specs.Formats.{HasPrinted, beside_hands, board_text, header_of, header_with_tricks, layout_in};
+ghost use Rattle.notations.specs.Formats.{HasPrinted, beside_hands, board_text, footer_of, header_of, header_with_tricks, layout_in};
 ghost use Rattle.notations.specs.Formats.{layout_of, layout_showing, layout_with};
+ghost use Rattle.boards.specs.TricksLines.{nothing_known};
 ghost use Rattle.notations.specs.internal.Pens.{footer_after, format_of};
 
 use crate::page::Look;
@@ -97,7 +98,9 @@ impl AnyPrinter {
         heading: &Heading,
     ) -> Result<AnyPrinter, AllocError>
         ensures format { IfOk result (λ p. p.format ≡ format) }
+        ensures show { IfOk result (λ p. p.show ≡ show) }
         ensures heading { IfOk result (λ p. p.heading ≡ heading.now) }
+        ensures tricks { IfOk result (λ p. p.tricks ≡ None) }
         ensures layout { IfOk result (λ p. ⟦<AnyPrinter as Notation>⟧.layout p
             ≡ layout_showing format show heading.now) }
         ensures text { IfOk result (λ p. p.text ≡ []) }
@@ -172,6 +175,25 @@ impl AnyPrinter {
         let beside = beside(self.show, tricks);
         self.pen
             .put(&mut self.text, &self.heading, self.show, beside, board);
+    }
+
+    /// Prints the board in place of the last one, where boards are written without tricks.
+    pub(crate) fn print_plain(&mut self, board: &Board)
+        requires { self.old.tricks ≡ None }
+        ensures { self.new ≡ record self.old {
+          text = board_text self.old.format self.old.show self.old.heading nothing_known board.now;
+        } }
+    {
+        self.text.clear();
+        self.pen
+            .put(&mut self.text, &self.heading, self.show, None, board);
+    }
+
+    /// Returns what comes after boards in the format.
+    pub(crate) fn footer(&self) -> &'static [u8]
+        ensures { result.now ≡ footer_of self.now.format }
+    {
+        self.pen.footer()
     }
 }
 

@@ -108,3 +108,13 @@ label_made v r other sound kept = rw other (by_test (IsLabel v) (is_label v) v r
 pub date_made : (v : List ℕ) (r : Option (List ℕ)) → IsSome r ↔ IsDate v → IfSome r (λ l. l ≡ v) → r ≡ date_in v
 unfolding date_in
 date_made v r sound kept = by_test (IsDate v) (is_date v) v r (date_decides v) sound kept
+
+-- ---- values that are labels and dates
+
+pub label_again : (v : List ℕ) → IsLabel v → label_in v ≡ (if is_no_label v then None else Some v)
+unfolding label_in
+label_again v label = rw ((label_decides v).1 label) refl
+
+pub date_again : (v : List ℕ) → IsDate v → date_in v ≡ Some v
+unfolding date_in
+date_again v date = rw ((date_decides v).1 date) refl

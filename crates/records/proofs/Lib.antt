@@ -10,3 +10,6 @@ pub mod Passing
 pub mod Unread
 pub mod Filling
 pub mod Written
+pub mod Dealt
+pub mod Made
+pub mod MadeGames

@@ -24,7 +24,7 @@ is_it deal count test =
       ];
     }
 
-passes : (deal : List Seat) → IsPartition deal → is_partition deal ≡ true
+pub passes : (deal : List Seat) → IsPartition deal → is_partition deal ≡ true
 passes deal p =
     rw (eq-eqb (cards_of deal North) 13 (p.thirteen North), eq-eqb (cards_of deal East) 13 (p.thirteen East), eq-eqb (cards_of deal South) 13 (p.thirteen South), eq-eqb (cards_of deal West) 13 (p.thirteen West)) refl
 

@@ -1,13 +1,16 @@
 -- What the tags of a game say, and the board that the game is.
 use Rattle.std.specs.Prelude.{ℕ, zero, suc, ◌+◌, ◌^◌, ◌==◌, ◌&&◌, Bool, not}
 use Rattle.std.specs.Prelude.{is_none, is_some}
-use Rattle.std.specs.Prelude.{List, Option, None, Some, Result, Ok, Err, unwrap_or, if◌then◌else◌}
+use Rattle.std.specs.Prelude.{List, [], Option, None, Some, Result, Ok, Err, unwrap_or, if◌then◌else◌}
 use Rattle.boards.specs.declared.board.Board.{Board as ABoard}
 use Rattle.boards.specs.Headings.{HeadingView}
 use Rattle.boards.specs.Law2.{dealer_of, vulnerable_of}
+use Rattle.boards.specs.TricksLines.{TricksView}
+use Rattle.boards.specs.TricksTags.{tagged}
 use Rattle.cards.specs.declared.seat.Seat.{Seat}
 use Rattle.records.specs.DealValues.{deal_in}
-use Rattle.records.specs.Values.{date_in, dealer_in, is_unknown, label_in, number_in, vulnerable_in}
+use Rattle.records.specs.Values.{date_in, dealer_in, is_unknown, label_in, number_in, short_in}
+use Rattle.records.specs.Values.{vulnerable_in}
 use Rattle.records.specs.declared.fault.RecordFault.{RecordFault}
 use Rattle.records.specs.declared.fault.RecordFault.TheVariants.{NotADeal, NotANumber, NotADealer}
 use Rattle.records.specs.declared.fault.RecordFault.TheVariants.{NotAVulnerability}
@@ -17,6 +20,7 @@ use Rattle.records.specs.declared.game.Told.{Told}
 use Rattle.records.specs.declared.kind.Kind.{Kind}
 use Rattle.records.specs.declared.kind.Kind.TheVariants.{Event, Site, Date, Board, Dealer}
 use Rattle.records.specs.declared.kind.Kind.TheVariants.{Vulnerable, Deal}
+use Rattle.records.specs.declared.kind.Kind.TheVariants.{Tricks, Score, Contract}
 
 abbrev pub no_game : Game
 no_game = record {
@@ -27,6 +31,9 @@ no_game = record {
   dealer = None;
   vulnerable = None;
   deal = None;
+  tricks = None;
+  score = None;
+  contract = None;
   fault = None;
 }
 
@@ -38,6 +45,9 @@ has Board g = is_some g.number
 has Dealer g = is_some g.dealer
 has Vulnerable g = is_some g.vulnerable
 has Deal g = is_some g.deal
+has Tricks g = is_some g.tricks
+has Score g = is_some g.score
+has Contract g = is_some g.contract
 
 -- ---- a tag more
 
@@ -80,6 +90,9 @@ with_tag Board value line g = with_number value line g
 with_tag Dealer value line g = with_dealer value line g
 with_tag Vulnerable value line g = with_vulnerable value line g
 with_tag Deal value line g = with_deal value line g
+with_tag Tricks value line g = record g { tricks = Some (short_in value) }
+with_tag Score value line g = record g { score = Some (short_in value) }
+with_tag Contract value line g = record g { contract = Some (short_in value) }
 
 -- ---- the board
 
@@ -108,11 +121,15 @@ heading_of g = record {
   date = unwrap_or g.date None;
 }
 
+-- what the tags tell of the board's tricks
+abbrev pub tricks_of : Game → TricksView
+tricks_of g = tagged (unwrap_or g.tricks []) (unwrap_or g.score []) (unwrap_or g.contract [])
+
 -- a deal that is none is a fault
 abbrev pub deal_says : ℕ → Game → Option (List Seat) → Option Told
 deal_says last g None = None
 deal_says last g (Some deal) =
-    Some (record { board = board_of last g deal; heading = heading_of g })
+    Some (record { board = board_of last g deal; heading = heading_of g; tricks = tricks_of g })
 
 abbrev pub unless_fault : Option RefusedRecord → Option Told → Result (Option Told) RefusedRecord
 unless_fault (Some fault) told = Err fault

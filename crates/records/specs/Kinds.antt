@@ -3,6 +3,7 @@ use Rattle.std.specs.Prelude.{ℕ, List, Option, None, Some, bytes_eq, codes, if
 use Rattle.records.specs.declared.kind.Kind.{Kind}
 use Rattle.records.specs.declared.kind.Kind.TheVariants.{Event, Site, Date, Board, Dealer}
 use Rattle.records.specs.declared.kind.Kind.TheVariants.{Vulnerable, Deal}
+use Rattle.records.specs.declared.kind.Kind.TheVariants.{Tricks, Score, Contract}
 
 unfoldable pub kind_of : List ℕ → Option Kind
 kind_of name =
@@ -12,4 +13,7 @@ kind_of name =
     else (if bytes_eq name (codes "Board") then Some Board
     else (if bytes_eq name (codes "Dealer") then Some Dealer
     else (if bytes_eq name (codes "Vulnerable") then Some Vulnerable
-    else (if bytes_eq name (codes "Deal") then Some Deal else None))))))
+    else (if bytes_eq name (codes "Deal") then Some Deal
+    else (if bytes_eq name (codes "DoubleDummyTricks") then Some Tricks
+    else (if bytes_eq name (codes "OptimumScore") then Some Score
+    else (if bytes_eq name (codes "ParContract") then Some Contract else None)))))))))

@@ -7,4 +7,5 @@ pub mod Texts
 pub mod Scans
 pub mod Readers
 pub mod Shown
+pub mod Made
 pub mod internal

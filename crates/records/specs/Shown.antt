@@ -1,11 +1,10 @@
 -- The text that is written for a text of games.
 use Rattle.std.specs.Prelude.{◌≡◌, ℕ, ◌+◌, List, [], ◌++◌, length, Option, None, Some}
 use Rattle.std.specs.Prelude.{Result, Ok, Err}
-use Rattle.std.specs.Prelude.{MatchResult, OnOk}
+use Rattle.std.specs.Prelude.{MatchResult, OnOk, flat_map}
 use Rattle.std.specs.Io.KnownBytes.{Consumes, IsAtEnd}
-use Rattle.boards.specs.Layouts.{Layout}
-use Rattle.plans.specs.Text.{text_of_boards}
-use Rattle.records.specs.Texts.{Spelled, after, boards_of, spelled}
+use Rattle.boards.specs.Layouts.{SolvedLayout}
+use Rattle.records.specs.Texts.{Spelled, after, spelled}
 use Rattle.records.specs.declared.fault.RefusedRecord.{RefusedRecord}
 use Rattle.records.specs.declared.reader.Next.{Next}
 use Rattle.records.specs.declared.reader.ReadFault.{ReadFault}
@@ -15,15 +14,22 @@ use Rattle.records.specs.declared.shown.ShowFault.{ShowFault}
 use Rattle.records.specs.declared.shown.ShowFault.TheVariants.{Refused, Input, Output}
 use Rattle.sinks.specs.Appended.{AppendsAll, AppendsPart}
 
--- the footer; there is none where a line is refused
-abbrev pub footer_for : Layout → List Told → Option RefusedRecord → List ℕ
-footer_for layout boards None = layout.footer (boards_of boards) (length boards)
-footer_for layout boards (Some line) = []
+-- a board, with what is told of its tricks
+abbrev pub told_text : SolvedLayout → Told → List ℕ
+told_text layout told = layout.board told.tricks told.board
 
--- the header, the boards in order, and the footer
-abbrev pub shown_text : Layout → Spelled → List ℕ
-shown_text layout s =
-    text_of_boards layout (boards_of s.boards) ++ footer_for layout s.boards s.refused
+-- the header, and these boards in order
+abbrev pub text_of_told : SolvedLayout → List Told → List ℕ
+text_of_told layout boards = layout.header ++ flat_map (told_text layout) boards
+
+-- the footer; there is none where a line is refused
+abbrev pub footer_for : SolvedLayout → Option RefusedRecord → List ℕ
+footer_for layout None = layout.footer
+footer_for layout (Some line) = []
+
+-- the header, the boards, and the footer
+abbrev pub shown_text : SolvedLayout → Spelled → List ℕ
+shown_text layout s = text_of_told layout s.boards ++ footer_for layout s.refused
 
 -- a text spells these boards first, whatever comes after it
 pub record BeginsWith (text : List ℕ) (boards : List Told) : Type 0 where
@@ -31,7 +37,7 @@ pub record BeginsWith (text : List ℕ) (boards : List Told) : Type 0 where
   pub spells : (rest : List ℕ) → spelled (text ++ rest) ≡ after boards (later rest)
 
 -- what was written, by the bytes that the input gave
-abbrev pub ShowsOf : Layout → List ℕ → Result ℕ ShowFault → (old new : Option (List ℕ)) → Type 0
+abbrev pub ShowsOf : SolvedLayout → List ℕ → Result ℕ ShowFault → (old new : Option (List ℕ)) → Type 0
 -- all that they spell
 ShowsOf layout given (Ok boards) old new =
     ((spelled given).refused ≡ None) × (boards ≡ length (spelled given).boards)
@@ -43,14 +49,13 @@ ShowsOf layout given (Err (Refused line)) old new =
 -- boards that they begin with
 ShowsOf layout given (Err Input) old new =
     (boards : List Told)
-    × (BeginsWith given boards
-    × AppendsAll old new (text_of_boards layout (boards_of boards)))
+    × (BeginsWith given boards × AppendsAll old new (text_of_told layout boards))
 -- not all of what they spell
 ShowsOf layout given (Err Output) old new = AppendsPart old new (shown_text layout (spelled given))
 
 -- `given` is what the input gave, to its end at Ok: where it tells its bytes, these are the first
 -- of them
-pub record Shows (layout : Layout) (result : Result ℕ ShowFault)
+pub record Shows (layout : SolvedLayout) (result : Result ℕ ShowFault)
     (before after old new : Option (List ℕ)) : Type 0 where
   pub given : List ℕ
   pub consumed : Consumes before after given

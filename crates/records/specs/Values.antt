@@ -67,3 +67,7 @@ vulnerable_in value =
     else (if is_word (codes "ew") value then Some EastWest
     else (if is_word (codes "all") value || is_word (codes "both") value then Some Both
     else None)))
+
+-- what may tell of tricks: nothing that does has more bytes
+unfoldable pub short_in : List ℕ → List ℕ
+short_in value = if nat_le (length value) 24 then value else []

@@ -1,32 +1,36 @@
 //! A game: what its tags say of a board.
 
-ghost use Rattle.std.specs.Prelude.{◌≡◌, ◌+◌, ◌-◌, ◌<◌, ◌≤◌, ◌^◌, ℕ, IfOk, IfSome, unwrap_or};
+ghost use Rattle.std.specs.Prelude.{◌≡◌, ◌+◌, ◌-◌, ◌<◌, ◌≤◌, ◌^◌, [], ℕ, IfOk, IfSome, unwrap_or};
 ghost use Rattle.records.specs.Games.{board_of, first_fault, game_says, has, heading_of};
-ghost use Rattle.records.specs.Games.{no_game, number_of};
+ghost use Rattle.records.specs.Games.{no_game, number_of, tricks_of};
 ghost use Rattle.records.specs.Games.{with_deal, with_dealer, with_number, with_tag};
 ghost use Rattle.records.specs.Games.{with_vulnerable};
 
 use crate::deal_value::deal_in;
 use crate::fault::{RecordFault, RefusedRecord};
 use crate::kind::Kind;
-use crate::values::{date_in, dealer_in, is_unknown, label_in, number_in, vulnerable_in};
-use boards::{Board, Date, Heading, Label, Vul, dealer, vulnerable};
+use crate::values::{
+    Short, date_in, dealer_in, is_unknown, label_in, number_in, short_in, vulnerable_in,
+};
+use boards::{Board, Date, Heading, Label, Tricks, Vul, dealer, vulnerable};
 use cards::{Deal, Seat};
 
 /// No candidate has this number.
 const NO_CANDIDATE: u64 = 1 << 40;
 
-/// A board, and the labels of its game.
-#[derive(Clone, Copy, Drop)]
+/// A board, the labels of its game, and what that tells of its tricks.
+#[derive(Drop)]
 pub struct Told {
     pub board: Board,
     pub heading: Heading,
+    pub tricks: Tricks,
 }
 
 /// What the tags of a game say, each if the game has it: its labels, or `None` if they are none;
 /// the number of its board, or 0 if it is none; the dealer and the vulnerability, or `None` if they
-/// aren't known; the deal; and the first fault of a tag.
-#[derive(Clone, Copy)]
+/// aren't known; the deal; what may tell of tricks, par and its contract; and the first fault of a
+/// tag.
+#[derive(Drop)]
 pub struct Game {
     pub event: Option<Option<Label>>,
     pub site: Option<Option<Label>>,
@@ -35,7 +39,20 @@ pub struct Game {
     pub dealer: Option<Option<Seat>>,
     pub vulnerable: Option<Option<Vul>>,
     pub deal: Option<Option<Deal>>,
+    pub tricks: Option<Short>,
+    pub score: Option<Short>,
+    pub contract: Option<Short>,
     pub fault: Option<RefusedRecord>,
+}
+
+/// The bytes of a value; none where there is no such tag.
+fn bytes_of(value: &Option<Short>) -> &[u8]
+    ensures { result.now ≡ unwrap_or value.now [] }
+{
+    match value {
+        Some(value) => value.as_bytes(),
+        None => &[],
+    }
 }
 
 impl Game {
@@ -51,6 +68,9 @@ impl Game {
             dealer: None,
             vulnerable: None,
             deal: None,
+            tricks: None,
+            score: None,
+            contract: None,
             fault: None,
         }
     }
@@ -67,6 +87,9 @@ impl Game {
             Kind::Dealer => self.dealer.is_some(),
             Kind::Vulnerable => self.vulnerable.is_some(),
             Kind::Deal => self.deal.is_some(),
+            Kind::Tricks => self.tricks.is_some(),
+            Kind::Score => self.score.is_some(),
+            Kind::Contract => self.contract.is_some(),
         }
     }
 
@@ -130,6 +153,9 @@ impl Game {
             Kind::Dealer => self.add_dealer(value, line),
             Kind::Vulnerable => self.add_vulnerable(value, line),
             Kind::Deal => self.add_deal(value, line),
+            Kind::Tricks => self.tricks = Some(short_in(value)),
+            Kind::Score => self.score = Some(short_in(value)),
+            Kind::Contract => self.contract = Some(short_in(value)),
         }
     }
 
@@ -177,6 +203,17 @@ impl Game {
         }
     }
 
+    /// What the tags tell of the board's tricks.
+    fn tricks(&self) -> Tricks
+        ensures { result ≡ tricks_of self.now }
+    {
+        Tricks::tagged(
+            bytes_of(&self.tricks),
+            bytes_of(&self.score),
+            bytes_of(&self.contract),
+        )
+    }
+
     /// What the game says as it ends, after the board of number `last`.
     ///
     /// # Errors
@@ -199,6 +236,7 @@ impl Game {
             Some(deal) => Ok(Some(Told {
                 board: self.board(last, deal),
                 heading: self.heading(),
+                tricks: self.tricks(),
             })),
         }
     }

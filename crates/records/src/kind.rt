@@ -13,6 +13,12 @@ pub enum Kind {
     Dealer,
     Vulnerable,
     Deal,
+    /// `DoubleDummyTricks`.
+    Tricks,
+    /// `OptimumScore`.
+    Score,
+    /// `ParContract`.
+    Contract,
 }
 
 /// The kind of a tag of this name, if it says something of a board.
@@ -34,6 +40,12 @@ pub(crate) fn kind_of(name: &[u8]) -> Option<Kind>
         Some(Kind::Vulnerable)
     } else if name == b"Deal".as_slice() {
         Some(Kind::Deal)
+    } else if name == b"DoubleDummyTricks".as_slice() {
+        Some(Kind::Tricks)
+    } else if name == b"OptimumScore".as_slice() {
+        Some(Kind::Score)
+    } else if name == b"ParContract".as_slice() {
+        Some(Kind::Contract)
     } else {
         None
     }

@@ -1,19 +1,20 @@
 //! Boards that are read from an input, and written in a notation.
 
-ghost use Rattle.std.specs.Prelude.{◌≡◌, ◌+◌, ◌-◌, ◌<◌, ◌≤◌, ◌^◌, ◌++◌, ◌∷◌, [], ℕ, List, Option};
+ghost use Rattle.std.specs.Prelude.{◌≡◌, ◌+◌, ◌-◌, ◌<◌, ◌≤◌, ◌^◌, ◌++◌, ℕ, List, Option};
 ghost use Rattle.std.specs.Prelude.{IfErr};
-ghost use Rattle.boards.specs.declared.board.Board.{Board as ABoard};
 ghost use Rattle.records.specs.Readers.{IsFed, IsFresh, IsReady, OnBoard, ReadsNext};
 ghost use Rattle.records.specs.declared.reader.BoardReader.{BoardReader};
 ghost use Rattle.records.specs.Shown.{FaultsOf, InputFaultsOf, MoreFaults, Puts, Shows};
+ghost use Rattle.records.specs.Shown.{told_text};
 ghost use Rattle.records.specs.declared.shown.ShowFault.TheVariants.{Output};
 ghost use Rattle.records.specs.internal.Showing.{ShownFrom};
 ghost use Rattle.sinks.specs.Sinks.{AppendsOrBreaksOff, CountsFault};
 
 use crate::fault::RefusedRecord;
+use crate::game::Told;
 use crate::reader::{BoardReader, Next, ReadFault};
 use crate::watched::next_watched;
-use boards::{Board, Notation};
+use boards::SolvedNotation;
 use picking::{MOST_BYTES, Source};
 use sinks::{Sink, SinkFault, put_all};
 
@@ -31,43 +32,43 @@ pub enum ShowFault {
     Output,
 }
 
-/// Writes a board.
-fn put<N: Notation, S: Sink>(board: &Board, notation: &mut N, sink: &mut S) -> Result<(), SinkFault>
+/// Writes a board with its tricks.
+fn put<N: SolvedNotation, S: Sink>(
+    told: &Told,
+    notation: &mut N,
+    sink: &mut S,
+) -> Result<(), SinkFault>
     requires { S.faults sink.old < 2 ^ 64 - 1 }
     ensures layout { N.layout notation.new ≡ N.layout notation.old }
     ensures bytes { AppendsOrBreaksOff (S.bytes sink.old) (S.bytes sink.new) result
-        ((N.layout notation.old).board board.now) }
-    ensures printed { (before : List ABoard) → N.has_printed notation.old before
-        → N.has_printed notation.new (before ++ board.now ∷ []) }
+        (told_text (N.layout notation.old) told.now) }
     ensures faults { CountsFault (S.faults sink.old) (S.faults sink.new) result }
 {
-    notation.print(board);
+    notation.print(&told.tricks, &told.board);
     put_all(sink, notation.text())
 }
 
 /// Writes what comes after this many boards.
-fn put_end<N: Notation, S: Sink>(
+fn put_end<N: SolvedNotation, S: Sink>(
     boards: u64,
-    notation: &mut N,
+    notation: &N,
     sink: &mut S,
 ) -> Result<u64, ShowFault>
     requires { S.faults sink.old < 2 ^ 64 - 1 }
-    ensures layout { N.layout notation.new ≡ N.layout notation.old }
-    ensures bytes { (list : List ABoard) → N.has_printed notation.old list
-        → Puts result boards (S.bytes sink.old) (S.bytes sink.new)
-        ((N.layout notation.old).footer list boards) }
+    ensures bytes { Puts result boards (S.bytes sink.old) (S.bytes sink.new)
+        (N.layout notation.now).footer }
     ensures fault { IfErr result (λ fault. fault ≡ Output) }
     ensures faults { FaultsOf result (S.faults sink.old) (S.faults sink.new) }
 {
-    match notation.put_footer(boards, sink) {
+    match put_all(sink, notation.footer()) {
         Ok(()) => Ok(boards),
         Err(_) => Err(ShowFault::Output),
     }
 }
 
 /// Writes the last board, after others, and what comes after them.
-fn put_last<N: Notation, S: Sink>(
-    board: &Board,
+fn put_last<N: SolvedNotation, S: Sink>(
+    told: &Told,
     boards: u64,
     notation: &mut N,
     sink: &mut S,
@@ -75,21 +76,19 @@ fn put_last<N: Notation, S: Sink>(
     requires faults { S.faults sink.old < 2 ^ 64 - 1 }
     requires boards { boards < 2 ^ 63 }
     ensures layout { N.layout notation.new ≡ N.layout notation.old }
-    ensures bytes { (list : List ABoard) → N.has_printed notation.old list
-        → Puts result (boards + 1) (S.bytes sink.old) (S.bytes sink.new)
-        ((N.layout notation.old).board board.now
-        ++ (N.layout notation.old).footer (list ++ board.now ∷ []) (boards + 1)) }
+    ensures bytes { Puts result (boards + 1) (S.bytes sink.old) (S.bytes sink.new)
+        (told_text (N.layout notation.old) told.now ++ (N.layout notation.old).footer) }
     ensures fault { IfErr result (λ fault. fault ≡ Output) }
     ensures faults { FaultsOf result (S.faults sink.old) (S.faults sink.new) }
 {
-    match put(board, notation, sink) {
+    match put(told, notation, sink) {
         Ok(()) => put_end(boards + 1, notation, sink),
         Err(_) => Err(ShowFault::Output),
     }
 }
 
 /// Writes the boards that are left of an input, after this many, and what comes after them.
-fn show_rest<N: Notation, I: Source, S: Sink>(
+fn show_rest<N: SolvedNotation, I: Source, S: Sink>(
     reader: &mut BoardReader,
     written: u64,
     notation: &mut N,
@@ -103,7 +102,7 @@ fn show_rest<N: Notation, I: Source, S: Sink>(
     requires fed { IsFed reader.old (I.given input.old) }
     ensures layout { N.layout notation.new ≡ N.layout notation.old }
     ensures shows { (before base : Option (List ℕ))
-        → ShownFrom (N.layout notation.old) (N.has_printed notation.old) reader.old written
+        → ShownFrom (N.layout notation.old) reader.old written
         before (I.rest input.old) base (S.bytes sink.old)
         → Shows (N.layout notation.old) result
         before (I.rest input.new) base (S.bytes sink.new) }
@@ -114,12 +113,12 @@ fn show_rest<N: Notation, I: Source, S: Sink>(
     for turn in 0..MOST_GAMES {
         let told = match next_watched(reader, boards, input, sink) {
             Ok(Next::Board(told)) => told,
-            Ok(Next::Last(told)) => return put_last(&told.board, boards, notation, sink),
+            Ok(Next::Last(told)) => return put_last(&told, boards, notation, sink),
             Ok(Next::End) => return put_end(boards, notation, sink),
             Err(ReadFault::Refused(line)) => return Err(ShowFault::Refused(line)),
             Err(ReadFault::Input) => return Err(ShowFault::Input),
         };
-        match put(&told.board, notation, sink) {
+        match put(&told, notation, sink) {
             Ok(()) => boards += 1,
             Err(_) => return Err(ShowFault::Output),
         }
@@ -127,8 +126,8 @@ fn show_rest<N: Notation, I: Source, S: Sink>(
     unreachable!()
 }
 
-/// Writes the header, the boards of an input, and the footer, in a notation that has printed
-/// nothing. Returns how many boards were written.
+/// Writes the header, the boards of an input, each with what its game tells of its tricks, and the
+/// footer. Returns how many boards were written.
 ///
 /// `first` is what a new reader read first of the input, so that the notation may have what that
 /// says. A board is written as soon as its game ends; before each read the sink hears how many
@@ -138,7 +137,7 @@ fn show_rest<N: Notation, I: Source, S: Sink>(
 /// `Refused`, with the first line that is refused: the boards of the games that ended before it
 /// were written, and no footer. `Input`: the input couldn't be read; boards that it began with were
 /// written. `Output`: the sink failed; a part of the text was written.
-pub fn show<N: Notation, I: Source, S: Sink>(
+pub fn show<N: SolvedNotation, I: Source, S: Sink>(
     reader: &mut BoardReader,
     first: Result<Next, ReadFault>,
     notation: &mut N,
@@ -149,7 +148,6 @@ pub fn show<N: Notation, I: Source, S: Sink>(
     requires input { OnBoard first (I.faults input.old < 2 ^ 64 - 1) }
     requires ready { OnBoard first (IsReady reader.old) }
     requires fed { OnBoard first (IsFed reader.old (I.given input.old)) }
-    requires printed { N.has_printed notation.old [] }
     ensures layout { N.layout notation.new ≡ N.layout notation.old }
     ensures shows { (start : BoardReader) (before : Option (List ℕ)) → IsFresh start
         → ReadsNext start reader.old first before (I.rest input.old)
@@ -164,12 +162,12 @@ pub fn show<N: Notation, I: Source, S: Sink>(
     }
     let told = match first {
         Ok(Next::Board(told)) => told,
-        Ok(Next::Last(told)) => return put_last(&told.board, 0, notation, sink),
+        Ok(Next::Last(told)) => return put_last(&told, 0, notation, sink),
         Ok(Next::End) => return put_end(0, notation, sink),
         Err(ReadFault::Refused(line)) => return Err(ShowFault::Refused(line)),
         Err(ReadFault::Input) => return Err(ShowFault::Input),
     };
-    match put(&told.board, notation, sink) {
+    match put(&told, notation, sink) {
         Ok(()) => show_rest(reader, 1, notation, input, sink),
         Err(_) => Err(ShowFault::Output),
     }

@@ -2,10 +2,12 @@
 
 ghost use Rattle.std.specs.Prelude.{◌≡◌, ◌≤◌, ◌^◌};
 ghost use Rattle.records.specs.Values.{date_in, dealer_in, is_no_label, is_unknown, is_word};
-ghost use Rattle.records.specs.Values.{label_in, number_in, vulnerable_in};
+ghost use Rattle.records.specs.Values.{label_in, number_in, short_in, vulnerable_in};
 
+use arrayvec::ArrayVec;
 use boards::{Date, Label, Vul};
 use cards::Seat;
+use std::marker::Model;
 
 /// The greatest number of a board.
 const MOST_NUMBER: u64 = 1 << 40;
@@ -101,4 +103,42 @@ pub(crate) fn vulnerable_in(value: &[u8]) -> Option<Vul>
     } else {
         None
     }
+}
+
+/// The most bytes of a value that tells of tricks.
+const SHORT: usize = 24;
+
+/// A short value, which contracts see as its bytes.
+#[derive(Drop)]
+pub struct Short {
+    bytes: ArrayVec<u8, SHORT>,
+}
+
+impl Model for Short {
+    ghost use Rattle.std.specs.Prelude.{List, ℕ};
+
+    ghost Value = { List ℕ };
+
+    ghost view = { λ s. s.bytes.items };
+}
+
+impl Short {
+    /// Its bytes.
+    pub(crate) fn as_bytes(&self) -> &[u8]
+        ensures { result.now ≡ self.now }
+    {
+        self.bytes.as_slice()
+    }
+}
+
+/// The value, or nothing if it is too long to tell of tricks.
+#[tactic(auto, unfolding(crate::specs::Values::short_in))]
+pub(crate) fn short_in(value: &[u8]) -> Short
+    ensures { result ≡ short_in value.now }
+{
+    let mut bytes = ArrayVec::new();
+    if value.len() <= SHORT {
+        let _fits = bytes.try_extend_from_slice(value);
+    }
+    Short { bytes }
 }

@@ -18,7 +18,7 @@ const ROWS: &str = "
     pick --lesson --where --boards --candidates --first --workers --lane --report --progress => \
         deals pick reads the numbers of deals: deals find searches for them
     show --tricks => \
-        deals show writes no tricks; deals-tricks --add < boards.pbn adds them to PBN
+        deals show writes the tricks that boards have: deals-tricks --add < boards.pbn adds them
     show --dealer --vulnerable --rotate --first-board => \
         deals show keeps what the boards say of number, dealer and vulnerability
     show --seed --lesson --where --boards --candidates --first --north --east --south --west \

@@ -5,6 +5,7 @@ ghost use Rattle.std.specs.Char.{is_ascii_digit};
 ghost use Rattle.std.specs.List.{list_all};
 ghost use Rattle.boards.specs.TricksLines.{are_points, are_tricks, are_with_par, is_contract, is_contract_byte};
 ghost use Rattle.boards.specs.TricksLines.{is_side, is_tricks, words_of};
+ghost use Rattle.boards.specs.TricksTags.{is_score};
 ghost use Rattle.boards.specs.internal.TricksWords.{words_behind};
 
 /// How many declarers in how many denominations.
@@ -62,6 +63,13 @@ fn are_points(word: &[u8]) -> bool
     ensures { result ≡ are_points word.now }
 {
     (1..=4).contains(&word.len()) && all_are_digits(word)
+}
+
+/// Whether the value is a side and its points.
+pub(crate) fn is_score(value: &[u8]) -> bool
+    ensures { result ≡ is_score value.now }
+{
+    value.len() > 3 && is_side(&value[..2]) && value[2] == b' ' && are_points(&value[3..])
 }
 
 /// Whether these are tricks, a side and a score.

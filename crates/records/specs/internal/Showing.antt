@@ -1,23 +1,20 @@
 -- How far boards were shown.
 use Rattle.std.specs.Prelude.{◌≡◌, ℕ, List, ◌++◌, Option, length}
 use Rattle.std.specs.Io.KnownBytes.{Consumes}
-use Rattle.boards.specs.declared.board.Board.{Board as ABoard}
-use Rattle.boards.specs.Layouts.{Layout}
-use Rattle.plans.specs.Text.{text_of_boards}
+use Rattle.boards.specs.Layouts.{SolvedLayout}
 use Rattle.records.specs.Readers.{unread_spells}
-use Rattle.records.specs.Texts.{after, boards_of, spelled}
+use Rattle.records.specs.Shown.{text_of_told}
+use Rattle.records.specs.Texts.{after, spelled}
 use Rattle.records.specs.declared.game.Told.{Told}
 use Rattle.records.specs.declared.reader.BoardReader.{BoardReader}
 use Rattle.sinks.specs.Appended.{AppendsAll}
 
--- the input gave some bytes, and the boards that they begin with were written, by a notation that
--- has printed them
-pub record ShownFrom (layout : Layout) (has_printed : List ABoard → Type 0) (r : BoardReader)
-    (count : ℕ) (before now base out : Option (List ℕ)) : Type 0 where
+-- the input gave some bytes, and the boards that they begin with were written
+pub record ShownFrom (layout : SolvedLayout) (r : BoardReader) (count : ℕ)
+    (before now base out : Option (List ℕ)) : Type 0 where
   pub boards : List Told
   pub given : List ℕ
   pub consumed : Consumes before now given
   pub spells : (rest : List ℕ) → spelled (given ++ rest) ≡ after boards (unread_spells r rest)
   pub count_is : count ≡ length boards
-  pub bytes : AppendsAll base out (text_of_boards layout (boards_of boards))
-  pub printed : has_printed (boards_of boards)
+  pub bytes : AppendsAll base out (text_of_told layout boards)

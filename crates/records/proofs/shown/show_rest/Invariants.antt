@@ -5,10 +5,10 @@ use Rattle.records.proofs.shown.show_rest.Given as goal
 
 abbrev pub invariant-loop-turn : goal.invariant-loop-turn
 invariant-loop-turn g l = record {
-  layout : g.N.Notation.layout l.notation ≡ g.N.Notation.layout l.fn.notation;
+  layout : g.N.SolvedNotation.layout l.notation ≡ g.N.SolvedNotation.layout l.fn.notation;
   shown : (before base : Option (List ℕ))
-      → ShownFrom (g.N.Notation.layout l.fn.notation) (g.N.Notation.has_printed l.fn.notation) l.fn.reader l.fn.written before (g.I.Source.rest l.fn.input) base (g.S.Sink.bytes l.fn.sink)
-      → ShownFrom (g.N.Notation.layout l.fn.notation) (g.N.Notation.has_printed l.notation) l.reader l.boards before (g.I.Source.rest l.input) base (g.S.Sink.bytes l.sink);
+      → ShownFrom (g.N.SolvedNotation.layout l.fn.notation) l.fn.reader l.fn.written before (g.I.Source.rest l.fn.input) base (g.S.Sink.bytes l.fn.sink)
+      → ShownFrom (g.N.SolvedNotation.layout l.fn.notation) l.reader l.boards before (g.I.Source.rest l.input) base (g.S.Sink.bytes l.sink);
   ready : IsReady l.reader;
   fed : IsFed l.reader (g.I.Source.given l.input);
   faults : g.S.Sink.faults l.sink ≡ g.S.Sink.faults l.fn.sink;

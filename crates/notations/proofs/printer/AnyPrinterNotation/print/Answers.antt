@@ -1,4 +1,4 @@
-use Rattle.std.proofs.Common.{◌≡◌, ◌∙◌, ap, sym}
+use Rattle.std.proofs.Common.{◌∙◌, ap, sym}
 use Rattle.notations.specs.Formats.{PrintingAs, layout_in}
 use Rattle.notations.specs.internal.Pens.{format_of}
 use Rattle.notations.proofs.LayoutLemmas.{showing_board}
