@@ -3,16 +3,11 @@
 use crate::seen::Seen;
 use advice::{dealt_again, no_board};
 use clap::Error;
-use cond_lang::{Cond, Tree};
 use deals_cli::{Failure, Job, Report, Request, Task};
 use hint_rules::slip;
 use sinks::{Piped, put_all};
-use std::alloc::{AllocError, Global};
+use std::alloc::Global;
 use std::io::IsTerminal;
-
-/// A condition of this many tests or more isn't looked through for why no deal meets it: the time
-/// for that grows with the third power of their number.
-const MOST_TESTS: u32 = 300;
 
 /// Notes what there is to note of a task.
 pub fn put_notes(
@@ -30,39 +25,17 @@ pub fn put_notes(
 /// What there is to note of the job of a request: that no deal meets its condition, that this has a
 /// slip, or that boards with later numbers are the first deals again. None if memory runs out.
 fn note(alloc: Global, words: &[String], request: &Request<'_>, job: &Job) -> Option<String> {
-    let condition = match job {
-        Job::Boards(job) | Job::WithTricks(job) => &job.condition,
-        Job::Count(job) => &job.condition,
+    let (condition, plan) = match job {
+        Job::Boards(job) | Job::WithTricks(job) => (&job.condition, &job.plan),
+        Job::Count(job) => (&job.condition, &job.plan),
         _ => return None,
     };
-    match unmet(alloc, condition) {
+    match hints::note(alloc, condition, plan.fixed()) {
         Ok(None) => match slip_of(alloc, request) {
             Some(slip) => Some(slip),
             None => dealt_again(alloc, words, request),
         },
         noted => noted.unwrap_or(None),
-    }
-}
-
-/// The note on a condition that no deal meets. One of very many tests isn't looked through.
-fn unmet(alloc: Global, condition: &Cond) -> Result<Option<String>, AllocError> {
-    if room_after(condition.tree(), MOST_TESTS) == 0 {
-        return Ok(None);
-    }
-    hints::note(alloc, condition)
-}
-
-/// What is left of the room after a place for each test of the tree.
-fn room_after(tree: &Tree, room: u32) -> u32 {
-    if room == 0 {
-        return 0;
-    }
-    match tree {
-        Tree::AnyOf(left, right) | Tree::AllOf(left, right) => {
-            room_after(right, room_after(left, room))
-        }
-        Tree::Negation(inner) => room_after(inner, room),
-        _ => room.saturating_sub(1),
     }
 }
 

@@ -11,3 +11,4 @@ pub mod Reporting
 pub mod Concluding
 pub mod NoInput
 pub mod Tables
+pub mod Rejecting

@@ -3,6 +3,7 @@
 ghost use Rattle.std.specs.Prelude.{◌≡◌, ◌-◌, ◌^◌, ◌<◌, []};
 ghost use Rattle.deals_cli.specs.internal.Ends.{EndsWritten, FaultsOfRun};
 
+use crate::rejected::write_no_board;
 use boards::Notation;
 use cond_lang::Cond;
 use dealrun::run_and_count;
@@ -12,6 +13,7 @@ use sinks::Sink;
 use std::alloc::Global;
 use std::sync::{Arc, Wait};
 use std::thread::Threads;
+use unmet::is_never;
 
 /// How many candidates a run needed, and how many boards it wrote.
 #[derive(Clone, Copy, Drop)]
@@ -20,7 +22,8 @@ pub(crate) struct Written {
     pub(crate) boards: u64,
 }
 
-/// Writes the boards of the plan's accepted candidates, and counts both.
+/// Writes the boards of the plan's accepted candidates, and counts both. If no deal meets the
+/// condition, and that is seen, none is dealt.
 pub(crate) fn write_plan<R: Threads + Wait + Clone + Send + 'static, N: Notation, O: Sink>(
     rt: &R,
     alloc: Global,
@@ -35,6 +38,9 @@ pub(crate) fn write_plan<R: Threads + Wait + Clone + Send + 'static, N: Notation
         (O.bytes out.old) (O.bytes out.new) }
     ensures faults { FaultsOfRun result (O.faults out.old) (O.faults out.new) }
 {
+    if is_never(&condition, plan.fixed()) {
+        return write_no_board(plan, notation, out);
+    }
     let Ok(gate) = Arc::new(alloc, OpenGate) else {
         return Err(Cause::Memory);
     };

@@ -3,6 +3,4 @@ pub mod Excerpt
 pub mod Expected
 pub mod Explanation
 pub mod internal
-pub mod Never
 pub mod Note
-pub mod Torn

@@ -10,12 +10,13 @@ use crate::asked::Asked;
 use crate::excerpt::put_excerpt;
 use crate::expected::put_expected;
 use crate::kinds::KindSet;
-use crate::never::is_never;
+use cards::Fixed;
 use cond_lang::{Beginning, CondError, names_of, parse};
 use hint_rules::{Said, of_piece, of_syntax, suggested};
 use itoa::Buffer;
 use sinks::put_shown;
 use std::alloc::{AllocError, Global};
+use unmet::is_never;
 
 /// Returns what helps a person with a text that is refused as `error`: the lines that are below
 /// the one that names the refusal, each ended by a line feed.
@@ -157,7 +158,7 @@ fn sound(alloc: Global, hint: Vec<u8>) -> Result<Vec<u8>, AllocError> {
 /// Whether no deal meets the condition, by its numbers alone.
 fn is_in_vain(alloc: Global, condition: &[u8]) -> Result<bool, AllocError> {
     match parse(alloc, condition) {
-        Ok(condition) => Ok(is_never(&condition)),
+        Ok(condition) => Ok(is_never(&condition, &Fixed::none())),
         Err(CondError::Memory) => Err(AllocError),
         Err(_) => is_in_vain_within(alloc, condition),
     }
@@ -173,7 +174,7 @@ fn is_in_vain_within(alloc: Global, test: &[u8]) -> Result<bool, AllocError> {
         text.extend_from_slice(test)?;
         text.push(b')')?;
         match parse(alloc, text.as_slice()) {
-            Ok(condition) => return Ok(is_never(&condition)),
+            Ok(condition) => return Ok(is_never(&condition, &Fixed::none())),
             Err(CondError::Memory) => return Err(AllocError),
             Err(_) => {}
         }

@@ -1,11 +1,13 @@
 //! The functions of hints, each with values from outside. All that is said of mistakes, the notes
 //! and the page of the language are asked of the built program: by `tests/rows`.
 
+use cards::Fixed;
 use cond_lang::{Cond, CondError, LANGUAGE, parse};
-use hints::{explain, explain_question, is_never, note};
+use hints::{explain, explain_question, note};
 use sinks::put_shown;
 use std::alloc::Global;
 use std::test::Fail;
+use unmet::is_never;
 
 /// Texts, how they are refused, and all that is said of that. The error of the last one isn't the
 /// text's own: it is explained as well as it can be.
@@ -139,7 +141,7 @@ const NOTES: [(&str, &str); 5] = [
 fn notes(rt: HostRuntime) -> Result<(), Fail> {
     for (text, wanted) in NOTES.iter() {
         let condition = parse(rt.alloc(), text.as_bytes())?;
-        assert_eq!(rt; is_never(&condition), *wanted != "", "{text}");
+        assert_eq!(rt; is_never(&condition, &Fixed::none()), *wanted != "", "{text}");
         let said = said_of(rt.alloc(), &condition)?;
         assert_eq!(rt; said.as_str(), *wanted, "{text}");
     }
@@ -148,5 +150,5 @@ fn notes(rt: HostRuntime) -> Result<(), Fail> {
 
 /// The note on the condition; empty where there is none.
 fn said_of(alloc: Global, condition: &Cond) -> Result<String, Fail> {
-    Ok(note(alloc, condition)?.unwrap_or(String::new(alloc)))
+    Ok(note(alloc, condition, &Fixed::none())?.unwrap_or(String::new(alloc)))
 }

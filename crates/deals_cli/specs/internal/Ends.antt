@@ -1,13 +1,14 @@
 -- How the parts of a job end.
 use Rattle.std.specs.Prelude.{◌≡◌, ◌⊎◌, ◌≤◌, ◌<◌, ◌^◌, ℕ, ◌+◌, All, length, List, [], Option, Some}
-use Rattle.std.specs.Prelude.{Result, Ok, Err}
+use Rattle.std.specs.Prelude.{Result, Ok, Err, false}
 use Rattle.dealrun.specs.Headline.{WritesTextIn}
 use Rattle.dealrun.specs.Interrupted.{FaultsAfter}
 use Rattle.plans.specs.declared.cause.Cause.{Cause}
 use Rattle.plans.specs.declared.cause.Cause.TheVariants.{Memory, Output, Spawn}
 use Rattle.boards.specs.Layouts.{Layout}
 use Rattle.notations.specs.Formats.{layout_showing}
-use Rattle.plans.specs.Plans.{Planned}
+use Rattle.cond_lang.specs.Meaning.{holds}
+use Rattle.plans.specs.Plans.{Planned, candidate_of}
 use Rattle.plans.specs.Text.{accepted, end_of}
 use Rattle.jobs.specs.Makings.{AreWorkers, plan_of}
 use Rattle.request_types.specs.Requests.{Look, Search}
@@ -44,6 +45,10 @@ use Rattle.deals_cli.specs.declared.written.Written.{Written}
 use Rattle.sinks.specs.Appended.{AppendsAll, AppendsPart}
 use Rattle.statistics.specs.Counting.{counting}
 use Rattle.statistics.specs.Subjects.{subject_of}
+
+-- no deal of the plan meets the condition
+abbrev pub AcceptsNone : Planned → Form → Type 0
+AcceptsNone plan form = (k : ℕ) → holds form (candidate_of plan k) ≡ false
 
 -- a run of the plan over some of the workers that are asked for was interrupted
 abbrev pub InterruptsWorked : Layout → Planned → Workers → Form → Cause

@@ -1,0 +1,11 @@
+pub mod Ranges
+pub mod Hopeless
+pub mod Truths
+pub mod SameCount
+pub mod CountBounds
+pub mod Refuting
+pub mod Holding
+pub mod WholeSums
+pub mod Splitting
+pub mod Tearing
+pub mod Soundness

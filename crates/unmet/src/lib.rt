@@ -1,0 +1,16 @@
+//! Conditions that no deal meets.
+#![tactic(auto)]
+
+mod by_suit;
+mod counts;
+mod facts;
+mod held;
+mod never;
+mod refuted;
+mod shapes;
+mod splits;
+mod torn;
+mod values;
+mod wholes;
+
+pub use never::{is_never, is_never_met};
