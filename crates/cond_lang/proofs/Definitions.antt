@@ -180,7 +180,7 @@ params_read a_seat B = refl
 params_read a_suit B = refl
 params_read seat_and_suit B = refl
 
-definition_read : {N : Meanings} {D : List Token} {m : Meaning} → IsDefinition N D m → (B : List Token) → definition N (D ++ B) ≡ got m B
+pub definition_read : {N : Meanings} {D : List Token} {m : Meaning} → IsDefinition N D m → (B : List Token) → definition N (D ++ B) ≡ got m B
 unfolding definition
 definition_read {N} (defines {P} {T} {p} {m} h b) B =
     ap (λ b. after (cond b (got tt ((P ++ (Is ∷ Open ∷ T ++ Close ∷ [])) ++ B)) (stuck (Name (length N) ∷ (P ++ (Is ∷ Open ∷ T ++ Close ∷ [])) ++ B))) (λ _ S. after (params S) (λ p S. is_body N p S))) (equal_itself (length N))

@@ -97,7 +97,7 @@ none_at ms n e = slice_get_past (meanings ms) n (omega (arith, meanings_length m
     past (m ∷ ms) zero e = absurd (cc)
     past (m ∷ ms) (suc n) e = omega (arith, past ms n e)
 
-meaning_at : (ms : List Named) (n : ℕ) (m : Named) → AreSound ms → slice_get ms n ≡ Some m → slice_get (meanings ms) n ≡ Some (meaning (meanings (take n ms)) m)
+pub meaning_at : (ms : List Named) (n : ℕ) (m : Named) → AreSound ms → slice_get ms n ≡ Some m → slice_get (meanings ms) n ≡ Some (meaning (meanings (take n ms)) m)
 meaning_at ms n m s e = subst (λ i. slice_get (meanings ms) i ≡ Some (meaning (meanings (take n ms)) m)) (omega arith) (at [] ms n m s e).means
 
 pub value_meaning :

@@ -5,7 +5,7 @@
 --                "(" ( cond | value ) ")"
 -- The names are numbered from 0 as they are given, so a name is new if its number is that of the
 -- names before it. A body knows these, its parameters, and nothing else.
-use Rattle.std.specs.Prelude.{List, [], ◌∷◌, ◌++◌, length}
+use Rattle.std.specs.Prelude.{◌≡◌, ◌≤◌, ℕ, Bool, true, false, Option, Some, None, List, [], ◌∷◌, ◌++◌, length, slice_get}
 use Rattle.cond_lang.specs.declared.classes.Choice.{Choice}
 use Rattle.cond_lang.specs.declared.classes.Class.TheVariants.{Suit as AnySuit, Seat as AnySeat}
 use Rattle.cond_lang.specs.declared.classes.Params.{Params}
@@ -45,6 +45,22 @@ pub data AreDefinitions : Meanings → List Token → Meanings → Type 0 where
       {N M : Meanings} {D T : List Token} {m : Meaning}
       → IsDefinition N D m → AreDefinitions (N ++ m ∷ []) T M
       → AreDefinitions N (Let ∷ D ++ T) M
+
+-- the list begins with definitions of the names
+abbrev pub BeginsWith : Meanings → List Token → Type 0
+BeginsWith N T = (D : List Token) × (R : List Token) × AreDefinitions [] D N × (T ≡ D ++ R)
+
+-- whether a name stands for a value
+abbrev pub is_of_value : Meaning → Bool
+is_of_value (condition p f) = false
+is_of_value (value p f) = true
+
+-- what is told of the n-th name that a list gives: whether it stands for a value, or that none of
+-- the list's definitions gives it
+abbrev pub TellsName : List Token → ℕ → Option Bool → Type 0
+TellsName T n None = (N : Meanings) → BeginsWith N T → length N ≤ n
+TellsName T n (Some b) =
+    (N : Meanings) × (m : Meaning) × BeginsWith N T × (slice_get N n ≡ Some m) × (b ≡ is_of_value m)
 
 -- definitions, and behind them what S spells with their names
 pub data Defined {A : Type 0} (S : Meanings → List Token → A → Type 0)

@@ -5,11 +5,11 @@ ghost use Rattle.std.specs.Prelude.{Err, IfOk, IfErr, IsTrue};
 ghost use Rattle.conditions.specs.Form.{Amount};
 ghost use Rattle.cond_lang.specs.Asking.{CanFollowAsking};
 ghost use Rattle.cond_lang.specs.Continuations.{CanFollow, IsBeginning, ends_with_let};
-ghost use Rattle.cond_lang.specs.Definitions.{SpellsAmount};
+ghost use Rattle.cond_lang.specs.Definitions.{SpellsAmount, TellsName};
 ghost use Rattle.cond_lang.specs.Faults.{IsDue};
 ghost use Rattle.cond_lang.specs.Text.{kinds};
 
-use crate::parser::{read_as_far, read_value};
+use crate::parser::{is_value_name, read_as_far, read_value};
 use crate::scanner::{MAX_BYTES, Placed, Token, scan};
 use crate::words::Kind;
 use arrayvec::ArrayVec;
@@ -109,6 +109,19 @@ impl Beginning {
             Kind::End => Ok(self.is_value()? || self.allows(Kind::End)?),
             _ => self.allows(kind),
         }
+    }
+
+    /// Returns whether the name stands for a value, if a whole definition of the text gives it, and
+    /// else it stands for a condition. The names are numbered from 0, in the order of their
+    /// definitions.
+    ///
+    /// # Errors
+    /// `Memory` if an allocation failed.
+    pub fn is_value_name(&self, name: u16) -> Result<Option<bool>, CondError>
+        ensures told { IfOk result (λ told. TellsName self.now name told) }
+        ensures memory { IfErr result (λ e. e ≡ CondError.Memory) }
+    {
+        is_value_name(self.alloc, &self.tokens.as_slice()[..self.count], name)
     }
 
     /// Whether the tokens are a whole value. The only error is `Memory`.

@@ -7,7 +7,7 @@ ghost use Rattle.cond_lang.specs.declared.parser.Refusal.TheVariants.{Syntax};
 ghost use Rattle.conditions.specs.declared.limits.TheConstants.{MOST_PARTS};
 ghost use Rattle.conditions.specs.Form.{Amount, Form, form_of};
 ghost use Rattle.conditions.specs.Limits.{parts_of};
-ghost use Rattle.cond_lang.specs.Definitions.{Spells, SpellsAmount};
+ghost use Rattle.cond_lang.specs.Definitions.{Spells, SpellsAmount, TellsName};
 ghost use Rattle.cond_lang.specs.Text.{kinds};
 ghost use Rattle.cond_lang.specs.Continuations.{IsLongestViable};
 ghost use Rattle.cond_lang.specs.Faults.{offset_of, IsPlace};
@@ -98,6 +98,26 @@ pub(crate) fn read_value(alloc: Global, tokens: &[Placed]) -> Result<Option<Grow
         Ok(value) => Ok(Some(value)),
         Err(Refusal::Syntax) => Ok(None),
         Err(Refusal::Memory) => Err(CondError::Memory),
+    }
+}
+
+/// Whether the name of this number stands for a value, if a whole definition among those that the
+/// tokens begin with gives it. The only error is `Memory`.
+pub(crate) fn is_value_name(
+    alloc: Global,
+    tokens: &[Placed],
+    name: u16,
+) -> Result<Option<bool>, CondError>
+    ensures told { IfOk result (λ told. TellsName (kinds tokens.now) name told) }
+    ensures memory { IfErr result (λ e. e ≡ CondError.Memory) }
+{
+    let mut parser = Parser::new(alloc, tokens);
+    let Ok(names) = parser.whole_definitions() else {
+        return Err(CondError::Memory);
+    };
+    match names.get(name as usize) {
+        Some(named) => Ok(Some(named.is_value)),
+        None => Ok(None),
     }
 }
 

@@ -1,6 +1,8 @@
 //! Names: what is kept of each, their arguments, and the definitions that give them.
 
 ghost use Rattle.std.specs.Prelude.{◌≡◌, ◌≢◌, ◌≤◌, [], length, true, Err, IfOk};
+ghost use Rattle.cond_lang.specs.Definitions.{BeginsWith};
+ghost use Rattle.cond_lang.specs.Grammar.{Meanings};
 ghost use Rattle.cond_lang.specs.Text.{kinds};
 ghost use Rattle.cond_lang.specs.internal.Arguments.{is_argument};
 ghost use Rattle.cond_lang.specs.internal.Defining.{AreSound, IsSound, meaning, meanings};
@@ -69,6 +71,26 @@ impl<'a> Parser<'a> {
             self.advance();
             let named = self.definition(names.as_slice())?;
             names.push(named)?;
+        }
+        Ok(names)
+    }
+
+    /// The definitions in their order, as far as they are whole. The only error is `Memory`.
+    pub(super) fn whole_definitions(&mut self) -> Result<Vec<Named<'a>>, Refusal>
+        ensures sound { IfOk result (λ names. AreSound names.items) }
+        ensures begins { IfOk result (λ names. BeginsWith (meanings names.items) self.old) }
+        ensures all { IfOk result (λ names. (N : Meanings) → BeginsWith N self.old
+            → length N ≤ length names.items) }
+        ensures err { result ≢ Err Refusal.Syntax }
+    {
+        let mut names = Vec::new(self.alloc);
+        while let Some(Token::Let) = self.peek() {
+            self.advance();
+            match self.definition(names.as_slice()) {
+                Ok(named) => names.push(named)?,
+                Err(Refusal::Syntax) => return Ok(names),
+                Err(Refusal::Memory) => return Err(Refusal::Memory),
+            }
         }
         Ok(names)
     }
@@ -182,6 +204,8 @@ impl<'a> Parser<'a> {
         ensures err { result ≢ Err Refusal.Syntax }
     {
         let mut parser = Parser::new(alloc, start);
+        // A body was read with the first arguments, and what can be read with one is with each: the
+        // parts of one that can't be read are those of `0` and of `0==0`.
         if is_value {
             return match parser.value(names, 0, bound) {
                 Ok(value) => Ok(value.parts),
