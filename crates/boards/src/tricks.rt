@@ -80,7 +80,7 @@ impl Tricks {
     /// Returns what the values of the tags `DoubleDummyTricks`, `OptimumScore` and `ParContract`
     /// tell, which are empty where there is no such tag. A value that isn't of its form tells
     /// nothing, nor does par without tricks, nor a contract without its score.
-    #[tactic(auto, using(crate::proofs::TricksTold::no_score, crate::proofs::TricksTold::score_alone, crate::proofs::TricksTold::score_and_contract), unfolding(crate::specs::TricksTags::tagged))]
+    #[tactic(auto, unfolding(crate::specs::TricksTags::tagged))]
     pub fn tagged(tricks: &[u8], score: &[u8], contract: &[u8]) -> Tricks
         ensures { result ≡ tagged tricks.now score.now contract.now }
     {

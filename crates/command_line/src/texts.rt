@@ -55,7 +55,6 @@ pub(crate) const SHOW_EXAMPLES: &str = "Examples:
     deals show --format sheet < boards.pbn > records.html
   The same boards for BBO:
     deals show --format lin < boards.pbn > boards.lin
-
   The same boards with tricks and par:
     deals-tricks --add < boards.pbn | deals show --format sheet > records.html
 

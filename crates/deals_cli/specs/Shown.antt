@@ -1,5 +1,5 @@
--- What a `show` writes: the boards that the input has, with their tricks, under the labels of the options, or else of
--- the game of the first board.
+-- What a `show` writes: the boards that the input has, with their tricks, under the labels of the
+-- options, or else of the game of the first board.
 use Rattle.std.specs.Prelude.{ℕ, Bool, false, List, Option, Result, Ok, Err, length, nat_lt}
 use Rattle.std.specs.Option.{option_or}
 use Rattle.boards.specs.Headings.{HeadingView, no_heading}

@@ -27,7 +27,6 @@ pub fn chosen_hands_end_alike()
 {}
 
 /// Where tricks aren't expected and none are known, a text is as the format has it.
-#[tactic(auto, using(crate::proofs::Solving::plain_header, crate::proofs::Solving::plain_board, crate::proofs::Solving::plain_footer))]
 pub fn boards_without_tricks_are_plain()
     ensures header { (format : AFormat) (show : AShow) (heading : HeadingView)
         → (layout_solved format show heading false).header

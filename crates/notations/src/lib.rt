@@ -3,8 +3,9 @@
 //! numbers of candidates.
 //!
 //! A format is a `Format`, and an `AnyPrinter` prints boards in it, with the hands that a `Show`
-//! asks for, and with tricks; a `SolvedPrinter` does where some boards may have tricks. A file has what one format writes: `pbn.rt`, `hands.rt`, `lin.rt`,
-//! `page.rt`, `sheet.rt`, `slips.rt`, `json.rt` and `numbers.rt`.
+//! asks for, and with tricks; a `SolvedPrinter` does where some boards may have tricks. A file has
+//! what one format writes: `pbn.rt`, `hands.rt`, `lin.rt`, `page.rt`, `sheet.rt`, `slips.rt`,
+//! `json.rt` and `numbers.rt`.
 #![tactic(auto)]
 
 mod dotted;

@@ -1,6 +1,8 @@
 -- The seats of a deal, and the test that each has thirteen cards.
 use Rattle.std.proofs.Common.{◌≡◌, ◌↔◌, ◌∙◌, ◌==◌, Bool, true, false, List, length, Option, None, Some, refl, sym, rules}
-use Rattle.std.specs.Prelude.{IfSome, IsSome, if◌then◌else◌}
+use Rattle.std.proofs.Common.{◌<◌, ℕ, [], ◌∷◌, arith, get_or, suc}
+use Rattle.std.specs.List.{list_all}
+use Rattle.std.specs.Prelude.{IfSome, IsSome, if◌then◌else◌, is_some}
 use Rattle.std.proofs.lemmas.Bool.{and_parts, eqb-true}
 use Rattle.std.proofs.Common.{eq-eqb, ◌&&◌}
 use Rattle.cards.specs.declared.seat.Seat.{Seat}
@@ -38,3 +40,9 @@ if_partition deal r count sound kept = by_test (is_partition deal) refl r sound 
     by_test true e None sound kept = absurd (let t = sound.1 (is_it deal count e) in search rules)
     by_test false e None sound kept = rw e refl
     by_test false e (Some d) sound kept = absurd (let t = passes deal (sound.0 refl) in let no : true ≡ false = sym t ∙ e in cc)
+
+-- ---- the cards that are given
+
+pub all_given : (seats : List (Option Seat)) → ((k : ℕ) → k < length seats → is_some (get_or seats k None) ≡ true) → list_all is_some seats ≡ true
+all_given [] all = refl
+all_given (s ∷ seats) all = rw (all 0 (omega arith), all_given seats (λ k below. all (suc k) (omega (arith, below)))) refl

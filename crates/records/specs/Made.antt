@@ -1,10 +1,11 @@
 -- What the games of boards are read as: `laws` says so.
-use Rattle.std.specs.Prelude.{◌≤◌, ℕ, ◌^◌, List, Option, None, Some, IfSome, if◌then◌else◌}
+use Rattle.std.specs.Prelude.{◌≤◌, ℕ, ◌^◌, List, Option, None, Some, IfSome, if◌then◌else◌, map}
 use Rattle.boards.specs.declared.board.Board.{Board as ABoard}
 use Rattle.boards.specs.Headings.{HeadingView}
 use Rattle.boards.specs.Labels.{IsDate, IsLabel}
 use Rattle.boards.specs.TricksLines.{nothing_known}
 use Rattle.cards.specs.Deals.{IsPartition}
+use Rattle.records.specs.Texts.{Spelled}
 use Rattle.records.specs.Values.{is_no_label}
 use Rattle.records.specs.declared.game.Told.{Told}
 
@@ -39,3 +40,7 @@ read_board heading board = record {
   heading = read_heading heading;
   tricks = nothing_known;
 }
+
+-- these boards, and no line is refused
+abbrev pub all_read : HeadingView → List ABoard → Spelled
+all_read heading boards = record { boards = map (read_board heading) boards; refused = None }

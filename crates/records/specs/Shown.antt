@@ -37,7 +37,8 @@ pub record BeginsWith (text : List ℕ) (boards : List Told) : Type 0 where
   pub spells : (rest : List ℕ) → spelled (text ++ rest) ≡ after boards (later rest)
 
 -- what was written, by the bytes that the input gave
-abbrev pub ShowsOf : SolvedLayout → List ℕ → Result ℕ ShowFault → (old new : Option (List ℕ)) → Type 0
+abbrev pub ShowsOf : SolvedLayout → List ℕ → Result ℕ ShowFault
+    → (old new : Option (List ℕ)) → Type 0
 -- all that they spell
 ShowsOf layout given (Ok boards) old new =
     ((spelled given).refused ≡ None) × (boards ≡ length (spelled given).boards)

@@ -1,7 +1,6 @@
 //! The deal that a Deal tag tells.
 
-ghost use Rattle.std.specs.Prelude.{◌≡◌, ◌≤◌, Some, is_some, length};
-ghost use Rattle.std.specs.List.{list_all};
+ghost use Rattle.std.specs.Prelude.{◌≡◌, ◌≤◌, Some, length};
 ghost use Rattle.records.specs.DealValues.{deal_in, gives};
 ghost use Rattle.records.specs.DealValues.{none_given, rank_in, seat_in, separator, whole};
 
@@ -80,24 +79,17 @@ fn gives(first: Seat, hands: &[u8]) -> Option<Given>
     if part == LAST_PART { Some(seats) } else { None }
 }
 
-/// Whether every card is given.
-fn are_given(seats: &Given) -> bool
-    ensures { result ≡ list_all is_some seats.now }
-{
-    seats.iter().all(|seat| seat.is_some())
-}
-
 /// The deal, if every card is given and every seat has thirteen.
 fn whole(seats: &Given) -> Option<Deal>
     requires { length seats.now ≡ 52 }
     ensures { result ≡ whole (Some seats.now) }
 {
-    if !are_given(seats) {
-        return None;
-    }
     let mut deal = [Seat::North; 52];
     for card in 0..deal.len() {
-        deal[card] = seats[card].unwrap_or(Seat::North);
+        match seats[card] {
+            Some(seat) => deal[card] = seat,
+            None => return None,
+        }
     }
     Deal::from_seats(&deal)
 }
