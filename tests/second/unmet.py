@@ -1,7 +1,7 @@
 """Conditions that no deal meets: which of them the program sees, and what it writes then.
 
 Random conditions over shapes and points are given to the program. Of those that it calls impossible the second reader
-(language.py) says of 100,000 deals that none meets them. And where a condition is seen to be impossible, the program
+(language.py) says of 20,000 deals, with `many` of 100,000, that none meets them. And where a condition is seen to be impossible, the program
 writes, reports and ends as where it searches: with an `or` and a test that no deal meets either, but of which the program
 doesn't see that, each candidate is dealt.
 """
@@ -15,13 +15,14 @@ import subprocess
 import harness
 import language
 import model
+import report
 
 SEED = 52
 # How many random conditions there are, how many of them are called impossible at the least, and of how many deals the
 # second reader says that none meets one.
-RANDOM, LEAST, DEALS = 2_000, 300, 100_000
+RANDOM, LEAST, DEALS = 2_000, 300, 100_000 if report.has("many") else 20_000
 NEVER = "note: no deal "
-UNSEEN = " or stops(north,spades) and len(north,spades)==0"
+UNSEEN = " or stops(west,clubs) and len(west,clubs)==0"
 # Impossible conditions, with the words for the cards that are dealt beforehand.
 SEEN = [
     ([], "pattern(north,5-4-3-2)"),
@@ -52,7 +53,6 @@ ASKED = [
     ["count"],
     ["count", "--of", "hcp(north)"],
     ["count", "--of", "hcp(north)", "--by", "balanced(south)", "--format", "csv"],
-    ["count", "--of", "hcp(north)", "--of", "len(west,clubs)", "--format", "json"],
     ["count", "--of", "hcp(north)", "--format", "html"],
 ]
 

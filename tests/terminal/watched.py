@@ -109,6 +109,9 @@ TURNED = b"note: no deal meets this condition: in 17-15 has its ends turned; wri
 # Conditions that no deal meets, and others.
 NEVER = ["hcp(north)>37", "shape(north,5-3-3-3)", "hcp(north) in 17-15", "len(west,clubs)==14 and hcp(east)>=15"]
 MAYBE = ["hcp(north)>=37", "shape(north,5-3-3-2)", "hcp(north) in 15-15", "len(west,clubs)==14 or hcp(east)>=15"]
+# A search that finds nothing for long, and what is said of it.
+HARDLY = ["find", "--seed", "7", "--candidates", "1000000000", "--where", "hcp(north)>=36 and len(south,spades)<13"]
+RARELY = b"note: no board yet; of 100,000 deals hcp(north)>=36 holds of 0\r\n"
 # About one deal in four hundred thousand: some boards a second.
 RARE = ["make", "--seed", "9", "--candidates", "1000000000", "--where", "hcp(north)>=30"]
 # The time left is in its two largest units: hours, on a machine that is slow enough.
@@ -330,9 +333,7 @@ def check_never():
     yield "never met, not on a terminal", drawn_text([*words, "--hints", "never"]) == (0, b"")
     report = b"0 boards from 9 candidates, numbers 0 to 8, of seed 7\r\nnext: --first 9\r\n"
     yield "never met, before the report", drawn_text([*words, "--report"]) == (0, NOTE + report)
-    long = [*RARE[:-1], NEVER[0]]
-    status, drawn, _ = on_a_terminal(long, lambda run: NOTE in run.text())
-    yield "never met, before a long search", drawn[0][0] < 1 and drawn[0][1] == NOTE
+    yield "never met, no long search", drawn_text([*RARE[:-1], NEVER[0]]) == (0, NOTE)
     yield "never met, a refused plan", NOTE not in drawn_text([*words, "--workers", "17"])[1]
     with harness.scratch() as folder:
         yield from check_never_without_memory([harness.PROGRAM, *words], harness.compile_shim(folder))
@@ -354,6 +355,17 @@ def check_never_without_memory(command, shim):
         at, refused = at + 1, end.failed
 
 
+def check_rare():
+    _, drawn, _ = on_a_terminal(HARDLY, lambda run: RARELY in run.text())
+    text = b"".join(piece for _, piece in drawn)
+    yield "hardly ever met, after a second", text.count(b"note: ") == 1 and RARELY in text and drawn[0][0] > 1 - CLOCKS
+    for words in [[*HARDLY, "--hints", "never"], [*HARDLY[:-1], "hcp(north)>=36"], [*HARDLY[:-1], f"{HARDLY[-1]} or 0==1"]]:
+        _, drawn, _ = on_a_terminal(words, lambda run: len(REDRAWN.findall(run.text())) > 4)
+        yield f"hardly ever met, nothing of {words[5:]}", b"note: " not in b"".join(piece for _, piece in drawn)
+    words = [*HARDLY[:4], "30000000", *HARDLY[5:]]
+    yield "hardly ever met, into a file", told(words) == (0, b"", b"")
+
+
 def check_shared():
     for name, complaint in shared.every():
         if complaint:
@@ -370,7 +382,7 @@ def check_whole():
 
 
 CHECKS = [check_found, check_refused, check_advised, check_page, check_stopped, check_terminal, check_never]
-CHECKS += [check_shared, check_whole]
+CHECKS += [check_rare, check_shared, check_whole]
 
 
 def watched():

@@ -1,11 +1,12 @@
 -- What is known of a count by the cards that are fixed before the deal.
-use Rattle.std.specs.Prelude.{ℕ, ◌+◌, ◌==◌, Bool, true, false, cond, List, Option, None, Some}
-use Rattle.std.specs.Prelude.{option_map, slice_index_or, unwrap_or}
+use Rattle.std.specs.Prelude.{ℕ, ◌+◌, ◌*◌, ◌==◌, max, min, Bool, true, false, cond, List, Option, None}
+use Rattle.std.specs.Prelude.{Some, option_map, slice_index_or, unwrap_or}
 use Rattle.std.specs.List.{sum_by}
 use Rattle.cards.specs.declared.hand.Measure.{Measure}
 use Rattle.cards.specs.declared.hand.Measure.TheVariants.{Hcp}
 use Rattle.cards.specs.declared.seat.Seat.{Seat}
 use Rattle.cards.specs.Counts.{has_honour}
+use Rattle.cards.specs.Fixed.{room}
 use Rattle.cards.specs.Measures.{weights_of}
 use Rattle.cards.specs.Pack.{is_in_suit, rank_of, seat_number}
 use Rattle.cards.specs.Shuffle.{pack}
@@ -63,9 +64,29 @@ beside (counts.Second q) = 6
 beside (counts.Shortest q) = 3
 beside k = 0
 
+-- the most that a rank counts by a measure, and a card
+abbrev pub heaviest_of : List ℕ → ℕ
+heaviest_of w =
+    max (max (slice_index_or w 0 0) (slice_index_or w 1 0))
+    (max (slice_index_or w 2 0) (slice_index_or w 3 0))
+
+abbrev pub heaviest_rank : Measure → ℕ
+heaviest_rank m = unwrap_or (option_map heaviest_of (weights_of m)) 0
+
+abbrev pub heaviest : Count → ℕ
+heaviest (counts.Points q) = heaviest_rank Hcp
+heaviest (counts.SuitPoints q s) = heaviest_rank Hcp
+heaviest (counts.Total m q) = heaviest_rank m
+heaviest (counts.SuitTotal m q s) = heaviest_rank m
+heaviest (counts.Cards q h) = 1
+heaviest (counts.SuitCards q s h) = 1
+heaviest (counts.Length q s) = 1
+heaviest k = 0
+
+-- a seat has at most what no other has, and at most that many more cards as it gets
 abbrev pub fact_on : List (Option Seat) → Count → Fact
 fact_on fixed k = record {
   count = k;
   least = had fixed k false;
-  most = beside k + had fixed k true;
+  most = beside k + min (had fixed k true) (had fixed k false + heaviest k * room fixed (whose k));
 }

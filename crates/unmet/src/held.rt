@@ -3,8 +3,9 @@
 ghost use Rattle.std.specs.Prelude.{◌≡◌, ◌≤◌, ◌<◌, ◌==◌, None, cond, slice_index_or};
 ghost use Rattle.cards.specs.Counts.{has_honour};
 ghost use Rattle.cards.specs.Pack.{is_in_suit, rank_of, seat_number};
-ghost use Rattle.unmet.specs.Held.{beside, card_share, counts_for, fact_on, had, rank_weight};
-ghost use Rattle.unmet.specs.Held.{whose};
+ghost use Rattle.cards.specs.Fixed.{held, room};
+ghost use Rattle.unmet.specs.Held.{beside, card_share, counts_for, fact_on, had, heaviest};
+ghost use Rattle.unmet.specs.Held.{heaviest_rank, rank_weight, whose};
 
 use crate::facts::Fact;
 use cards::{Fixed, Honours, Measure, Seat, Suit};
@@ -15,10 +16,12 @@ impl Fact {
     pub(crate) fn on(count: Count, fixed: &Fixed) -> Fact
         ensures { result ≡ fact_on fixed.now count }
     {
+        let own = had(fixed, count, false);
+        let room = heaviest(count) * spare(fixed, whose(count));
         Fact {
             count,
-            least: had(fixed, count, false),
-            most: beside(count) + had(fixed, count, true),
+            least: own,
+            most: beside(count) + had(fixed, count, true).min(own + room),
         }
     }
 }
@@ -34,6 +37,48 @@ fn had(fixed: &Fixed, count: Count, free: bool) -> u16
         total += card_share(count, card, seats[card], free);
     }
     total
+}
+
+/// How many more cards the seat gets.
+fn spare(fixed: &Fixed, seat: Seat) -> u16
+    ensures value { result ≡ room fixed.now seat }
+    ensures few { result ≤ 13 }
+{
+    13_usize.saturating_sub(held_at(fixed.as_array(), seat)) as u16
+}
+
+/// How many cards are fixed at the seat.
+fn held_at(seats: &[Option<Seat>; 52], seat: Seat) -> usize
+    ensures { result ≡ held seats.now seat }
+{
+    seats.iter().filter(|fixed| **fixed == Some(seat)).count()
+}
+
+/// The most that one card counts.
+fn heaviest(count: Count) -> u16
+    ensures value { result ≡ heaviest count }
+    ensures few { result ≤ 255 }
+{
+    match count {
+        Count::Points(_) | Count::SuitPoints(..) => heaviest_rank(Measure::Hcp),
+        Count::Total(measure, _) | Count::SuitTotal(measure, _, _) => heaviest_rank(measure),
+        Count::Cards(..) | Count::SuitCards(..) | Count::Length(..) => 1,
+        Count::Longest(_) | Count::Second(_) | Count::Shortest(_) => 0,
+    }
+}
+
+/// The most that a rank counts by the measure.
+fn heaviest_rank(measure: Measure) -> u16
+    ensures value { result ≡ heaviest_rank measure }
+    ensures few { result ≤ 255 }
+{
+    match measure.weights() {
+        Some(weights) => {
+            let [ace, king, queen, jack] = weights;
+            u16::from(ace.max(king).max(queen.max(jack)))
+        }
+        None => 0,
+    }
 }
 
 /// What the card counts where it is fixed, and if it is free, whether it counts.
