@@ -10,7 +10,8 @@ pub(crate) const RULES: &str = "
     Nothing ^ Word .|/|\\ => the condition itself stands here; from a file: --where \"$(cat FILE)\"
     ^ Begins:\u{FEFF} => a byte order mark stands here: leave it out
     Nothing ^ help|usage => all that a condition can say: deals conditions
-    Nothing x ^ =|: => tests have no names: in place of a name write the test itself
+    Nothing x ^ =|: => \
+        give a test a name before the condition, as in let strong is (hcp(north)>=15)
     Nothing hcp|controls|losers|longest|second|shortest ^ Nothing => \
         say whose, in quotes, as in '%b1(north)': the shell takes ( and > for itself
     Nothing ^ condition|where|if Nothing => write the condition alone, as in hcp(north)>=15
