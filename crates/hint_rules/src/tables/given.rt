@@ -12,6 +12,8 @@ pub(crate) const RULES: &str = "
     let Word ^ => write \"is\" after the name, as in let %b1 is (hcp(north)>=15)
     let Word ( ^ => \
         a name's brackets have seat, suit or both, as in let %b2(seat) is (hcp(seat)>=15)
+    let Word ( suit ^ , => \
+        the seat comes first, as in let %b3(seat,suit) is (len(seat,suit)>=5)
     let Word ( seat ^ suit => write \"seat,suit\"
     let Word ( seat , ^ => \
         after the seat comes \"suit\", as in let %b4(seat,suit) is (len(seat,suit)>=5)
