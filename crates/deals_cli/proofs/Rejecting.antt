@@ -69,7 +69,7 @@ header_broken layout plan form head old new some is part =
     let lanes : List OutView = idle_lanes plan in
     let long : length lanes ≡ plan.workers = length-map-range_with_len (λ w. no_lane) 0 plan.workers in
     let at : (w : ℕ) (d : OutView) → w < plan.workers → get_or lanes w d ≡ no_lane =
-        λ w d lt. get_or-map-range_with_len (λ w. no_lane) 0 plan.workers w w d lt (omega arith) in
+    λ w d lt. get_or-map-range_with_len (λ w. no_lane) 0 plan.workers w w d lt (omega arith) in
     let fresh : All (λ l. l.taken ≡ []) lanes = λ w d lt. ap (λ l. l.taken) (at w d (omega (arith, lt, long))) in
     record {
       lanes = lanes;

@@ -21,11 +21,7 @@ use unmet::{is_never, is_never_met};
 ///
 /// # Errors
 /// `AllocError` if an allocation failed.
-pub fn note(
-    alloc: Global,
-    condition: &Cond,
-    fixed: &Fixed,
-) -> Result<Option<String>, AllocError>
+pub fn note(alloc: Global, condition: &Cond, fixed: &Fixed) -> Result<Option<String>, AllocError>
     ensures { IfOk result (λ said. MatchOption said (is_never fixed.now condition.now ≡ false)
         (λ text. (is_never fixed.now condition.now ≡ true)
         × (string_bytes text ≡ note_line (is_never none_fixed condition.now)
@@ -68,11 +64,7 @@ fn first_of(one: Option<(u16, u16)>, other: Option<(u16, u16)>) -> Option<(u16, 
 }
 
 /// Appends the note.
-fn put_note(
-    out: &mut String,
-    always: bool,
-    range: Option<(u16, u16)>,
-) -> Result<(), AllocError>
+fn put_note(out: &mut String, always: bool, range: Option<(u16, u16)>) -> Result<(), AllocError>
     ensures { OnOk result (string_bytes out.new
         ≡ string_bytes out.old ++ note_line always range) }
 {

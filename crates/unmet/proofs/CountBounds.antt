@@ -1,5 +1,5 @@
 -- What is counted is within the bounds that true facts tell.
-use Rattle.std.proofs.Common.{◌≡◌, ◌≤◌, ◌+◌, ◌&&◌, ◌==◌, ◌/◌, ◌∙◌, ℕ, zero, suc, Bool, true, false, cond, List, [], ◌∷◌, Option, Some, None, ap, arith, get_or, if◌then◌else◌, length, max, min, option_map, refl, subst, sum, sym, unwrap_or}
+use Rattle.std.proofs.Common.{◌≡◌, ◌≤◌, ◌+◌, ◌&&◌, ◌==◌, ◌/◌, ℕ, zero, suc, Bool, true, false, cond, List, [], ◌∷◌, Option, Some, None, arith, get_or, if◌then◌else◌, length, max, min, option_map, refl, subst, unwrap_or}
 use Rattle.std.specs.List.{sum_by}
 use Rattle.std.proofs.lemmas.Bool.{true≢false}
 use Rattle.cards.specs.declared.hand.Measure.{Measure}
@@ -11,13 +11,13 @@ use Rattle.std.proofs.lemmas.List.{get_or_past}
 use Rattle.std.proofs.lemmas.List.Sums.{sum_by-cons}
 use Rattle.cards.specs.Counts.{greatest_of_two, losers_in, losers_of, total_in, total_of}
 use Rattle.cards.specs.Deals.{IsPartition}
-use Rattle.cards.specs.Hands.{hand_of, holds_card, points_in, points_of, weight_in, weight_of}
+use Rattle.cards.specs.Hands.{hand_of, holds_card, weight_in, weight_of}
 use Rattle.cards.specs.Measures.{weights_of}
 use Rattle.cards.specs.Pack.{rank_of}
 use Rattle.cards.specs.Shuffle.{pack}
 use Rattle.conditions.specs.declared.tree.Count.{Count}
 use Rattle.conditions.specs.declared.tree.Count.TheVariants as counts
-use Rattle.conditions.specs.Bounds.{greatest_count, least_count}
+use Rattle.conditions.specs.Bounds.{greatest_count}
 use Rattle.conditions.specs.Form.{suit_measured}
 use Rattle.conditions.specs.Meaning.{count_in}
 use Rattle.conditions.proofs.HandBounds.{both, long}

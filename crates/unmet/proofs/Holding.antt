@@ -1,5 +1,5 @@
 -- What fixed cards tell of a count is true.
-use Rattle.std.proofs.Common.{◌≡◌, ◌≤◌, ◌<◌, ◌+◌, ◌*◌, ◌&&◌, ◌==◌, ◌∙◌, ℕ, zero, suc, All, Bool, true, false, cond, List, [], ◌∷◌, Option, Some, None, IfSome, ap, arith, get_or, length, map, max, min, option_map, refl, sym, unwrap_or}
+use Rattle.std.proofs.Common.{◌≡◌, ◌≤◌, ◌<◌, ◌+◌, ◌*◌, ◌&&◌, ◌∙◌, ℕ, zero, suc, All, Bool, true, false, cond, List, [], ◌∷◌, Option, Some, None, IfSome, ap, arith, get_or, length, map, option_map, refl, sym, unwrap_or}
 use Rattle.std.specs.List.{range_with_len, sum_by}
 use Rattle.std.proofs.Math.Nat.{mul-add}
 use Rattle.std.proofs.lemmas.List.FromFn.{fill_by_all}
@@ -15,17 +15,16 @@ use Rattle.cards.specs.Deals.{IsPartition}
 use Rattle.cards.specs.Hands.{hand_of, holds_card}
 use Rattle.cards.specs.Measures.{four_weights, weights_of}
 use Rattle.cards.specs.Fixed.{IsFixed, held, is_fixed_at, room}
-use Rattle.cards.specs.Pack.{is_in_suit, rank_of, seat_number}
+use Rattle.cards.specs.Pack.{is_in_suit, rank_of}
 use Rattle.cards.specs.Shuffle.{pack}
 use Rattle.conditions.specs.declared.tree.Count.{Count}
 use Rattle.conditions.specs.declared.tree.Count.TheVariants as counts
 use Rattle.conditions.specs.Form.{counted}
-use Rattle.conditions.specs.Meaning.{count_in}
 use Rattle.screens.specs.internal.Shares.{card_weight, is_at}
 use Rattle.screens.proofs.CardByCard.{counted_least, counted_most, holder, in_pack, read_hand, same_in}
 use Rattle.conditions.proofs.HandBounds.{both, thirteen}
 use Rattle.unmet.specs.Facts.{IsTrueOf}
-use Rattle.unmet.specs.Held.{card_share, counts_for, fact_on, had, heaviest, heaviest_of, is_had, rank_weight, whose}
+use Rattle.unmet.specs.Held.{card_share, counts_for, fact_on, had, heaviest, heaviest_of, rank_weight, whose}
 use Rattle.unmet.specs.Never.{Keeps}
 
 -- ---- a card at a seat

@@ -1,5 +1,5 @@
 -- What is refuted by true facts isn't so.
-use Rattle.std.proofs.Common.{◌≡◌, ◌≤◌, ◌+◌, ◌&&◌, ◌||◌, ◌==◌, ◌∙◌, ℕ, not, Bool, true, false, List, [], ◌∷◌, Option, Some, None, ap, arith, if◌then◌else◌, inl, inr, nat_le, nat_lt, refl, subst, sym}
+use Rattle.std.proofs.Common.{◌≡◌, ◌≤◌, ◌+◌, ◌&&◌, ◌||◌, ◌==◌, ◌∙◌, ℕ, not, Bool, true, false, List, [], ◌∷◌, Some, None, ap, arith, if◌then◌else◌, inl, inr, nat_le, nat_lt, refl, sym}
 use Rattle.std.proofs.Math.Nat.{mul-le-mul_left}
 use Rattle.std.proofs.lemmas.Bool.{cases_lt}
 use Rattle.std.proofs.lemmas.Bool.Decides.{nat_tests}
@@ -8,7 +8,6 @@ use Rattle.cards.specs.declared.suit.Suit.TheVariants.{Spades, Hearts, Diamonds,
 use Rattle.cards.specs.Deals.{IsPartition}
 use Rattle.cards.specs.Hands.{hand_of, is_balanced, is_rearrangement, is_same, shape_of}
 use Rattle.conditions.specs.declared.tree.Count.TheVariants as counts
-use Rattle.conditions.specs.declared.tree.Item.{Item}
 use Rattle.conditions.specs.declared.tree.Op.{Op}
 use Rattle.conditions.specs.declared.tree.Op.TheVariants.{AtLeast, AtMost, Equal, Less, More, NotEqual}
 use Rattle.conditions.specs.Form.{Amount, Form, all_of, any_of, balanced, compare, counted, loose_pattern, loose_shape, negation, number, pattern, shape, stops, times, within}

@@ -1,5 +1,5 @@
 -- A tree that no split of four counts leaves possible isn't met.
-use Rattle.std.proofs.Common.{◌≡◌, ◌≤◌, ◌<◌, ◌+◌, ◌-◌, ◌||◌, ◌∙◌, ℕ, zero, suc, Bool, true, false, List, ap, arith, inl, inr, max, min, refl, sym}
+use Rattle.std.proofs.Common.{◌≡◌, ◌≤◌, ◌<◌, ◌+◌, ◌-◌, ℕ, zero, suc, true, false, List, ap, arith, inl, inr, min, refl}
 use Rattle.std.specs.List.{list_all}
 use Rattle.cards.specs.declared.seat.Seat.{Seat}
 use Rattle.cards.specs.Deals.{IsPartition}
@@ -105,9 +105,9 @@ hopeless deal f ok (suc m) least most k few are low high h =
           let from : start_of m least k ≤ n = start_low deal m least k are low in
           let is = true_part deal m k are in
           let here =
-              passes_at (λ x. is_hopeless f m (least - x) (most - x) (told m x (most - x) k)) (start_of m least k)
-              (min (part_at m k).most most + 1 - start_of m least k) n all from
-              (is_tried (start_of m least k) (part_at m k).most most n from is.high (omega (arith, high))) in
+          passes_at (λ x. is_hopeless f m (least - x) (most - x) (told m x (most - x) k)) (start_of m least k)
+          (min (part_at m k).most most + 1 - start_of m least k) n all from
+          (is_tried (start_of m least k) (part_at m k).most most n from is.high (omega (arith, high))) in
           let same = same_sum deal m m n (most - n) k in
           hopeless deal f ok m (least - n) (most - n) (told m n (most - n) k) (omega (arith, few))
           (told_true deal m n (most - n) k (omega (arith, few)) are refl (omega (arith, high)))

@@ -1,5 +1,5 @@
 -- A tree that some whole tears is met by no deal around the fixed cards.
-use Rattle.std.proofs.Common.{◌≡◌, ◌≤◌, ◌+◌, ◌&&◌, ◌||◌, ℕ, Bool, true, false, List, [], ◌∷◌, Option, arith, inl, inr, refl}
+use Rattle.std.proofs.Common.{◌≡◌, ◌&&◌, ◌||◌, Bool, true, false, List, [], ◌∷◌, Option, arith, inl, inr}
 use Rattle.std.specs.List.{list_any, range_with_len}
 use Rattle.cards.specs.declared.hand.Measure.{Measure}
 use Rattle.cards.specs.declared.hand.Measure.TheVariants.{Hcp, Controls, Losers}

@@ -1,9 +1,9 @@
 -- How much the counts of a whole are together.
-use Rattle.std.proofs.Common.{◌≡◌, ◌≤◌, ◌+◌, ◌*◌, ◌∙◌, ℕ, Bool, true, false, cond, List, [], ◌∷◌, arith, refl, sym}
+use Rattle.std.proofs.Common.{◌≡◌, ◌+◌, ◌*◌, ℕ, cond, List, [], ◌∷◌, arith, refl}
 use Rattle.std.specs.List.{sum_by}
 use Rattle.std.proofs.lemmas.List.Sums.{sum_by-cons}
 use Rattle.cards.specs.declared.hand.Measure.{Measure}
-use Rattle.cards.specs.declared.hand.Measure.TheVariants.{Hcp, Controls, Losers}
+use Rattle.cards.specs.declared.hand.Measure.TheVariants.{Hcp, Controls}
 use Rattle.cards.specs.declared.honours.Honours.{Honours}
 use Rattle.cards.specs.declared.seat.Seat.{Seat}
 use Rattle.cards.specs.declared.seat.Seat.TheVariants.{North, East, South, West}
@@ -16,7 +16,7 @@ use Rattle.cards.specs.Shuffle.{pack}
 use Rattle.conditions.specs.declared.tree.Count.{Count}
 use Rattle.conditions.specs.declared.tree.Count.TheVariants as counts
 use Rattle.conditions.specs.Bounds.{least_count, rank_count}
-use Rattle.conditions.specs.Form.{counted, measured, suit_measured}
+use Rattle.conditions.specs.Form.{counted}
 use Rattle.conditions.specs.Meaning.{count_in}
 use Rattle.conditions.proofs.FewRows.{few_count}
 use Rattle.conditions.proofs.HandBounds.{both, lengths_add}
@@ -24,7 +24,7 @@ use Rattle.conditions.proofs.ValueBounds.{count_at_most}
 use Rattle.screens.specs.internal.Shares.{card_weight, count_beside, is_at}
 use Rattle.screens.proofs.CardByCard.{counted_least, counted_most, holder}
 use Rattle.unmet.specs.Held.{counts_for, rank_weight, whose}
-use Rattle.unmet.specs.Wholes.{IsWholeOf, hand_measure, hand_shape, pack_measure, pack_ranks, suit_lengths, suit_measure, suit_ranks, total_weight}
+use Rattle.unmet.specs.Wholes.{IsWholeOf, hand_measure, hand_shape, pack_measure, pack_ranks, suit_lengths, suit_measure, suit_ranks}
 use Rattle.unmet.proofs.CountBounds.{suits_add}
 use Rattle.unmet.proofs.Holding.{weight_at_seat}
 
@@ -41,7 +41,7 @@ at_seat deal f q c = cond (is_at q (holder deal c)) (f c) 0
 exact : (deal : List Seat) (k : Count) → IsPartition deal → least_count k ≡ 0 → count_beside k ≡ 0 → count_in deal k ≡ sum_by (at_seat deal (counts_for k) (whose k)) pack
 exact deal k ok none beside =
     let same : sum_by (λ c. card_weight k c (holder deal c)) pack ≡ sum_by (at_seat deal (counts_for k) (whose k)) pack =
-        same_sum (λ c. card_weight k c (holder deal c)) (at_seat deal (counts_for k) (whose k)) (λ c. weight_at_seat k c (holder deal c)) pack in
+    same_sum (λ c. card_weight k c (holder deal c)) (at_seat deal (counts_for k) (whose k)) (λ c. weight_at_seat k c (holder deal c)) pack in
     omega (arith, same, none, beside, counted_least deal ok (counted k), counted_most deal ok (counted k))
 
 one_seat : (n : ℕ) (q : Seat) → cond (is_at North q) n 0 + cond (is_at East q) n 0 + cond (is_at South q) n 0 + cond (is_at West q) n 0 ≡ n
@@ -118,49 +118,49 @@ module _ (deal : List Seat) (ok : IsPartition deal) where
   by_lengths s =
       let k : Seat → Count = λ q. counts.Length q s in
       let all = over_seats (λ c. cond (is_in_suit s c) 1 0) 13 (k North) (k East) (k South) (k West) (suit_total s)
-          (exact deal (k North) ok refl refl) (exact deal (k East) ok refl refl) (exact deal (k South) ok refl refl) (exact deal (k West) ok refl refl) in
+      (exact deal (k North) ok refl refl) (exact deal (k East) ok refl refl) (exact deal (k South) ok refl refl) (exact deal (k West) ok refl refl) in
       record { low = omega (arith, all); high = omega (arith, all) }
 
   pub by_ranks : (h : Honours) → IsWholeOf deal (pack_ranks h)
   by_ranks h =
       let k : Seat → Count = λ q. counts.Cards q h in
       let all = over_seats (λ c. cond (has_honour h (rank_of c)) 1 0) (4 * rank_count h) (k North) (k East) (k South) (k West) (ranks_total h)
-          (exact deal (k North) ok refl refl) (exact deal (k East) ok refl refl) (exact deal (k South) ok refl refl) (exact deal (k West) ok refl refl) in
+      (exact deal (k North) ok refl refl) (exact deal (k East) ok refl refl) (exact deal (k South) ok refl refl) (exact deal (k West) ok refl refl) in
       record { low = omega (arith, all); high = omega (arith, all) }
 
   pub by_suit_ranks : (h : Honours) (s : Suit) → IsWholeOf deal (suit_ranks h s)
   by_suit_ranks h s =
       let k : Seat → Count = λ q. counts.SuitCards q s h in
       let all = over_seats (λ c. cond (is_in_suit s c) (cond (has_honour h (rank_of c)) 1 0) 0) (rank_count h) (k North) (k East) (k South) (k West) (suit_ranks_total h s)
-          (exact deal (k North) ok refl refl) (exact deal (k East) ok refl refl) (exact deal (k South) ok refl refl) (exact deal (k West) ok refl refl) in
+      (exact deal (k North) ok refl refl) (exact deal (k East) ok refl refl) (exact deal (k South) ok refl refl) (exact deal (k West) ok refl refl) in
       record { low = omega (arith, all); high = omega (arith, all) }
 
   pub by_hcp : IsWholeOf deal (pack_measure Hcp)
   by_hcp =
       let k : Seat → Count = λ q. counts.Points q in
       let all = over_seats (rank_weight Hcp) 40 (k North) (k East) (k South) (k West) hcp_total
-          (exact deal (k North) ok refl refl) (exact deal (k East) ok refl refl) (exact deal (k South) ok refl refl) (exact deal (k West) ok refl refl) in
+      (exact deal (k North) ok refl refl) (exact deal (k East) ok refl refl) (exact deal (k South) ok refl refl) (exact deal (k West) ok refl refl) in
       record { low = omega (arith, all); high = omega (arith, all) }
 
   pub by_controls : IsWholeOf deal (pack_measure Controls)
   by_controls =
       let k : Seat → Count = λ q. counts.Total Controls q in
       let all = over_seats (rank_weight Controls) 12 (k North) (k East) (k South) (k West) controls_total
-          (exact deal (k North) ok refl refl) (exact deal (k East) ok refl refl) (exact deal (k South) ok refl refl) (exact deal (k West) ok refl refl) in
+      (exact deal (k North) ok refl refl) (exact deal (k East) ok refl refl) (exact deal (k South) ok refl refl) (exact deal (k West) ok refl refl) in
       record { low = omega (arith, all); high = omega (arith, all) }
 
   pub by_suit_hcp : (s : Suit) → IsWholeOf deal (suit_measure Hcp s)
   by_suit_hcp s =
       let k : Seat → Count = λ q. counts.SuitPoints q s in
       let all = over_seats (λ c. cond (is_in_suit s c) (rank_weight Hcp c) 0) 10 (k North) (k East) (k South) (k West) (suit_hcp_total s)
-          (exact deal (k North) ok refl refl) (exact deal (k East) ok refl refl) (exact deal (k South) ok refl refl) (exact deal (k West) ok refl refl) in
+      (exact deal (k North) ok refl refl) (exact deal (k East) ok refl refl) (exact deal (k South) ok refl refl) (exact deal (k West) ok refl refl) in
       record { low = omega (arith, all); high = omega (arith, all) }
 
   pub by_suit_controls : (s : Suit) → IsWholeOf deal (suit_measure Controls s)
   by_suit_controls s =
       let k : Seat → Count = λ q. counts.SuitTotal Controls q s in
       let all = over_seats (λ c. cond (is_in_suit s c) (rank_weight Controls c) 0) 3 (k North) (k East) (k South) (k West) (suit_controls_total s)
-          (exact deal (k North) ok refl refl) (exact deal (k East) ok refl refl) (exact deal (k South) ok refl refl) (exact deal (k West) ok refl refl) in
+      (exact deal (k North) ok refl refl) (exact deal (k East) ok refl refl) (exact deal (k South) ok refl refl) (exact deal (k West) ok refl refl) in
       record { low = omega (arith, all); high = omega (arith, all) }
 
   pub by_shape : (q : Seat) → IsWholeOf deal (hand_shape q)

@@ -1,6 +1,6 @@
 -- What is known of a count by the cards that are fixed before the deal.
-use Rattle.std.specs.Prelude.{ℕ, ◌+◌, ◌*◌, ◌==◌, max, min, Bool, true, false, cond, List, Option, None}
-use Rattle.std.specs.Prelude.{Some, option_map, slice_index_or, unwrap_or}
+use Rattle.std.specs.Prelude.{ℕ, ◌+◌, ◌*◌, ◌==◌, max, min, Bool, true, false, cond, List}
+use Rattle.std.specs.Prelude.{None, Option, Some, option_map, slice_index_or, unwrap_or}
 use Rattle.std.specs.List.{sum_by}
 use Rattle.cards.specs.declared.hand.Measure.{Measure}
 use Rattle.cards.specs.declared.hand.Measure.TheVariants.{Hcp}

@@ -12,7 +12,7 @@ exactly n fact = record fact { least = n; most = n }
 abbrev pub up_to : ℕ → Fact → Fact
 up_to n fact = record fact { most = min fact.most n }
 
--- the fact after which there are so many more
+-- the fact that has this many after it
 abbrev pub part_at : ℕ → Facts → Fact
 part_at zero k = k.fourth
 part_at (suc zero) k = k.third

@@ -1,5 +1,5 @@
 -- Trees that aren't met however some whole is split.
-use Rattle.std.specs.Prelude.{ℕ, ◌&&◌, ◌||◌, Bool, true, false, List, [], ◌∷◌, Option}
+use Rattle.std.specs.Prelude.{◌&&◌, ◌||◌, Bool, true, false, List, [], ◌∷◌, Option}
 use Rattle.std.specs.List.{list_any, range_with_len}
 use Rattle.cards.specs.declared.hand.Measure.{Measure}
 use Rattle.cards.specs.declared.hand.Measure.TheVariants.{Hcp, Controls, Losers}

@@ -1,5 +1,5 @@
 -- Wholes: four counts of which it is known how much they are together.
-use Rattle.std.specs.Prelude.{◌≡◌, ◌≤◌, ℕ, ◌+◌, ◌*◌, ◌/◌, ◌%◌, ◌==◌, List, Option, option_map, sum}
+use Rattle.std.specs.Prelude.{◌≤◌, ℕ, ◌+◌, ◌*◌, ◌/◌, ◌%◌, ◌==◌, List, Option, option_map, sum}
 use Rattle.std.specs.Prelude.{unwrap_or}
 use Rattle.cards.specs.declared.hand.Measure.{Measure}
 use Rattle.cards.specs.declared.honours.Honours.{Honours}

@@ -19,7 +19,9 @@ impl BySuit {
         ensures value { result ≡ longest_in self }
         ensures few { HasUpTo 65535 self → result ≤ 65535 }
     {
-        self.spades.max(self.hearts).max(self.diamonds.max(self.clubs))
+        self.spades
+            .max(self.hearts)
+            .max(self.diamonds.max(self.clubs))
     }
 
     /// The second greatest.
@@ -27,9 +29,18 @@ impl BySuit {
         ensures value { result ≡ second_in self }
         ensures few { HasUpTo 65535 self → result ≤ 65535 }
     {
-        let alike = self.spades.min(self.hearts).max(self.diamonds.min(self.clubs));
-        let spades = self.spades.min(self.diamonds).max(self.spades.min(self.clubs));
-        let hearts = self.hearts.min(self.diamonds).max(self.hearts.min(self.clubs));
+        let alike = self
+            .spades
+            .min(self.hearts)
+            .max(self.diamonds.min(self.clubs));
+        let spades = self
+            .spades
+            .min(self.diamonds)
+            .max(self.spades.min(self.clubs));
+        let hearts = self
+            .hearts
+            .min(self.diamonds)
+            .max(self.hearts.min(self.clubs));
         alike.max(spades.max(hearts))
     }
 
@@ -38,7 +49,9 @@ impl BySuit {
         ensures value { result ≡ shortest_in self }
         ensures few { HasUpTo 65535 self → result ≤ 65535 }
     {
-        self.spades.min(self.hearts).min(self.diamonds.min(self.clubs))
+        self.spades
+            .min(self.hearts)
+            .min(self.diamonds.min(self.clubs))
     }
 
     /// All four together.

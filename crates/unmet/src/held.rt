@@ -1,8 +1,8 @@
 //! What is known of a count by the cards that are fixed before the deal.
 
-ghost use Rattle.std.specs.Prelude.{◌≡◌, ◌≤◌, ◌<◌, ◌==◌, None, cond, slice_index_or};
+ghost use Rattle.std.specs.Prelude.{◌≡◌, ◌≤◌, cond};
 ghost use Rattle.cards.specs.Counts.{has_honour};
-ghost use Rattle.cards.specs.Pack.{is_in_suit, rank_of, seat_number};
+ghost use Rattle.cards.specs.Pack.{is_in_suit, rank_of};
 ghost use Rattle.cards.specs.Fixed.{held, room};
 ghost use Rattle.unmet.specs.Held.{beside, card_share, counts_for, fact_on, had, heaviest};
 ghost use Rattle.unmet.specs.Held.{heaviest_rank, rank_weight, whose};
@@ -127,7 +127,11 @@ fn counts_for(count: Count, card: usize) -> u16
 fn of_suit(suit: Suit, card: usize, number: u16) -> u16
     ensures { result ≡ cond (is_in_suit suit card) number 0 }
 {
-    if card / 13 == suit as usize { number } else { 0 }
+    if card / 13 == suit as usize {
+        number
+    } else {
+        0
+    }
 }
 
 /// Whether the card's rank is among these.

@@ -8,8 +8,9 @@ ghost use Rattle.unmet.specs.Refuted.{is_never_related, is_never_within, is_refu
 ghost use Rattle.unmet.specs.Refuted.{is_refuted_shape, related_as, shape_by};
 
 use crate::facts::Facts;
-use crate::shapes::{are_allowed, are_allowed_in_some_order, is_balanced};
-use crate::shapes::{is_rearrangement, is_same};
+use crate::shapes::{
+    are_allowed, are_allowed_in_some_order, is_balanced, is_rearrangement, is_same,
+};
 use cards::Seat;
 use conditions::{Op, Tree};
 

@@ -34,7 +34,7 @@ impl Fact {
 }
 
 impl Facts {
-    /// The fact after which there are so many more.
+    /// The fact that has this many after it.
     fn part_at(&self, more: usize) -> Fact
         ensures { result ≡ part_at more self.now }
     {
@@ -89,8 +89,8 @@ impl Facts {
         }
     }
 
-    /// Whether the tree isn't met whatever the last `untold` of the counts are, if these are together
-    /// from `least` to `most`.
+    /// Whether the tree isn't met whatever the last `untold` of the counts are, if these are
+    /// together from `least` to `most`.
     #[tactic(auto, unfolding(crate::specs::Splits::is_hopeless))]
     pub(crate) fn is_hopeless(&self, tree: &Tree, untold: usize, least: u16, most: u16) -> bool
         requires atoms { HasAtMostAtoms MOST_PARTS (form_of tree.now) }

@@ -27,7 +27,7 @@ pub(crate) fn is_torn(tree: &Tree, fixed: &Fixed) -> bool
             || (suits_tear(tree, fixed)
                 || (is_torn_by_measure(tree, fixed, Measure::Controls)
                     || (hands_tear(tree, fixed, Measure::Losers)
-                    || (asks_ranks(tree) && ranks_tear(tree, fixed))))))
+                        || (asks_ranks(tree) && ranks_tear(tree, fixed))))))
 }
 
 /// Whether it isn't met however this whole is split.
@@ -58,9 +58,7 @@ fn suits_tear(tree: &Tree, fixed: &Fixed) -> bool
     requires { HasAtMostAtoms MOST_PARTS (form_of tree.now) }
     ensures { result ≡ suits_tear fixed.now (form_of tree.now) }
 {
-    SUITS
-        .iter()
-        .any(|suit| is_torn_in(tree, fixed, &Whole::suit_lengths(*suit)))
+    SUITS.iter().any(|suit| is_torn_in(tree, fixed, &Whole::suit_lengths(*suit)))
 }
 
 /// Whether it isn't met however what is measured is shared by the seats, or by the suits of one.
@@ -79,9 +77,7 @@ fn hands_tear(tree: &Tree, fixed: &Fixed, measure: Measure) -> bool
     requires { HasAtMostAtoms MOST_PARTS (form_of tree.now) }
     ensures { result ≡ hands_tear fixed.now measure (form_of tree.now) }
 {
-    SEATS
-        .iter()
-        .any(|seat| is_torn_in(tree, fixed, &Whole::hand_measure(measure, *seat)))
+    SEATS.iter().any(|seat| is_torn_in(tree, fixed, &Whole::hand_measure(measure, *seat)))
 }
 
 /// Whether it isn't met however the seats share what a suit counts.
@@ -90,9 +86,7 @@ fn suit_measures_tear(tree: &Tree, fixed: &Fixed, measure: Measure) -> bool
     requires { HasAtMostAtoms MOST_PARTS (form_of tree.now) }
     ensures { result ≡ suit_measures_tear fixed.now measure (form_of tree.now) }
 {
-    SUITS
-        .iter()
-        .any(|suit| is_torn_in(tree, fixed, &Whole::suit_measure(measure, *suit)))
+    SUITS.iter().any(|suit| is_torn_in(tree, fixed, &Whole::suit_measure(measure, *suit)))
 }
 
 /// Whether it isn't met however the seats share the cards of some ranks.
@@ -119,9 +113,7 @@ fn suit_ranks_tear(tree: &Tree, fixed: &Fixed, ranks: Honours) -> bool
     requires { HasAtMostAtoms MOST_PARTS (form_of tree.now) }
     ensures { result ≡ suit_ranks_tear fixed.now ranks (form_of tree.now) }
 {
-    SUITS
-        .iter()
-        .any(|suit| is_torn_in(tree, fixed, &Whole::suit_ranks(ranks, *suit)))
+    SUITS.iter().any(|suit| is_torn_in(tree, fixed, &Whole::suit_ranks(ranks, *suit)))
 }
 
 /// Whether the tree asks for cards of some ranks.

@@ -22,9 +22,9 @@ returns-in-Ok-clause-ends g c form none =
     let some : 0 < plan.workers = omega (arith, c.workers-workers.ensures.value, c.workers-workers.ensures.range.0) in
     let limit = limit_is c.limit-limit.result plan.limit c.limit-limit.ensures.value c.limit-limit.ensures.some in
     let head : mid ≡ append_known old layout.header =
-        at_ok _ _ c.put_all.result c.if-is_err.ensures.value c.put_all.ensures.bytes ∙ ap (append_known old) c.header.ensures in
+    at_ok _ _ c.put_all.result c.if-is_err.ensures.value c.put_all.ensures.bytes ∙ ap (append_known old) c.header.ensures in
     let foot : AppendsAll mid new (layout.footer [] plan.count) =
-        subst (λ n. AppendsAll mid new (layout.footer [] n)) c.count.ensures.value (c.in-Ok.ensures.bytes [] c.requires.printed) in
+    subst (λ n. AppendsAll mid new (layout.footer [] n)) c.count.ensures.value (c.in-Ok.ensures.bytes [] c.requires.printed) in
     let ends = closes layout (g.N.Notation.has_printed c.args.notation.now) plan form old mid none some limit head c.requires.printed new c.fixed-fixed.ensures.fixed foot in
     record {
       text = ends.text_is;
@@ -42,9 +42,9 @@ returns-in-Err-clause-ends g c form none =
     let some : 0 < plan.workers = omega (arith, c.workers-workers.ensures.value, c.workers-workers.ensures.range.0) in
     let limit = limit_is c.limit-limit.result plan.limit c.limit-limit.ensures.value c.limit-limit.ensures.some in
     let head : mid ≡ append_known old layout.header =
-        at_ok _ _ c.put_all.result c.if-is_err.ensures.value c.put_all.ensures.bytes ∙ ap (append_known old) c.header.ensures in
+    at_ok _ _ c.put_all.result c.if-is_err.ensures.value c.put_all.ensures.bytes ∙ ap (append_known old) c.header.ensures in
     let part : AppendsPart mid new (layout.footer [] plan.count) =
-        subst (λ n. AppendsPart mid new (layout.footer [] n)) c.count.ensures.value (c.in-Err.ensures.bytes [] c.requires.printed) in
+    subst (λ n. AppendsPart mid new (layout.footer [] n)) c.count.ensures.value (c.in-Err.ensures.bytes [] c.requires.printed) in
     record {
       lanes = all_lanes plan form;
       boards = 0;

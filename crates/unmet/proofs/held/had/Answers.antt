@@ -1,4 +1,4 @@
-use Rattle.std.proofs.Common.{◌≡◌, ℕ, ◌+◌, ◌∙◌, None, ap, arith, get_or, length, sym}
+use Rattle.std.proofs.Common.{◌≡◌, ℕ, ◌+◌, ◌∙◌, None, ap, arith, get_or, sym}
 use Rattle.std.specs.List.{sum_by, range_with_len}
 use Rattle.cards.specs.Shuffle.{pack}
 use Rattle.screens.proofs.Estimates.{one_more}

@@ -1,4 +1,4 @@
-use Rattle.std.proofs.Common.{◌≡◌, ◌*◌, ◌≤◌, None, get_or, length}
+use Rattle.std.proofs.Common.{◌≡◌, ◌*◌, ◌≤◌, None, get_or}
 use Rattle.std.specs.List.{sum_by, range_with_len}
 use Rattle.unmet.specs.Held.{card_share}
 use Rattle.unmet.proofs.held.had.Given as goal

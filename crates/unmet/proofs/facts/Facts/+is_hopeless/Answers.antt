@@ -1,7 +1,6 @@
-use Rattle.std.proofs.Common.{◌≡◌, ◌≤◌, ◌<◌, ℕ, ◌+◌, ◌-◌, ◌∙◌, Bool, true, false, arith, ap, min, sym}
-use Rattle.std.specs.List.{list_all, range_with_len}
+use Rattle.std.proofs.Common.{◌≡◌, ℕ, ◌+◌, ◌-◌, ◌∙◌, Bool, true, false, arith, ap, min, sym}
 use Rattle.conditions.specs.Form.{form_of}
-use Rattle.unmet.specs.Splits.{is_hopeless, part_at, start_of, told, tried}
+use Rattle.unmet.specs.Splits.{is_hopeless, part_at, start_of, told}
 use Rattle.unmet.proofs.Ranges.{one_fails, one_more}
 use Rattle.unmet.proofs.Hopeless.{unrolled}
 use Rattle.unmet.proofs.facts.Facts.+is_hopeless.Goals as goal

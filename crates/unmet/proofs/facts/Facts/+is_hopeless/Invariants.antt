@@ -1,7 +1,7 @@
-use Rattle.std.proofs.Common.{◌≡◌, ◌≤◌, ℕ, ◌+◌, ◌-◌, true, Bool}
+use Rattle.std.proofs.Common.{◌≡◌, ◌-◌, true}
 use Rattle.std.specs.List.{list_all, range_with_len}
 use Rattle.conditions.specs.Form.{form_of}
-use Rattle.unmet.specs.Splits.{is_hopeless, start_of, told}
+use Rattle.unmet.specs.Splits.{is_hopeless, told}
 use Rattle.unmet.proofs.facts.Facts.+is_hopeless.Given as goal
 
 abbrev pub decreases-is_hopeless : goal.decreases-is_hopeless
