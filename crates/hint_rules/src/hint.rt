@@ -4,9 +4,9 @@ use crate::filling::first_in;
 use crate::kinds::Kinds;
 use crate::parts::Parts;
 use crate::tables::{
-    calls, classes, compared, factors, given, honours, instead, joins, lessons, letters, limits, lists,
-    more_or_less, names, nouns, or_more, phrases, plain, ranges, ranks, rest, scripts, several,
-    shapes, short, sides, signs, suits, texts, whole,
+    calls, classes, compared, factors, given, honours, instead, joins, lessons, letters, limits,
+    lists, more_or_less, names, nouns, or_more, phrases, plain, ranges, ranks, rest, scripts,
+    several, shapes, short, sides, signs, suits, texts, whole,
 };
 use crate::{bounds, likeness, outside};
 use cond_lang::Kind;

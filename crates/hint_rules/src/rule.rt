@@ -39,8 +39,8 @@ use crate::amounts::{amount_at, counted_at};
 use crate::lists::listed;
 use crate::parts::Parts;
 use crate::words::{
-    are_ranks, is, is_call, is_measure, is_name, is_number, is_relation, is_seat, is_suit, is_word, number,
-    token_of,
+    are_ranks, is, is_call, is_measure, is_name, is_number, is_relation, is_seat, is_suit, is_word,
+    number, token_of,
 };
 use cond_lang::{Class, Kind};
 
