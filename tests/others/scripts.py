@@ -6,10 +6,12 @@ import random
 import re
 import shlex
 import subprocess
+import sys
 
 import harness
 import language
 import packages
+import page
 import report
 import tables
 
@@ -154,7 +156,11 @@ class Writer:
             lines.insert(1, f"altcount {dice.choice([0, 3, 9])} {' '.join(str(dice.randrange(-20, 99)) for _ in range(5))}")
         if dice.random() < 0.3:
             lines.append("predeal south SAQ5, HK /* some cards */ west DT")
-        lines.append(f"condition one {dice.choice(['and', 'or'])} two > {dice.randrange(12)} // the last")
+        test = f"one {dice.choice(['and', 'or'])} two > {dice.randrange(12)}"
+        if dice.random() < 0.6:
+            lines.append(f"three_4 = {dice.choice(['one', 'not one'])} {dice.choice(['and', 'or'])} {self.test(0)}")
+            test = dice.choice([f"three_4 and ({test})", f"three_4 || one && not {self.test(0)}", f"not three_4 and one or ({test})"])
+        lines.append(f"condition {test} // the last")
         return "\n".join(lines)
 
 
@@ -162,6 +168,15 @@ def random_scripts():
     dice = random.Random(20261128)
     scripts = [Writer(dice).script() for _ in range(MANY_SCRIPTS if report.has("many") else SCRIPTS)]
     yield from report.asked(complaint, scripts, name=lambda script: script.replace("\n", "; "))
+
+
+def words():
+    """The words that aren't names are those of the language, as the docs list them."""
+    sys.path.append(str(TRANSLATOR.parent))
+    from deals_dealer import names
+
+    listed = set(page.words())
+    yield "words of the language", None if names.WORDS == listed else f"{sorted(names.WORDS ^ listed)}"
 
 
 def table():
@@ -302,5 +317,5 @@ def runs():
 def scripts():
     packages.need("dealer", DEALER)
     packages.need("python3-lark", "/usr/lib/python3/dist-packages/lark/__init__.py")
-    for part in (table, examples, random_scripts, spoiled, shares, values, package, runs):
+    for part in (words, table, examples, random_scripts, spoiled, shares, values, package, runs):
         yield from part()

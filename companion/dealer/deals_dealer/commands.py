@@ -4,8 +4,9 @@ import dataclasses
 import shlex
 from typing import Optional
 
-from .formulas import Always, all_of, spelled
+from .formulas import Always, all_of
 from .meaning import Meaning
+from .names import plain, written
 from .tree import SUITS, Action, Place, Refusal, Script
 
 LONGEST = 1024
@@ -55,7 +56,7 @@ class Translation:
         formula = all_of(*truths)
         if formula == Always(True):
             return []
-        text = spelled(formula)
+        text = min(written(formula), plain(formula), key=lambda text: len(text) > LONGEST)
         if len(text) > LONGEST:
             raise Refusal(self.place(), too_long("the condition", text))
         return [f"--where={text}"]

@@ -33,7 +33,19 @@ class Any:
     parts: tuple["Formula", ...]
 
 
-Formula = Union[Always, Test, Not, All, Any]
+@dataclasses.dataclass(frozen=True)
+class Use:
+    """What the script calls by a name."""
+
+    name: str
+    of: "Formula"
+
+
+Formula = Union[Always, Test, Not, All, Any, Use]
+
+
+def named(name: str, formula: Formula) -> Formula:
+    return formula if isinstance(formula, Always) else Use(name, formula)
 
 
 def negated(formula: Formula) -> Formula:
@@ -63,11 +75,13 @@ def any_of(*formulas: Formula) -> Formula:
 def inner(formula: Formula) -> str:
     """Spelled so that it can be joined by `and`, or put after `not`."""
     text = spelled(formula)
-    return text if isinstance(formula, (Test, Not, Always)) else f"({text})"
+    return text if isinstance(formula, (Test, Not, Always, Use)) else f"({text})"
 
 
 def spelled(formula: Formula) -> str:
-    """The condition's text."""
+    """The condition's text, where names are given before it."""
+    if isinstance(formula, Use):
+        return formula.name
     if isinstance(formula, Always):
         return "1==1" if formula.value else "0==1"
     if isinstance(formula, Test):

@@ -10,8 +10,9 @@ import itertools
 import operator
 from collections.abc import Callable, Iterator, Mapping
 
-from .formulas import Always, Formula, Test, all_of, any_of, negated, spelled
-from .tree import Binary, Chosen, Count, Expression, HasCard, Number, Place, Refusal, Shape, Unary
+from .formulas import Always, Formula, Test, all_of, any_of, named, negated
+from .names import written
+from .tree import Binary, Chosen, Count, Expression, HasCard, Named, Number, Place, Refusal, Shape, Unary
 
 RANKS = "akqjt"
 # What the words of dealer count: the weights of ace, king, queen, jack and ten.
@@ -74,6 +75,8 @@ class Meaning:
     def all_cases(self, expression: Expression) -> Iterator[tuple[Formula, Sum]]:
         if isinstance(expression, Number):
             yield Always(True), Sum(number=expression.value)
+        elif isinstance(expression, Named):
+            yield from self.all_cases(expression.of)
         elif isinstance(expression, Count):
             yield Always(True), self.count(expression)
         elif isinstance(expression, Chosen):
@@ -115,13 +118,15 @@ class Meaning:
             if not total.divided and total.number >= 0 and all(often > 0 for _, often in total.counts):
                 return side(expression.at, total.counts, total.number)
         if {total for _, total in cases} <= {Sum(number=0), Sum(number=1)}:
-            return spelled(any_of(*(when for when, total in cases if total.number)))
+            return written(any_of(*(when for when, total in cases if total.number)))
         raise Refusal(expression.at, "deals counts sums of counts and conditions alone, without - / % and ?:")
 
     # ---- truth
 
     def truth(self, expression: Expression) -> Formula:
         """When an expression isn't 0."""
+        if isinstance(expression, Named):
+            return named(expression.name, self.truth(expression.of))
         if isinstance(expression, Unary) and expression.sign == "not":
             return negated(self.truth(expression.of))
         if isinstance(expression, Binary) and expression.sign == "and":

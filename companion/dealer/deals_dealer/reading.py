@@ -7,7 +7,7 @@ import lark
 from lark import Token, Tree
 
 from .tree import (
-    SUITS, Action, Binary, Chosen, Count, Expression, HasCard, Number, Place, Refusal, Script, Shape, Unary,
+    SUITS, Action, Binary, Chosen, Count, Expression, HasCard, Named, Number, Place, Refusal, Script, Shape, Unary,
 )
 
 GRAMMAR = (pathlib.Path(__file__).parent / "script.lark").read_text(encoding="utf-8")
@@ -100,7 +100,7 @@ class Reader:
     def named(self, token: Token) -> Expression:
         if str(token) not in self.names:
             raise Refusal(place(token), f"unknown name {token}: define it before it is used, as {token} = hcp(north)>=15")
-        return self.names[str(token)]
+        return Named(place(token), str(token), self.names[str(token)])
 
     def item(self, tree: Tree[Token]) -> None:
         """One statement."""

@@ -30,12 +30,6 @@ class Number:
 
 
 @dataclasses.dataclass(frozen=True)
-class Name:
-    at: Place
-    name: str
-
-
-@dataclasses.dataclass(frozen=True)
 class Count:
     """What is counted of a hand, or of a suit of it: `hcp`, `top3`, `len` and so on."""
 
@@ -89,7 +83,16 @@ class Chosen:
     other: "Expression"
 
 
-Expression = Union[Number, Name, Count, Shape, HasCard, Unary, Binary, Chosen]
+@dataclasses.dataclass(frozen=True)
+class Named:
+    """What a name stands for."""
+
+    at: Place
+    name: str
+    of: "Expression"
+
+
+Expression = Union[Number, Named, Count, Shape, HasCard, Unary, Binary, Chosen]
 
 
 @dataclasses.dataclass(frozen=True)
