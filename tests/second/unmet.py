@@ -1,9 +1,9 @@
 """Conditions that no deal meets: which of them the program sees, and what it writes then.
 
-Random conditions over shapes and points are given to the program. Of those that it calls impossible the second reader
-(language.py) says of 20,000 deals, with `many` of 100,000, that none meets them. And where a condition is seen to be impossible, the program
-writes, reports and ends as where it searches: with an `or` and a test that no deal meets either, but of which the program
-doesn't see that, each candidate is dealt.
+Random conditions over shapes and points are given to the program. Of those that it calls impossible no one of 100,000
+deals meets them where it searches, and the second reader (language.py) says so of 2,000 deals, with `many` of 100,000.
+And where a condition is seen to be impossible, the program writes, reports and ends as where it searches: with an `or`
+and a test that no deal meets either, but of which the program doesn't see that, each candidate is dealt.
 """
 
 import concurrent.futures
@@ -18,9 +18,10 @@ import model
 import report
 
 SEED = 52
-# How many random conditions there are, how many of them are called impossible at the least, and of how many deals the
-# second reader says that none meets one.
-RANDOM, LEAST, DEALS = 2_000, 300, 100_000 if report.has("many") else 20_000
+# How many random conditions there are, how many of them are called impossible at the least, of how many deals none is to
+# meet one of these, and of how many the second reader says that.
+RANDOM, LEAST, SEARCHED = 2_000, 300, 100_000
+DEALS = 100_000 if report.has("many") else 2_000
 NEVER = "note: no deal "
 UNSEEN = " or stops(west,clubs) and len(west,clubs)==0"
 # Impossible conditions, with the words for the cards that are dealt beforehand.
@@ -118,6 +119,10 @@ def deals():
 
 def met(condition):
     """What is wrong with a condition that was called impossible: a deal that meets it, or None."""
+    asked = ["count", "--seed", str(SEED), "--candidates", str(SEARCHED), "--format", "csv", "--where", f"({condition}){UNSEEN}"]
+    status, found, said = run(asked)
+    if (status, found) != (0, b"deals,candidates\n0,%d\n" % SEARCHED):
+        return f"status {status}, {found!r}, {said}"
     is_true = language.condition(condition)
     number = next((number for number, hands in enumerate(deals()) if is_true(hands)), None)
     return None if number is None else f"deal {number} of seed {SEED} meets it"
