@@ -1,5 +1,5 @@
 -- A set of kinds, one answer after another.
-use Rattle.std.proofs.Common.{◌≡◌, ℕ, ◌+◌, ◌<◌, ◌↔◌, Bool, List, IsTrue, length, slice_index_or, slice_set, false, arith, below_more, subst, sym}
+use Rattle.std.proofs.Common.{◌≡◌, ℕ, ◌+◌, ◌<◌, ◌↔◌, Bool, List, [], ◌∷◌, ◌++◌, IsTrue, length, slice_index_or, slice_set, false, arith, below_more, subst, sym}
 use Rattle.std.proofs.lemmas.Grind.{common_steps}
 
 -- one more answer is written down
@@ -12,3 +12,12 @@ one_answer_more holds P i b within below here =
     let Q : Bool → Type 0 = λ v. IsTrue v ↔ P k in subst Q (sym e) (below k l))
     (let e : slice_index_or (slice_set holds i b) i false ≡ b = grind (arith, common_steps) in
     let Q : Bool → Type 0 = λ v. IsTrue v ↔ P i in subst Q (sym e) here)
+
+-- one more answer is put behind the others
+pub one_answer_behind : (xs : List Bool) (b : Bool) (P : ℕ → Bool → Type 0)
+    → ((n : ℕ) → n < length xs → P n (slice_index_or xs n false)) → P (length xs) b
+    → (n : ℕ) → n < length xs + 1 → P n (slice_index_or (xs ++ b ∷ []) n false)
+one_answer_behind xs b P below here =
+    below_more (λ n. P n (slice_index_or (xs ++ b ∷ []) n false)) (length xs)
+    (λ n l. let e : slice_index_or (xs ++ b ∷ []) n false ≡ slice_index_or xs n false = grind (arith, common_steps) in subst (P n) (sym e) (below n l))
+    (let e : slice_index_or (xs ++ b ∷ []) (length xs) false ≡ b = grind (arith, common_steps) in subst (P (length xs)) (sym e) here)

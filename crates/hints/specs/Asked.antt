@@ -1,7 +1,9 @@
 -- What a text was read as: a condition, or a question, which is a condition or a value.
-use Rattle.std.specs.Prelude.{ℕ, ◌<◌, List, codes}
+use Rattle.std.specs.Prelude.{◌≡◌, ℕ, ◌<◌, Bool, false, Option, List, codes}
+use Rattle.std.specs.Option.{unwrap_or}
 use Rattle.cond_lang.specs.Asking.{CanFollowAsking, IsAskBeginning}
 use Rattle.cond_lang.specs.Continuations.{CanFollow, IsBeginning}
+use Rattle.cond_lang.specs.Definitions.{TellsName}
 use Rattle.cond_lang.specs.declared.scanner.Token.{Token}
 use Rattle.cond_lang.specs.declared.words.Kind.{Kind}
 use Rattle.cond_lang.specs.declared.words.Kind.TheVariants as kind
@@ -27,3 +29,7 @@ CanStand Question T k = CanFollowAsking T k
 abbrev pub IsTold : ℕ → Kind → Type 0
 IsTold count (kind.Name n) = n < count
 IsTold count k = Unit {0}
+
+-- whether the text's n-th name stands for a value, where the beginning gives it
+abbrev pub IsOfValue : List Token → ℕ → Bool → Type 0
+IsOfValue T n b = (told : Option Bool) × TellsName T n told × (b ≡ unwrap_or told false)

@@ -70,12 +70,22 @@ names_from can n [] = []
 names_from can n (name ∷ more) =
     (if can (kind.Name n) then term.One (kind.Name n) ∷ [] else []) ++ names_from can (suc n) more
 
--- the terms for the kinds that may come there, and for the text's names; after `let` only a new
--- name may
-unfoldable pub terms : Bool → List (List ℕ) → (Kind → Bool) → List Term
-terms is_new names can =
+-- those of the kinds that stand for values, or those that don't
+abbrev pub wanted : Bool → (Kind → Bool) → (Kind → Bool) → Kind → Bool
+wanted of_values is_value can k =
+    can k && (if of_values then is_value k else not (is_value k))
+
+-- the names of values that may come there, or those of conditions
+abbrev pub names_that : Bool → (Kind → Bool) → (Kind → Bool) → List (List ℕ) → List Term
+names_that of_values is_value can names = names_from (wanted of_values is_value can) 0 names
+
+-- the terms for the kinds that may come there, and for the text's names, those of conditions first;
+-- after `let` only a new name may
+unfoldable pub terms : Bool → List (List ℕ) → (Kind → Bool) → (Kind → Bool) → List Term
+terms is_new names is_value can =
     if is_new then term.NewName ∷ []
-    else first_terms can ++ names_from can 0 names ++ each can part.Other all_kinds
+    else first_terms can ++ names_that false is_value can names ++ names_that true is_value can names
+    ++ each can part.Other all_kinds
 
 -- ---- how they are written
 
@@ -160,7 +170,7 @@ joined names [] = []
 joined names (t ∷ more) = term_text names t ++ separator (length more) ++ joined names more
 
 -- the line that says what may come there, for the set of the kinds that can, in a text with these
--- names
-abbrev pub expected_line : Bool → List (List ℕ) → (Kind → Bool) → List ℕ
-expected_line is_new names can =
-    codes "  expected " ++ joined names (terms is_new names can) ++ codes "\n"
+-- names, some of which stand for values
+abbrev pub expected_line : Bool → List (List ℕ) → (Kind → Bool) → (Kind → Bool) → List ℕ
+expected_line is_new names is_value can =
+    codes "  expected " ++ joined names (terms is_new names is_value can) ++ codes "\n"

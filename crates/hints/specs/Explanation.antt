@@ -5,13 +5,14 @@ use Rattle.conditions.specs.declared.error.CondError.{CondError}
 use Rattle.conditions.specs.declared.error.CondError.TheVariants.{TooLong, Byte, Word, Number}
 use Rattle.conditions.specs.declared.error.CondError.TheVariants.{Syntax, TooManyParts, Memory}
 use Rattle.cond_lang.specs.declared.words.Kind.{Kind}
+use Rattle.cond_lang.specs.declared.words.Kind.TheVariants as kind
 use Rattle.cond_lang.specs.declared.scanner.Token.{Token}
 use Rattle.cond_lang.specs.Faults.{HasFault}
 use Rattle.cond_lang.specs.Continuations.{ends_with_let}
 use Rattle.cond_lang.specs.Cut.{HasNames}
 use Rattle.hints.specs.declared.asked.Asked.{Asked}
 use Rattle.hints.specs.declared.asked.Asked.TheVariants.{Condition, Question}
-use Rattle.hints.specs.Asked.{Begins, CanStand, IsTold, asked_name}
+use Rattle.hints.specs.Asked.{Begins, CanStand, IsOfValue, IsTold, asked_name}
 use Rattle.sinks.specs.Shown.{shown}
 use Rattle.hints.specs.Excerpt.{IsExcerpt}
 use Rattle.hints.specs.Expected.{expected_line}
@@ -33,7 +34,9 @@ pub record TellsAll (asked : Asked) (text written : List ℕ) : Type 0 where
   pub has : HasNames text names
   pub can : Kind → Bool
   pub all : (k : Kind) → IsTold (length names) k → IsTrue (can k) ↔ CanStand asked beginning k
-  pub is : written ≡ expected_line (ends_with_let beginning) names can
+  pub is_value : Kind → Bool
+  pub values : (n : ℕ) → n < length names → IsOfValue beginning n (is_value (kind.Name n))
+  pub is : written ≡ expected_line (ends_with_let beginning) names is_value can
 
 -- the text is too long, or has a piece that isn't in the language
 abbrev pub IsFaulty : List ℕ → Type 0

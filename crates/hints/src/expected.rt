@@ -1,12 +1,13 @@
 //! What may come at a fault, as a line of text.
 
-ghost use Rattle.std.specs.Prelude.{◌≡◌, ◌≤◌, ◌++◌, [], length, map, string_bytes, IfOk, OnOk};
+ghost use Rattle.std.specs.Prelude.{◌≡◌, ◌≤◌, ◌++◌, [], length, map, not, string_bytes, IfOk};
+ghost use Rattle.std.specs.Prelude.{OnOk, if◌then◌else◌};
 ghost use Rattle.cond_lang.specs.Kinds.{IsListed};
 ghost use Rattle.cond_lang.specs.declared.words.Kind.{Kind as AKind};
 ghost use Rattle.hints.specs.Expected.{begins_test, begins_value, each, expected_line, has_all};
 ghost use Rattle.hints.specs.Expected.{is_described, is_in, joined, kind_name, kind_text};
-ghost use Rattle.hints.specs.Expected.{names_from, separator, term_text, terms};
-ghost use Rattle.hints.specs.internal.Kinds.{in_set};
+ghost use Rattle.hints.specs.Expected.{names_that, separator, term_text, terms};
+ghost use Rattle.hints.specs.internal.Kinds.{in_set, of_value};
 
 use crate::kinds::KindSet;
 use cond_lang::{Class, Kind, Neighbour, Quantifier, measure_word};
@@ -77,7 +78,7 @@ pub(crate) fn put_expected(
 ) -> Result<(), AllocError>
     requires { length names.now ≤ 1024 }
     ensures { OnOk result (string_bytes out.new ≡ string_bytes out.old
-        ++ expected_line is_new (map (λ p. p.now) names.now) (in_set can.now)) }
+        ++ expected_line is_new (map (λ p. p.now) names.now) (of_value can.now) (in_set can.now)) }
 {
     let terms = terms(alloc, can, names, is_new)?;
     out.push_str("  expected ")?;
@@ -95,7 +96,7 @@ fn terms(
 ) -> Result<Vec<Term>, AllocError>
     requires { length names.now ≤ 1024 }
     ensures { IfOk result (λ ts. ts.items
-        ≡ terms is_new (map (λ p. p.now) names.now) (in_set can.now)) }
+        ≡ terms is_new (map (λ p. p.now) names.now) (of_value can.now) (in_set can.now)) }
 {
     let mut terms = Vec::new(alloc);
     if is_new {
@@ -113,21 +114,40 @@ fn terms(
             put_each(&mut terms, can, Part::Value, &Kind::ALL)?;
         }
     }
-    put_names(&mut terms, can, names)?;
+    put_names(&mut terms, can, false, names)?;
+    put_names(&mut terms, can, true, names)?;
     put_each(&mut terms, can, Part::Other, &Kind::ALL)?;
     Ok(terms)
 }
 
-/// Appends those of the names that are in the set.
-fn put_names(terms: &mut Vec<Term>, can: &KindSet, mut names: &[&[u8]]) -> Result<(), AllocError>
+/// Whether the name stands for a value, or for a condition.
+fn is_wanted(can: &KindSet, of_values: bool, name: u16) -> bool
+    ensures { result ≡ (if of_values then of_value can.now (AKind.Name name)
+        else not (of_value can.now (AKind.Name name))) }
+{
+    if of_values {
+        can.is_value(name)
+    } else {
+        !can.is_value(name)
+    }
+}
+
+/// Appends those of the names that are in the set and stand for values, or for conditions.
+fn put_names(
+    terms: &mut Vec<Term>,
+    can: &KindSet,
+    of_values: bool,
+    mut names: &[&[u8]],
+) -> Result<(), AllocError>
     requires { length names.now ≤ 1024 }
     ensures { OnOk result (terms.new.items ≡ terms.old.items
-        ++ names_from (in_set can.now) 0 (map (λ p. p.now) names.entry.now)) }
+        ++ names_that of_values (of_value can.now) (in_set can.now)
+        (map (λ p. p.now) names.entry.now)) }
 {
     let mut number: u16 = 0;
     while let [_, more @ ..] = names {
         let name = Kind::Name(number);
-        if can.has(name) {
+        if can.has(name) && is_wanted(can, of_values, number) {
             terms.push(Term::One(name))?;
         }
         number += 1;

@@ -4,8 +4,8 @@ ghost use Rattle.std.specs.Prelude.{◌≡◌, ◌↔◌, ◌<◌, ◌≤◌, �
 ghost use Rattle.std.specs.List.{list_all};
 ghost use Rattle.conditions.specs.declared.error.CondError.TheVariants.{Memory};
 ghost use Rattle.cond_lang.specs.declared.words.Kind.{Kind as AKind};
-ghost use Rattle.hints.specs.Asked.{CanStand, IsTold};
-ghost use Rattle.hints.specs.internal.Kinds.{in_set};
+ghost use Rattle.hints.specs.Asked.{CanStand, IsOfValue, IsTold};
+ghost use Rattle.hints.specs.internal.Kinds.{in_set, of_value};
 
 use crate::asked::Asked;
 use arrayvec::ArrayVec;
@@ -17,6 +17,8 @@ use hint_rules::Kinds;
 pub(crate) struct KindSet {
     holds: [bool; Kind::COUNT],
     names: ArrayVec<bool, 1024>,
+    /// Of each name, whether it stands for a value.
+    values: ArrayVec<bool, 1024>,
 }
 
 impl KindSet {
@@ -30,6 +32,8 @@ impl KindSet {
         requires { count ≤ 1024 }
         ensures allowed { IfOk result (λ set. (kind : AKind) → IsTold count kind
             → IsTrue (in_set set kind) ↔ CanStand asked beginning.now kind) }
+        ensures values { IfOk result (λ set. (n : ℕ) → n < count
+            → IsOfValue beginning.now n (of_value set (AKind.Name n))) }
         ensures memory { IfErr result (λ e. e ≡ Memory) }
     {
         let mut holds = [false; Kind::COUNT];
@@ -37,7 +41,22 @@ impl KindSet {
             holds[i] = asked.allows(beginning, *kind)?;
         }
         let names = names_that_may_come(asked, beginning, count)?;
-        Ok(KindSet { holds, names })
+        let values = names_of_values(beginning, count)?;
+        Ok(KindSet {
+            holds,
+            names,
+            values,
+        })
+    }
+
+    /// Whether the name with this number stands for a value.
+    pub(crate) fn is_value(&self, name: u16) -> bool
+        ensures { result ≡ of_value self.now (AKind.Name name) }
+    {
+        match self.values.get(name as usize) {
+            Some(is_value) => *is_value,
+            None => false,
+        }
     }
 
     /// Whether it has the kind.
@@ -77,4 +96,19 @@ fn names_that_may_come(
         names.push(asked.allows(beginning, Kind::Name(number as u16))?);
     }
     Ok(names)
+}
+
+/// Of each of so many names, whether it stands for a value. The only error is `Memory`.
+fn names_of_values(beginning: &Beginning, count: usize) -> Result<ArrayVec<bool, 1024>, CondError>
+    requires { count ≤ 1024 }
+    ensures values { IfOk result (λ values. (n : ℕ) → n < count
+        → IsOfValue beginning.now n (slice_index_or values.items n false)) }
+    ensures memory { IfErr result (λ e. e ≡ Memory) }
+{
+    let mut values = ArrayVec::new();
+    for number in 0..count {
+        let told = beginning.is_value_name(number as u16)?;
+        values.push(told.unwrap_or(false));
+    }
+    Ok(values)
 }

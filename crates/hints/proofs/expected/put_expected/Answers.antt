@@ -1,13 +1,13 @@
 use Rattle.std.proofs.Common.{◌∙◌, ◌++◌, ap, codes, map, string_bytes}
 use Rattle.hints.specs.Expected.{joined, terms}
-use Rattle.hints.specs.internal.Kinds.{in_set}
+use Rattle.hints.specs.internal.Kinds.{in_set, of_value}
 use Rattle.hints.proofs.Appending.{if_put, then_three}
 use Rattle.hints.proofs.expected.put_expected.Goals as goal
 
 pub returns : goal.returns
 returns c =
     let names = map (λ p. p.now) c.args.names.now in
-    then_three c.push_str-2.result (string_bytes c.args.out.now) (codes "  expected ") (joined names (terms c.args.is_new names (in_set c.args.can.now)))
+    then_three c.push_str-2.result (string_bytes c.args.out.now) (codes "  expected ") (joined names (terms c.args.is_new names (of_value c.args.can.now) (in_set c.args.can.now)))
     (codes "\n") (string_bytes c.push_str.new.self) (string_bytes c.put_joined.new.out) (string_bytes c.push_str-2.new.self)
     c.in_ok-push_str.ensures.bytes
     (c.in_ok-put_joined.ensures

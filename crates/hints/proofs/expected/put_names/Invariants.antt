@@ -1,12 +1,12 @@
 use Rattle.std.proofs.Common.{◌≡◌, ◌+◌, ◌≤◌, ◌++◌, length, map}
-use Rattle.hints.specs.Expected.{names_from}
-use Rattle.hints.specs.internal.Kinds.{in_set}
+use Rattle.hints.specs.Expected.{names_from, wanted}
+use Rattle.hints.specs.internal.Kinds.{in_set, of_value}
 use Rattle.hints.proofs.expected.put_names.Given as goal
 
 abbrev pub invariant-loop-names : goal.invariant-loop-names
 invariant-loop-names l =
-    (l.terms.items ++ names_from (in_set l.can) l.number (map (λ p. p.now) l.names)
-    ≡ l.initial.terms.items ++ names_from (in_set l.can) 0 (map (λ p. p.now) l.initial.names))
+    (l.terms.items ++ names_from (wanted l.of_values (of_value l.can) (in_set l.can)) l.number (map (λ p. p.now) l.names)
+    ≡ l.initial.terms.items ++ names_from (wanted l.of_values (of_value l.can) (in_set l.can)) 0 (map (λ p. p.now) l.initial.names))
     × (l.number + length l.names ≤ 1024)
 
 abbrev pub decreases-loop-names : goal.decreases-loop-names

@@ -29,6 +29,6 @@ returns-clause-allowed c = each
         let P : Kind → Type 0 = λ q. IsTrue (slice_index_or c.loop-i.holds (place_of k) false) ↔ CanStand c.args.asked c.args.beginning.now q in
         subst P there (c.loop-i.invariant.1 (place_of k) (omega arith))
 
-    each : (k : Kind) → IsTold c.args.count k → IsTrue (in_set (record { holds = c.loop-i.holds; names = c.in_ok-names.names }) k) ↔ CanStand c.args.asked c.args.beginning.now k
+    each : (k : Kind) → IsTold c.args.count k → IsTrue (in_set (record { holds = c.loop-i.holds; names = c.in_ok-names.names; values = c.in_ok-values.values }) k) ↔ CanStand c.args.asked c.args.beginning.now k
     each (kind.Name n) l = c.in_ok-names.ensures.allowed n l
     each k l = listed k tt
