@@ -110,7 +110,7 @@ NAMES = {
 
 @dataclasses.dataclass
 class Name:
-    """A name that is given: its letters, what must follow it, and its body once it was read."""
+    """A given name: its letters, what must follow it, and its body once it was read."""
 
     letters: str
     owed: str = ""
@@ -191,7 +191,7 @@ class Machine:
                 return after
 
     def given(self, values=False, conditions=False):
-        """The names that are given, of values or conditions."""
+        """The given names, of values or conditions."""
         return {f"name {at}" for at, name in enumerate(self.names) if (values if name.is_value else conditions)}
 
     def kinds(self):

@@ -85,7 +85,7 @@ PARAMETERS = (["seat"], ["suit"], ["seat", "suit"])
 
 
 class Name:
-    """A name that is given: its parameters, what its body asks, and whether that is a value."""
+    """A given name: its parameters, what its body asks, and whether that is a value."""
 
     def __init__(self, tokens, parameters, names):
         self.parameters = parameters
@@ -116,14 +116,14 @@ class Reader:
 
     def __init__(self, tokens, names=(), around=()):
         self.tokens = tokens
-        # The names that are given.
+        # The given names.
         self.names = dict(names)
         # The classes around what is read; and, when the condition is asked, the suit or seat that each stands for.
         self.around = list(around)
         self.bound = {}
 
     def definitions(self):
-        """Reads the names that are given before the condition or value."""
+        """Reads the definitions before the condition or value."""
         while self.sees("let"):
             self.next()
             name = self.next()

@@ -40,7 +40,7 @@ def used(dice, around, name):
 
 
 def test(dice, around, depth=0, names=()):
-    """A test; `around` are the classes that are bound around it, and `names` those that are given."""
+    """A test; `around` are the classes that are bound around it, and `names` the given names."""
     classes = [*language.CLASSES, *language.SIDES]
     has_suit = any(name in language.CLASSES for name in around)
     free = [name for name in classes if name not in around and (name != "other" or has_suit)]

@@ -87,7 +87,7 @@ def random_game(rng: random.Random) -> str:
 
 
 def random_text(rng: random.Random, games: int) -> bytes:
-    """A text of so many games."""
+    """A text with this many games."""
     text = rng.choice(["% PBN 2.1\n", "", "\n", "% EXPORT\n;\n"]) + "".join(random_game(rng) for _ in range(games))
     text = rng.choice([text, text, text.rstrip("\n"), text + "[Deal"])
     text = text.replace("\n", "\r\n") if rng.random() < 0.25 else text

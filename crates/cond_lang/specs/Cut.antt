@@ -203,7 +203,7 @@ pub record Naming : Type 0 where
 abbrev pub no_names : Naming
 no_names = record { given = []; after_let = false }
 
--- the number of a name that is given
+-- the number of a given name
 abbrev pub name_number : Naming → List ℕ → Option ℕ
 name_number N p = position (λ q. bytes_eq q p) N.given
 

@@ -101,7 +101,7 @@ pub data Meaning : Type 0 where
   condition : Params → (Choice → Form) → Meaning
   value : Params → (Choice → Amount) → Meaning
 
--- what the names that are given stand for, in their order
+-- what the given names stand for, in their order
 abbrev pub Meanings : Type 0
 Meanings = List Meaning
 

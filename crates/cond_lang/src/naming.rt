@@ -9,7 +9,7 @@ use crate::scanner::{Piece, Token};
 use arrayvec::ArrayVec;
 use std::marker::Model;
 
-/// The names that are given as far as the text is read, and whether its last token is `let`.
+/// The names that the text gives as far as it is read, and whether its last token is `let`.
 #[derive(Drop)]
 pub(crate) struct Names<'a> {
     given: ArrayVec<&'a [u8], 1024>,

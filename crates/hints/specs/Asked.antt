@@ -25,7 +25,7 @@ abbrev pub CanStand : Asked → List Token → Kind → Type 0
 CanStand Condition T k = CanFollow T k
 CanStand Question T k = CanFollowAsking T k
 
--- a person is told of the kind, in a text with so many names
+-- a person is told of the kind, in a text with this many names
 abbrev pub IsTold : ℕ → Kind → Type 0
 IsTold count (kind.Name n) = n < count
 IsTold count k = Unit {0}

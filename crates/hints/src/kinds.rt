@@ -22,8 +22,8 @@ pub(crate) struct KindSet {
 }
 
 impl KindSet {
-    /// The kinds, and so many names, that may come after the beginning of what is asked for. The
-    /// only error is `Memory`.
+    /// The kinds, and the text's first `count` names, that may come after the beginning of what is
+    /// asked for. The only error is `Memory`.
     pub(crate) fn of(
         asked: Asked,
         beginning: &Beginning,
@@ -79,7 +79,7 @@ impl KindSet {
     }
 }
 
-/// Of each of so many names, whether it may come. The only error is `Memory`.
+/// Of each of the first `count` names, whether it may come. The only error is `Memory`.
 fn names_that_may_come(
     asked: Asked,
     beginning: &Beginning,
@@ -98,7 +98,7 @@ fn names_that_may_come(
     Ok(names)
 }
 
-/// Of each of so many names, whether it stands for a value. The only error is `Memory`.
+/// Of each of the first `count` names, whether it stands for a value. The only error is `Memory`.
 fn names_of_values(beginning: &Beginning, count: usize) -> Result<ArrayVec<bool, 1024>, CondError>
     requires { count ≤ 1024 }
     ensures values { IfOk result (λ values. (n : ℕ) → n < count

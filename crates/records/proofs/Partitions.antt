@@ -41,7 +41,7 @@ if_partition deal r count sound kept = by_test (is_partition deal) refl r sound 
     by_test false e None sound kept = rw e refl
     by_test false e (Some d) sound kept = absurd (let t = passes deal (sound.0 refl) in let no : true ≡ false = sym t ∙ e in cc)
 
--- ---- the cards that are given
+-- ---- the given cards
 
 pub all_given : (seats : List (Option Seat)) → ((k : ℕ) → k < length seats → is_some (get_or seats k None) ≡ true) → list_all is_some seats ≡ true
 all_given [] all = refl

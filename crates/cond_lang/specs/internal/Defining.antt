@@ -107,7 +107,7 @@ definitions_by (suc n) N (Let ∷ S) =
     after (definition N S) (λ m R. definitions_by n (N ++ m ∷ []) R)
 definitions_by (suc n) N S = got N S
 
--- all definitions, behind the names that are given
+-- all definitions, behind the given names
 unfoldable pub definitions : Meanings → Reader Meanings
 definitions N S = definitions_by (suc (length S)) N S
 

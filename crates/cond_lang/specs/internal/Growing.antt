@@ -1,5 +1,5 @@
 -- What is kept of a value or of a tree as far as it is read: how many parts it has, and it itself
--- if there is room for so many.
+-- if there is room for them.
 use Rattle.std.specs.Prelude.{◌≡◌, ℕ, ◌-◌, ◌<◌, ◌≤◌, List, Option, Some, None, Result, Ok, Err}
 use Rattle.std.specs.Prelude.{MatchOption, min}
 use Rattle.conditions.specs.Form.{Amount, Form, amount_of, form_of}
@@ -15,7 +15,7 @@ use Rattle.cond_lang.specs.internal.Reading.{Outcome, got, stuck}
 abbrev pub most_counted : ℕ
 most_counted = 4294967295
 
--- this is kept of the value, where there is room for so many parts
+-- this is kept of the value, where there is room for its parts
 pub record IsGrownValue (room : ℕ) (grown : GrownValue) (a : Amount) : Type 0 where
   pub parts : grown.parts ≡ min (atoms_of a) most_counted
   pub value : MatchOption grown.value (room < atoms_of a)
