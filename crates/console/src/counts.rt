@@ -11,9 +11,21 @@ use std::sync::atomic::{AtomicBool, Ordering};
 /// In the first second nothing is shown.
 const QUIET_MILLIS: u64 = 1000;
 
-/// Draws a run's counts on a writer.
-pub struct Counts<E> {
+/// After this many candidates without a board something is said.
+const LONG: u64 = 10_000_000;
+
+/// What there is to say of a run that has found nothing for long.
+pub trait Remark {
+    /// A line with its end, if there is anything to say.
+    fn line(&self) -> Option<String>;
+}
+
+/// Draws a run's counts on a writer, and a remark once.
+pub struct Counts<E, R> {
     err: E,
+    remark: R,
+    /// Whether it was time for the remark.
+    remarked: bool,
     alloc: Global,
     style: Style,
     all: Option<u64>,
@@ -25,10 +37,12 @@ pub struct Counts<E> {
 }
 
 // By hand, so that to drop one is a call (docs/DECISIONS.md).
-impl<E: Drop> Drop for Counts<E> {
+impl<E: Drop, R: Drop> Drop for Counts<E, R> {
     fn drop(self) {
         let Counts {
             err: _,
+            remark: _,
+            remarked: _,
             alloc: _,
             style: _,
             all: _,
@@ -40,18 +54,21 @@ impl<E: Drop> Drop for Counts<E> {
     }
 }
 
-impl<E: Write> Counts<E> {
+impl<E: Write, R: Remark> Counts<E, R> {
     /// The counts of a run over `all` candidates, if it is known how many, that started at `now`.
     pub fn new(
         alloc: Global,
         err: E,
+        remark: R,
         drawn: Drawn,
         style: Style,
         all: Option<u64>,
         now: u64,
-    ) -> Counts<E> {
+    ) -> Counts<E, R> {
         Counts {
             err,
+            remark,
+            remarked: false,
             alloc,
             style,
             all,
@@ -74,6 +91,9 @@ impl<E: Write> Counts<E> {
 
     /// Shows how far the run is.
     pub(crate) fn show(&mut self, now: u64, candidates: u64, boards: u64) {
+        if boards == 0 && candidates >= LONG && !self.remarked {
+            self.say_remark();
+        }
         self.shows = true;
         self.due = now.saturating_add(self.style.interval());
         let tally = Tally {
@@ -84,6 +104,15 @@ impl<E: Write> Counts<E> {
         };
         // Where memory runs out no line is drawn.
         let _ = self.draw(&tally);
+    }
+
+    /// Says the remark, if there is one.
+    fn say_remark(&mut self) {
+        self.remarked = true;
+        if let Some(line) = self.remark.line() {
+            self.wipe();
+            let _ = self.err.write_all(line.as_bytes());
+        }
     }
 
     /// Draws the line of these counts.

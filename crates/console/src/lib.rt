@@ -9,7 +9,7 @@ mod prompt;
 mod style;
 mod tally;
 
-pub use counts::{Counts, Drawn, OverLine};
+pub use counts::{Counts, Drawn, OverLine, Remark};
 pub use prompt::{GATHERED_MILLIS, Prompt, millis};
 pub use style::Style;
 pub use tally::{Tally, tally_line};

@@ -5,7 +5,7 @@ ghost use Rattle.std.specs.Io.Buffered.{writer_buffer, writer_contents};
 ghost use Rattle.sinks.specs.Sinks.{CountsFault};
 ghost use Rattle.sinks.specs.Writers.{told};
 
-use crate::counts::Counts;
+use crate::counts::{Counts, Remark};
 use sinks::{Sink, SinkFault};
 use std::io::{BufWriter, Error, Write};
 use std::snapshot::Snapshot;
@@ -28,12 +28,12 @@ pub fn millis(clock: &impl Clock) -> Option<u64> {
 ///
 /// Any error of the writer is a fault, and so is a count of 0 for a piece that isn't empty. If
 /// passing on fails, the next `write` or `flush` is a fault.
-pub struct Prompt<W: Write + Drop, C, E> {
+pub struct Prompt<W: Write + Drop, C, E, R> {
     writer: BufWriter<W>,
     // The writer as it was handed in, for proofs alone: it takes no memory.
     first: Snapshot<BufWriter<W>>,
     clock: C,
-    counts: Counts<E>,
+    counts: Counts<E, R>,
     /// For how many milliseconds bytes are gathered.
     gathered_millis: u64,
     /// Whether bytes may be in the buffer, and when the last ones were passed on.
@@ -50,7 +50,7 @@ pub struct Prompt<W: Write + Drop, C, E> {
 }
 
 // By hand, so that to drop one is a call (docs/DECISIONS.md).
-impl<W: Write + Drop, C: Drop, E: Drop> Drop for Prompt<W, C, E> {
+impl<W: Write + Drop, C: Drop, E: Drop, R: Drop> Drop for Prompt<W, C, E, R> {
     fn drop(self) {
         let Prompt {
             writer: _,
@@ -67,17 +67,17 @@ impl<W: Write + Drop, C: Drop, E: Drop> Drop for Prompt<W, C, E> {
     }
 }
 
-impl<W: Write + Drop, C: Clock, E: Write> Prompt<W, C, E> {
+impl<W: Write + Drop, C: Clock, E: Write, R: Remark> Prompt<W, C, E, R> {
     /// A sink over `writer` that gathers for this many milliseconds, with no fault so far.
     pub fn new(
         writer: BufWriter<W>,
         clock: C,
-        counts: Counts<E>,
+        counts: Counts<E, R>,
         gathered_millis: u64,
-    ) -> Prompt<W, C, E>
-        ensures bytes { ⟦<Prompt<W, C, E> as Sink>⟧.bytes result
+    ) -> Prompt<W, C, E, R>
+        ensures bytes { ⟦<Prompt<W, C, E, R> as Sink>⟧.bytes result
             ≡ writer_contents W.contents writer }
-        ensures faults { ⟦<Prompt<W, C, E> as Sink>⟧.faults result ≡ 0 }
+        ensures faults { ⟦<Prompt<W, C, E, R> as Sink>⟧.faults result ≡ 0 }
     {
         let first = Snapshot::of(&writer);
         let gathers = !writer.buffer().is_empty();
@@ -97,7 +97,7 @@ impl<W: Write + Drop, C: Clock, E: Write> Prompt<W, C, E> {
 
     /// How many calls failed.
     pub fn fault_count(&self) -> u64
-        ensures { result ≡ ⟦<Prompt<W, C, E> as Sink>⟧.faults self.now }
+        ensures { result ≡ ⟦<Prompt<W, C, E, R> as Sink>⟧.faults self.now }
     {
         self.faults
     }
@@ -142,7 +142,7 @@ impl<W: Write + Drop, C: Clock, E: Write> Prompt<W, C, E> {
     }
 }
 
-impl<W: Write + Drop, C: Clock, E: Write> Prompt<W, C, E> {
+impl<W: Write + Drop, C: Clock, E: Write, R: Remark> Prompt<W, C, E, R> {
     /// Counts a fault, and says nothing more of the counts.
     fn fault(&mut self) -> SinkFault
         requires { self.old.faults < 2 ^ 64 - 1 }
@@ -169,7 +169,7 @@ impl<W: Write + Drop, C: Clock, E: Write> Prompt<W, C, E> {
     }
 }
 
-impl<W: Write + Drop, C: Clock, E: Write> Sink for Prompt<W, C, E> {
+impl<W: Write + Drop, C: Clock, E: Write, R: Remark> Sink for Prompt<W, C, E, R> {
     ghost use Rattle.std.specs.Prelude.{[]};
     ghost use Rattle.std.specs.Io.Buffered.{writer_buffer, writer_contents};
     ghost use Rattle.sinks.specs.Writers.{told};

@@ -8,6 +8,7 @@
 mod endings;
 mod help;
 mod notes;
+mod rare;
 mod seen;
 mod streams;
 mod unread;
@@ -129,7 +130,7 @@ fn main(rt: HostRuntime) -> ExitCode {
     };
     let words = words.as_slice();
     let read = read_words(rt.alloc(), words);
-    match open(&rt, &read) {
+    match open(&rt, words, &read) {
         Ok((mut out, mut err)) => {
             ExitCode::from(answer(&rt, &rt, words, &read, &mut out, &mut err))
         }

@@ -2,6 +2,7 @@
 
 ghost use Rattle.std.specs.Prelude.{◌≡◌, IfOk};
 
+use crate::rare::Rare;
 use crate::seen::Seen;
 use advice::hints_among;
 use clap::Error;
@@ -111,7 +112,7 @@ impl Read for Given<'_> {
 }
 
 /// Standard output, as the boards are written to it.
-pub type Output = Prompt<OverLine<io::Stdout, io::Stderr>, HostRuntime, io::Stderr>;
+pub type Output = Prompt<OverLine<io::Stdout, io::Stderr>, HostRuntime, io::Stderr, Rare>;
 
 /// Standard error, over the line of counts.
 pub type Said = Piped<OverLine<io::Stderr, io::Stderr>>;
@@ -128,9 +129,10 @@ fn style_of(rt: &HostRuntime, progress: When) -> Style {
 /// The counts of this request, which are shown of a run alone.
 fn counts_of(
     rt: &HostRuntime,
+    words: &[String],
     read: &Result<Request<'_>, Error>,
     drawn: Drawn,
-) -> Counts<io::Stderr> {
+) -> Counts<io::Stderr, Rare> {
     let (style, all) = match read {
         Ok(
             Request::Make {
@@ -152,7 +154,8 @@ fn counts_of(
         _ => (Style::Never, None),
     };
     let now = millis(rt).unwrap_or(0);
-    Counts::new(rt.alloc(), rt.stderr(), drawn, style, all, now)
+    let rare = Rare::of(rt, words, read);
+    Counts::new(rt.alloc(), rt.stderr(), rare, drawn, style, all, now)
 }
 
 /// For how many milliseconds boards are gathered: not at all where numbers or boards are read,
@@ -168,7 +171,11 @@ fn gathered_millis(read: &Result<Request<'_>, Error>) -> u64 {
 ///
 /// Boards on a terminal wipe the line of counts. That both are one terminal can't be known, so they
 /// do it on each.
-pub fn open(rt: &HostRuntime, read: &Result<Request<'_>, Error>) -> io::Result<(Output, Said)>
+pub fn open(
+    rt: &HostRuntime,
+    words: &[String],
+    read: &Result<Request<'_>, Error>,
+) -> io::Result<(Output, Said)>
     ensures out { IfOk result (λ r. ⟦<Output as Sink>⟧.faults r.0 ≡ 0) }
     ensures err { IfOk result (λ r. ⟦<Said as Sink>⟧.faults r.1 ≡ 0) }
 {
@@ -181,7 +188,7 @@ pub fn open(rt: &HostRuntime, read: &Result<Request<'_>, Error>) -> io::Result<(
     let stdout = OverLine::new(rt.stdout(), rt.stderr(), below);
     let stderr = OverLine::new(rt.stderr(), rt.stderr(), Some(drawn.try_clone()?));
     let writer = BufWriter::with_capacity(rt.alloc(), BUFFER, stdout)?;
-    let counts = counts_of(rt, read, drawn);
+    let counts = counts_of(rt, words, read, drawn);
     let out = Prompt::new(writer, *rt, counts, gathered_millis(read));
     Ok((out, Piped::new(stderr)))
 }

@@ -14,6 +14,7 @@ mod amounts;
 mod bounds;
 mod filling;
 mod hint;
+mod joined;
 mod kinds;
 mod likeness;
 mod lists;
@@ -27,5 +28,6 @@ mod words;
 
 pub use filling::suggested;
 pub use hint::{Said, of_piece, of_syntax};
+pub use joined::joined_tests;
 pub use kinds::Kinds;
 pub use slips::slip;

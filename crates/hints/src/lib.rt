@@ -1,6 +1,6 @@
 //! What a person is told of a condition or a question beside the line of a refusal: where it goes
-//! wrong, what may come there, and what was perhaps meant; and the note on a condition that no deal
-//! meets.
+//! wrong, what may come there, and what was perhaps meant; and what is noted of a condition that no
+//! deal meets, or hardly one.
 #![tactic(auto)]
 
 mod asked;
@@ -8,8 +8,10 @@ mod excerpt;
 mod expected;
 mod kinds;
 mod noted;
+mod rare;
 mod refusal;
 mod repeated;
 
 pub use noted::note;
+pub use rare::rare_tests;
 pub use refusal::{explain, explain_question};

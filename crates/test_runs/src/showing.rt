@@ -1,7 +1,7 @@
 //! What is on the output and on the terminal, by a clock that is set by hand.
 
 use crate::support::{equals, holds};
-use console::{Counts, Drawn, GATHERED_MILLIS, OverLine, Prompt, Style};
+use console::{Counts, Drawn, GATHERED_MILLIS, OverLine, Prompt, Remark, Style};
 use sinks::{Sink, put_all};
 use std::alloc::Global;
 use std::cell::{Cell, RefCell};
@@ -65,8 +65,18 @@ impl Write for Breakable<'_> {
     }
 }
 
+/// There is nothing to say of a run.
+#[derive(Drop)]
+struct Nothing;
+
+impl Remark for Nothing {
+    fn line(&self) -> Option<String> {
+        None
+    }
+}
+
 /// The sink of a test.
-type OnDesk<'a> = Prompt<Breakable<'a>, Hand<'a>, Pen<'a>>;
+type OnDesk<'a> = Prompt<Breakable<'a>, Hand<'a>, Pen<'a>, Nothing>;
 
 /// All that a test sets and reads.
 #[derive(Drop)]
@@ -91,7 +101,7 @@ impl Desk {
     fn prompt(&self, alloc: Global, style: Style, drawn: Drawn) -> io::Result<OnDesk<'_>> {
         let err = Pen { paper: &self.err };
         let now = self.millis.get();
-        let counts = Counts::new(alloc, err, drawn, style, Some(1000), now);
+        let counts = Counts::new(alloc, err, Nothing, drawn, style, Some(1000), now);
         let clock = Hand {
             millis: &self.millis,
         };

@@ -1,0 +1,60 @@
+//! What is said of a search that has found nothing for long.
+
+use crate::streams::{hints_of, is_time};
+use cards::Fixed;
+use clap::Error;
+use console::Remark;
+use deals_cli::{Request, Search};
+use hints::rare_tests;
+use std::alloc::Global;
+
+/// Which tests of a search's condition hardly ever hold, for a person.
+#[derive(Drop)]
+pub struct Rare {
+    alloc: Global,
+    search: Option<Searched>,
+}
+
+/// A search that has a condition.
+#[derive(Drop)]
+struct Searched {
+    condition: String,
+    seed: u32,
+    fixed: Fixed,
+}
+
+impl Rare {
+    /// Of this request, if hints are said.
+    pub fn of(rt: &HostRuntime, words: &[String], read: &Result<Request<'_>, Error>) -> Rare {
+        let alloc = rt.alloc();
+        let search = match read {
+            Ok(request) if is_time(rt, hints_of(words, read)) => with_condition(alloc, request),
+            _ => None,
+        };
+        Rare { alloc, search }
+    }
+}
+
+/// The search of a request that has a condition. None if memory runs out.
+fn with_condition(alloc: Global, request: &Request<'_>) -> Option<Searched> {
+    let (search, _) = request.plans()?;
+    let condition = search.where_text?;
+    Some(Searched {
+        condition: String::from_str(alloc, condition).ok()?,
+        seed: search.seed,
+        fixed: fixed_of(&search)?,
+    })
+}
+
+/// The cards that are fixed, if they can be read.
+fn fixed_of(search: &Search<'_>) -> Option<Fixed> {
+    search.hands.read().ok()
+}
+
+impl Remark for Rare {
+    fn line(&self) -> Option<String> {
+        let search = self.search.as_ref()?;
+        let condition = search.condition.as_bytes();
+        rare_tests(self.alloc, condition, search.seed, &search.fixed).unwrap_or(None)
+    }
+}
