@@ -84,8 +84,8 @@ names_that of_values is_value can names = names_from (wanted of_values is_value 
 unfoldable pub terms : Bool → List (List ℕ) → (Kind → Bool) → (Kind → Bool) → List Term
 terms is_new names is_value can =
     if is_new then term.NewName ∷ []
-    else first_terms can ++ names_that false is_value can names ++ names_that true is_value can names
-    ++ each can part.Other all_kinds
+    else first_terms can ++ names_that false is_value can names
+    ++ names_that true is_value can names ++ each can part.Other all_kinds
 
 -- ---- how they are written
 
