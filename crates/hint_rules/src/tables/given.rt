@@ -6,7 +6,8 @@ pub(crate) const RULES: &str = "
     Cannot:Let ^ let => names come first, before the condition
     let ^ Name => \"%n0\" is given already: choose another name
     let ^ => after \"let\" comes a name, as in let strong(seat) is (hcp(seat)>=15)
-    let Word ^ _|-|.|Number => a name has small letters alone
+    let Word ^ _|-|. => a name has small letters alone
+    let Word ^ Number => a name has small letters alone
     let Word ^ =|==|: => \
         write \"is\", and brackets around the rest, as in let %b1 is (hcp(north)>=15)
     let Word ^ => write \"is\" after the name, as in let %b1 is (hcp(north)>=15)
@@ -22,6 +23,12 @@ pub(crate) const RULES: &str = "
     Can:Let ^ ,|; => leave \"%n0\" out: names follow one another without a sign
     Can:Let ) ^ Nothing => after the names comes the condition that uses them
     ^ Later => \"%n0\" is given only after this: move its \"let\" before it
+
+    Call ^ is not Number => for this write: %v1!=%n2
+    Call ^ is Number => write \"==\"
+    Call is at ^ least Number => for this write: %v3>=%n1
+    Call is at ^ most Number => for this write: %v3<=%n1
+    ^ Seat is balanced => with the seat in brackets write: balanced(%n0)
 
     Can:Open Cannot:Not Name ^ => write \"%b1%h1\"
     Cannot:Open Name ^ ( => \"%b1\" has no brackets where it is given: write it alone

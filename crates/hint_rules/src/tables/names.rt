@@ -23,7 +23,7 @@ pub(crate) const RULES: &str = "
     NotInCall ^ Named:unless => write \"and not\"
     NotInCall ^ Named:oder|ou => write \"or\"
     NotInCall ^ Named:no|nicht => write \"not\"
-    NotInCall ^ Named:is|equals|equal => write \"==\"
+    NotInCall ^ Named:equals|equal => write \"==\"
     NotInCall ^ either => leave \"either\" out
     NotInCall ^ Named:the => leave \"the\" out
     NotInCall ^ Named:plus => write \"+\"
