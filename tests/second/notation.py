@@ -1,5 +1,5 @@
-"""What `make` writes in each format, worked out from the page that defines them (docs/FORMATS.md, PBN 2.1) and from the
-deals of model.py. Nothing here is taken from the program.
+"""What `make` writes in each format, worked out from the page that defines them (docs/FORMATS.md, PBN 2.1), from what pages
+are made of (styles/), and from the deals of model.py. Nothing here is taken from the program.
 """
 
 import html
@@ -10,7 +10,6 @@ import re
 import model
 
 HERE = pathlib.Path(__file__).resolve().parent
-DOCS = HERE.parent.parent / "docs"
 STYLES = HERE / "styles"
 PAGES = ("html", "sheet", "slips")
 
@@ -181,9 +180,8 @@ def styled(form, with_tricks):
 
 
 def frame(part, labels, form="html", with_tricks=False):
-    """The header of a page, part 0, or its footer, part 1: as docs/FORMATS.md has it, under these labels."""
-    page = (DOCS / "FORMATS.md").read_text()
-    text = re.findall(r"^```html\n(.*?)^```$", page, re.M | re.S)[part]
+    """The header of a page, part 0, or its footer, part 1: as it is in styles/, under these labels."""
+    text = (STYLES / ("header.html", "footer.html")[part]).read_text()
     text = text.replace("<style>\n..\n", "<style>\n" + styled(form, with_tricks))
     title = ", ".join(value for _, value in labels if value.strip(" ")) or "Boards"
     escaped = html.escape(title, quote=False)
