@@ -359,7 +359,7 @@ def check_rare():
     _, drawn, _ = on_a_terminal(HARDLY, lambda run: RARELY in run.text())
     text = b"".join(piece for _, piece in drawn)
     yield "hardly ever met, after a second", text.count(b"note: ") == 1 and RARELY in text and drawn[0][0] > 1 - CLOCKS
-    for words in [[*HARDLY, "--hints", "never"], [*HARDLY[:-1], "hcp(north)>=36"], [*HARDLY[:-1], f"{HARDLY[-1]} or 0==1"]]:
+    for words in [[*HARDLY, "--hints", "never"], [*HARDLY[:-1], "hcp(north)>=36"], [*HARDLY[:-1], f"({HARDLY[-1]}) or 0==1"]]:
         _, drawn, _ = on_a_terminal(words, lambda run: len(REDRAWN.findall(run.text())) > 4)
         yield f"hardly ever met, nothing of {words[5:]}", b"note: " not in b"".join(piece for _, piece in drawn)
     words = [*HARDLY[:4], "30000000", *HARDLY[5:]]

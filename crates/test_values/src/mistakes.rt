@@ -141,7 +141,11 @@ const NOTES: [(&str, &str); 5] = [
 fn notes(rt: HostRuntime) -> Result<(), Fail> {
     for (text, wanted) in NOTES.iter() {
         let condition = parse(rt.alloc(), text.as_bytes())?;
-        assert_eq!(rt; is_never(&condition, &Fixed::none()), *wanted != "", "{text}");
+        assert_eq!(rt;
+            is_never(&condition, &Fixed::none()),
+            *wanted != "",
+            "{text}"
+        );
         let said = said_of(rt.alloc(), &condition)?;
         assert_eq!(rt; said.as_str(), *wanted, "{text}");
     }
