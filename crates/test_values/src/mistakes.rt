@@ -15,7 +15,7 @@ const MISTAKES: [(&[u8], CondError, &str); 6] = [
     (
         b"",
         CondError::Syntax { at: 0 },
-        "  \n  ^\n  expected a condition such as balanced(north)
+        "  \n  ^\n  expected a condition such as balanced(north) or \"let\"
   hint: there is no condition here (is a file missing?); for 15 points or more with North write: \
 hcp(north)>=15
 ",

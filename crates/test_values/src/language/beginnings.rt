@@ -2,7 +2,7 @@
 
 use super::*;
 use cards::Measure;
-use cond_lang::{Beginning, Class, Kind, Neighbour, Quantifier};
+use cond_lang::{Beginning, Class, Kind, Neighbour, Quantifier, names_of};
 
 /// Any measure: all of them are in the same places.
 const MEASURE: Kind = Kind::Measure(Measure::Hcp);
@@ -29,6 +29,26 @@ const RIGHT: Kind = Kind::Neighbour(Neighbour::Right);
 
 /// All that begins a condition.
 const CONDITION: [Kind; 15] = [
+    Kind::Not,
+    Kind::Open,
+    Kind::Balanced,
+    Kind::Shape,
+    Kind::Pattern,
+    Kind::Quantifier(Quantifier::Any),
+    Kind::Quantifier(Quantifier::Every),
+    Kind::Stops,
+    Kind::Number,
+    MEASURE,
+    Kind::Cards,
+    Kind::Len,
+    Kind::Longest,
+    Kind::Second,
+    Kind::Shortest,
+];
+
+/// All that begins a text.
+const TEXT: [Kind; 16] = [
+    Kind::Let,
     Kind::Not,
     Kind::Open,
     Kind::Balanced,
@@ -85,11 +105,28 @@ const COUNTS: [Kind; 6] = [
 ];
 
 /// Texts with a syntax fault, or whole ones, and what may come there.
-const EXPECTED: [(&str, &[Kind]); 39] = [
+const EXPECTED: [(&str, &[Kind]); 50] = [
     ("2*", &COUNTS),
     ("2*hcp(north) *", &[Kind::Plus, Kind::Relation, Kind::In]),
     ("hcp(north) in 2*", &[Kind::Dash]),
-    ("", &CONDITION),
+    ("", &TEXT),
+    ("not", &CONDITION),
+    ("let", &[]),
+    ("let mine", &[Kind::Open, Kind::Is]),
+    ("let mine(", &[SEAT, SUIT]),
+    ("let mine(seat", &[Kind::Comma, Kind::Close]),
+    ("let mine(seat,", &[SUIT]),
+    ("let mine(seat) is", &[Kind::Open]),
+    (
+        "let mine(seat) is (hcp(",
+        &[Kind::Seat, SEAT, PARTNER, LEFT, RIGHT],
+    ),
+    (
+        "let mine is (hcp(north)",
+        &[Kind::Plus, Kind::Relation, Kind::In, Kind::Close],
+    ),
+    ("let mine is (hcp(north)>3)", &TEXT),
+    ("let mine is (mine) mine", &CONDITION),
     ("1==1+", &VALUE),
     ("hcp(north)", &[Kind::Plus, Kind::Relation, Kind::In]),
     (
@@ -166,6 +203,62 @@ fn what_could_stand_there(rt: HostRuntime) -> Result<(), Fail> {
         assert!(rt; is_expected(rt.alloc(), text, expected)?, "{text}");
     }
     Ok(())
+}
+
+/// Beginnings, the names that may come next, whether each given one stands for a value, and whether
+/// a new one comes.
+const NAMES: [(&str, [bool; 3], &[bool], bool); 6] = [
+    ("let", [true, false, false], &[], true),
+    (
+        "let v is (hcp(north)) let mine is (1>0) mine and",
+        [true, true, false],
+        &[true, false],
+        false,
+    ),
+    (
+        "let v is (hcp(north)) let mine is (1>0) 1+",
+        [true, false, false],
+        &[true, false],
+        false,
+    ),
+    (
+        "let mine is (1>0) let",
+        [false, true, false],
+        &[false],
+        true,
+    ),
+    (
+        "let mine is (1>0) let yours is (",
+        [true, false, false],
+        &[false],
+        false,
+    ),
+    ("let mine is (", [false, false, false], &[], false),
+];
+
+#[test]
+fn which_names_could_stand_there(rt: HostRuntime) -> Result<(), Fail> {
+    for (text, may_come, values, is_new) in NAMES.iter() {
+        let beginning = Beginning::of(rt.alloc(), text.as_bytes())?;
+        assert_eq!(rt; beginning.is_after_let(), *is_new, "{text}");
+        for number in 0..3 {
+            let name = number as u16;
+            let may = beginning.allows(Kind::Name(name))?;
+            assert_eq!(rt; may, may_come[number], "{text}, {number}");
+            let told = beginning.is_value_name(name)?;
+            assert_eq!(rt; told, values.get(number).copied(), "{text}, {number}");
+        }
+    }
+    Ok(())
+}
+
+#[test]
+fn names_of_texts(rt: HostRuntime) {
+    let names = names_of(b"let v is (1) # let no\n let mine is (2) let v let hcp theirs");
+    assert_eq!(rt; names.len(), 2);
+    assert_eq!(rt; names.get(0).copied(), Some(b"v".as_slice()));
+    assert_eq!(rt; names.get(1).copied(), Some(b"mine".as_slice()));
+    assert_eq!(rt; names_of(&[b' '; 1025]).len(), 0);
 }
 
 /// Whether exactly these kinds may come there.
