@@ -92,7 +92,7 @@ def of_make():
         yield Case(f"make, {more[1]}", words, out=None, workers=3)
     deep = "(" * 509 + "0==0" + ")" * 509
     yield Case("make, brackets", asked("--where", deep), out=model.games(7, 1), workers=1)
-    yield Case("make, negations", asked("--where", "not " * 255 + "0==0"), out=model.games(7, 0), workers=1)
+    yield Case("make, negations", asked("--where", "not " * 254 + "0==0"), out=model.games(7, 1), workers=1)
 
 
 def asked(*more):
@@ -229,10 +229,10 @@ def of_refusals():
         ("not (1+2==3 and 4==) ", at + "19: syntax"),
         ("(" * 1024, at + "1024: syntax"),
         ("not " * 256, at + "1024: syntax"),
-        ("1" + "+1" * 500 + "==" + "1", None),
+        ("1" + "+1" * 500 + "==" + "501", None),
     ):
         if line is None:
-            yield Case("a sum of many", asked("--where", text), out=model.games(7, 0), workers=1)
+            yield Case("a sum of many", asked("--where", text), out=model.games(7, 1), workers=1)
         else:
             yield Case(line, asked("--where", text, *HINTS), 3, err=None, line=line.encode() + b"\n")
             yield Case(f"{line} alone", asked("--where", text), 3, err=line.encode() + b"\n")
