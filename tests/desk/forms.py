@@ -71,12 +71,12 @@ def named():
 
 
 def possible():
-    """All that could be anywhere has words to be put there."""
+    """All that could be anywhere has words to be put there, but the end and a name that a person has to think of."""
     for left, text in tables.lines(harness.TOP / "tests" / "rows" / "places" / "expected.txt"):
         if text is not None:
             expected = left.partition("; ")[2]
-            has_end = expected in ("the end", "nothing more")
-            yield f"{expected} | {text}", has_end or bool(answers.could_stand(f"  expected {expected}\n"))
+            has_none = expected in ("the end", "nothing more", "a new name")
+            yield f"{expected} | {text}", has_none or bool(answers.could_stand(f"  expected {expected}\n"))
 
 
 def listed():
