@@ -29,7 +29,7 @@ With rules it writes the boards that meet all of them, as it read them:
     --boards M        ends after M boards
     --add             adds tricks and par to boards that have none
     --numbers         writes the numbers of the candidates alone, for `deals pick`; the boards have to be JSON;
-                      with --add the board's line of tricks comes after its number
+                      with --add the board's line of tricks comes after its number, for `deals pick --tricks`
     --help, --version
 
 Exit status: 0; 1 if a deal can't be read, it isn't PBN or JSON, or the input fails; 2 for words that can't be read;

@@ -107,6 +107,10 @@ def of_pick():
     yield Case("pick, many", words, out=model.games(7, 3000), given=numbers)
     refused = b"input refused at line 3: not a number\n"
     yield Case("pick, a refused line", words, 7, model.games(7, 2), refused, given=b"0\n1\ntwo\n")
+    words = [*words, "--tricks"]
+    yield Case("pick with tricks", words, out=model.games(7, 3), given=b"0 -\n1\t-\r\n\n 2 -")
+    refused = b"input refused at line 2: not tricks\n"
+    yield Case("pick with tricks, a refused line", words, 7, model.games(7, 1), refused, given=b"0 -\n1\n2 -\n")
 
 
 def of_show():

@@ -64,7 +64,7 @@ def check_made(folder):
     files = ["./usr/bin/deals", "./usr/share/man/man1/deals.1.gz", "./usr/share/bash-completion/completions/deals"]
     files += ["./usr/share/zsh/vendor-completions/_deals", "./usr/share/fish/vendor_completions.d/deals.fish"]
     doc = "./usr/share/doc/deals/"
-    files += [doc + name for name in ("copyright", "changelog.gz", "README.md", "docs/GUIDE.md", "examples/slam.cond")]
+    files += [doc + name for name in ("copyright", "changelog.gz", "README.md", "docs/GUIDE.md", "examples/suit-slam.cond")]
     yield "the package's files", all(name in listed for name in files)
     named = re.findall(r"/usr/share/doc/deals/[\w./-]*", commands.plain(commands.MAN.read_text(encoding="utf-8")))
     yield "the files that the man page names", bool(named) and all("." + name in listed for name in named)
@@ -219,7 +219,7 @@ def check_clean(folder):
     yield "clean, make", clean.told("deals", *MAKE) == (0, told([harness.PROGRAM, *MAKE])[1], b"")
     status, out, _ = clean.told("man", "-P", "cat", "deals")
     yield "clean, man", status == 0 and b"deals - deal bridge hands" in out
-    slam = 'deals make --seed 7 --boards 1 --where "$(cat /usr/share/doc/deals/examples/slam.cond)"'
+    slam = 'deals make --seed 7 --boards 1 --where "$(cat /usr/share/doc/deals/examples/suit-slam.cond)"'
     status, _, _ = clean.told("sh", "-c", slam)
     yield "clean, an example", status == 0
     shell = commands.Terminal(["chroot", str(clean.root), "bash", "--norc", "-i"], LC_ALL="C.UTF-8", HOME="/")

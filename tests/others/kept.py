@@ -312,6 +312,19 @@ def behind_find():
     yield "its numbers", harness.deals(*words).stdout == "".join(f"{number}\n" for number in numbers).encode()
 
 
+def picked_with_tricks():
+    """The numbers with tricks of boards that were found make the sheet that the boards themselves make."""
+    harness.build()
+    search = "--seed 7 --candidates 20000 --where 'hcp(north)>=24'"
+    pick = f"{harness.PROGRAM} pick --seed 7"
+    numbered = f"{harness.PROGRAM} find {search} | {pick} --format json | {PROGRAM} --numbers --add"
+    plain = f"{harness.PROGRAM} make {search} | {PROGRAM} --add | {harness.PROGRAM} show --format sheet"
+    lines = f"{numbered} | {pick} --tricks --format sheet; echo ${{PIPESTATUS[@]}}"
+    sheets = [subprocess.run(["bash", "-c", line], capture_output=True, timeout=SECONDS, check=False) for line in (lines, plain)]
+    text = sheets[1].stdout
+    yield "a sheet of numbers with tricks", text.count(b"<section") > 0 and said(sheets[0]) == (0, text + b"0 0 0 0\n", "")
+
+
 def stopped():
     """Ctrl-C leaves whole boards."""
     whole = re.compile(rb'(\[Event .*\n\[Board .*\n\[Dealer .*\n\[Vul.*\n\[Deal "[^"]*"\]\n\n)*')
@@ -347,5 +360,5 @@ def by_rules():
     """The boards that are kept by rules."""
     tricks.build()
     parts = [compared, rows_of_rules, bytes_as_read, added, refused_words, refused_boards]
-    for part in [*parts, endless, streams, no_room, peak, pipes, behind_find, stopped, counted]:
+    for part in [*parts, endless, streams, no_room, peak, pipes, behind_find, picked_with_tricks, stopped, counted]:
         yield from report.judged(part())

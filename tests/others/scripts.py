@@ -1,6 +1,9 @@
 """Scripts of dealer, translated: dealer deals, and says which of its deals a script's condition accepts; the second reader of
 conditions says which the translated one accepts. They have to be the same, one by one."""
 
+import concurrent.futures
+import functools
+import os
 import pathlib
 import random
 import re
@@ -53,6 +56,8 @@ def dealt(script, count):
     return [line for line in ended.stdout.splitlines() if line.startswith("n ")]
 
 
+# Most scripts are asked of the same deals.
+@functools.lru_cache(2 * MANY_DEALS)
 def hands_of(line):
     """The four hands of a line, as lists of card numbers."""
     hands = []
@@ -84,7 +89,7 @@ def without_actions(text):
 
 def examples():
     """The scripts of Debian's package: translated whole, or refused at the first thing that can't be said."""
-    for file in sorted(EXAMPLES.glob("Descr.*")):
+    for file in [*sorted(EXAMPLES.glob("Descr.*")), EXAMPLES / "Test.distribution"]:
         name, text = file.suffix[1:], file.read_text(encoding="latin-1")
         status, commands, said = translated(text)
         if name in REFUSED:
@@ -133,7 +138,7 @@ class Writer:
 
     def test(self, depth):
         dice = self.dice
-        kind = dice.randrange(8) if depth else dice.randrange(5)
+        kind = dice.randrange(9) if depth else dice.randrange(6)
         if kind < 3:
             return f"{self.number(min(depth, 1))} {dice.choice(['<', '<=', '>', '>=', '==', '!='])} {self.number(0)}"
         if kind == 3:
@@ -141,8 +146,11 @@ class Writer:
         if kind == 4:
             return f"hascard({dice.choice(SEATS)}, {dice.choice('AKQJT')}{dice.choice('SHDC')})"
         if kind == 5:
-            return f"{dice.choice(['!', 'not '])}({self.test(depth - 1)})"
+            divided = dice.choice([f"hcp({dice.choice(SEATS)})", f"{dice.choice(SUITS)}({dice.choice(SEATS)})"])
+            return f"{divided}/{dice.randrange(2, 6)} {dice.choice(['<', '<=', '>', '>=', '==', '!='])} {self.number(0)}"
         if kind == 6:
+            return f"{dice.choice(['!', 'not '])}({self.test(depth - 1)})"
+        if kind == 7:
             return f"({self.test(depth - 1)} {dice.choice(['and', '&&'])} {self.test(depth - 1)})"
         return f"({self.test(depth - 1)} {dice.choice(['or', '||'])} {self.test(depth - 1)})"
 
@@ -160,14 +168,15 @@ class Writer:
         if dice.random() < 0.6:
             lines.append(f"three_4 = {dice.choice(['one', 'not one'])} {dice.choice(['and', 'or'])} {self.test(0)}")
             test = dice.choice([f"three_4 and ({test})", f"three_4 || one && not {self.test(0)}", f"not three_4 and one or ({test})"])
-        lines.append(f"condition {test} // the last")
+        lines.append(f"{dice.choice(['condition ', ''])}{test} // the last")
         return "\n".join(lines)
 
 
 def random_scripts():
     dice = random.Random(20261128)
     scripts = [Writer(dice).script() for _ in range(MANY_SCRIPTS if report.has("many") else SCRIPTS)]
-    yield from report.asked(complaint, scripts, name=lambda script: script.replace("\n", "; "))
+    with concurrent.futures.ProcessPoolExecutor(len(os.sched_getaffinity(0))) as pool:
+        yield from zip((script.replace("\n", "; ") for script in scripts), pool.map(complaint, scripts), strict=True)
 
 
 def words():
@@ -309,6 +318,8 @@ def runs():
     yield "a full disk", None if (ended.returncode, ended.stderr) == (4, said) else f"{ended.returncode}: {ended.stderr!r}"
     _, _, said = translated("altcount 6 3 2\npt6(north)>2")
     yield "altcount, what is told", None if "manual" in said else said
+    _, _, said = translated("predeal spades(north)==1")
+    yield "lengths in predeal, what is told", None if "manual" in said else said
     for given, status in ((["/nowhere"], 1), (["--seed", "x"], 2), (["--seed", "4294967296"], 2), (["a", "b"], 2)):
         ended = subprocess.run([PYTHON, TRANSLATOR, *given], capture_output=True, text=True, check=False)
         yield f"words, {given}", None if ended.returncode == status and "Traceback" not in ended.stderr else ended.stderr

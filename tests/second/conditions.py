@@ -34,8 +34,10 @@ CANDIDATES = 20_000
 # How many random conditions there are, and of how many candidates each is asked.
 RANDOM = 20_000 if report.has("many") else 2_000
 ASKED = 48
+# How many worked conditions there are at the least.
+WORKED = 20
 # How many lessons there are, and of how many candidates the condition of each is asked.
-LESSONS, TAUGHT = 60, 4_000
+LESSONS, TAUGHT = 67, 4_000
 # The pack has forty points: true of each candidate, and false of each.
 POINTS = "+".join(f"hcp({seat})" for seat in language.SEATS)
 FORTY = [(f"{POINTS}==40", CANDIDATES), (f"{POINTS}!=40", 0)]
@@ -44,8 +46,8 @@ FORTY = [(f"{POINTS}==40", CANDIDATES), (f"{POINTS}!=40", 0)]
 def worked():
     """The worked conditions of the docs, each with its heading."""
     text = (harness.TOP / "docs" / "CONDITIONS.md").read_text()
-    for heading, condition in re.findall(r"^### (\d+\. [^\n]+)\n\n```\n(.*?)\n```", text, re.M | re.S):
-        yield heading, condition
+    part = text.partition("\n## Worked conditions\n")[2].partition("\n## ")[0]
+    yield from re.findall(r"^### ([^\n]+)\n\n```\n(.*?)\n```", part, re.M | re.S)
 
 
 def lessons():
@@ -127,7 +129,7 @@ def worked_conditions():
     chosen = [(complaint, name, text, deals()) for name, text in [*worked(), *examples()]]
     # A lesson may be rarer than one in these candidates.
     taught = [(random_complaint, name, text, deals(), TAUGHT) for name, text in lessons()]
-    yield "how many there are", None if len(list(worked())) >= 40 and len(taught) == LESSONS else "fewer than there were"
+    yield "how many there are", None if len(list(worked())) >= WORKED and len(taught) == LESSONS else "fewer than there were"
     with concurrent.futures.ProcessPoolExecutor(len(os.sched_getaffinity(0))) as pool:
         tried = [(name, pool.submit(judge, *asked)) for judge, name, *asked in [*chosen, *taught]]
         for name, outcome in tried:

@@ -32,12 +32,15 @@ CALLS = {
     "strong-two-clubs": ["2C"],
     "weak-two": ["2S 2H"],
     "weak-two-diamonds": ["2D"],
+    "ogust": ["2S 2H", "P"],
     "preempt": ["3S 3H 3D 3C"],
     "four-level-preempt": ["4S 4H"],
     "gambling-3nt": ["3N"],
     "rule-of-20": ["1S 1H 1D 1C"],
     "third-seat": ["P", "P"],
     "single-raise": ["1S 1H", "P", "2S 2H"],
+    "bergen-raise": ["1S 1H", "P", "2S 2H"],
+    "drury": ["P", "P"],
     "limit-raise": ["1S 1H", "P", "3S 3H"],
     "preemptive-raise": ["1S 1H", "P", "4S 4H"],
     "jacoby-2nt": ["1S 1H", "P", "2N"],
@@ -45,6 +48,8 @@ CALLS = {
     "inverted-minor": ["1D", "P", "2D"],
     "one-over-one": ["1D", "P", "1H 1S"],
     "one-notrump-response": ["1S", "P", "1N"],
+    "two-way-checkback": ["1D 1C", "P", "1S"],
+    "reverse-flannery": ["1D 1C", "P", "1S"],
     "two-over-one": ["1S", "P", "2C"],
     "reverse": ["1D 1C", "P", "1S"],
     "fourth-suit": ["1D", "P", "1S"],
@@ -66,6 +71,8 @@ CALLS = {
     "unusual-notrump": ["1S 1H", "U"],
     "majors-against-notrump": ["1N", "M"],
     "negative-double": ["1D", "1S"],
+    "support-double": ["1D", "P", "1H"],
+    "lebensohl": ["1N", "2S"],
     "raise-of-overcall": ["1D", "1S"],
     "balancing": ["1H", "P", "P"],
     "responsive-double": ["1H", "X"],
@@ -137,7 +144,7 @@ def boards():
     """Each lesson of the table."""
     listed = [lesson for group in starts.groups(str(harness.PROGRAM)) for lesson in group.lessons]
     names = [lesson.name for lesson in listed]
-    yield "sixty lessons", None if len(names) == len(set(names)) == 60 else f"{len(names)} names"
+    yield "67 lessons", None if len(names) == len(set(names)) == 67 else f"{len(names)} names"
     yield "each lesson that is judged is there", ", ".join(sorted(set(CALLS) - set(names))) or None
     other = starts.Lesson("stayman", "", "", "balanced(north) and hcp(north) in 15-17")
     judgement = judged(other, "--where", other.where)

@@ -27,9 +27,30 @@ PIECES = [
 ]
 
 
+# How two sentences in five begin, so that a third of all texts have names: whole definitions, the first of which a later
+# one may use.
+DEFINED = [
+    *["let strong ( seat ) is ( hcp ( seat ) >= 15 )", "let strong ( suit ) is ( len ( north , suit ) )"],
+    *["let strong ( seat , suit ) is ( stops ( seat , suit ) )", "let strong is ( any suit ( 8 < len ( west , suit ) ) )"],
+    *["let strong is ( 6 * cards ( east , a ) + controls ( east ) ) let weak is ( strong < 9 )", "let strong ("],
+]
+
+
+def begun(dice, machine):
+    """The words that a sentence begins with, taken by the machine: a definition or two, or none."""
+    words = dice.choice(DEFINED).split() if dice.randrange(5) < 2 else []
+    kinds = {word: kind for kind, spelled in SPELLED.items() for word in spelled}
+    for at, word in enumerate(words):
+        given = {name.letters: f"name {number}" for number, name in enumerate(machine.names)}
+        is_new = at > 0 and words[at - 1] == "let"
+        machine.take("new" if is_new else kinds.get(word) or given.get(word) or "number", word)
+    return words
+
+
 def sentence(dice):
     """Tokens that mostly may follow those before them."""
-    machine, is_sound, words = grammar.Text(), True, []
+    machine = grammar.Text()
+    is_sound, words = True, begun(dice, machine)
     for _ in range(dice.randrange(30)):
         spelled = {**SPELLED, "new": [NEW[len(machine.names)]]}
         spelled |= {f"name {at}": [name.letters] for at, name in enumerate(machine.names)}

@@ -1,5 +1,6 @@
-"""Random lines of tricks with the deals that they are for, or others, too many and too few: what `make --tricks` of the
-built program writes and says, by a second reading of the lines (a regular expression) and a second program (notation.py).
+"""Random lines of tricks with the deals that they are for, or others, too many and too few, and behind the numbers of
+candidates: what `make --tricks` and `pick --tricks` of the built program write and say, by a second reading of the lines
+(a regular expression) and a second program (notation.py).
 """
 
 import json
@@ -81,10 +82,74 @@ def cases():
         yield words + ["--rotate"] * rotate, text, wanted, refused
 
 
-def of_their_deals():
+def picked(text, seed, rotate):
+    """The candidates of the boards that are written, with their tricks, and what is refused."""
+    boards = []
+    for number, line in enumerate(lines_of(text), 1):
+        if not line.strip(" \t"):
+            continue
+        word, *rest = re.split(r"[ \t]", line.lstrip(" \t"), maxsplit=1)
+        if not re.fullmatch(r"[0-9]{1,13}", word):
+            return boards, f"line {number}: not a number"
+        if int(word) >= 2**40:
+            return boards, f"line {number}: not below {2**40}"
+        found = LINE.fullmatch("".join(rest))
+        if not found:
+            return boards, f"line {number}: not tricks"
+        if found["deal"] not in (None, deal_of(seed, int(word), len(boards) + 1, rotate)):
+            return boards, f"line {number}: tricks of another deal"
+        boards.append((int(word), found["tricks"]))
+    return boards, None
+
+
+def deal_of(seed, candidate, number, rotate):
+    """The Deal value of a candidate's board."""
+    return json.loads(notation.text(seed, 1, "json", rotate=rotate, first=candidate, first_board=number))["deal"]
+
+
+def numbered_text(rng, seed, rotate):
+    """Lines of numbers with tricks, mostly as they have to be; and lines that are skipped."""
+    lines, count = [], 0
+    for _ in range(rng.randrange(6)):
+        candidate = rng.randrange(5)
+        count += 1
+        deal = deal_of(seed, rng.choice([candidate] * 9 + [candidate + 1]), count, rotate)
+        named = rng.choice(["", " " + deal, " " + deal])
+        number = rng.choice([str(candidate)] * 16 + [f"{candidate:013}", "0" * 14, str(2**40), "-1", "1\0"])
+        front, blank = rng.choice(["", "", "", " \t ", " " * 300]), rng.choice([" ", " ", " ", "\t", "  ", ""])
+        lines.append(front + number + rng.choice([blank, " "]) + spoiled(rng, formats.random_line(rng) + named))
+        lines += rng.choice([[], [], [], [""], [" \t" * rng.choice([1, 200])]])
+    text = "".join(line + rng.choice(["\n", "\n", "\r\n"]) for line in lines)
+    return rng.choice([text, text, text[:-1]])
+
+
+def numbered_cases():
+    """The words, the lines, and what has to be written and said."""
+    rng = random.Random(16)
+    for _ in range(MANY if report.has("many") else CASES):
+        seed, rotate = rng.randrange(9), rng.random() < 0.5
+        form, show = rng.choice(["json", "pbn", "hands", "lin"]), rng.choice(["all", "all", "north", "dealer"])
+        text = numbered_text(rng, seed, rotate)
+        boards, refused = picked(text, seed, rotate)
+        head = notation.header(form, (), True).encode()
+        wanted = head
+        for number, (candidate, tricks) in enumerate(boards, 1):
+            board = notation.text(seed, 1, form, rotate=rotate, first=candidate, first_board=number, show=show, lines=[tricks])
+            wanted += board.removeprefix(head)
+        words = ["--seed", str(seed), "--format", form, "--show", show, "--tricks"]
+        yield words + ["--rotate"] * rotate, text, wanted, refused
+
+
+def judged(command, each):
     """What is wrong with each call; None where nothing is."""
-    for words, text, wanted, refused in cases():
-        ended = subprocess.run([harness.PROGRAM, "make", *words], input=text.encode(), capture_output=True, check=False)
+    for words, text, wanted, refused in each:
+        ended = subprocess.run([harness.PROGRAM, command, *words], input=text.encode(), capture_output=True, check=False)
         said = f"input refused at {refused}\n" if refused else ""
         right = (ended.returncode, ended.stdout, ended.stderr.decode()) == (7 if refused else 0, wanted, said)
-        yield f"{' '.join(words)} < {text!r}", None if right else f"not {refused}: {ended.stderr.decode()}"
+        yield f"{command} {' '.join(words)} < {text!r}", None if right else f"not {refused}: {ended.stderr.decode()}"
+
+
+def of_their_deals():
+    """Lines of the boards that `make` finds, and of numbers that `pick` reads."""
+    yield from judged("make", cases())
+    yield from judged("pick", numbered_cases())

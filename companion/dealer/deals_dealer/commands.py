@@ -15,8 +15,10 @@ MOST_BOARDS = 4294967295
 GENERATE, PRODUCE, PRODUCE_COUNTED = 1_000_000, 40, 100_000
 SEED = 1
 ORDER = "AKQJT98765432"
-# Debian's dealer sets another count by altcount than its manual says: that of two numbers before.
+# Debian's dealer sets another count by altcount than its manual says: that of two numbers before. It takes lengths in
+# predeal, and deals as without them.
 ALTCOUNT = "altcount sets the count that dealer's manual says; dealer 20211121 sets another"
+LENGTHS = "lengths in predeal are kept, as dealer's manual says; dealer 20211121 ignores them"
 
 # The actions that write boards: the look, and what is other.
 LOOKS = {
@@ -91,7 +93,8 @@ class Translation:
     def notes(self, note: str) -> tuple[str, ...]:
         """What is other in an action, and in the whole script."""
         alternative = ALTCOUNT if self.script.weights.keys() - {"hcp"} else ""
-        return tuple(text for text in (note, alternative) if text)
+        lengths = LENGTHS if self.script.lengths else ""
+        return tuple(text for text in (note, alternative, lengths) if text)
 
     def command(self, action: Action) -> list[Command]:
         """What an action becomes."""

@@ -167,8 +167,10 @@ def combined(expression: Binary, left: Sum, right: Sum) -> Sum:
         quotient = abs(left.number) // abs(right.number) * (1 if (left.number < 0) == (right.number < 0) else -1)
         return Sum(number=quotient if sign == "/" else left.number - quotient * right.number)
     is_simple = not left.divided and left.number >= 0 and all(often > 0 for _, often in left.counts)
-    if sign == "/" and is_simple and right.number > 0:
-        return Sum(divided=((left, right.number, 1),))
+    if sign == "/":
+        if is_simple and right.number > 0:
+            return Sum(divided=((left, right.number, 1),))
+        raise Refusal(expression.at, "deals has no division: multiply both sides")
     raise Refusal(
         expression.at, "deals has no remainders: say which numbers it may be, as hcp(north)==10 or hcp(north)==12"
     )

@@ -27,7 +27,8 @@ pub struct Reasons<'a> {
 
 /// Returns what helps with a failure, to be printed below the line that names it; none if nothing
 /// does, or if memory runs out. The words are those of the command line; without a request they
-/// were refused. With the text of a condition or a question `hints` helps.
+/// were refused. With the text of definitions, of a condition or of a
+/// question `hints` helps.
 pub fn help(
     alloc: Global,
     words: &[String],
@@ -46,7 +47,7 @@ pub fn help(
         Failure::Input => reason_of_input(alloc, reasons),
         Failure::Line(line) => String::from_str(alloc, line_help(*line)).ok(),
         Failure::Record(line) => String::from_str(alloc, record_help(*line)?).ok(),
-        Failure::Condition(_) | Failure::Question(..) => None,
+        Failure::Definitions(_) | Failure::Condition(_) | Failure::Question(..) => None,
         Failure::Interrupted(_) | Failure::EndOfInput => None,
     }
 }

@@ -14,6 +14,7 @@ use Rattle.boards.specs.declared.setting.Vul.{Vul}
 use Rattle.boards.specs.declared.setting.Vul.TheVariants.{Neither, NorthSouth, EastWest, Both}
 use Rattle.cards.specs.declared.seat.Seat.{Seat}
 use Rattle.cards.specs.declared.seat.Seat.TheVariants.{North, East, South, West}
+use Rattle.request_types.specs.Defaults.{with_long_lanes}
 use Rattle.request_types.specs.PredealtHands.{GivenHands}
 use Rattle.request_types.specs.Requests.{Look, Questions, Search, Wish, conditions, count, draw}
 use Rattle.lessons.specs.Lessons.{Lesson, lesson_named}
@@ -154,6 +155,7 @@ search_in rows = record {
   workers = workers_in rows;
   lane = number_in (codes "lane") rows;
   lesson = option_map (λ l. l.condition) (lesson_in (codes "lesson") rows);
+  let_text = first_of (codes "let") rows;
   where_text = first_of (codes "where") rows;
   boards = number_in (codes "boards") rows;
   hands = hands_in rows;
@@ -233,9 +235,10 @@ boards_made_by None s rows =
 abbrev pub made_by : Text → Search → List Row → Wish
 made_by name s rows =
     if bytes_eq name (codes "pick")
-    then pick s.seed s.hands (look_in rows) (when_in (codes "hints") rows)
+    then pick s.seed s.hands (look_in rows) (is_set (codes "tricks") rows)
+    (when_in (codes "hints") rows)
     else if bytes_eq name (codes "count")
-    then count s (questions_in rows) (style_in rows) (notices_in rows)
+    then count (with_long_lanes s) (questions_in rows) (style_in rows) (notices_in rows)
     else boards_made_by (meant_by finders name) s rows
 
 -- by the subcommand's name and what its options were given

@@ -59,6 +59,7 @@ abbrev pub search_rules : List Rule
 search_rules =
     option_rule (codes "lesson") parsed.String
     ∷ lettered (codes "w") (option_rule (codes "where") parsed.String)
+    ∷ option_rule (codes "let") parsed.String
     ∷ lettered (codes "n") (option_rule (codes "boards") u32_parser)
     ∷ option_rule (codes "candidates") u64_parser
     ∷ option_rule (codes "first") u64_parser
@@ -131,7 +132,8 @@ count_app = command_with (codes "count") (
 -- `deals pick --seed S` and its further options
 abbrev pub pick_app : App
 pick_app = command_with (codes "pick") (
-    seed_rule ∷ hand_rules ++ format_rule ∷ show_rule ∷ points_rule ∷ look_rules
+    seed_rule ∷ hand_rules
+    ++ format_rule ∷ show_rule ∷ points_rule ∷ flag_rule (codes "tricks") ∷ look_rules
     ++ hints_rule ∷ help_flag ∷ [])
 
 -- `deals show` and its options

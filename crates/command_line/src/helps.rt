@@ -59,6 +59,10 @@ where: What each deal has to meet, in quotes, as
 'hcp(north)>=15'; deals help conditions explains it
 [default: every deal]
 
+let: Names that conditions and questions may use, as
+'let fit(suit) is (len(north,suit)+len(south,suit))'
+[default: none]
+
 boards: How many boards, 1 to 4294967295; fewer come if no more
 of the deals that are tried match [default: no limit]
 
@@ -137,7 +141,7 @@ date: The date, as 2024.05.01 [default: no line]",
 suit this computer [default: 1]
 
 lane: How far a worker may search ahead, 1 to 4096 deals
-[default: 64, and 4096 with --workers auto]",
+[default: 64, and 4096 in count and with --workers auto]",
     ),
     (
         "What is said",
@@ -179,7 +183,10 @@ const OF_PICK: &[Section] = &[
     ),
     (
         LOOK,
-        "first-board: The number of the first board, 1 to 1099511627776
+        "tricks: Writes what can be made on each board, as its line
+tells it after the number; deals-tricks writes them
+
+first-board: The number of the first board, 1 to 1099511627776
 [default: 1]",
     ),
 ];

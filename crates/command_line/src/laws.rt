@@ -98,12 +98,20 @@ pub fn example_of_hands()
         ≡ Some (pick 2024 (record none_given {
           north = Some (codes "KQ432.A93.AJ.JT8");
           south = Some (codes "A985.KJ742.KQ32.");
-        }) (record plain_look { format = Hands }) Auto) }
+        }) (record plain_look { format = Hands }) false Auto) }
 {}
 
-/// `deals show --format hands --show dealer --points hide --event Club` asks for hand records of the
-/// boards that the input has, with the dealers' hands alone and without points. A seed is refused,
-/// since nothing is dealt, and so is a word that means no format.
+/// `deals pick --seed 7 --tricks` asks for the boards of the candidates whose numbers the input
+/// gives, each with the tricks that its line tells.
+pub fn example_of_picked()
+    ensures { asked
+        (codes "deals" ∷ codes "pick" ∷ codes "--seed" ∷ codes "7" ∷ codes "--tricks" ∷ [])
+        ≡ Some (pick 7 none_given plain_look true Auto) }
+{}
+
+/// `deals show --format hands --show dealer --points hide --event Club` asks for hand records of
+/// the boards that the input has, with the dealers' hands alone and without points. A seed is
+/// refused, since nothing is dealt, and so is a word that means no format.
 pub fn example_of_show()
     ensures asked { asked
         (codes "deals" ∷ codes "show" ∷ codes "--format" ∷ codes "hands"
@@ -143,8 +151,8 @@ pub fn example_of_find()
 {}
 
 /// `deals count --seed 7 --candidates 800 --where 'hcp(south)>=18' --of 'hcp(south)' --by
-/// 'second(south)' --format csv` asks for a table of two questions. One for the columns alone is
-/// refused, and so is a format of boards.
+/// 'second(south)' --format csv` asks for a table of two questions, over long lanes. One for the
+/// columns alone is refused, and so is a format of boards.
 pub fn example_of_count()
     ensures asked { asked
         (codes "deals" ∷ codes "count" ∷ codes "--seed" ∷ codes "7"
@@ -153,6 +161,7 @@ pub fn example_of_count()
         ∷ codes "--format" ∷ codes "csv" ∷ [])
         ≡ Some (count (record (plain_search 7) {
           candidates = Some 800;
+          lane = Some 4096;
           where_text = Some (codes "hcp(south)>=18");
         }) (two_questions (codes "hcp(south)") (codes "second(south)")) Csv plain_notices) }
     ensures alone { kinds_for

@@ -188,6 +188,8 @@ const LESSON: Row = optional! { "lesson" Text("NAME") };
 
 const WHERE: Row = optional! { 'w' "where" Text("TEXT") };
 
+const LET: Row = optional! { "let" Text("TEXT") };
+
 const BOARDS: Row = optional! { 'n' "boards" U32("M") };
 
 const CANDIDATES: Row = optional! { "candidates" U64("N") };
@@ -247,24 +249,24 @@ const VALUES: Row = required! { "count" Count("N") };
 // Which deals, how they look, speed, and what is said: each in the order in which people need them.
 
 pub(crate) const MAKE: &[Row] = &[
-    SEED, LESSON, WHERE, BOARDS, CANDIDATES, FIRST, NORTH, EAST, SOUTH, WEST, FORMAT, SHOW, POINTS,
-    TRICKS, DEALER, VULNERABLE, ROTATE, FROM_BOARD, EVENT, SITE, DATE, WORKERS, LANE, REPORT,
-    PROGRESS, HINTS, HELP,
+    SEED, LESSON, WHERE, LET, BOARDS, CANDIDATES, FIRST, NORTH, EAST, SOUTH, WEST, FORMAT, SHOW,
+    POINTS, TRICKS, DEALER, VULNERABLE, ROTATE, FROM_BOARD, EVENT, SITE, DATE, WORKERS, LANE,
+    REPORT, PROGRESS, HINTS, HELP,
 ];
 
 pub(crate) const FIND: &[Row] = &[
-    SEED, LESSON, WHERE, BOARDS, CANDIDATES, FIRST, NORTH, EAST, SOUTH, WEST, WORKERS, LANE,
+    SEED, LESSON, WHERE, LET, BOARDS, CANDIDATES, FIRST, NORTH, EAST, SOUTH, WEST, WORKERS, LANE,
     REPORT, PROGRESS, HINTS, HELP,
 ];
 
 pub(crate) const COUNT: &[Row] = &[
-    SEED, LESSON, WHERE, BOARDS, CANDIDATES, FIRST, NORTH, EAST, SOUTH, WEST, OF, BY, FORMAT,
+    SEED, LESSON, WHERE, LET, BOARDS, CANDIDATES, FIRST, NORTH, EAST, SOUTH, WEST, OF, BY, FORMAT,
     WORKERS, LANE, PROGRESS, HINTS, HELP,
 ];
 
 pub(crate) const PICK: &[Row] = &[
-    SEED, NORTH, EAST, SOUTH, WEST, FORMAT, SHOW, POINTS, DEALER, VULNERABLE, ROTATE, FROM_BOARD,
-    EVENT, SITE, DATE, HINTS, HELP,
+    SEED, NORTH, EAST, SOUTH, WEST, FORMAT, SHOW, POINTS, TRICKS, DEALER, VULNERABLE, ROTATE,
+    FROM_BOARD, EVENT, SITE, DATE, HINTS, HELP,
 ];
 
 pub(crate) const SHOWN: &[Row] = &[FORMAT, SHOW, POINTS, EVENT, SITE, DATE, HINTS, HELP];

@@ -115,6 +115,7 @@ fn search_in<'a>(matches: &ArgMatches<'a>) -> Search<'a>
         workers: workers_in(matches),
         lane: u32_in(matches, "lane"),
         lesson: condition_of(lesson_in(matches, "lesson")),
+        let_text: text_in(matches, "let"),
         where_text: text_in(matches, "where"),
         boards: u32_in(matches, "boards"),
         hands: hands_in(matches),
@@ -242,12 +243,13 @@ fn request_by<'a>(name: &str, search: Search<'a>, matches: &ArgMatches<'a>) -> R
             seed: search.seed,
             hands: search.hands,
             look,
+            tricks: is_set(matches, "tricks"),
             hints: notices.hints,
         };
     }
     if name == "count" {
         return Request::Count {
-            search,
+            search: search.with_long_lanes(),
             questions: questions_in(matches),
             style: STYLE.given(matches).unwrap_or(Style::Table),
             notices,

@@ -12,7 +12,7 @@ use Rattle.conditions.specs.Form.{Amount, Form, number}
 use Rattle.cond_lang.specs.Classes.{unbound}
 use Rattle.cond_lang.specs.Definitions.{HasParams, no_params, a_seat, a_suit, seat_and_suit, IsBody, IsDefinition, defines, AreDefinitions, none, one_more, defined, Spells, SpellsAmount}
 use Rattle.cond_lang.specs.Grammar.{Meaning, Meanings, SpellsCond, SpellsValue, atom, a_number}
-use Rattle.cond_lang.specs.internal.Defining.{new_name, word_is, word_suit, behind_seat, param, params, body, is_body, definition, definitions_by, definitions, ended, cond_alone, value_alone, whole, whole_value}
+use Rattle.cond_lang.specs.internal.Defining.{new_name, word_is, word_suit, behind_seat, param, params, body, is_body, definition, definitions_by, definitions, ended, definitions_alone, cond_alone, value_alone, whole, whole_value}
 use Rattle.cond_lang.specs.internal.Reading.{Outcome, got, stuck, Reader, after, front, opened, closing, a_cond, a_both, a_unit, a_value, ors, ands, related_by, atom_of, number_or_count, count_of, reading}
 use Rattle.cond_lang.proofs.Bodies.{some_body, reads_body, body_read}
 use Rattle.cond_lang.proofs.Enough.{after_same, reads, reading_reads}
@@ -256,6 +256,12 @@ reads_whole_value S =
     reads_after (AreDefinitions []) (λ N. SpellsValue N unbound) SpellsAmount (definitions []) (λ N R. value_alone N R) S (definitions [] S)
     (λ P Q N t d h. defined d h) (λ N. (Number 0 ∷ [], number 0, atom a_number)) (reads_definitions [] S) reads_value_alone
 
+pub reads_alone : (S : List Token) → Reads (AreDefinitions []) definitions_alone S (definitions_alone S)
+unfolding definitions_alone
+reads_alone S =
+    reads_after (AreDefinitions []) EndsWith (AreDefinitions []) (definitions []) ended S (definitions [] S)
+    (λ P Q N M d m. rw (m.0, m.1, append-nil P) d) (λ N. ([], N, (refl, refl))) (reads_definitions [] S) reads_ended
+
 -- What is spelled is read.
 pub whole_spelled : {T : List Token} {t : Form} → Spells T t → whole T ≡ got t []
 unfolding whole
@@ -270,6 +276,12 @@ whole_value_spelled (defined {D} {T} {N} {x = a} d h) =
     ap (λ o. after o (λ N R. value_alone N R)) (definitions_read d T (no_let_value h))
     ∙ ap (λ T. after (reading N unbound a_value T) ended) (sym (append-nil T))
     ∙ ap (λ o. after o ended) (value_read h [] (λ e. cc, λ e. cc))
+
+pub alone_read : {T : List Token} {N : Meanings} → AreDefinitions [] T N → definitions_alone T ≡ got N []
+unfolding definitions_alone
+alone_read {T} {N} d =
+    ap (λ T. after (definitions [] T) ended) (sym (append-nil T))
+    ∙ ap (λ o. after o ended) (definitions_read d [] (λ e. cc))
 
 -- nothing is left of what is read whole
 ended_nil : {A : Type 0} (o : Outcome A) (x : A) (R : List Token) → after o ended ≡ got x R → R ≡ []
@@ -289,11 +301,20 @@ pub whole_value_nil : (T R : List Token) (a : Amount) → whole_value T ≡ got 
 unfolding whole_value
 whole_value_nil T R a e = after_nil (definitions [] T) (λ N R. value_alone N R) a R (λ N S i. ended_nil (reading N unbound a_value S) a R i) e
 
+alone_nil : (T R : List Token) (N : Meanings) → definitions_alone T ≡ got N R → R ≡ []
+unfolding definitions_alone
+alone_nil T R N e = ended_nil (definitions [] T) N R e
+
 -- What is read is spelled.
 pub whole_right : (T R : List Token) (t : Form) → whole T ≡ got t R → Spells T t
 whole_right T R t e =
     let h : Reads Spells whole T (got t R) = subst (λ o. Reads Spells whole T o) e (reads_whole T) in
     subst (λ L. Spells L t) (sym (h.cut ∙ ap (λ R. h.done ++ R) (whole_nil T R t e) ∙ append-nil h.done)) h.right
+
+pub alone_right : (T R : List Token) (N : Meanings) → definitions_alone T ≡ got N R → AreDefinitions [] T N
+alone_right T R N e =
+    let h : Reads (AreDefinitions []) definitions_alone T (got N R) = subst (λ o. Reads (AreDefinitions []) definitions_alone T o) e (reads_alone T) in
+    subst (λ L. AreDefinitions [] L N) (sym (h.cut ∙ ap (λ R. h.done ++ R) (alone_nil T R N e) ∙ append-nil h.done)) h.right
 
 pub whole_value_right : (T R : List Token) (a : Amount) → whole_value T ≡ got a R → SpellsAmount T a
 whole_value_right T R a e =

@@ -1,5 +1,5 @@
 -- What a text tells, it tells once.
-use Rattle.std.proofs.Common.{◌≡◌, ℕ, ◌≤◌, ◌<◌, List, length, Result, Err, Some, IfErr, sym, ap, ◌∙◌, subst, arith}
+use Rattle.std.proofs.Common.{◌≡◌, ℕ, List, Result, Err, Some, IfErr, sym, ap, ◌∙◌, subst}
 use Rattle.cond_lang.specs.declared.scanner.Placed.{Placed}
 use Rattle.cond_lang.specs.declared.scanner.Piece.{Piece}
 use Rattle.cond_lang.specs.declared.scanner.Piece.TheVariants.{Separator, Token as TokenPiece, StrayByte, UnknownWord, LongNumber}
@@ -80,11 +80,8 @@ one_text_tree text xs a b h s t =
 
 -- Refusals, as a result tells them.
 
-pub piece_too_long :
-    (text : List ℕ) (r : Result Form CondError) (e : CondError) → r ≡ Err e → HasFault text e → length text ≤ 1024
-    → (r ≡ Err TooLong → 1024 < length text) × (1024 < length text → r ≡ Err TooLong)
-piece_too_long text r e i h few =
-    (λ k. let same : e ≡ TooLong = cc in absurd (subst IsOfPiece same (fault_of_piece text e h)), λ k. absurd (omega arith))
+pub piece_no_limit : {A : Type 0} (text : List ℕ) (r : Result A CondError) (e : CondError) → r ≡ Err e → HasFault text e → r ≡ Err TooLong → ⊥
+piece_no_limit {A} text r e i h k = let same : e ≡ TooLong = cc in subst IsOfPiece same (fault_of_piece text e h)
 
 pub piece_refused : (text : List ℕ) (r : Result Form CondError) (e : CondError) → r ≡ Err e → HasFault text e → IfErr r (IsDue text)
 piece_refused text r e i h = rw i (fault_due text e h)

@@ -10,9 +10,8 @@ ghost use Rattle.cond_lang.specs.Faults.{IsDue};
 ghost use Rattle.cond_lang.specs.Text.{kinds};
 
 use crate::parser::{is_value_name, read_as_far, read_value};
-use crate::scanner::{MAX_BYTES, Placed, Token, scan};
+use crate::scanner::{MAX_READ, Placed, Token, scan};
 use crate::words::Kind;
-use arrayvec::ArrayVec;
 use conditions::CondError;
 use std::alloc::{AllocError, Global};
 use std::marker::Model;
@@ -23,7 +22,7 @@ use std::marker::Model;
 #[derive(Drop)]
 pub struct Beginning {
     alloc: Global,
-    tokens: ArrayVec<Placed, 1024>,
+    tokens: Vec<Placed>,
     count: usize,
 }
 
@@ -36,7 +35,7 @@ impl Model for Beginning {
 
     ghost view = { λ b. take b.count (kinds b.tokens.items) };
 
-    ghost invariant = { λ b. (b.count ≤ length b.tokens.items) × (b.count ≤ 1024) };
+    ghost invariant = { λ b. (b.count ≤ length b.tokens.items) × (b.count ≤ 5121) };
 }
 
 impl Beginning {
@@ -44,19 +43,22 @@ impl Beginning {
     /// spells a condition is a beginning as a whole.
     ///
     /// # Errors
-    /// Those of `parse` but `Syntax` and `TooManyParts`: the text has more than 1,024 bytes or a
+    /// Those of `parse` but `Syntax` and `TooManyParts`: the text has more than 5,121 bytes or a
     /// faulty piece, or an allocation failed.
+    #[inline(never)]
     pub fn of(alloc: Global, text: &[u8]) -> Result<Beginning, CondError>
         ensures begins { IfOk result (λ b. IsBeginning text.now b) }
-        ensures short { IfOk result (λ b. length text.now ≤ 1024) }
+        ensures short { IfOk result (λ b. length text.now ≤ 5121) }
         ensures refused { IfErr result (λ e. IsDue text.now e) }
         ensures spared { (at : ℕ) → result ≢ Err (CondError.Syntax at) }
         ensures uncounted { result ≢ Err CondError.TooManyParts }
     {
-        if text.len() > MAX_BYTES {
+        if text.len() > MAX_READ {
             return Err(CondError::TooLong);
         }
-        let tokens = scan(text)?;
+        let Ok(tokens) = kept(alloc, scan::<MAX_READ>(text)?.as_slice()) else {
+            return Err(CondError::Memory);
+        };
         let count = read_as_far(alloc, tokens.as_slice())?.count;
         Ok(Beginning {
             alloc,
@@ -133,6 +135,15 @@ impl Beginning {
         let tokens = &self.tokens.as_slice()[..self.count];
         Ok(read_value(self.alloc, tokens)?.is_some())
     }
+}
+
+/// The tokens, on the heap.
+fn kept(alloc: Global, tokens: &[Placed]) -> Result<Vec<Placed>, AllocError>
+    ensures { IfOk result (λ kept. kept.items ≡ tokens.now) }
+{
+    let mut kept = Vec::new(alloc);
+    kept.extend_from_slice(tokens)?;
+    Ok(kept)
 }
 
 /// The tokens, with one more after them.

@@ -1,6 +1,6 @@
 //! What condition a text spells.
 
-ghost use Rattle.std.specs.Prelude.{◌≡◌, ◌<◌, ◌≤◌, ◌↔◌, length, IfOk, IfErr};
+ghost use Rattle.std.specs.Prelude.{◌≡◌, ◌≢◌, ◌<◌, ◌≤◌, ◌↔◌, length, Err, IfOk, IfErr};
 ghost use Rattle.conditions.specs.declared.limits.TheConstants.{MOST_PARTS};
 ghost use Rattle.conditions.specs.declared.error.CondError.{CondError as Fault};
 ghost use Rattle.conditions.specs.Form.{Form};
@@ -40,7 +40,24 @@ pub fn parse(alloc: Global, text: &[u8]) -> Result<Cond, CondError>
     if text.len() > MAX_BYTES {
         return Err(CondError::TooLong);
     }
-    let tokens = scan(text)?;
+    parse_whole::<1024>(alloc, text)
+}
+
+/// The condition that a text of at most N bytes spells.
+pub(crate) fn parse_whole<const N: usize>(alloc: Global, text: &[u8]) -> Result<Cond, CondError>
+    requires room { length text.now ≤ N }
+    requires small { N ≤ 5121 }
+    ensures short { result ≢ Err CondError.TooLong }
+    ensures fault { (e : Fault) → HasFault text.now e → result ≡ Err e }
+    ensures spelled { (t : Form) → SpellsTree text.now t
+        → parts_of t ≤ MOST_PARTS → IsUnlessMemory result t }
+    ensures too_many { (t : Form) → SpellsTree text.now t
+        → MOST_PARTS < parts_of t → IsErrUnlessMemory result CondError.TooManyParts }
+    ensures tree { IfOk result (λ c. SpellsTree text.now c) }
+    ensures few { IfOk result (λ c. parts_of c ≤ MOST_PARTS) }
+    ensures refused { IfErr result (λ e. IsDue text.now e) }
+{
+    let tokens = scan::<N>(text)?;
     let tree = parse_tokens(alloc, tokens.as_slice(), text.len())?;
     Ok(Cond::of_tree(alloc, tree))
 }

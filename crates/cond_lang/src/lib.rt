@@ -8,6 +8,7 @@
 #![tactic(auto)]
 
 mod beginning;
+mod beside;
 mod classes;
 mod condition;
 mod language;
@@ -19,6 +20,7 @@ mod scanner;
 mod words;
 
 pub use beginning::Beginning;
+pub use beside::{check_definitions, parse_after, parse_question_after, text_after};
 pub use classes::{Class, Neighbour, Quantifier};
 pub use condition::parse;
 pub use conditions::{Cond, CondError, Count, Item, MOST_PARTS, Op, Question, Tree, Value};

@@ -11,12 +11,12 @@ use std::marker::Model;
 
 /// The names that the text gives as far as it is read, and whether its last token is `let`.
 #[derive(Drop)]
-pub(crate) struct Names<'a> {
-    given: ArrayVec<&'a [u8], 1024>,
+pub(crate) struct Names<'a, const N: usize> {
+    given: ArrayVec<&'a [u8], N>,
     is_after_let: bool,
 }
 
-impl<'a> Model for Names<'a> {
+impl<'a, const N: usize> Model for Names<'a, N> {
     ghost use Rattle.std.specs.Prelude.{map};
     ghost use Rattle.cond_lang.specs.Cut.{Naming};
 
@@ -28,7 +28,7 @@ impl<'a> Model for Names<'a> {
     } };
 }
 
-impl<'a> Names<'a> {
+impl<'a, const N: usize> Names<'a, N> {
     pub(crate) fn none() -> Self
         ensures { result ≡ no_names }
     {
@@ -39,7 +39,7 @@ impl<'a> Names<'a> {
     }
 
     /// The names.
-    pub(crate) fn given(self) -> ArrayVec<&'a [u8], 1024>
+    pub(crate) fn given(self) -> ArrayVec<&'a [u8], N>
         ensures { map (λ p. p.now) result.items ≡ self.entry.given }
     {
         self.given
@@ -47,7 +47,8 @@ impl<'a> Names<'a> {
 
     /// What the piece of these bytes is behind the names, to which it may add one.
     pub(crate) fn named(&mut self, bytes: &'a [u8], piece: Piece) -> Piece
-        requires { length self.old.given < 1024 }
+        requires room { length self.old.given < N }
+        requires small { N ≤ 5121 }
         ensures value { result ≡ named_piece self.old (bytes.now, piece) }
         ensures after { self.new ≡ naming_after self.old (bytes.now, piece) }
         ensures few { length self.new.given ≤ length self.old.given + 1 }
@@ -63,7 +64,8 @@ impl<'a> Names<'a> {
 
     /// What letters are that are no known word and no ranks.
     fn letters(&mut self, letters: &'a [u8]) -> Piece
-        requires { length self.old.given < 1024 }
+        requires room { length self.old.given < N }
+        requires small { N ≤ 5121 }
         ensures value { result ≡ name_or self.old (name_number self.old letters.now) }
         ensures after { self.new ≡ naming_after self.old (letters.now, UnknownWord) }
         ensures few { length self.new.given ≤ length self.old.given + 1 }

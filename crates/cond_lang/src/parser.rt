@@ -34,7 +34,7 @@ use crate::classes::{Bound, Choice, Class, Quantifier};
 use crate::scanner::{Placed, Token};
 use conditions::Tree;
 use grown::{Grown, GrownValue, room_behind};
-pub(crate) use lists::{is_value_name, parse_tokens, read_as_far, read_value};
+pub(crate) use lists::{is_value_name, parse_tokens, read_as_far, read_definitions, read_value};
 use names::Named;
 use std::alloc::{AllocFailed, Global};
 use std::marker::Model;

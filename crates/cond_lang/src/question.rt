@@ -1,6 +1,7 @@
 //! What question a text spells: a condition, or a value.
 
-ghost use Rattle.std.specs.Prelude.{◌≡◌, ◌<◌, ◌≤◌, ◌↔◌, length, IfOk, IfErr, MatchResult};
+ghost use Rattle.std.specs.Prelude.{◌≡◌, ◌≢◌, ◌<◌, ◌≤◌, ◌↔◌, length, Err, IfOk, IfErr};
+ghost use Rattle.std.specs.Prelude.{MatchResult};
 ghost use Rattle.conditions.specs.declared.limits.TheConstants.{MOST_PARTS};
 ghost use Rattle.conditions.specs.declared.error.CondError.{CondError as Fault};
 ghost use Rattle.conditions.specs.Memory.{IsErrUnlessMemory};
@@ -36,7 +37,24 @@ pub fn parse_question(alloc: Global, text: &[u8]) -> Result<Question, CondError>
     if text.len() > MAX_BYTES {
         return Err(CondError::TooLong);
     }
-    let tokens = scan(text)?;
+    ask_whole::<1024>(alloc, text)
+}
+
+/// The question that a text of at most N bytes spells.
+pub(crate) fn ask_whole<const N: usize>(alloc: Global, text: &[u8]) -> Result<Question, CondError>
+    requires room { length text.now ≤ N }
+    requires small { N ≤ 5121 }
+    ensures short { result ≢ Err CondError.TooLong }
+    ensures fault { (e : Fault) → HasFault text.now e → result ≡ Err e }
+    ensures spelled { (q : AQuestion) → SpellsQuestion text.now q
+        → parts_asked q ≤ MOST_PARTS → MatchResult result (λ r. r ≡ q) (λ e. e ≡ CondError.Memory) }
+    ensures too_many { (q : AQuestion) → SpellsQuestion text.now q
+        → MOST_PARTS < parts_asked q → IsErrUnlessMemory result CondError.TooManyParts }
+    ensures question { IfOk result (λ q. SpellsQuestion text.now q) }
+    ensures few { IfOk result (λ q. parts_asked q ≤ MOST_PARTS) }
+    ensures refused { IfErr result (λ e. IsDueQuestion text.now e) }
+{
+    let tokens = scan::<N>(text)?;
     if let Some(grown) = read_value(alloc, tokens.as_slice())? {
         return match grown.value {
             Some(value) => Ok(Question::of_value(value)),

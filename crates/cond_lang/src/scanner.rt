@@ -80,18 +80,25 @@ pub enum Piece {
     LongNumber,
 }
 
-/// The longest text that is read, in bytes.
+/// The longest text of a condition or a question, in bytes.
 pub(crate) const MAX_BYTES: usize = 1024;
 
+/// The longest text of definitions alone, in bytes.
+pub(crate) const MAX_DEFINITIONS: usize = 4096;
+
+/// The longest text that is read, in bytes: definitions, a new line and a text.
+pub(crate) const MAX_READ: usize = 5121;
+
 /// The tokens of a text, or its leftmost faulty piece.
-pub(crate) fn scan(text: &[u8]) -> Result<ArrayVec<Placed, 1024>, CondError>
-    requires { length text.now ≤ 1024 }
+pub(crate) fn scan<const N: usize>(text: &[u8]) -> Result<ArrayVec<Placed, N>, CondError>
+    requires room { length text.now ≤ N }
+    requires small { N ≤ 5121 }
     ensures tokens { IfOk result (λ v. HasTokens text.now v.items) }
     ensures fault { IfErr result (λ e. HasFault text.now e) }
-    ensures few { IfOk result (λ v. length v.items ≤ 1024) }
+    ensures few { IfOk result (λ v. length v.items ≤ N) }
 {
     let mut tokens = ArrayVec::new();
-    let mut names = Names::none();
+    let mut names = Names::<N>::none();
     let mut rest = text;
     let mut at = 0;
     while !rest.is_empty() {
@@ -111,12 +118,12 @@ pub(crate) fn scan(text: &[u8]) -> Result<ArrayVec<Placed, 1024>, CondError>
 }
 
 /// Returns the names that a text gives, in the order in which they first come. Those of a text of
-/// more than 1,024 bytes aren't looked for.
-pub fn names_of<'a>(text: &'a [u8]) -> ArrayVec<&'a [u8], 1024>
-    ensures { length text.now ≤ 1024 → HasNames text.now (map (λ p. p.now) result.items) }
+/// more than 5,121 bytes aren't looked for.
+pub fn names_of<'a>(text: &'a [u8]) -> ArrayVec<&'a [u8], 5121>
+    ensures { length text.now ≤ 5121 → HasNames text.now (map (λ p. p.now) result.items) }
 {
-    let mut names = Names::none();
-    if text.len() > MAX_BYTES {
+    let mut names = Names::<MAX_READ>::none();
+    if text.len() > MAX_READ {
         return names.given();
     }
     let mut rest = text;

@@ -1,9 +1,9 @@
 //! What helps a person with a failure, below the line that names it.
 
 use advice::Reasons;
-use cond_lang::CondError;
+use cond_lang::{CondError, text_after};
 use deals_cli::{Failure, Request};
-use hints::{explain, explain_question};
+use hints::{explain, explain_definitions, explain_question};
 use std::alloc::Global;
 
 /// What helps with a condition that has too many parts.
@@ -25,14 +25,71 @@ pub fn help(
         | Failure::Question(_, CondError::TooManyParts) => {
             String::from_str(alloc, TOO_MANY_PARTS).ok()
         }
+        Failure::Definitions(error) => {
+            let (search, _) = request?.plans()?;
+            explain_definitions(alloc, search.let_text?.as_bytes(), *error).ok()
+        }
         Failure::Condition(error) => {
             let (search, _) = request?.plans()?;
-            explain(alloc, search.where_text?.as_bytes(), *error).ok()
+            let read = Read::of(alloc, search.let_text, search.where_text?, *error)?;
+            explain(alloc, read.text.as_slice(), read.error).ok()
         }
         Failure::Question(name, error) => {
+            let (search, _) = request?.plans()?;
             let text = request?.question(*name)?;
-            explain_question(alloc, text.as_bytes(), *error).ok()
+            let read = Read::of(alloc, search.let_text, text, *error)?;
+            explain_question(alloc, read.text.as_slice(), read.error).ok()
         }
         _ => advice::help(alloc, words, request, failure, reasons),
+    }
+}
+
+/// A text as it was read, and its refusal with its place there.
+#[derive(Drop)]
+struct Read {
+    text: Vec<u8>,
+    error: CondError,
+}
+
+impl Read {
+    /// The text after the definitions, where some are given and its own length isn't what is
+    /// wrong. None if memory runs out.
+    fn of(alloc: Global, definitions: Option<&str>, text: &str, error: CondError) -> Option<Read> {
+        match (definitions, error) {
+            (None, _) | (_, CondError::TooLong) => {
+                let mut alone = Vec::new(alloc);
+                alone.extend_from_slice(text.as_bytes()).ok()?;
+                Some(Read { text: alone, error })
+            }
+            (Some(definitions), _) => {
+                let text = text_after(alloc, definitions.as_bytes(), text.as_bytes()).ok()?;
+                let start = definitions.len().saturating_add(1);
+                Some(Read {
+                    text,
+                    error: moved(error, start),
+                })
+            }
+        }
+    }
+}
+
+/// The refusal, with its place so much later.
+fn moved(error: CondError, start: usize) -> CondError {
+    match error {
+        CondError::Byte { at } => CondError::Byte {
+            at: at.saturating_add(start),
+        },
+        CondError::Word { at } => CondError::Word {
+            at: at.saturating_add(start),
+        },
+        CondError::Number { at } => CondError::Number {
+            at: at.saturating_add(start),
+        },
+        CondError::Syntax { at } => CondError::Syntax {
+            at: at.saturating_add(start),
+        },
+        CondError::TooLong => CondError::TooLong,
+        CondError::TooManyParts => CondError::TooManyParts,
+        CondError::Memory => CondError::Memory,
     }
 }

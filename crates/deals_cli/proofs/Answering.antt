@@ -17,7 +17,7 @@ use Rattle.request_types.specs.Requests.{Wish, conditions, count, draw, lessons,
 use Rattle.jobs.specs.Statuses.{HasInput, IsStatusOf}
 use Rattle.deals_cli.specs.Wishes.{AppendsFrom}
 use Rattle.jobs.specs.declared.failure.Failure.{Failure}
-use Rattle.jobs.specs.declared.failure.Failure.TheVariants.{CommandLine, Plan, Label, Hand, Condition, Question, Cells, Interrupted, Line, Record, Input, EndOfInput}
+use Rattle.jobs.specs.declared.failure.Failure.TheVariants.{CommandLine, Plan, Label, Hand, Definitions, Condition, Question, Cells, Interrupted, Line, Record, Input, EndOfInput}
 use Rattle.jobs.specs.declared.job.Job.{Job}
 use Rattle.jobs.specs.declared.job.Job.TheVariants.{Boards, Conditions, Count, Lessons, Pick, Seed, Stream, WithTricks}
 use Rattle.jobs.specs.declared.job.Job.TheVariants as a_job
@@ -95,6 +95,7 @@ mistaken words e (Interrupted cause.Memory) read because = record {
 mistaken words e (Plan error) read because = absurd because
 mistaken words e (Label label) read because = absurd because
 mistaken words e (Hand seat) read because = absurd because
+mistaken words e (Definitions error) read because = absurd because
 mistaken words e (Condition error) read because = absurd because
 mistaken words e (Question name error) read because = absurd because
 mistaken words e (Cells name) read because = absurd because
@@ -113,6 +114,7 @@ leaves_nothing w (CommandLine text) before old is = refl
 leaves_nothing w (Plan error) before old is = refl
 leaves_nothing w (Label label) before old is = refl
 leaves_nothing w (Hand seat) before old is = refl
+leaves_nothing w (Definitions error) before old is = refl
 leaves_nothing w (Condition error) before old is = refl
 leaves_nothing w (Question name error) before old is = refl
 leaves_nothing w (Cells name) before old is = refl
@@ -194,7 +196,7 @@ breaks_text words before after old new (none, may) = record {
 
 -- a job that reads the input is one of a wish that has one
 input_read : (w : Wish) (job : Job) → IsReady w job → ReadsInput job → HasInput w
-input_read (pick seed hands l hints) job ready reads = tt
+input_read (pick seed hands l tricks hints) job ready reads = tt
 input_read (show l hints) job ready reads = tt
 input_read (make_with_tricks s l notices) job ready reads = tt
 input_read draw job ready reads = tt

@@ -7,7 +7,7 @@ use Rattle.plans.specs.declared.report.Report.{Report}
 use Rattle.jobs.specs.Failures.{CountsInput, faults_in, is_untouched, status_in, status_of}
 use Rattle.jobs.specs.Statuses.{IsStatusWithInput}
 use Rattle.jobs.specs.declared.failure.Failure.{Failure}
-use Rattle.jobs.specs.declared.failure.Failure.TheVariants.{CommandLine, Plan, Label, Hand, Condition, Question, Cells, Interrupted, Line, Record, Input, EndOfInput}
+use Rattle.jobs.specs.declared.failure.Failure.TheVariants.{CommandLine, Plan, Label, Hand, Definitions, Condition, Question, Cells, Interrupted, Line, Record, Input, EndOfInput}
 use Rattle.jobs.proofs.Refusals.{status_of-status}
 use Rattle.request_types.specs.Requests.{Wish, make, make_with_tricks}
 use Rattle.command_line.specs.CommandLine.{asked}
@@ -23,6 +23,7 @@ no_zero (CommandLine text) is = cc
 no_zero (Plan error) is = cc
 no_zero (Label label) is = cc
 no_zero (Hand seat) is = cc
+no_zero (Definitions error) is = cc
 no_zero (Condition error) is = cc
 no_zero (Question name error) is = cc
 no_zero (Cells name) is = cc
@@ -45,6 +46,7 @@ untouched_by (CommandLine text) h = refl
 untouched_by (Plan error) h = refl
 untouched_by (Label label) h = refl
 untouched_by (Hand seat) h = refl
+untouched_by (Definitions error) h = refl
 untouched_by (Condition error) h = refl
 untouched_by (Question name error) h = refl
 untouched_by (Cells name) h = refl
@@ -64,6 +66,7 @@ faults_by_status (Err (CommandLine text)) = refl
 faults_by_status (Err (Plan error)) = refl
 faults_by_status (Err (Label label)) = refl
 faults_by_status (Err (Hand seat)) = refl
+faults_by_status (Err (Definitions error)) = refl
 faults_by_status (Err (Condition error)) = refl
 faults_by_status (Err (Question name error)) = refl
 faults_by_status (Err (Cells name)) = refl
@@ -116,6 +119,7 @@ input_kept (Err (CommandLine text)) s old new is h four seven = h
 input_kept (Err (Plan error)) s old new is h four seven = h
 input_kept (Err (Label label)) s old new is h four seven = h
 input_kept (Err (Hand seat)) s old new is h four seven = h
+input_kept (Err (Definitions error)) s old new is h four seven = h
 input_kept (Err (Condition error)) s old new is h four seven = h
 input_kept (Err (Question name error)) s old new is h four seven = h
 input_kept (Err (Cells name)) s old new is h four seven = h

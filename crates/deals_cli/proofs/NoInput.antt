@@ -1,5 +1,5 @@
 -- Without an input no status is 7, but of words that ask for what needs one.
-use Rattle.std.proofs.Common.{◌≡◌, ◌∙◌, ℕ, zero, suc, List, [], Option, None, Some, refl, sym, subst, inl, inr, arith}
+use Rattle.std.proofs.Common.{◌≡◌, ◌∙◌, ℕ, zero, suc, true, false, List, [], Option, None, Some, refl, sym, subst, inl, inr, arith}
 use Rattle.std.proofs.lemmas.List.{append-nil}
 use Rattle.clap.specs.Walk.{Text}
 use Rattle.plans.specs.declared.cause.Cause.TheVariants as cause
@@ -11,9 +11,12 @@ use Rattle.deals_cli.specs.Interruptions.{EndsAtRecord, EndsFor}
 use Rattle.records.specs.Games.{game_says}
 use Rattle.records.specs.Texts.{spelled}
 use Rattle.records.specs.declared.fault.RefusedRecord.{RefusedRecord}
-use Rattle.request_types.specs.Requests.{Wish, conditions, count, draw, lessons, make, make_with_tricks, pick, show, stream}
+use Rattle.request_types.specs.Requests.{Wish, conditions, count, draw, lessons, make, make_with_tricks, no_search, pick, show, stream}
 use Rattle.jobs.specs.declared.failure.Failure.{Failure}
-use Rattle.jobs.specs.declared.failure.Failure.TheVariants.{CommandLine, Plan, Label, Hand, Condition, Question, Cells, Interrupted, Line, Record, Input, EndOfInput}
+use Rattle.jobs.specs.declared.failure.Failure.TheVariants.{CommandLine, Plan, Label, Hand, Definitions, Condition, Question, Cells, Interrupted, Line, Record, Input, EndOfInput}
+use Rattle.jobs.specs.Makings.{plan_of}
+use Rattle.plans.specs.Plans.{Planned}
+use Rattle.told.specs.Picked.{text_picks}
 use Rattle.jobs.specs.Statuses.{IsStatus, IsStatusWithInput}
 use Rattle.deals_cli.specs.Program.{IsStatusOfNone, MayFail, MayLeave, NeedsBytes, TellsWhy, TellsWhyFrom}
 
@@ -21,9 +24,16 @@ nothing_refused : (line : RefusedLine) → (said []).refused ≡ Some line → �
 unfolding said
 nothing_refused line is = cc
 
+none_told : (line : RefusedLine) (plan : Planned) → (text_picks plan []).refused ≡ Some line → ⊥
+unfolding text_picks
+none_told line plan is = cc
+
 -- an input without bytes has no line that is refused
 no_line_ended : (w : Wish) (line : RefusedLine) (old new : Option (List ℕ)) → (NeedsBytes w → ⊥) → EndsFor w (Refused line) (Some []) (Some []) old new → ⊥
-no_line_ended (pick seed hands l hints) line old new other e =
+no_line_ended (pick seed hands l true hints) line old new other e =
+    let none : e.given ≡ [] = sym (e.consumed ∙ append-nil e.given) in
+    none_told line (plan_of (no_search seed hands) l) (subst (λ (t : List ℕ). (text_picks (plan_of (no_search seed hands) l) t).refused ≡ Some line) none e.written.0)
+no_line_ended (pick seed hands l false hints) line old new other e =
     let none : e.given ≡ [] = sym (e.consumed ∙ append-nil e.given) in
     nothing_refused line (subst (λ (t : List ℕ). (said t).refused ≡ Some line) none e.written.0)
 no_line_ended (make s l notices) line old new other e = e
@@ -44,7 +54,7 @@ no_record_ended (show l hints) line old new e =
     let s = e.shows in
     let none : s.given ≡ [] = sym (s.consumed ∙ append-nil s.given) in
     no_record line (subst (λ (t : List ℕ). (spelled t).refused ≡ Some line) none s.written.0)
-no_record_ended (pick seed hands l hints) line old new e = e
+no_record_ended (pick seed hands l tricks hints) line old new e = e
 no_record_ended (make s l notices) line old new e = e
 no_record_ended (make_with_tricks s l notices) line old new e = e
 no_record_ended draw line old new e = e
@@ -56,7 +66,7 @@ no_record_ended (stream seed n) line old new e = e
 -- nor does it end before what such words ask for
 no_end : (w : Wish) → (NeedsBytes w → ⊥) → MayFail w EndOfInput → ⊥
 no_end w other (inl memory) = cc
-no_end (pick seed hands l hints) other (inr due) = due
+no_end (pick seed hands l tricks hints) other (inr due) = due
 no_end (make s l notices) other (inr due) = due
 no_end (make_with_tricks s l notices) other (inr due) = other tt
 no_end draw other (inr due) = other tt
@@ -72,6 +82,7 @@ no_seven w (CommandLine text) old new other due may sound is = cc
 no_seven w (Plan error) old new other due may sound is = cc
 no_seven w (Label label) old new other due may sound is = cc
 no_seven w (Hand seat) old new other due may sound is = cc
+no_seven w (Definitions error) old new other due may sound is = cc
 no_seven w (Condition error) old new other due may sound is = cc
 no_seven w (Question name error) old new other due may sound is = cc
 no_seven w (Cells name) old new other due may sound is = cc

@@ -34,7 +34,7 @@ none_made (Some (lessons lesson)) r some none quiet = let bad : Some r ≡ None 
 none_made (Some draw) r some none quiet = let bad : Some r ≡ None = some draw refl in cc
 none_made (Some (make_with_tricks s l notices)) r some none quiet = let is = (some (make_with_tricks s l notices) refl).0 in let bad : true ≡ false = sym is ∙ quiet in cc
 none_made (Some (show l hints)) r some none quiet = let bad : Some r ≡ None = some (show l hints) refl in cc
-none_made (Some (pick seed hands l hints)) r some none quiet = let bad : Some r ≡ None = some (pick seed hands l hints) refl in cc
+none_made (Some (pick seed hands l tricks hints)) r some none quiet = let bad : Some r ≡ None = some (pick seed hands l tricks hints) refl in cc
 none_made (Some (make s l notices)) r some none quiet = let is = (some (make s l notices) refl).0 in let bad : true ≡ false = sym is ∙ quiet in cc
 
 -- a `make` that asks for a report has one

@@ -12,7 +12,7 @@ use Rattle.deals_cli.specs.Served.{Serves}
 use Rattle.request_types.specs.Requests.{Look, Questions, Search, Wish, conditions, count, draw, lessons, make, make_with_tricks, pick, show, stream}
 use Rattle.deals_cli.specs.Wishes.{language_page}
 use Rattle.jobs.specs.declared.failure.Failure.{Failure}
-use Rattle.jobs.specs.declared.failure.Failure.TheVariants.{CommandLine, Plan, Label, Hand, Condition, Question, Cells, Interrupted, Line, Record, Input, EndOfInput}
+use Rattle.jobs.specs.declared.failure.Failure.TheVariants.{CommandLine, Plan, Label, Hand, Definitions, Condition, Question, Cells, Interrupted, Line, Record, Input, EndOfInput}
 use Rattle.jobs.specs.declared.boards_job.BoardsJob.{BoardsJob}
 use Rattle.jobs.specs.declared.count_job.CountJob.{CountJob}
 use Rattle.jobs.specs.declared.job.PickJob.{PickJob}
@@ -46,7 +46,7 @@ run_text (make s l notices) job report r before after old new ready ends asked =
       stands = tt;
       due = tt;
     }
-run_text (pick seed hands l hints) job report r before after old new ready ends asked = absurd ready
+run_text (pick seed hands l tricks hints) job report r before after old new ready ends asked = absurd ready
 run_text conditions job report r before after old new ready ends asked = absurd ready
 run_text (lessons lesson) job report r before after old new ready ends asked = absurd ready
 run_text (make_with_tricks s l notices) job report r before after old new ready ends asked = absurd ready
@@ -83,7 +83,7 @@ interrupts (make s l notices) job c before after old new ready ends =
       stands = leaves.0;
       due = run_due s l c ready.planned job.condition ready.means;
     }
-interrupts (pick seed hands l hints) job c before after old new ready ends = absurd ready
+interrupts (pick seed hands l tricks hints) job c before after old new ready ends = absurd ready
 interrupts conditions job c before after old new ready ends = absurd ready
 interrupts (lessons lesson) job c before after old new ready ends = absurd ready
 interrupts (make_with_tricks s l notices) job c before after old new ready ends = absurd ready
@@ -106,7 +106,7 @@ counted T (count s q style notices) job value before after old new (planned, pla
       due = tt;
     }
 counted T (make s l notices) job value before after old new ready ends = absurd ready
-counted T (pick seed hands l hints) job value before after old new ready ends = absurd ready
+counted T (pick seed hands l tricks hints) job value before after old new ready ends = absurd ready
 counted T conditions job value before after old new ready ends = absurd ready
 counted T (lessons lesson) job value before after old new ready ends = absurd ready
 counted T (make_with_tricks s l notices) job value before after old new ready ends = absurd ready
@@ -136,7 +136,7 @@ count_interrupts T (count s q style notices) job c before after old new (planned
       due = count_run_due s q c planned (job.condition, means) subject asked;
     }
 count_interrupts T (make s l notices) job c before after old new ready ends = absurd ready
-count_interrupts T (pick seed hands l hints) job c before after old new ready ends = absurd ready
+count_interrupts T (pick seed hands l tricks hints) job c before after old new ready ends = absurd ready
 count_interrupts T conditions job c before after old new ready ends = absurd ready
 count_interrupts T (lessons lesson) job c before after old new ready ends = absurd ready
 count_interrupts T (make_with_tricks s l notices) job c before after old new ready ends = absurd ready
@@ -147,10 +147,10 @@ count_interrupts T (show l hints) job c before after old new ready ends = absurd
 -- ---- a pick
 
 pub picked : {T : Type 0} (w : Wish) (job : PickJob) (value : T) (before after old new : Option (List ℕ)) → IsReady w (Pick job) → EndsPicking {T = T} job (Ok value) before after old new → Serves w (Ok None) before after old new
-picked (pick seed hands l hints) job value before after old new (planned, plan_is, format_is, show_is) ends = record {
-  text = rw (plan_is, format_is, show_is) at ends;
+picked (pick seed hands l tricks hints) job value before after old new (planned, plan_is, format_is, show_is, tricks_is) ends = record {
+  text = rw (plan_is, format_is, show_is, tricks_is) at ends;
   report = refl;
-  status = served (pick seed hands l hints) 0 (inl refl) planned tt;
+  status = served (pick seed hands l tricks hints) 0 (inl refl) planned tt;
   untouched = tt;
   stands = tt;
   due = tt;
@@ -165,50 +165,51 @@ picked (stream seed n) job value before after old new ready ends = absurd ready
 picked (show l hints) job value before after old new ready ends = absurd ready
 
 pub pick_fails : (T : Type 0) (w : Wish) (job : PickJob) (f : Failure) (before after old new : Option (List ℕ)) → IsReady w (Pick job) → EndsPicking {T = T} job (Err f) before after old new → Serves w (Err f) before after old new
-pick_fails T (pick seed hands l hints) job (Interrupted Memory) before after old new (planned, plan_is, format_is, show_is) ends = record {
+pick_fails T (pick seed hands l tricks hints) job (Interrupted Memory) before after old new (planned, plan_is, format_is, show_is, tricks_is) ends = record {
   text = tt;
   report = tt;
-  status = no_memory (pick seed hands l hints) 5 refl;
+  status = no_memory (pick seed hands l tricks hints) 5 refl;
   untouched = λ _. ends.1;
   stands = ends.1;
   due = planned;
 }
-pick_fails T (pick seed hands l hints) job (Interrupted Output) before after old new (planned, plan_is, format_is, show_is) ends = record {
+pick_fails T (pick seed hands l tricks hints) job (Interrupted Output) before after old new (planned, plan_is, format_is, show_is, tricks_is) ends = record {
   text = tt;
   report = tt;
-  status = served (pick seed hands l hints) 4 (inr refl) planned tt;
+  status = served (pick seed hands l tricks hints) 4 (inr refl) planned tt;
   untouched = λ bad. absurd cc;
-  stands = rw (plan_is, format_is, show_is) at ends;
+  stands = rw (plan_is, format_is, show_is, tricks_is) at ends;
   due = planned;
 }
-pick_fails T (pick seed hands l hints) job (Line line) before after old new (planned, plan_is, format_is, show_is) ends = record {
+pick_fails T (pick seed hands l tricks hints) job (Line line) before after old new (planned, plan_is, format_is, show_is, tricks_is) ends = record {
   text = tt;
   report = tt;
-  status = failed_input (pick seed hands l hints) 7 refl planned tt tt;
+  status = failed_input (pick seed hands l tricks hints) 7 refl planned tt tt;
   untouched = λ bad. absurd cc;
-  stands = rw (plan_is, format_is, show_is) at ends;
+  stands = rw (plan_is, format_is, show_is, tricks_is) at ends;
   due = planned;
 }
-pick_fails T (pick seed hands l hints) job Input before after old new (planned, plan_is, format_is, show_is) ends = record {
+pick_fails T (pick seed hands l tricks hints) job Input before after old new (planned, plan_is, format_is, show_is, tricks_is) ends = record {
   text = tt;
   report = tt;
-  status = failed_input (pick seed hands l hints) 7 refl planned tt tt;
+  status = failed_input (pick seed hands l tricks hints) 7 refl planned tt tt;
   untouched = λ bad. absurd cc;
-  stands = rw (plan_is, format_is, show_is) at ends;
+  stands = rw (plan_is, format_is, show_is, tricks_is) at ends;
   due = planned;
 }
-pick_fails T (pick seed hands l hints) job (Record line) before after old new ready ends = absurd ends
-pick_fails T (pick seed hands l hints) job EndOfInput before after old new ready ends = absurd ends
-pick_fails T (pick seed hands l hints) job (CommandLine text) before after old new ready ends = absurd ends
-pick_fails T (pick seed hands l hints) job (Plan error) before after old new ready ends = absurd ends
-pick_fails T (pick seed hands l hints) job (Label name) before after old new ready ends = absurd ends
-pick_fails T (pick seed hands l hints) job (Hand seat) before after old new ready ends = absurd ends
-pick_fails T (pick seed hands l hints) job (Condition error) before after old new ready ends = absurd ends
-pick_fails T (pick seed hands l hints) job (Question name error) before after old new ready ends = absurd ends
-pick_fails T (pick seed hands l hints) job (Cells name) before after old new ready ends = absurd ends
-pick_fails T (pick seed hands l hints) job (Interrupted Spawn) before after old new ready ends = absurd ends
-pick_fails T (pick seed hands l hints) job (Interrupted (Stopped worker)) before after old new ready ends = absurd ends
-pick_fails T (pick seed hands l hints) job (Interrupted (Unclosed worker)) before after old new ready ends = absurd ends
+pick_fails T (pick seed hands l tricks hints) job (Record line) before after old new ready ends = absurd ends
+pick_fails T (pick seed hands l tricks hints) job EndOfInput before after old new ready ends = absurd ends
+pick_fails T (pick seed hands l tricks hints) job (CommandLine text) before after old new ready ends = absurd ends
+pick_fails T (pick seed hands l tricks hints) job (Plan error) before after old new ready ends = absurd ends
+pick_fails T (pick seed hands l tricks hints) job (Label name) before after old new ready ends = absurd ends
+pick_fails T (pick seed hands l tricks hints) job (Hand seat) before after old new ready ends = absurd ends
+pick_fails T (pick seed hands l tricks hints) job (Definitions error) before after old new ready ends = absurd ends
+pick_fails T (pick seed hands l tricks hints) job (Condition error) before after old new ready ends = absurd ends
+pick_fails T (pick seed hands l tricks hints) job (Question name error) before after old new ready ends = absurd ends
+pick_fails T (pick seed hands l tricks hints) job (Cells name) before after old new ready ends = absurd ends
+pick_fails T (pick seed hands l tricks hints) job (Interrupted Spawn) before after old new ready ends = absurd ends
+pick_fails T (pick seed hands l tricks hints) job (Interrupted (Stopped worker)) before after old new ready ends = absurd ends
+pick_fails T (pick seed hands l tricks hints) job (Interrupted (Unclosed worker)) before after old new ready ends = absurd ends
 pick_fails T (make s l notices) job f before after old new ready ends = absurd ready
 pick_fails T conditions job f before after old new ready ends = absurd ready
 pick_fails T (lessons lesson) job f before after old new ready ends = absurd ready
@@ -227,7 +228,7 @@ page_written (make_with_tricks s l notices) before after old new ready text = ab
 page_written draw before after old new ready text = absurd ready
 page_written (make s l notices) before after old new ready text = absurd ready
 page_written (count s q style notices) before after old new ready text = absurd ready
-page_written (pick seed hands l hints) before after old new ready text = absurd ready
+page_written (pick seed hands l tricks hints) before after old new ready text = absurd ready
 page_written (stream seed n) before after old new ready text = absurd ready
 page_written (show l hints) before after old new ready text = absurd ready
 
@@ -238,7 +239,7 @@ page_breaks (make_with_tricks s l notices) before after old new ready part = abs
 page_breaks draw before after old new ready part = absurd ready
 page_breaks (make s l notices) before after old new ready part = absurd ready
 page_breaks (count s q style notices) before after old new ready part = absurd ready
-page_breaks (pick seed hands l hints) before after old new ready part = absurd ready
+page_breaks (pick seed hands l tricks hints) before after old new ready part = absurd ready
 page_breaks (stream seed n) before after old new ready part = absurd ready
 page_breaks (show l hints) before after old new ready part = absurd ready
 
@@ -250,7 +251,7 @@ values_written (make_with_tricks s l notices) r before after old new ready text 
 values_written draw r before after old new ready text = absurd ready
 values_written (count s q style notices) r before after old new ready text = absurd ready
 values_written (make s l notices) r before after old new ready text = absurd ready
-values_written (pick seed hands l hints) r before after old new ready text = absurd ready
+values_written (pick seed hands l tricks hints) r before after old new ready text = absurd ready
 values_written (show l hints) r before after old new ready text = absurd ready
 
 pub values_break : (w : Wish) (r : StreamRequest) (before after old new : Option (List ℕ)) → IsReady w (Stream r) → AppendsPart old new (lines r.seed r.count) → Serves w (Err (Interrupted Output)) before after old new
@@ -261,7 +262,7 @@ values_break (make_with_tricks s l notices) r before after old new ready part = 
 values_break draw r before after old new ready part = absurd ready
 values_break (count s q style notices) r before after old new ready part = absurd ready
 values_break (make s l notices) r before after old new ready part = absurd ready
-values_break (pick seed hands l hints) r before after old new ready part = absurd ready
+values_break (pick seed hands l tricks hints) r before after old new ready part = absurd ready
 values_break (show l hints) r before after old new ready part = absurd ready
 
 -- ---- lessons
@@ -273,7 +274,7 @@ lessons_written (make_with_tricks s l notices) page before after old new ready t
 lessons_written draw page before after old new ready text = absurd ready
 lessons_written (make s l notices) page before after old new ready text = absurd ready
 lessons_written (count s q style notices) page before after old new ready text = absurd ready
-lessons_written (pick seed hands l hints) page before after old new ready text = absurd ready
+lessons_written (pick seed hands l tricks hints) page before after old new ready text = absurd ready
 lessons_written (stream seed n) page before after old new ready text = absurd ready
 lessons_written (show l hints) page before after old new ready text = absurd ready
 
@@ -284,7 +285,7 @@ lessons_break (make_with_tricks s l notices) page before after old new ready par
 lessons_break draw page before after old new ready part = absurd ready
 lessons_break (make s l notices) page before after old new ready part = absurd ready
 lessons_break (count s q style notices) page before after old new ready part = absurd ready
-lessons_break (pick seed hands l hints) page before after old new ready part = absurd ready
+lessons_break (pick seed hands l tricks hints) page before after old new ready part = absurd ready
 lessons_break (stream seed n) page before after old new ready part = absurd ready
 lessons_break (show l hints) page before after old new ready part = absurd ready
 
@@ -305,7 +306,7 @@ tricks_text (make_with_tricks s l notices) job report r before after old new rea
       due = tt;
     }
 tricks_text (make s l notices) job report r before after old new ready ends asked = absurd ready
-tricks_text (pick seed hands l hints) job report r before after old new ready ends asked = absurd ready
+tricks_text (pick seed hands l tricks hints) job report r before after old new ready ends asked = absurd ready
 tricks_text conditions job report r before after old new ready ends asked = absurd ready
 tricks_text (lessons lesson) job report r before after old new ready ends asked = absurd ready
 tricks_text draw job report r before after old new ready ends asked = absurd ready
@@ -393,11 +394,12 @@ tricks_fail (make_with_tricks s l notices) job (CommandLine text) before after o
 tricks_fail (make_with_tricks s l notices) job (Plan error) before after old new ready ends = absurd (ends.ends s l notices ready)
 tricks_fail (make_with_tricks s l notices) job (Label name) before after old new ready ends = absurd (ends.ends s l notices ready)
 tricks_fail (make_with_tricks s l notices) job (Hand seat) before after old new ready ends = absurd (ends.ends s l notices ready)
+tricks_fail (make_with_tricks s l notices) job (Definitions error) before after old new ready ends = absurd (ends.ends s l notices ready)
 tricks_fail (make_with_tricks s l notices) job (Condition error) before after old new ready ends = absurd (ends.ends s l notices ready)
 tricks_fail (make_with_tricks s l notices) job (Question name error) before after old new ready ends = absurd (ends.ends s l notices ready)
 tricks_fail (make_with_tricks s l notices) job (Cells name) before after old new ready ends = absurd (ends.ends s l notices ready)
 tricks_fail (make s l notices) job f before after old new ready ends = absurd ready
-tricks_fail (pick seed hands l hints) job f before after old new ready ends = absurd ready
+tricks_fail (pick seed hands l tricks hints) job f before after old new ready ends = absurd ready
 tricks_fail conditions job f before after old new ready ends = absurd ready
 tricks_fail (lessons lesson) job f before after old new ready ends = absurd ready
 tricks_fail draw job f before after old new ready ends = absurd ready
@@ -411,7 +413,7 @@ pub drawn : {T : Type 0} (w : Wish) (value : T) (before after old new : Option (
 drawn draw value before after old new ready ends = record { text = ends; report = refl; status = served draw 0 (inl refl) tt tt; untouched = tt; stands = tt; due = tt }
 drawn (make s l notices) value before after old new ready ends = absurd ready
 drawn (make_with_tricks s l notices) value before after old new ready ends = absurd ready
-drawn (pick seed hands l hints) value before after old new ready ends = absurd ready
+drawn (pick seed hands l tricks hints) value before after old new ready ends = absurd ready
 drawn conditions value before after old new ready ends = absurd ready
 drawn (lessons lesson) value before after old new ready ends = absurd ready
 drawn (count s q style notices) value before after old new ready ends = absurd ready
@@ -432,12 +434,13 @@ draw_fails T draw (CommandLine text) before after old new ready ends = absurd en
 draw_fails T draw (Plan error) before after old new ready ends = absurd ends
 draw_fails T draw (Label name) before after old new ready ends = absurd ends
 draw_fails T draw (Hand seat) before after old new ready ends = absurd ends
+draw_fails T draw (Definitions error) before after old new ready ends = absurd ends
 draw_fails T draw (Condition error) before after old new ready ends = absurd ends
 draw_fails T draw (Question name error) before after old new ready ends = absurd ends
 draw_fails T draw (Cells name) before after old new ready ends = absurd ends
 draw_fails T (make s l notices) f before after old new ready ends = absurd ready
 draw_fails T (make_with_tricks s l notices) f before after old new ready ends = absurd ready
-draw_fails T (pick seed hands l hints) f before after old new ready ends = absurd ready
+draw_fails T (pick seed hands l tricks hints) f before after old new ready ends = absurd ready
 draw_fails T conditions f before after old new ready ends = absurd ready
 draw_fails T (lessons lesson) f before after old new ready ends = absurd ready
 draw_fails T (count s q style notices) f before after old new ready ends = absurd ready

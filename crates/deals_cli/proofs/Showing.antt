@@ -3,7 +3,7 @@ use Rattle.std.proofs.Common.{◌≡◌, ◌∙◌, ℕ, List, Option, None, Res
 use Rattle.plans.specs.declared.cause.Cause.TheVariants.{Memory, Spawn, Output, Stopped, Unclosed}
 use Rattle.jobs.specs.Jobs.{IsReady}
 use Rattle.jobs.specs.declared.failure.Failure.{Failure}
-use Rattle.jobs.specs.declared.failure.Failure.TheVariants.{CommandLine, Plan, Label, Hand, Condition, Question, Cells, Interrupted, Line, Record, Input, EndOfInput}
+use Rattle.jobs.specs.declared.failure.Failure.TheVariants.{CommandLine, Plan, Label, Hand, Definitions, Condition, Question, Cells, Interrupted, Line, Record, Input, EndOfInput}
 use Rattle.jobs.specs.declared.job.ShowJob.{ShowJob}
 use Rattle.jobs.specs.declared.job.Job.TheVariants as a_job
 use Rattle.jobs.proofs.Statuses.{failed_input, no_memory, served}
@@ -67,7 +67,7 @@ shown (show l hints) job value before after old new (labels, format_is, show_is,
   due = tt;
 }
 shown (make s l notices) job value before after old new ready ends = absurd ready
-shown (pick seed hands l hints) job value before after old new ready ends = absurd ready
+shown (pick seed hands l tricks hints) job value before after old new ready ends = absurd ready
 shown conditions job value before after old new ready ends = absurd ready
 shown (lessons lesson) job value before after old new ready ends = absurd ready
 shown (make_with_tricks s l notices) job value before after old new ready ends = absurd ready
@@ -115,6 +115,7 @@ show_fails T (show l hints) job (CommandLine text) before after old new ready en
 show_fails T (show l hints) job (Plan error) before after old new ready ends = absurd ends
 show_fails T (show l hints) job (Label name) before after old new ready ends = absurd ends
 show_fails T (show l hints) job (Hand seat) before after old new ready ends = absurd ends
+show_fails T (show l hints) job (Definitions error) before after old new ready ends = absurd ends
 show_fails T (show l hints) job (Condition error) before after old new ready ends = absurd ends
 show_fails T (show l hints) job (Question name error) before after old new ready ends = absurd ends
 show_fails T (show l hints) job (Cells name) before after old new ready ends = absurd ends
@@ -122,7 +123,7 @@ show_fails T (show l hints) job (Interrupted Spawn) before after old new ready e
 show_fails T (show l hints) job (Interrupted (Stopped worker)) before after old new ready ends = absurd ends
 show_fails T (show l hints) job (Interrupted (Unclosed worker)) before after old new ready ends = absurd ends
 show_fails T (make s l notices) job f before after old new ready ends = absurd ready
-show_fails T (pick seed hands l hints) job f before after old new ready ends = absurd ready
+show_fails T (pick seed hands l tricks hints) job f before after old new ready ends = absurd ready
 show_fails T conditions job f before after old new ready ends = absurd ready
 show_fails T (lessons lesson) job f before after old new ready ends = absurd ready
 show_fails T (make_with_tricks s l notices) job f before after old new ready ends = absurd ready

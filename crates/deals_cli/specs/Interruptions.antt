@@ -1,10 +1,9 @@
 -- What is on the output of a wish that wasn't done to its end.
-use Rattle.std.specs.Prelude.{◌≡◌, ◌⊎◌, ℕ, List, [], Err, Option, Some}
+use Rattle.std.specs.Prelude.{◌≡◌, ◌⊎◌, ℕ, Bool, List, [], Err, Option, Some}
 use Rattle.cond_lang.specs.Form.{Form}
 use Rattle.plans.specs.declared.cause.Cause.{Cause}
 use Rattle.plans.specs.declared.cause.Cause.TheVariants.{Memory}
 use Rattle.picking.specs.FourBytes.{EndsBefore}
-use Rattle.picking.specs.Outcomes.{Picks}
 use Rattle.picking.specs.declared.fault.PickFault.{PickFault}
 use Rattle.picking.specs.declared.fault.PickFault.TheVariants as picks
 use Rattle.sinks.specs.Appended.{AppendsPart}
@@ -14,6 +13,7 @@ use Rattle.records.specs.declared.fault.RefusedRecord.{RefusedRecord}
 use Rattle.records.specs.declared.shown.ShowFault.{ShowFault}
 use Rattle.records.specs.declared.shown.ShowFault.TheVariants as shown
 use Rattle.deals_cli.specs.Formats.{layout_in}
+use Rattle.deals_cli.specs.Picked.{PicksAs}
 use Rattle.deals_cli.specs.Shown.{ShowsUnder}
 use Rattle.jobs.specs.Makings.{AreWorkers, Means, heading_of, plan_of}
 use Rattle.request_types.specs.Requests.{Look, Questions, Search, Wish, conditions, count, draw, make}
@@ -46,16 +46,17 @@ pub record InterruptsCount (s : Search) (questions : Questions) (style : Style) 
   pub form : Form
   pub means : Means s form
   pub subject : Subject
-  pub asked : IsAsked questions subject
+  pub asked : IsAsked s.let_text questions subject
   pub workers : ℕ
   pub are_workers : AreWorkers s.workers workers
   pub run : InterruptsRun (counting style subject)
       (record (plan_of s numbers_look) { workers = workers }) form cause old new
 
 -- picking ended with this fault
-abbrev pub EndsPick : Search → Look → PickFault → (before after old new : Option (List ℕ)) → Type 0
-EndsPick s l fault before after old new =
-    Picks (layout_in s l) (plan_of s l) (Err fault) before after old new
+abbrev pub EndsPick : Search → Look → (tricks : Bool) → PickFault
+    → (before after old new : Option (List ℕ)) → Type 0
+EndsPick s l tricks fault before after old new =
+    PicksAs {T = Unit {0}} tricks l.format l.show (plan_of s l) (Err fault) before after old new
 
 -- showing ended with this fault
 abbrev pub EndsShow : Look → ShowFault → (before after old new : Option (List ℕ)) → Type 0
@@ -86,16 +87,16 @@ BreaksOff draw cause before after old new =
     ⊎ ((bytes : List ℕ) × IsDrawn bytes before after × AppendsPart old new (seed_text bytes))
 BreaksOff (count s questions style notices) cause before after old new =
     InterruptsCount s questions style cause old new
-BreaksOff (pick seed hands l hints) cause before after old new =
-    (fault : PickFault) × EndsPick (no_search seed hands) l fault before after old new
+BreaksOff (pick seed hands l tricks hints) cause before after old new =
+    (fault : PickFault) × EndsPick (no_search seed hands) l tricks fault before after old new
 BreaksOff (show l hints) cause before after old new =
     (new ≡ old) ⊎ ((fault : ShowFault) × EndsShow l fault before after old new)
 
 -- a wish was ended by this fault of its input; of a `draw` nothing is written then, nor of a `show`
 -- whose first read failed
 abbrev pub EndsFor : Wish → PickFault → (before after old new : Option (List ℕ)) → Type 0
-EndsFor (pick seed hands l hints) fault before after old new =
-    EndsPick (no_search seed hands) l fault before after old new
+EndsFor (pick seed hands l tricks hints) fault before after old new =
+    EndsPick (no_search seed hands) l tricks fault before after old new
 EndsFor (make_with_tricks s l notices) fault before after old new =
     EndsTold s l fault before after old new
 EndsFor (show l hints) picks.Input before after old new =

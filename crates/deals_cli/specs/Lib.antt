@@ -6,6 +6,7 @@ pub use Rattle.command_line.specs.Reading
 pub mod Served
 pub mod Formats
 pub mod Shown
+pub mod Picked
 pub mod Wishes
 pub mod Runs
 pub mod WithTricks

@@ -39,7 +39,7 @@ ReportsFor (make s l notices) report = ReportsOf s l notices report
 ReportsFor (make_with_tricks s l notices) report = ReportsOf s l notices report
 ReportsFor draw report = report ≡ None
 ReportsFor (count s questions style notices) report = report ≡ None
-ReportsFor (pick seed hands l hints) report = report ≡ None
+ReportsFor (pick seed hands l tricks hints) report = report ≡ None
 ReportsFor (show l hints) report = report ≡ None
 
 abbrev pub wants_report : Option Wish → Bool

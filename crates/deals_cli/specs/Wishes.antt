@@ -7,11 +7,11 @@ use Rattle.std.specs.Io.KnownBytes.{Consumes}
 use Rattle.std.specs.List.{flat_map}
 use Rattle.cond_lang.specs.Form.{Form}
 use Rattle.cond_lang.specs.declared.language.TheConstants.{LANGUAGE}
-use Rattle.picking.specs.Outcomes.{Picks}
 use Rattle.sinks.specs.Appended.{AppendsAll}
 use Rattle.dealrun.specs.Values.{lines}
 use Rattle.jobs.specs.Counting.{IsAsked, table_by}
-use Rattle.deals_cli.specs.Formats.{layout_in, text_showing}
+use Rattle.deals_cli.specs.Formats.{text_showing}
+use Rattle.deals_cli.specs.Picked.{PicksAs}
 use Rattle.deals_cli.specs.Shown.{ShowsUnder}
 use Rattle.jobs.specs.Makings.{Means, heading_of, plan_of}
 use Rattle.request_types.specs.Requests.{Wish, conditions, count, draw, make, make_with_tricks}
@@ -48,11 +48,10 @@ AppendsFrom draw before after old new =
     (bytes : List ℕ) × IsDrawn bytes before after × AppendsAll old new (seed_text bytes)
 AppendsFrom (count s questions style notices) before after old new =
     (form : Form) × Means s form
-    × ((subject : Subject) × IsAsked questions subject
+    × ((subject : Subject) × IsAsked s.let_text questions subject
     × AppendsAll old new (table_by style subject (plan_of s numbers_look) form))
-AppendsFrom (pick seed hands l hints) before after old new =
-    (boards : ℕ)
-    × Picks (layout_in (no_search seed hands) l) (plan_of (no_search seed hands) l) (Ok boards)
+AppendsFrom (pick seed hands l tricks hints) before after old new =
+    PicksAs {T = Unit {0}} tricks l.format l.show (plan_of (no_search seed hands) l) (Ok tt)
     before after old new
 AppendsFrom (show l hints) before after old new =
     (boards : ℕ) × ShowsUnder l.format l.show (heading_of l) (Ok boards) before after old new

@@ -106,11 +106,11 @@ pub fn program_with_input<R: Threads + Wait + Clone + Send + 'static, I: Source,
 /// Runs the program, and returns its exit status. The first word is the program's name.
 ///
 /// 0: done, or help or the version was asked for, whose text is on `out`; 2: the command line, the
-/// plan, a label or a hand is refused; 3: the condition is refused; 4: the output failed; 5: out
-/// of memory; 6: a thread couldn't be started, or a worker stopped or wasn't closed. What went
-/// wrong is said on `err`, in one line but for clap's texts, and a report if that is asked for;
-/// faults of `err` are ignored. It may wait for its workers. Words that can't be done without an
-/// input end with 7.
+/// plan, a label or a hand is refused; 3: definitions, the condition or a question are refused; 4:
+/// the output failed; 5: out of memory; 6: a thread couldn't be started, or a worker stopped or
+/// wasn't closed. What went wrong is said on `err`, in one line but for clap's texts, and a report
+/// if that is asked for; faults of `err` are ignored. It may wait for its workers. Words that can't
+/// be done without an input end with 7.
 pub fn program<R: Threads + Wait + Clone + Send + 'static, O: Sink, E: Sink>(
     rt: &R,
     alloc: Global,

@@ -6,18 +6,19 @@ ghost use Rattle.jobs.specs.Jobs.{IsReady, ReadsInput};
 ghost use Rattle.request_types.specs.Requests.{Wish};
 ghost use Rattle.deals_cli.specs.Served.{Serves};
 ghost use Rattle.deals_cli.specs.Wishes.{language_page};
-ghost use Rattle.deals_cli.specs.internal.Ends.{EndsBoards, EndsCount, EndsPicking, FaultsOfRun};
+ghost use Rattle.deals_cli.specs.internal.Ends.{EndsBoards, EndsCount, FaultsOfRun};
 ghost use Rattle.sinks.specs.Sinks.{AppendsOrBreaksOff, CountsFault};
 
+use crate::pick_job::pick_boards;
 use crate::seed_job::draw;
 use crate::show_job::show_boards;
 use crate::tricks_job::write_with_tricks;
 use crate::workers::worked;
 use crate::written::write_plan;
 use cond_lang::LANGUAGE;
-use jobs::{BoardsJob, CountJob, Failure, Job, PickJob};
+use jobs::{BoardsJob, CountJob, Failure, Job};
 use notations::AnyPrinter;
-use picking::{PickFault, Source, pick};
+use picking::Source;
 use plans::{Cause, Report};
 use sinks::{Sink, SinkFault, put_all};
 use statistics::Counter;
@@ -87,42 +88,6 @@ fn write_table<R: Threads + Wait + Clone + Send + 'static, O: Sink>(
     };
     write_plan(rt, alloc, &run, condition, &mut counter, out)?;
     Ok(())
-}
-
-/// Writes the boards of the candidates whose numbers the input gives. What was written before a
-/// fault of the input is passed on.
-// In line it would take the stack of a `make` too: a printer and a piece of the input.
-#[inline(never)]
-fn pick_boards<I: Source, O: Sink>(
-    alloc: Global,
-    job: &PickJob,
-    input: &mut I,
-    out: &mut O,
-) -> Result<(), Failure>
-    requires output { O.faults out.old < 2 ^ 64 - 1 }
-    requires input { I.faults input.old < 2 ^ 64 - 1 }
-    ensures ends { EndsPicking job.now result (I.rest input.old) (I.rest input.new)
-        (O.bytes out.old) (O.bytes out.new) }
-    ensures faults { O.faults out.new ≡ O.faults out.old + faults_in result }
-    ensures input { CountsInput result (I.faults input.old) (I.faults input.new) }
-    ensures flushed { IfErr result (λ e. status_of e ≡ 7 → O.is_flushed out.new) }
-{
-    let mut printer = AnyPrinter::showing(alloc, job.format, job.show, job.plan.heading())?;
-    let picked = pick(&job.plan, &mut printer, input, out);
-    // Here and not at each end, which would take room on the stack for each.
-    drop(printer);
-    match picked {
-        Ok(_) => Ok(()),
-        Err(PickFault::Output) => Err(Failure::Interrupted(Cause::Output)),
-        Err(PickFault::Refused(line)) => {
-            out.flush()?;
-            Err(Failure::Line(line))
-        }
-        Err(PickFault::Input) => {
-            out.flush()?;
-            Err(Failure::Input)
-        }
-    }
 }
 
 /// Writes the page of the language.

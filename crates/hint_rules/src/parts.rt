@@ -172,6 +172,27 @@ impl<'t> Parts<'t> {
         0
     }
 
+    /// Whether the part stands in the brackets that say what its name, given before, stands for.
+    pub(crate) fn is_in_own_brackets(&self, i: usize) -> bool {
+        let given = self.given_at(self.at(i));
+        let mut is_after_is = false;
+        let mut depth = 0usize;
+        for k in given..i {
+            let part = self.at(k);
+            if is(part, "is") {
+                is_after_is = true;
+            } else if is_after_is && is(part, "(") {
+                depth = depth.saturating_add(1);
+            } else if is_after_is && is(part, ")") {
+                depth = depth.saturating_sub(1);
+                if depth == 0 {
+                    return false;
+                }
+            }
+        }
+        given > 0 && depth > 0
+    }
+
     /// What comes after a use of the name, for a seat and a suit.
     pub(crate) fn arguments_of(&self, name: &[u8]) -> &'static str {
         let given = self.given_at(name);

@@ -23,6 +23,7 @@
 //! | `Known`, `Name` | a word of the language; one that is neither that nor ranks |
 //! | `InName` | the fault is in the brackets of such a word |
 //! | `Later` | a word that the text gives as a name further on |
+//! | `Own` | a name that stands in the brackets of its own definition |
 //! | `Ranks` | ranks, whether or not one occurs twice |
 //! | `Capital` | a word that has letters that aren't small |
 //! | `CapitalWord`, `CapitalRanks` | one that is known, or ranks, once they are |
@@ -73,6 +74,7 @@ enum Want {
     Name,
     InName,
     Later,
+    Own,
     Ranks,
     Capital,
     CapitalWord,
@@ -88,7 +90,7 @@ enum Want {
     Counted,
 }
 
-static WANTS: [(&str, Want); 39] = [
+static WANTS: [(&str, Want); 40] = [
     ("Can", Want::Can),
     ("Cannot", Want::Cannot),
     ("In", Want::In),
@@ -115,6 +117,7 @@ static WANTS: [(&str, Want); 39] = [
     ("Name", Want::Name),
     ("InName", Want::InName),
     ("Later", Want::Later),
+    ("Own", Want::Own),
     ("Ranks", Want::Ranks),
     ("Capital", Want::Capital),
     ("CapitalWord", Want::CapitalWord),
@@ -240,6 +243,7 @@ fn is_met(parts: &Parts, i: usize, want: Want, texts: &str) -> bool {
         Want::Name => is_name(part),
         Want::InName => is_name(parts.call()),
         Want::Later => is_name(part) && parts.given_at(part) > i,
+        Want::Own => is_name(part) && parts.is_in_own_brackets(i),
         Want::Ranks => is_word(part) && are_ranks(part),
         Want::Measure => is_measure(part),
         Want::NoValue => !is_number(part) && !is_measure(part),

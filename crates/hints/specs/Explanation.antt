@@ -84,3 +84,20 @@ Explains text error written = ExplainsAs Condition text error written
 -- and of a question
 abbrev pub ExplainsQuestion : List ℕ → CondError → List ℕ → Type 0
 ExplainsQuestion text error written = ExplainsAs Question text error written
+
+-- the hint for definitions that are too long
+abbrev pub definitions_length_line : List ℕ → List ℕ
+definitions_length_line text =
+    codes "  hint: definitions have at most 4096 bytes, and these have "
+    ++ decimal (length text) ++ codes "\n"
+
+-- what is written of a text of definitions alone that is refused so
+abbrev pub ExplainsDefinitions : List ℕ → CondError → List ℕ → Type 0
+ExplainsDefinitions text TooLong written = written ≡ definitions_length_line text
+ExplainsDefinitions text (Byte at) written = Shows Nothing text at written
+ExplainsDefinitions text (Word at) written = Shows Nothing text at written
+ExplainsDefinitions text (Number at) written = Shows Nothing text at written
+ExplainsDefinitions text (Syntax at) written =
+    Shows Nothing text at written ⊎ Shows (MayTell Condition text) text at written
+ExplainsDefinitions text TooManyParts written = Nothing written
+ExplainsDefinitions text Memory written = Nothing written

@@ -76,7 +76,7 @@ pub(crate) fn put_expected(
     names: &[&[u8]],
     is_new: bool,
 ) -> Result<(), AllocError>
-    requires { length names.now ≤ 1024 }
+    requires { length names.now ≤ 5121 }
     ensures { OnOk result (string_bytes out.new ≡ string_bytes out.old
         ++ expected_line is_new (map (λ p. p.now) names.now) (of_value can.now) (in_set can.now)) }
 {
@@ -94,7 +94,7 @@ fn terms(
     names: &[&[u8]],
     is_new: bool,
 ) -> Result<Vec<Term>, AllocError>
-    requires { length names.now ≤ 1024 }
+    requires { length names.now ≤ 5121 }
     ensures { IfOk result (λ ts. ts.items
         ≡ terms is_new (map (λ p. p.now) names.now) (of_value can.now) (in_set can.now)) }
 {
@@ -139,7 +139,7 @@ fn put_names(
     of_values: bool,
     mut names: &[&[u8]],
 ) -> Result<(), AllocError>
-    requires { length names.now ≤ 1024 }
+    requires { length names.now ≤ 5121 }
     ensures { OnOk result (terms.new.items ≡ terms.old.items
         ++ names_that of_values (of_value can.now) (in_set can.now)
         (map (λ p. p.now) names.entry.now)) }

@@ -16,9 +16,9 @@ use hint_rules::Kinds;
 #[derive(Drop)]
 pub(crate) struct KindSet {
     holds: [bool; Kind::COUNT],
-    names: ArrayVec<bool, 1024>,
+    names: ArrayVec<bool, 5121>,
     /// Of each name, whether it stands for a value.
-    values: ArrayVec<bool, 1024>,
+    values: ArrayVec<bool, 5121>,
 }
 
 impl KindSet {
@@ -29,7 +29,7 @@ impl KindSet {
         beginning: &Beginning,
         count: usize,
     ) -> Result<KindSet, CondError>
-        requires { count ≤ 1024 }
+        requires { count ≤ 5121 }
         ensures allowed { IfOk result (λ set. (kind : AKind) → IsTold count kind
             → IsTrue (in_set set kind) ↔ CanStand asked beginning.now kind) }
         ensures values { IfOk result (λ set. (n : ℕ) → n < count
@@ -84,8 +84,8 @@ fn names_that_may_come(
     asked: Asked,
     beginning: &Beginning,
     count: usize,
-) -> Result<ArrayVec<bool, 1024>, CondError>
-    requires { count ≤ 1024 }
+) -> Result<ArrayVec<bool, 5121>, CondError>
+    requires { count ≤ 5121 }
     ensures allowed { IfOk result (λ names. (n : ℕ) → n < count
         → IsTrue (slice_index_or names.items n false)
         ↔ CanStand asked beginning.now (AKind.Name n)) }
@@ -99,8 +99,8 @@ fn names_that_may_come(
 }
 
 /// Of each of the first `count` names, whether it stands for a value. The only error is `Memory`.
-fn names_of_values(beginning: &Beginning, count: usize) -> Result<ArrayVec<bool, 1024>, CondError>
-    requires { count ≤ 1024 }
+fn names_of_values(beginning: &Beginning, count: usize) -> Result<ArrayVec<bool, 5121>, CondError>
+    requires { count ≤ 5121 }
     ensures values { IfOk result (λ values. (n : ℕ) → n < count
         → IsOfValue beginning.now n (slice_index_or values.items n false)) }
     ensures memory { IfErr result (λ e. e ≡ Memory) }

@@ -14,4 +14,4 @@ mod repeated;
 
 pub use noted::note;
 pub use rare::rare_tests;
-pub use refusal::{explain, explain_question};
+pub use refusal::{explain, explain_definitions, explain_question};

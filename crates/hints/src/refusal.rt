@@ -2,7 +2,8 @@
 
 ghost use Rattle.std.specs.Prelude.{◌≡◌, ◌≤◌, ◌++◌, IfOk, MatchOption, OnOk, length, string_bytes};
 ghost use Rattle.cond_lang.specs.Continuations.{IsBeginning};
-ghost use Rattle.hints.specs.Explanation.{Explains, ExplainsAs, ExplainsQuestion, IsFaulty};
+ghost use Rattle.hints.specs.Explanation.{Explains, ExplainsAs, ExplainsDefinitions};
+ghost use Rattle.hints.specs.Explanation.{ExplainsQuestion, IsFaulty, definitions_length_line};
 ghost use Rattle.hints.specs.Explanation.{MayHint, MayTell, Nothing, Shows, length_line};
 ghost use Rattle.hints.specs.internal.Appends.{Appends};
 
@@ -11,12 +12,16 @@ use crate::excerpt::put_excerpt;
 use crate::expected::put_expected;
 use crate::kinds::KindSet;
 use cards::Fixed;
-use cond_lang::{Beginning, CondError, names_of, parse};
+use cond_lang::{Beginning, CondError, Kind, names_of, parse};
 use hint_rules::{Said, of_piece, of_syntax, suggested};
 use itoa::Buffer;
 use sinks::put_shown;
 use std::alloc::{AllocError, Global};
 use unmet::is_never;
+
+/// What is said where something else comes than a definition.
+const ONLY_DEFINITIONS: &[u8] =
+    b"--let has definitions alone, as let fit is (..); a condition comes after --where";
 
 /// Returns what helps a person with a text that is refused as `error`: the lines that are below
 /// the one that names the refusal, each ended by a line feed.
@@ -29,6 +34,7 @@ use unmet::is_never;
 ///
 /// # Errors
 /// `AllocError` if an allocation failed.
+#[inline(never)]
 pub fn explain(alloc: Global, text: &[u8], error: CondError) -> Result<String, AllocError>
     ensures { IfOk result (λ written. Explains text.now error (string_bytes written)) }
 {
@@ -40,10 +46,43 @@ pub fn explain(alloc: Global, text: &[u8], error: CondError) -> Result<String, A
 ///
 /// # Errors
 /// `AllocError` if an allocation failed.
+#[inline(never)]
 pub fn explain_question(alloc: Global, text: &[u8], error: CondError) -> Result<String, AllocError>
     ensures { IfOk result (λ written. ExplainsQuestion text.now error (string_bytes written)) }
 {
     explain_as(alloc, Asked::Question, text, error)
+}
+
+/// Returns what helps a person with a text that is refused as definitions alone: the same lines, of
+/// what may come in a definition. Where a definition could begin, a hint says that only
+/// definitions come there.
+///
+/// # Errors
+/// `AllocError` if an allocation failed.
+#[inline(never)]
+pub fn explain_definitions(
+    alloc: Global,
+    text: &[u8],
+    error: CondError,
+) -> Result<String, AllocError>
+    ensures { IfOk result (λ written. ExplainsDefinitions text.now error (string_bytes written)) }
+{
+    let mut out = String::new(alloc);
+    match error {
+        CondError::TooLong => put_length_of_definitions(&mut out, text)?,
+        CondError::Byte { at } | CondError::Word { at } | CondError::Number { at } => {
+            put_piece(alloc, &mut out, text, at)?
+        }
+        CondError::Syntax { at } => {
+            if may_define(alloc, text, at)? {
+                put_no_definition(alloc, &mut out, text, at)?
+            } else {
+                put_syntax(alloc, &mut out, Asked::Condition, text, at)?
+            }
+        }
+        CondError::TooManyParts | CondError::Memory => {}
+    }
+    Ok(out)
 }
 
 /// The lines, of a text that was read as what is asked for.
@@ -99,10 +138,40 @@ fn put_syntax(
     put_hint(alloc, out, of_syntax(alloc, text, at, &can.kinds()))
 }
 
+/// Whether a definition may begin at the place.
+fn may_define(alloc: Global, text: &[u8], at: usize) -> Result<bool, AllocError> {
+    let Some(before) = text.get(..at) else {
+        return Ok(false);
+    };
+    let Some(beginning) = beginning_of(alloc, before)? else {
+        return Ok(false);
+    };
+    match beginning.allows(Kind::Let) {
+        Ok(may) => Ok(may),
+        Err(_) => Err(AllocError),
+    }
+}
+
+/// Appends what is said of a token where a definition could begin, and is none.
+fn put_no_definition(
+    alloc: Global,
+    out: &mut String,
+    text: &[u8],
+    at: usize,
+) -> Result<(), AllocError>
+    ensures { OnOk result (Appends (Shows Nothing text.now at)
+        (string_bytes out.old) (string_bytes out.new)) }
+{
+    put_excerpt(out, text, at)?;
+    let mut hint = Vec::new(alloc);
+    hint.extend_from_slice(ONLY_DEFINITIONS)?;
+    put_hint(alloc, out, Ok(Some(hint)))
+}
+
 /// The beginning of the text, if it has tokens.
 fn beginning_of(alloc: Global, text: &[u8]) -> Result<Option<Beginning>, AllocError>
     ensures { IfOk result (λ found. MatchOption found (IsFaulty text.now)
-        (λ b. IsBeginning text.now b × (length text.now ≤ 1024))) }
+        (λ b. IsBeginning text.now b × (length text.now ≤ 5121))) }
 {
     match Beginning::of(alloc, text) {
         Ok(beginning) => Ok(Some(beginning)),
@@ -124,6 +193,16 @@ fn put_length(out: &mut String, asked: Asked, text: &[u8]) -> Result<(), AllocEr
     out.push_str("  hint: a ")?;
     out.push_str(asked.name())?;
     out.push_str(" has at most 1024 bytes, and this one has ")?;
+    out.push_str(Buffer::new().format(text.len() as u64))?;
+    out.push_str("\n")
+}
+
+/// Appends the hint for definitions that are too long.
+fn put_length_of_definitions(out: &mut String, text: &[u8]) -> Result<(), AllocError>
+    ensures { OnOk result (string_bytes out.new
+        ≡ string_bytes out.old ++ definitions_length_line text.now) }
+{
+    out.push_str("  hint: definitions have at most 4096 bytes, and these have ")?;
     out.push_str(Buffer::new().format(text.len() as u64))?;
     out.push_str("\n")
 }

@@ -2,7 +2,7 @@
 use Rattle.std.proofs.Common.{◌≡◌, ◌≢◌, ◌⊎◌, ◌<◌, ◌+◌, ◌^◌, ◌||◌, ◌==◌, ◌∙◌, ◌++◌, ℕ, zero, suc, Bool, true, false, List, [], ◌∷◌, Option, Some, refl, sym, ap, inl, inr, nat_lt, option_map, arith, eqb-true, if◌then◌else◌}
 use Rattle.std.specs.Borrow.{Bor}
 use Rattle.std.proofs.lemmas.Bool.{eqb-false, ltb-true, ltb-false}
-use Rattle.cond_lang.specs.Faults.{IsDue}
+use Rattle.cond_lang.specs.After.{IsDueAlone}
 use Rattle.cond_lang.specs.Form.{Form}
 use Rattle.conditions.specs.declared.error.CondError.{CondError}
 use Rattle.conditions.specs.declared.error.CondError.TheVariants.{TooLong, Byte, Word, Number, Syntax, TooManyParts, Memory as no_memory}
@@ -11,8 +11,8 @@ use Rattle.plans.specs.declared.cause.Cause.TheVariants as cause
 use Rattle.plans.specs.Refusals.{refusal_of}
 use Rattle.plans.specs.declared.plan.PlanError.{PlanError}
 use Rattle.plans.specs.declared.plan.PlanError.TheVariants.{Range, Workers, Capacity, Boards, FirstBoard}
-use Rattle.jobs.specs.Failures.{failure_of, is_refusal, status_of}
-use Rattle.jobs.specs.FirstRefusal.{AreRefused, HasCondition, IsCountDue, IsDueFor, IsFirstHand, IsFirstOf, IsMakeDue, IsPickDue, IsPlanDue, IsShowDue, IsTextDue, IsTricksDue, Meets, of_labels, of_numbers}
+use Rattle.jobs.specs.Failures.{definitions_failure, failure_of, is_refusal, status_of}
+use Rattle.jobs.specs.FirstRefusal.{AreDue, AreRefused, HasCondition, IsCountDue, IsDueFor, IsDueRead, IsFirstHand, IsFirstOf, IsMakeDue, IsPickDue, IsPlanDue, IsShowDue, IsTextDue, IsTricksDue, Meets, of_labels, of_numbers}
 use Rattle.request_types.specs.Defaults.{candidates_of, workers_in}
 use Rattle.jobs.specs.Makings.{HasLabels, HasNumbers, IsPlanned, Means}
 use Rattle.request_types.specs.Requests.{Look, Questions, Search, Wish, conditions, count, draw, lessons, make, make_with_tricks, no_search, numbers_look, pick, plain_search, show, stream}
@@ -23,11 +23,11 @@ use Rattle.request_types.specs.declared.request.Notices.{Notices}
 use Rattle.request_types.specs.declared.when.When.{When}
 use Rattle.request_types.specs.PredealtHands.{GivenHands}
 use Rattle.jobs.specs.declared.failure.Failure.{Failure}
-use Rattle.jobs.specs.declared.failure.Failure.TheVariants.{CommandLine, Plan, Label, Hand, Condition, Question, Cells, Interrupted, Line, Record, Input, EndOfInput}
+use Rattle.jobs.specs.declared.failure.Failure.TheVariants.{CommandLine, Plan, Label, Hand, Definitions, Condition, Question, Cells, Interrupted, Line, Record, Input, EndOfInput}
 use Rattle.request_types.specs.declared.names.LabelName.TheVariants.{Event, Site, Date}
 use Rattle.request_types.specs.declared.names.QuestionName.TheVariants.{Of, By}
 use Rattle.jobs.specs.Counting.{IsAsked}
-use Rattle.jobs.specs.internal.Conditions.{IsConditionFailure, IsTextFailure}
+use Rattle.jobs.specs.internal.Conditions.{IsConditionFailure, IsDefinitionsFailure, IsTextFailure}
 use Rattle.jobs.specs.internal.QuestionFailures.{AreFailure}
 use Rattle.statistics.specs.Counting.{Subject}
 use Rattle.boards.specs.declared.style.Style.{Style}
@@ -104,6 +104,7 @@ hands_due s l (CommandLine text) n t h = absurd h
 hands_due s l (Plan error) n t h = absurd h
 hands_due s l (Label name) n t h = absurd h
 hands_due s l (Hand seat) n t h = (n, t, h)
+hands_due s l (Definitions error) n t h = absurd h
 hands_due s l (Condition error) n t h = absurd h
 hands_due s l (Question name error) n t h = absurd h
 hands_due s l (Cells name) n t h = absurd h
@@ -118,17 +119,17 @@ pub ruleset plans = (numbers_due, labels_due, hands_due)
 
 -- ---- the condition
 
-pub unread : (o : Option (Bor (List ℕ))) (text : Bor (List ℕ)) (bytes : List ℕ) (e : CondError) → o ≡ Some text → bytes ≡ text.now
-    → IsDue bytes e → IsTextFailure (option_map (λ s. s.now) o) (failure_of e)
-unread o text bytes e given same due = by_error e due
+pub unread : (D : Option (List ℕ)) (o : Option (Bor (List ℕ))) (text : Bor (List ℕ)) (e : CondError) → o ≡ Some text
+    → IsDueRead D text.now e → IsTextFailure D (option_map (λ s. s.now) o) (failure_of e)
+unread D o text e given due = by_error e due
   where
-    is_given : option_map (λ s. s.now) o ≡ Some bytes
-    is_given = ap (option_map (λ s. s.now)) given ∙ ap (λ (t : List ℕ). Some t) (sym same)
+    is_given : option_map (λ s. s.now) o ≡ Some text.now
+    is_given = ap (option_map (λ s. s.now)) given
 
-    because : (e : CondError) → IsDue bytes e → e ≢ no_memory → IsTextDue (option_map (λ s. s.now) o) e
-    because e due refused = record { text = bytes; is_given = is_given; due = due; refused = refused }
+    because : (e : CondError) → IsDueRead D text.now e → e ≢ no_memory → IsTextDue D (option_map (λ s. s.now) o) e
+    because e due refused = record { text = text.now; is_given = is_given; due = due; refused = refused }
 
-    by_error : (e : CondError) → IsDue bytes e → IsTextFailure (option_map (λ s. s.now) o) (failure_of e)
+    by_error : (e : CondError) → IsDueRead D text.now e → IsTextFailure D (option_map (λ s. s.now) o) (failure_of e)
     by_error TooLong due = inr (TooLong, refl, because TooLong due (λ bad. cc))
     by_error (Byte at) due = inr (Byte at, refl, because (Byte at) due (λ bad. cc))
     by_error (Word at) due = inr (Word at, refl, because (Word at) due (λ bad. cc))
@@ -137,9 +138,39 @@ unread o text bytes e given same due = by_error e due
     by_error TooManyParts due = inr (TooManyParts, refl, because TooManyParts due (λ bad. cc))
     by_error no_memory due = inl refl
 
+-- the same of definitions
+pub unread_definitions : (o : Option (Bor (List ℕ))) (text : Bor (List ℕ)) (bytes : List ℕ) (e : CondError) → o ≡ Some text → bytes ≡ text.now
+    → IsDueAlone bytes e → IsDefinitionsFailure (option_map (λ s. s.now) o) (definitions_failure e)
+unread_definitions o text bytes e given same due = by_error e due
+  where
+    is_given : option_map (λ s. s.now) o ≡ Some bytes
+    is_given = ap (option_map (λ s. s.now)) given ∙ ap (λ (t : List ℕ). Some t) (sym same)
+
+    because : (e : CondError) → IsDueAlone bytes e → e ≢ no_memory → AreDue (option_map (λ s. s.now) o) e
+    because e due refused = record { text = bytes; is_given = is_given; due = due; refused = refused }
+
+    by_error : (e : CondError) → IsDueAlone bytes e → IsDefinitionsFailure (option_map (λ s. s.now) o) (definitions_failure e)
+    by_error TooLong due = inr (TooLong, refl, because TooLong due (λ bad. cc))
+    by_error (Byte at) due = inr (Byte at, refl, because (Byte at) due (λ bad. cc))
+    by_error (Word at) due = inr (Word at, refl, because (Word at) due (λ bad. cc))
+    by_error (Number at) due = inr (Number at, refl, because (Number at) due (λ bad. cc))
+    by_error (Syntax at) due = inr (Syntax at, refl, because (Syntax at) due (λ bad. cc))
+    by_error TooManyParts due = absurd due
+    by_error no_memory due = inl refl
+
+-- the definitions or the condition are refused
 pub condition_due : (s : Search) (l : Look) (f : Failure) → IsPlanned s l → IsConditionFailure s f → IsMakeDue s l f
-condition_due s l f plan (inl memory) = rw memory plan
-condition_due s l f plan (inr (error, is, due)) = rw is (plan, due)
+condition_due s l f plan (inl (inl memory)) = rw memory plan
+condition_due s l f plan (inl (inr (error, is, due))) = rw is (plan, due)
+condition_due s l f plan (inr (given, inl memory)) = rw memory plan
+condition_due s l f plan (inr (given, inr (error, is, due))) = rw is (plan, given, due)
+
+-- before anything was done
+condition_refusal : (s : Search) (f : Failure) → IsConditionFailure s f → is_refusal f ≡ true
+condition_refusal s f (inl (inl memory)) = rw memory refl
+condition_refusal s f (inl (inr (error, is, due))) = rw is refl
+condition_refusal s f (inr (given, inl memory)) = rw memory refl
+condition_refusal s f (inr (given, inr (error, is, due))) = rw is refl
 
 -- ---- the run
 
@@ -159,7 +190,7 @@ output_due (make s l notices) status = status.accepted (inl refl)
 output_due (make_with_tricks s l notices) status = status.accepted (inl refl)
 output_due draw status = tt
 output_due (count s questions style notices) status = let all = status.accepted (inl refl) in (all.0, all.1.0, all.1.1)
-output_due (pick seed hands l hints) status = (status.accepted (inl refl)).0
+output_due (pick seed hands l tricks hints) status = (status.accepted (inl refl)).0
 output_due (show l hints) status = (status.accepted (inl refl)).0
 
 -- a refused plan is due for a `make` and for a `pick`
@@ -168,6 +199,7 @@ make_plan_due s l (CommandLine text) h = h
 make_plan_due s l (Plan error) h = h
 make_plan_due s l (Label name) h = h
 make_plan_due s l (Hand seat) h = h
+make_plan_due s l (Definitions error) h = absurd h
 make_plan_due s l (Condition error) h = absurd h
 make_plan_due s l (Question name error) h = absurd h
 make_plan_due s l (Cells name) h = absurd h
@@ -183,6 +215,7 @@ tricks_due s l (CommandLine text) before h = h
 tricks_due s l (Plan error) before h = h
 tricks_due s l (Label name) before h = h
 tricks_due s l (Hand seat) before h = h
+tricks_due s l (Definitions error) before h = h
 tricks_due s l (Condition error) before h = h
 tricks_due s l (Question name error) before h = h
 tricks_due s l (Cells name) before h = h
@@ -201,6 +234,7 @@ pick_plan_due s l (CommandLine text) h = h
 pick_plan_due s l (Plan error) h = h
 pick_plan_due s l (Label name) h = h
 pick_plan_due s l (Hand seat) h = h
+pick_plan_due s l (Definitions error) h = absurd h
 pick_plan_due s l (Condition error) h = absurd h
 pick_plan_due s l (Question name error) h = absurd h
 pick_plan_due s l (Cells name) h = absurd h
@@ -215,6 +249,7 @@ count_plan_due s q (CommandLine text) h = h
 count_plan_due s q (Plan error) h = h
 count_plan_due s q (Label name) h = h
 count_plan_due s q (Hand seat) h = h
+count_plan_due s q (Definitions error) h = absurd h
 count_plan_due s q (Condition error) h = absurd h
 count_plan_due s q (Question name error) h = absurd h
 count_plan_due s q (Cells name) h = absurd h
@@ -226,14 +261,17 @@ count_plan_due s q EndOfInput h = absurd h
 
 -- a condition or a question that is refused is due for a `count`
 count_condition_due : (s : Search) (q : Questions) (f : Failure) → IsPlanned s numbers_look → IsConditionFailure s f → IsCountDue s q f
-count_condition_due s q f plan (inl memory) = rw memory plan
-count_condition_due s q f plan (inr (error, is, due)) = rw is (plan, due)
+count_condition_due s q f plan (inl (inl memory)) = rw memory plan
+count_condition_due s q f plan (inl (inr (error, is, due))) = rw is (plan, due)
+count_condition_due s q f plan (inr (given, inl memory)) = rw memory plan
+count_condition_due s q f plan (inr (given, inr (error, is, due))) = rw is (plan, given, due)
 
-questions_due : (s : Search) (q : Questions) (f : Failure) → IsPlanned s numbers_look → HasCondition s → AreRefused q f → IsCountDue s q f
+questions_due : (s : Search) (q : Questions) (f : Failure) → IsPlanned s numbers_look → HasCondition s → AreRefused s.let_text q f → IsCountDue s q f
 questions_due s q (CommandLine text) plan condition h = absurd h
 questions_due s q (Plan error) plan condition h = absurd h
 questions_due s q (Label name) plan condition h = absurd h
 questions_due s q (Hand seat) plan condition h = absurd h
+questions_due s q (Definitions error) plan condition h = absurd h
 questions_due s q (Condition error) plan condition h = absurd h
 questions_due s q (Question Of error) plan condition h = (plan, condition, h)
 questions_due s q (Question By error) plan condition h = (plan, condition, h)
@@ -244,23 +282,24 @@ questions_due s q (Record line) plan condition h = absurd h
 questions_due s q Input plan condition h = absurd h
 questions_due s q EndOfInput plan condition h = absurd h
 
-questions_refusal : (q : Questions) (f : Failure) → AreRefused q f → is_refusal f ≡ true
-questions_refusal q (CommandLine text) h = absurd h
-questions_refusal q (Plan error) h = absurd h
-questions_refusal q (Label name) h = absurd h
-questions_refusal q (Hand seat) h = absurd h
-questions_refusal q (Condition error) h = absurd h
-questions_refusal q (Question Of error) h = refl
-questions_refusal q (Question By error) h = refl
-questions_refusal q (Cells name) h = refl
-questions_refusal q (Interrupted c) h = absurd h
-questions_refusal q (Line line) h = absurd h
-questions_refusal q (Record line) h = absurd h
-questions_refusal q Input h = absurd h
-questions_refusal q EndOfInput h = absurd h
+questions_refusal : (D : Option (List ℕ)) (q : Questions) (f : Failure) → AreRefused D q f → is_refusal f ≡ true
+questions_refusal D q (CommandLine text) h = absurd h
+questions_refusal D q (Plan error) h = absurd h
+questions_refusal D q (Label name) h = absurd h
+questions_refusal D q (Hand seat) h = absurd h
+questions_refusal D q (Definitions error) h = absurd h
+questions_refusal D q (Condition error) h = absurd h
+questions_refusal D q (Question Of error) h = refl
+questions_refusal D q (Question By error) h = refl
+questions_refusal D q (Cells name) h = refl
+questions_refusal D q (Interrupted c) h = absurd h
+questions_refusal D q (Line line) h = absurd h
+questions_refusal D q (Record line) h = absurd h
+questions_refusal D q Input h = absurd h
+questions_refusal D q EndOfInput h = absurd h
 
 -- a `count` that was interrupted
-pub count_run_due : (s : Search) (q : Questions) (c : Cause) → IsPlanned s numbers_look → HasCondition s → (subject : Subject) → IsAsked q subject → IsCountDue s q (Interrupted c)
+pub count_run_due : (s : Search) (q : Questions) (c : Cause) → IsPlanned s numbers_look → HasCondition s → (subject : Subject) → IsAsked s.let_text q subject → IsCountDue s q (Interrupted c)
 count_run_due s q cause.Memory plan condition subject asked = plan
 count_run_due s q cause.Output plan condition subject asked = (plan, condition, (subject, asked))
 count_run_due s q cause.Spawn plan condition subject asked = (plan, condition, (subject, asked))
@@ -273,6 +312,7 @@ plan_refusal s l (CommandLine text) h = refl
 plan_refusal s l (Plan error) h = refl
 plan_refusal s l (Label name) h = refl
 plan_refusal s l (Hand seat) h = refl
+plan_refusal s l (Definitions error) h = refl
 plan_refusal s l (Condition error) h = refl
 plan_refusal s l (Question name error) h = refl
 plan_refusal s l (Cells name) h = refl
@@ -291,11 +331,11 @@ make_refused s l notices f refused due = record {
   nothing_done = plan_refusal s l f due;
 }
 
-pub pick_refused : (seed : ℕ) (hands : GivenHands) (l : Look) (hints : When) (f : Failure) → (status_of f ≡ 2) × (IsPlanned (no_search seed hands) l → ⊥) → IsPlanDue (no_search seed hands) l f
-    → IsRefused (pick seed hands l hints) f
-pick_refused seed hands l hints f refused due = record {
+pub pick_refused : (seed : ℕ) (hands : GivenHands) (l : Look) (tricks : Bool) (hints : When) (f : Failure) → (status_of f ≡ 2) × (IsPlanned (no_search seed hands) l → ⊥) → IsPlanDue (no_search seed hands) l f
+    → IsRefused (pick seed hands l tricks hints) f
+pick_refused seed hands l tricks hints f refused due = record {
   due = pick_plan_due (no_search seed hands) l f due;
-  status = refused_plan (pick seed hands l hints) (status_of f) refused.0 refused.1;
+  status = refused_plan (pick seed hands l tricks hints) (status_of f) refused.0 refused.1;
   nothing_done = plan_refusal (no_search seed hands) l f due;
 }
 
@@ -332,35 +372,31 @@ pub count_condition_refused : (s : Search) (q : Questions) (style : Style) (noti
 count_condition_refused s q style notices f plan status memory due = record {
   due = count_condition_due s q f plan due;
   status = refused_later (count s q style notices) f status plan (λ meaning. memory meaning.0.0 meaning.0.1);
-  nothing_done = by_failure due;
+  nothing_done = condition_refusal s f due;
 }
-  where
-    by_failure : IsConditionFailure s f → is_refusal f ≡ true
-    by_failure (inl memory) = rw memory refl
-    by_failure (inr (error, is, due)) = rw is refl
 
 pub questions_refused : (s : Search) (q : Questions) (style : Style) (notices : Notices) (f : Failure) → IsPlanned s numbers_look → (form : Form) → Means s form
-    → (status_of f ≡ 5) ⊎ (status_of f ≡ 3) → ((subject : Subject) → IsAsked q subject → status_of f ≡ 5) → AreFailure q f → IsRefused (count s q style notices) f
+    → (status_of f ≡ 5) ⊎ (status_of f ≡ 3) → ((subject : Subject) → IsAsked s.let_text q subject → status_of f ≡ 5) → AreFailure s.let_text q f → IsRefused (count s q style notices) f
 questions_refused s q style notices f plan form means status memory due = record {
   due = by_failure due;
   status = refused_later (count s q style notices) f status plan (λ meaning. memory meaning.1.0 meaning.1.1);
   nothing_done = refusal due;
 }
   where
-    by_failure : AreFailure q f → IsCountDue s q f
+    by_failure : AreFailure s.let_text q f → IsCountDue s q f
     by_failure (inl memory) = rw memory plan
     by_failure (inr refused) = questions_due s q f plan (form, means) refused
 
-    refusal : AreFailure q f → is_refusal f ≡ true
+    refusal : AreFailure s.let_text q f → is_refusal f ≡ true
     refusal (inl memory) = rw memory refl
-    refusal (inr refused) = questions_refusal q f refused
+    refusal (inr refused) = questions_refusal s.let_text q f refused
 
 pub meaning_refused : (s : Search) (l : Look) (notices : Notices) (f : Failure) → IsPlanned s l → (status_of f ≡ 5) ⊎ (status_of f ≡ 3) → ((form : Form) → Means s form → status_of f ≡ 5)
     → IsConditionFailure s f → IsRefused (make s l notices) f
 meaning_refused s l notices f plan status memory due = record {
   due = condition_due s l f plan due;
   status = by_status status;
-  nothing_done = by_failure due;
+  nothing_done = condition_refusal s f due;
 }
   where
     no_meaning : status_of f ≡ 3 → ((form : Form) × Means s form) → ⊥
@@ -369,10 +405,6 @@ meaning_refused s l notices f plan status memory due = record {
     by_status : (status_of f ≡ 5) ⊎ (status_of f ≡ 3) → IsStatusOf (make s l notices) (status_of f)
     by_status (inl is) = out_of_memory (make s l notices) (status_of f) is
     by_status (inr is) = refused_meaning (make s l notices) (status_of f) is plan (no_meaning is)
-
-    by_failure : IsConditionFailure s f → is_refusal f ≡ true
-    by_failure (inl memory) = rw memory refl
-    by_failure (inr (error, is, due)) = rw is refl
 
 -- ---- the same with tricks
 
@@ -390,6 +422,7 @@ refusal_status (CommandLine text) before h = omega (arith, h)
 refusal_status (Plan error) before h = omega (arith, h)
 refusal_status (Label name) before h = omega (arith, h)
 refusal_status (Hand seat) before h = omega (arith, h)
+refusal_status (Definitions error) before h = omega (arith, h)
 refusal_status (Condition error) before h = omega (arith, h)
 refusal_status (Question name error) before h = omega (arith, h)
 refusal_status (Cells name) before h = omega (arith, h)

@@ -1,18 +1,16 @@
 -- How the refusal of a condition ends the program.
-use Rattle.std.proofs.Common.{◌≡◌, ◌≤◌, ◌⊎◌, ℕ, List, length, Option, Some, refl, ap, sym, subst, inl, inr, option_map, arith}
+use Rattle.std.proofs.Common.{◌≡◌, ◌≤◌, ◌⊎◌, ℕ, List, length, Option, Some, refl, ap, sym, ◌∙◌, subst, inl, inr, option_map, arith}
 use Rattle.std.specs.Borrow.{Bor}
 use Rattle.cond_lang.specs.Form.{Form}
-use Rattle.cond_lang.specs.Limits.{parts_of}
-use Rattle.conditions.specs.declared.limits.TheConstants.{MOST_PARTS}
-use Rattle.cond_lang.specs.Text.{SpellsTree}
 use Rattle.conditions.specs.declared.error.CondError.{CondError}
 use Rattle.conditions.specs.declared.error.CondError.TheVariants.{TooLong, Byte, Word, Number, Syntax, TooManyParts, Memory}
-use Rattle.jobs.specs.Failures.{failure_of, status_of}
-use Rattle.jobs.specs.Makings.{TextMeans}
+use Rattle.jobs.specs.Failures.{definitions_failure, failure_of, status_of}
+use Rattle.jobs.specs.Makings.{AreGiven, MayBeGiven, TextMeans}
+use Rattle.cond_lang.specs.After.{GivesNames}
 use Rattle.jobs.specs.Statuses.{IsStatusWithInput}
 use Rattle.jobs.specs.declared.failure.Failure.{Failure}
 use Rattle.plans.specs.declared.cause.Cause.TheVariants as cause
-use Rattle.jobs.specs.declared.failure.Failure.TheVariants.{CommandLine, Plan, Label, Hand, Condition, Question, Cells, Interrupted, Line, Record, Input, EndOfInput}
+use Rattle.jobs.specs.declared.failure.Failure.TheVariants.{CommandLine, Plan, Label, Hand, Definitions, Condition, Question, Cells, Interrupted, Line, Record, Input, EndOfInput}
 
 pub refused_status : (e : CondError) → (status_of (failure_of e) ≡ 5) ⊎ (status_of (failure_of e) ≡ 3)
 refused_status TooLong = inr refl
@@ -23,13 +21,28 @@ refused_status (Syntax at) = inr refl
 refused_status TooManyParts = inr refl
 refused_status Memory = inl refl
 
+pub refused_definitions : (e : CondError) → (status_of (definitions_failure e) ≡ 5) ⊎ (status_of (definitions_failure e) ≡ 3)
+refused_definitions TooLong = inr refl
+refused_definitions (Byte at) = inr refl
+refused_definitions (Word at) = inr refl
+refused_definitions (Number at) = inr refl
+refused_definitions (Syntax at) = inr refl
+refused_definitions TooManyParts = inr refl
+refused_definitions Memory = inl refl
+
 -- a text that means something is refused only where memory ran out
-pub meant_status : (o : Option (Bor (List ℕ))) (text : Bor (List ℕ)) (bytes : List ℕ) (e : CondError) → o ≡ Some text → bytes ≡ text.now
-    → ((t : Form) → length bytes ≤ 1024 → SpellsTree bytes t → parts_of t ≤ MOST_PARTS → e ≡ Memory) → (f : Form) → TextMeans (option_map (λ s. s.now) o) f → status_of (failure_of e) ≡ 5
-meant_status o text bytes e given same memory f means =
-    let here : TextMeans (Some text.now) f = subst (λ (x : Option (Bor (List ℕ))). TextMeans (option_map (λ s. s.now) x) f) given means in
-    let at : TextMeans (Some bytes) f = subst (λ (b : List ℕ). TextMeans (Some b) f) (sym same) here in
-    ap (λ x. status_of (failure_of x)) (memory f at.0 at.1 at.2)
+pub meant_status : (D : Option (List ℕ)) (o : Option (Bor (List ℕ))) (text : Bor (List ℕ)) (e : CondError) → o ≡ Some text
+    → ((f : Form) → TextMeans D (Some text.now) f → e ≡ Memory) → (f : Form) → TextMeans D (option_map (λ s. s.now) o) f → status_of (failure_of e) ≡ 5
+meant_status D o text e given memory f means =
+    let here : TextMeans D (Some text.now) f = subst (λ (x : Option (Bor (List ℕ))). TextMeans D (option_map (λ s. s.now) x) f) given means in
+    ap (λ x. status_of (failure_of x)) (memory f here)
+
+-- definitions are refused only where memory ran out, or where they are none
+pub given_status : (o : Option (Bor (List ℕ))) (text : Bor (List ℕ)) (bytes : List ℕ) (e : CondError) → o ≡ Some text → bytes ≡ text.now
+    → (length bytes ≤ 4096 → GivesNames bytes → e ≡ Memory) → MayBeGiven (option_map (λ s. s.now) o) → status_of (definitions_failure e) ≡ 5
+given_status o text bytes e given same memory may =
+    let are : AreGiven bytes = may bytes (ap (option_map (λ s. s.now)) given ∙ ap (λ (t : List ℕ). Some t) (sym same)) in
+    ap (λ x. status_of (definitions_failure x)) (memory are.short are.names)
 
 -- a failure's status is one of the program's
 pub status_of-status : (f : Failure) → IsStatusWithInput (status_of f)
@@ -37,6 +50,7 @@ status_of-status (CommandLine text) = (1, omega arith, refl)
 status_of-status (Plan error) = (1, omega arith, refl)
 status_of-status (Label label) = (1, omega arith, refl)
 status_of-status (Hand seat) = (1, omega arith, refl)
+status_of-status (Definitions error) = (2, omega arith, refl)
 status_of-status (Condition error) = (2, omega arith, refl)
 status_of-status (Question name error) = (2, omega arith, refl)
 status_of-status (Cells name) = (2, omega arith, refl)

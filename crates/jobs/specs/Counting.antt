@@ -1,9 +1,10 @@
 -- What the questions of a `count` ask, and the table that tells of it.
-use Rattle.std.specs.Prelude.{◌≡◌, ◌≤◌, ◌^◌, ℕ, List, length, map}
+use Rattle.std.specs.Prelude.{◌≡◌, ◌≤◌, ◌^◌, ℕ, List, Option, length, map}
 use Rattle.cond_lang.specs.Asking.{SpellsQuestion}
 use Rattle.cond_lang.specs.Form.{Form}
 use Rattle.cond_lang.specs.Questions.{parts_asked}
 use Rattle.conditions.specs.declared.limits.TheConstants.{MOST_PARTS}
+use Rattle.jobs.specs.Makings.{text_read}
 use Rattle.plans.specs.Plans.{Planned, candidate_of}
 use Rattle.plans.specs.Text.{accepted, end_of}
 use Rattle.request_types.specs.Requests.{Questions, no_question, one_question, two_questions}
@@ -11,23 +12,28 @@ use Rattle.statistics.specs.Counting.{Asked, Subject, by_one, by_two, cells_of, 
 use Rattle.statistics.specs.Counting.{deals_alone, title_of}
 use Rattle.boards.specs.declared.style.Style.{Style}
 
--- the text asks this question, which has no more parts than the limit, and is its title if it fits
-pub record IsQuestion (text : List ℕ) (asked : Asked) : Type 0 where
+-- the text asks this question after the definitions, and it has no more parts than the limit; the
+-- text is its title if it fits
+pub record IsQuestion (definitions : Option (List ℕ)) (text : List ℕ) (asked : Asked)
+    : Type 0 where
   pub short : length text ≤ 1024
-  pub spells : SpellsQuestion text asked.question
+  pub spells : SpellsQuestion (text_read definitions text) asked.question
   pub few : parts_asked asked.question ≤ MOST_PARTS
   pub title : asked.title ≡ title_of text
 
 -- the texts ask this of the deals
-abbrev pub Asks : Questions → Subject → Type 0
-Asks no_question subject = subject ≡ deals_alone
-Asks (one_question text) subject = (a : Asked) × IsQuestion text a × (subject ≡ by_one a)
-Asks (two_questions rows columns) subject =
-    (a : Asked) × (b : Asked) × IsQuestion rows a × IsQuestion columns b × (subject ≡ by_two a b)
+abbrev pub Asks : (definitions : Option (List ℕ)) → Questions → Subject → Type 0
+Asks definitions no_question subject = subject ≡ deals_alone
+Asks definitions (one_question text) subject =
+    (a : Asked) × IsQuestion definitions text a × (subject ≡ by_one a)
+Asks definitions (two_questions rows columns) subject =
+    (a : Asked) × (b : Asked) × IsQuestion definitions rows a × IsQuestion definitions columns b
+    × (subject ≡ by_two a b)
 
 -- and the table has at most 1,048,576 cells: one of a single question has as many as rows
-pub record IsAsked (questions : Questions) (subject : Subject) : Type 0 where
-  pub asks : Asks questions subject
+pub record IsAsked (definitions : Option (List ℕ)) (questions : Questions) (subject : Subject)
+    : Type 0 where
+  pub asks : Asks definitions questions subject
   pub small : cells_of subject ≤ 2 ^ 20
 
 -- the table of the accepted deals of a plan, and of how many candidates were tried. Neither the

@@ -5,7 +5,8 @@ use Rattle.conditions.specs.declared.error.CondError.TheVariants.{Memory as no_m
 use Rattle.plans.specs.declared.cause.Cause.TheVariants as cause
 use Rattle.jobs.specs.declared.failure.Failure.{Failure}
 use Rattle.jobs.specs.declared.failure.Failure.TheVariants.{CommandLine, Plan, Label, Hand}
-use Rattle.jobs.specs.declared.failure.Failure.TheVariants.{Condition, Question, Cells, Interrupted}
+use Rattle.jobs.specs.declared.failure.Failure.TheVariants.{Definitions, Condition, Question}
+use Rattle.jobs.specs.declared.failure.Failure.TheVariants.{Cells, Interrupted}
 use Rattle.jobs.specs.declared.failure.Failure.TheVariants.{Line, Record, Input, EndOfInput}
 use Rattle.request_types.specs.declared.names.QuestionName.{QuestionName}
 
@@ -15,6 +16,7 @@ status_of (CommandLine text) = 2
 status_of (Plan error) = 2
 status_of (Label label) = 2
 status_of (Hand seat) = 2
+status_of (Definitions error) = 3
 status_of (Condition error) = 3
 status_of (Question name error) = 3
 status_of (Cells name) = 3
@@ -32,6 +34,10 @@ status_of EndOfInput = 7
 abbrev pub failure_of : CondError → Failure
 failure_of no_memory = Interrupted cause.Memory
 failure_of error = Condition error
+
+abbrev pub definitions_failure : CondError → Failure
+definitions_failure no_memory = Interrupted cause.Memory
+definitions_failure error = Definitions error
 
 abbrev pub question_failure : QuestionName → CondError → Failure
 question_failure name no_memory = Interrupted cause.Memory
@@ -69,6 +75,7 @@ is_refusal (CommandLine text) = true
 is_refusal (Plan error) = true
 is_refusal (Label label) = true
 is_refusal (Hand seat) = true
+is_refusal (Definitions error) = true
 is_refusal (Condition error) = true
 is_refusal (Question name error) = true
 is_refusal (Cells name) = true

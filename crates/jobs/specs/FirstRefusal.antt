@@ -1,7 +1,8 @@
 -- Which failure is told: the first that is due.
 use Rattle.std.specs.Prelude.{◌≡◌, ◌≢◌, ◌≤◌, ◌<◌, ◌^◌, ◌+◌, ◌⊎◌, ℕ, List, [], ◌∷◌, ◌++◌}
-use Rattle.std.specs.Prelude.{Option, Some}
+use Rattle.std.specs.Prelude.{None, Option, Some}
 use Rattle.cond_lang.specs.Asking.{IsDueQuestion}
+use Rattle.cond_lang.specs.After.{IsDueAlone, IsDueAfter, IsDueQuestionAfter}
 use Rattle.cond_lang.specs.Faults.{IsDue}
 use Rattle.cond_lang.specs.Form.{Form}
 use Rattle.conditions.specs.declared.error.CondError.{CondError}
@@ -13,7 +14,7 @@ use Rattle.plans.specs.declared.plan.PlanError.TheVariants.{FirstBoard}
 use Rattle.jobs.specs.Counting.{Asks, IsAsked, IsQuestion}
 use Rattle.jobs.specs.Makings.{CanDate, CanLabel, HasLabels, HasNumbers}
 use Rattle.request_types.specs.Defaults.{candidates_of, first_board_of}
-use Rattle.jobs.specs.Makings.{IsPlanned, Means, TextMeans}
+use Rattle.jobs.specs.Makings.{IsPlanned, MayBeGiven, Means, TextMeans}
 use Rattle.request_types.specs.Defaults.{lane_of, workers_in}
 use Rattle.request_types.specs.Requests.{Look, Questions, Search, Wish, conditions, count, draw}
 use Rattle.request_types.specs.Requests.{lessons}
@@ -21,7 +22,8 @@ use Rattle.request_types.specs.Requests.{make, make_with_tricks, no_question, no
 use Rattle.request_types.specs.Requests.{pick, plain_search, show, stream, two_questions}
 use Rattle.jobs.specs.declared.failure.Failure.{Failure}
 use Rattle.jobs.specs.declared.failure.Failure.TheVariants.{Plan, Label, Hand}
-use Rattle.jobs.specs.declared.failure.Failure.TheVariants.{Cells, Condition, Question}
+use Rattle.jobs.specs.declared.failure.Failure.TheVariants.{Cells, Condition, Definitions}
+use Rattle.jobs.specs.declared.failure.Failure.TheVariants.{Question}
 use Rattle.jobs.specs.declared.failure.Failure.TheVariants.{Interrupted, Line, Record, Input}
 use Rattle.jobs.specs.declared.failure.Failure.TheVariants.{EndOfInput}
 use Rattle.request_types.specs.declared.names.LabelName.TheVariants.{Event, Site, Date}
@@ -56,18 +58,30 @@ IsFirstOf (refusal ∷ rest) s l failure =
     ((failure ≡ refusal) × (Meets s l refusal → ⊥))
     ⊎ (Meets s l refusal × IsFirstOf rest s l failure)
 
--- a text is refused so, and not since memory ran out
-pub record IsTextDue (given : Option (List ℕ)) (error : CondError) : Type 0 where
+-- the given definitions are refused so, and not since memory ran out
+pub record AreDue (given : Option (List ℕ)) (error : CondError) : Type 0 where
   pub text : List ℕ
   pub is_given : given ≡ Some text
-  pub due : IsDue text error
+  pub due : IsDueAlone text error
+  pub refused : error ≢ no_memory
+
+-- a refusal of a text is due after the definitions, where some are given
+abbrev pub IsDueRead : (definitions : Option (List ℕ)) → List ℕ → CondError → Type 0
+IsDueRead None text error = IsDue text error
+IsDueRead (Some definitions) text error = IsDueAfter definitions text error
+
+-- a text is refused so, and not since memory ran out
+pub record IsTextDue (definitions given : Option (List ℕ)) (error : CondError) : Type 0 where
+  pub text : List ℕ
+  pub is_given : given ≡ Some text
+  pub due : IsDueRead definitions text error
   pub refused : error ≢ no_memory
 
 -- the condition is refused so: the text of the lesson, or else that of the condition
 abbrev pub IsConditionDue : Search → CondError → Type 0
 IsConditionDue s error =
-    IsTextDue s.lesson error
-    ⊎ (((form : Form) × TextMeans s.lesson form) × IsTextDue s.where_text error)
+    IsTextDue None s.lesson error
+    ⊎ (((form : Form) × TextMeans None s.lesson form) × IsTextDue s.let_text s.where_text error)
 
 -- the hand that is refused is the first of them
 abbrev pub IsFirstHand : Search → Failure → Type 0
@@ -81,29 +95,36 @@ IsPlanDue s l (Label label) = IsFirstOf (of_numbers ++ of_labels) s l (Label lab
 IsPlanDue s l (Hand seat) = HasNumbers s l × HasLabels l × IsFirstHand s (Hand seat)
 IsPlanDue s l _ = ⊥
 
--- why a `make` or a `find` fails: it has no plan; else its condition is refused, or memory ran
--- out; else how its run was interrupted
+-- why a `make` or a `find` fails: it has no plan; else its definitions are refused; else its
+-- condition is, or memory ran out; else how its run was interrupted
 abbrev pub IsMakeDue : Search → Look → Failure → Type 0
-IsMakeDue s l (Condition error) = IsPlanned s l × IsConditionDue s error
+IsMakeDue s l (Definitions error) = IsPlanned s l × AreDue s.let_text error
+IsMakeDue s l (Condition error) = IsPlanned s l × MayBeGiven s.let_text × IsConditionDue s error
 IsMakeDue s l (Interrupted Memory) = IsPlanned s l
 IsMakeDue s l (Interrupted cause) = IsPlanned s l × ((form : Form) × Means s form)
 IsMakeDue s l failure = IsPlanDue s l failure
 
+-- a refusal of a question's text is due after the definitions, where some are given
+abbrev pub IsDueAsked : (definitions : Option (List ℕ)) → List ℕ → CondError → Type 0
+IsDueAsked None text error = IsDueQuestion text error
+IsDueAsked (Some definitions) text error = IsDueQuestionAfter definitions text error
+
 -- a question's text is refused so, and not since memory ran out
-pub record IsQuestionDue (text : List ℕ) (error : CondError) : Type 0 where
-  pub due : IsDueQuestion text error
+pub record IsQuestionDue (definitions : Option (List ℕ)) (text : List ℕ) (error : CondError)
+    : Type 0 where
+  pub due : IsDueAsked definitions text error
   pub refused : error ≢ no_memory
 
 -- the text of `of` is refused so; or it is a question, and that of `by` is refused
-abbrev pub IsOfDue : Questions → CondError → Type 0
-IsOfDue no_question error = ⊥
-IsOfDue (one_question text) error = IsQuestionDue text error
-IsOfDue (two_questions rows columns) error = IsQuestionDue rows error
+abbrev pub IsOfDue : (definitions : Option (List ℕ)) → Questions → CondError → Type 0
+IsOfDue definitions no_question error = ⊥
+IsOfDue definitions (one_question text) error = IsQuestionDue definitions text error
+IsOfDue definitions (two_questions rows columns) error = IsQuestionDue definitions rows error
 
-abbrev pub IsByDue : Questions → CondError → Type 0
-IsByDue (two_questions rows columns) error =
-    ((asked : Asked) × IsQuestion rows asked) × IsQuestionDue columns error
-IsByDue questions error = ⊥
+abbrev pub IsByDue : (definitions : Option (List ℕ)) → Questions → CondError → Type 0
+IsByDue definitions (two_questions rows columns) error =
+    ((asked : Asked) × IsQuestion definitions rows asked) × IsQuestionDue definitions columns error
+IsByDue definitions questions error = ⊥
 
 -- the question that makes a table too large is the last
 abbrev pub last_of : Questions → QuestionName
@@ -111,13 +132,13 @@ last_of (two_questions rows columns) = By
 last_of questions = Of
 
 -- why questions are refused: the text of one, or else the size of their table
-abbrev pub AreRefused : Questions → Failure → Type 0
-AreRefused questions (Question Of error) = IsOfDue questions error
-AreRefused questions (Question By error) = IsByDue questions error
-AreRefused questions (Cells name) =
+abbrev pub AreRefused : (definitions : Option (List ℕ)) → Questions → Failure → Type 0
+AreRefused definitions questions (Question Of error) = IsOfDue definitions questions error
+AreRefused definitions questions (Question By error) = IsByDue definitions questions error
+AreRefused definitions questions (Cells name) =
     (name ≡ last_of questions)
-    × ((subject : Subject) × Asks questions subject × (2 ^ 20 < cells_of subject))
-AreRefused questions failure = ⊥
+    × ((subject : Subject) × Asks definitions questions subject × (2 ^ 20 < cells_of subject))
+AreRefused definitions questions failure = ⊥
 
 -- there is a condition
 abbrev pub HasCondition : Search → Type 0
@@ -127,12 +148,14 @@ HasCondition s = (form : Form) × Means s form
 -- are refused, or memory ran out; else how its run was interrupted
 abbrev pub IsCountDue : Search → Questions → Failure → Type 0
 IsCountDue s questions (Question name error) =
-    IsPlanned s numbers_look × HasCondition s × AreRefused questions (Question name error)
+    IsPlanned s numbers_look × HasCondition s
+    × AreRefused s.let_text questions (Question name error)
 IsCountDue s questions (Cells name) =
-    IsPlanned s numbers_look × HasCondition s × AreRefused questions (Cells name)
+    IsPlanned s numbers_look × HasCondition s × AreRefused s.let_text questions (Cells name)
 IsCountDue s questions (Interrupted Memory) = IsPlanned s numbers_look
 IsCountDue s questions (Interrupted cause) =
-    IsPlanned s numbers_look × HasCondition s × ((subject : Subject) × IsAsked questions subject)
+    IsPlanned s numbers_look × HasCondition s
+    × ((subject : Subject) × IsAsked s.let_text questions subject)
 IsCountDue s questions failure = IsMakeDue s numbers_look failure
 
 -- why a `pick` fails: it has no plan; else memory ran out, the output, a line of the input, or the
@@ -178,5 +201,5 @@ IsDueFor (make s l notices) failure = IsMakeDue s l failure
 IsDueFor (make_with_tricks s l notices) failure = IsTricksDue s l failure
 IsDueFor draw failure = IsDrawDue failure
 IsDueFor (count s questions style notices) failure = IsCountDue s questions failure
-IsDueFor (pick seed hands l hints) failure = IsPickDue (no_search seed hands) l failure
+IsDueFor (pick seed hands l tricks hints) failure = IsPickDue (no_search seed hands) l failure
 IsDueFor (show l hints) failure = IsShowDue l failure

@@ -34,11 +34,11 @@ IsReady (make_with_tricks s l notices) (WithTricks job) = IsReadyRun s l notices
 IsReady draw Seed = Unit {0}
 IsReady (count s questions style notices) (Count job) =
     IsPlanned s numbers_look × (job.plan ≡ plan_of s numbers_look)
-    × Means s job.condition × IsAsked questions (subject_of job.subject)
+    × Means s job.condition × IsAsked s.let_text questions (subject_of job.subject)
     × (job.style ≡ style) × (job.workers ≡ s.workers)
-IsReady (pick seed hands l hints) (Pick job) =
+IsReady (pick seed hands l tricks hints) (Pick job) =
     IsPlanned (no_search seed hands) l × (job.plan ≡ plan_of (no_search seed hands) l)
-    × (job.format ≡ l.format) × (job.show ≡ l.show)
+    × (job.format ≡ l.format) × (job.show ≡ l.show) × (job.tricks ≡ tricks)
 IsReady (show l hints) (Show job) =
     HasLabels l × (job.format ≡ l.format) × (job.show ≡ l.show) × (job.heading ≡ heading_of l)
 IsReady conditions Conditions = Unit {0}

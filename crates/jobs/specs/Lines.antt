@@ -53,6 +53,12 @@ text_line at_byte too_long too_many (cond.Syntax at) = at_byte ++ decimal at ++ 
 text_line at_byte too_long too_many cond.TooManyParts = too_many
 text_line at_byte too_long too_many cond.Memory = codes "out of memory\n"
 
+-- the last of these lines is never said, since definitions alone have no limit of parts
+abbrev pub definitions_line : CondError → List ℕ
+definitions_line =
+    text_line (codes "let refused at byte ") (codes "let refused: longer than 4096 bytes\n")
+    (codes "let refused: more than 16384 parts\n")
+
 abbrev pub condition_line : CondError → List ℕ
 condition_line =
     text_line (codes "condition refused at byte ")
@@ -111,6 +117,7 @@ line_of (failure.CommandLine text) = string_bytes text
 line_of (failure.Plan error) = plan_line error
 line_of (failure.Label name) = label_line name
 line_of (failure.Hand holder) = hand_line holder
+line_of (failure.Definitions error) = definitions_line error
 line_of (failure.Condition error) = condition_line error
 line_of (failure.Question name error) = question_line name error
 line_of (failure.Cells name) = cells_line name

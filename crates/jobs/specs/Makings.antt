@@ -4,6 +4,7 @@ use Rattle.boards.specs.Headings.{HeadingView}
 use Rattle.boards.specs.declared.setting.Setting.{Setting}
 use Rattle.cond_lang.specs.Form.{Form, all_of, compare, number}
 use Rattle.cond_lang.specs.Limits.{parts_of}
+use Rattle.cond_lang.specs.After.{GivesNames, text_after}
 use Rattle.cond_lang.specs.Text.{SpellsTree}
 use Rattle.conditions.specs.declared.limits.TheConstants.{MOST_PARTS}
 use Rattle.conditions.specs.declared.tree.Op.TheVariants.{Equal}
@@ -73,20 +74,35 @@ pub record IsPlanned (s : Search) (l : Look) : Type 0 where
   pub labels : HasLabels l
   pub hands : HasHands s
 
--- the text of a condition means this tree, which has no more parts than the limit; without a text
--- every deal is accepted
-abbrev pub TextMeans : Option (List ℕ) → Form → Type 0
-TextMeans None form = form ≡ compare (number 0) Equal (number 0)
-TextMeans (Some t) form = (length t ≤ 1024) × SpellsTree t form × (parts_of form ≤ MOST_PARTS)
+-- the given definitions are definitions alone, at most 4,096 bytes
+pub record AreGiven (definitions : List ℕ) : Type 0 where
+  pub short : length definitions ≤ 4096
+  pub names : GivesNames definitions
 
--- the text of a lesson's condition and that of a condition are read each on its own: with both a
--- deal has to meet both
-abbrev pub BothMean : (lesson given : Option (List ℕ)) → Form → Type 0
-BothMean None given form = TextMeans given form
-BothMean (Some text) None form = TextMeans (Some text) form
-BothMean (Some text) (Some given) form =
-    (a b : Form) × TextMeans (Some text) a × TextMeans (Some given) b × (form ≡ all_of a b)
+abbrev pub MayBeGiven : Option (List ℕ) → Type 0
+MayBeGiven given = (t : List ℕ) → given ≡ Some t → AreGiven t
+
+-- what a text is read as: after the definitions, where some are given
+abbrev pub text_read : (definitions : Option (List ℕ)) → List ℕ → List ℕ
+text_read None text = text
+text_read (Some definitions) text = text_after definitions text
+
+-- the text of a condition means this tree after the definitions, and it has no more parts than the
+-- limit; without a text every deal is accepted
+abbrev pub TextMeans : (definitions given : Option (List ℕ)) → Form → Type 0
+TextMeans definitions None form = form ≡ compare (number 0) Equal (number 0)
+TextMeans definitions (Some t) form =
+    (length t ≤ 1024) × SpellsTree (text_read definitions t) form × (parts_of form ≤ MOST_PARTS)
+
+-- the text of a lesson's condition and that of a condition are read each on its own, and only the
+-- latter after the definitions: with both a deal has to meet both
+abbrev pub BothMean : (lesson definitions given : Option (List ℕ)) → Form → Type 0
+BothMean None definitions given form = TextMeans definitions given form
+BothMean (Some text) definitions None form = TextMeans None (Some text) form
+BothMean (Some text) definitions (Some given) form =
+    (a b : Form) × TextMeans None (Some text) a × TextMeans definitions (Some given) b
+    × (form ≡ all_of a b)
 
 -- which deals a search accepts: those of which this tree holds
 abbrev pub Means : Search → Form → Type 0
-Means s form = BothMean s.lesson s.where_text form
+Means s form = MayBeGiven s.let_text × BothMean s.lesson s.let_text s.where_text form

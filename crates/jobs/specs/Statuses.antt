@@ -16,10 +16,10 @@ HasPlan (make s l notices) = IsPlanned s l
 HasPlan (make_with_tricks s l notices) = IsPlanned s l
 HasPlan draw = Unit {0}
 HasPlan (count s questions style notices) = IsPlanned s numbers_look
-HasPlan (pick seed hands l hints) = IsPlanned (no_search seed hands) l
+HasPlan (pick seed hands l tricks hints) = IsPlanned (no_search seed hands) l
 HasPlan (show l hints) = HasLabels l
 
--- the condition of a wish and its questions have to be accepted
+-- the definitions, the condition and the questions of a wish have to be accepted
 abbrev pub HasMeaning : Wish → Type 0
 HasMeaning (stream seed n) = Unit {0}
 HasMeaning conditions = Unit {0}
@@ -28,8 +28,9 @@ HasMeaning (make s l notices) = (form : Form) × Means s form
 HasMeaning (make_with_tricks s l notices) = (form : Form) × Means s form
 HasMeaning draw = Unit {0}
 HasMeaning (count s questions style notices) =
-    ((form : Form) × Means s form) × ((subject : Subject) × IsAsked questions subject)
-HasMeaning (pick seed hands l hints) = Unit {0}
+    ((form : Form) × Means s form)
+    × ((subject : Subject) × IsAsked s.let_text questions subject)
+HasMeaning (pick seed hands l tricks hints) = Unit {0}
 HasMeaning (show l hints) = Unit {0}
 
 -- a wish that is served by threads
@@ -41,7 +42,7 @@ HasRun (make s l notices) = Unit {0}
 HasRun (make_with_tricks s l notices) = Unit {0}
 HasRun draw = ⊥
 HasRun (count s questions style notices) = Unit {0}
-HasRun (pick seed hands l hints) = ⊥
+HasRun (pick seed hands l tricks hints) = ⊥
 HasRun (show l hints) = ⊥
 
 -- a wish that reads the input
@@ -53,7 +54,7 @@ HasInput (make s l notices) = ⊥
 HasInput (make_with_tricks s l notices) = Unit {0}
 HasInput draw = Unit {0}
 HasInput (count s questions style notices) = ⊥
-HasInput (pick seed hands l hints) = Unit {0}
+HasInput (pick seed hands l tricks hints) = Unit {0}
 HasInput (show l hints) = Unit {0}
 
 -- a status of the program, and of that with an input
@@ -70,7 +71,7 @@ pub record IsStatusOf (w : Wish) (status : ℕ) : Type 0 where
       → HasPlan w × HasMeaning w
   -- the plan, a label or a hand is refused
   pub unplanned : status ≡ 2 → HasPlan w → ⊥
-  -- the condition or a question is refused, and the plan is sound
+  -- definitions, the condition or a question are refused, and the plan is sound
   pub meaningless : status ≡ 3 → HasPlan w × (HasMeaning w → ⊥)
   -- only a run over lanes has threads and workers
   pub threads : status ≡ 6 → HasRun w

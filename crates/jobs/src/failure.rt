@@ -4,11 +4,12 @@ ghost use Rattle.std.specs.Prelude.{◌≡◌, ◌-◌, ◌^◌, ◌<◌, OnOk};
 ghost use Rattle.sinks.specs.Appended.{AppendsAll};
 ghost use Rattle.sinks.specs.Sinks.{CountsFault};
 ghost use Rattle.plans.specs.declared.cause.Cause.TheVariants.{Memory, Output};
-ghost use Rattle.jobs.specs.Failures.{failure_of, question_failure, status_of};
+ghost use Rattle.jobs.specs.Failures.{definitions_failure, failure_of, question_failure};
+ghost use Rattle.jobs.specs.Failures.{status_of};
 ghost use Rattle.jobs.specs.Lines.{cause_line, condition_line, fault_text, hand_line};
 ghost use Rattle.jobs.specs.Lines.{input_line, label_line, line_of, plan_line};
 ghost use Rattle.jobs.specs.Lines.{cells_line, question_line, record_fault_text, record_line};
-ghost use Rattle.jobs.specs.Lines.{text_line};
+ghost use Rattle.jobs.specs.Lines.{definitions_line, text_line};
 ghost use Rattle.jobs.specs.declared.failure.Failure.TheVariants.{Interrupted};
 ghost use Rattle.sinks.specs.Messages.{text_of};
 
@@ -30,6 +31,8 @@ pub enum Failure {
     Label(LabelName),
     /// The text of this seat's hand is malformed, or has a card of an earlier one.
     Hand(Seat),
+    /// The definitions are refused, and not since memory ran out.
+    Definitions(CondError),
     /// The condition is refused, and not since memory ran out.
     Condition(CondError),
     /// The text of a question is refused, and not since memory ran out.
@@ -133,6 +136,17 @@ fn of_text(
     }
 }
 
+fn of_names(error: CondError) -> Message<'static>
+    ensures { text_of result ≡ definitions_line error }
+{
+    of_text(
+        "let refused at byte ",
+        "let refused: longer than 4096 bytes\n",
+        "let refused: more than 16384 parts\n",
+        error,
+    )
+}
+
 fn of_condition(error: CondError) -> Message<'static>
     ensures { text_of result ≡ condition_line error }
 {
@@ -233,6 +247,16 @@ fn of_record(refused: RefusedRecord) -> Message<'static>
 }
 
 impl Failure {
+    /// The failure of definitions that are refused so.
+    pub(crate) fn of_definitions(error: CondError) -> Failure
+        ensures { result ≡ definitions_failure error }
+    {
+        match error {
+            CondError::Memory => Failure::Interrupted(Cause::Memory),
+            refused => Failure::Definitions(refused),
+        }
+    }
+
     /// The failure of a question whose text is refused so.
     pub(crate) fn of_question(name: QuestionName, error: CondError) -> Failure
         ensures { result ≡ question_failure name error }
@@ -250,7 +274,8 @@ impl Failure {
         match self {
             Failure::CommandLine(_) | Failure::Plan(_) | Failure::Label(_) => 2,
             Failure::Hand(_) => 2,
-            Failure::Condition(_) | Failure::Question(..) | Failure::Cells(_) => 3,
+            Failure::Definitions(_) | Failure::Condition(_) => 3,
+            Failure::Question(..) | Failure::Cells(_) => 3,
             Failure::Interrupted(cause) => match cause {
                 Cause::Output => 4,
                 Cause::Memory => 5,
@@ -269,6 +294,7 @@ impl Failure {
             Failure::Plan(error) => Message::plain(of_plan(*error)),
             Failure::Label(label) => Message::plain(of_label(*label)),
             Failure::Hand(seat) => Message::plain(of_hand(*seat)),
+            Failure::Definitions(error) => of_names(*error),
             Failure::Condition(error) => of_condition(*error),
             Failure::Question(name, error) => of_question(*name, *error),
             Failure::Cells(name) => Message::plain(of_cells(*name)),

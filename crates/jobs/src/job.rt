@@ -39,6 +39,8 @@ pub struct PickJob {
     pub plan: Plan,
     pub format: Format,
     pub show: Show,
+    /// Whether each line tells the board's tricks after its number.
+    pub tricks: bool,
 }
 
 /// The boards of the games that the input has, under these labels.
@@ -91,11 +93,17 @@ pub fn prepare(alloc: Global, request: &Request<'_>) -> Result<Job, Failure>
             seed,
             hands,
             look,
+            tricks,
             ..
         } => {
             let plan = planned(&Search::none(*seed, *hands), look)?;
             let Look { format, show, .. } = *look;
-            Ok(Job::Pick(PickJob { plan, format, show }))
+            Ok(Job::Pick(PickJob {
+                plan,
+                format,
+                show,
+                tricks: *tricks,
+            }))
         }
         Request::Show { look, .. } => {
             let heading = read_heading(look)?;
@@ -153,7 +161,7 @@ fn count_job(
 {
     let plan = planned(search, &Look::plain(Format::Numbers))?;
     let condition = read_condition(alloc, search)?;
-    let subject = read_subject(alloc, questions)?;
+    let subject = read_subject(alloc, search.let_text, questions)?;
     Ok(Job::Count(CountJob {
         plan,
         condition,

@@ -1,17 +1,18 @@
 //! What a search with a lesson and a condition accepts.
 
-ghost use Rattle.std.specs.Prelude.{◌≡◌, ◌&&◌, List, Some, ℕ};
+ghost use Rattle.std.specs.Prelude.{◌≡◌, ◌&&◌, List, None, Some, ℕ};
 ghost use Rattle.cards.specs.declared.seat.Seat.{Seat};
 ghost use Rattle.cond_lang.specs.Form.{Form};
 ghost use Rattle.conditions.specs.Meaning.{holds};
 ghost use Rattle.jobs.specs.Makings.{Means, TextMeans};
 ghost use Rattle.request_types.specs.Requests.{Search as ASearch};
 
-/// With a lesson and a condition, each a text of its own, a deal is accepted if and only if both
+/// With a lesson and a condition, each a text of its own of which only the condition is after the
+/// definitions, a deal is accepted if and only if both
 /// hold of it.
 pub fn a_lesson_and_a_condition()
     ensures { (s : ASearch) (lesson given : List ℕ) → s.lesson ≡ Some lesson
         → s.where_text ≡ Some given → (form : Form) → Means s form
-        → (a b : Form) × TextMeans (Some lesson) a × TextMeans (Some given) b
+        → (a b : Form) × TextMeans None (Some lesson) a × TextMeans s.let_text (Some given) b
         × ((deal : List Seat) → holds form deal ≡ (holds a deal && holds b deal)) }
 {}

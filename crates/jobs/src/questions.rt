@@ -1,29 +1,65 @@
 //! What the texts of a `count` ask.
 
-ghost use Rattle.std.specs.Prelude.{◌≡◌, ◌⊎◌, IfErr, IfOk};
+ghost use Rattle.std.specs.Prelude.{◌≡◌, ◌⊎◌, ◌≤◌, IfErr, IfOk, MatchResult, length, option_map};
+ghost use Rattle.cond_lang.specs.Asking.{SpellsQuestion};
+ghost use Rattle.conditions.specs.Questions.{Question as AQuestion, parts_asked};
+ghost use Rattle.conditions.specs.declared.limits.TheConstants.{MOST_PARTS};
 ghost use Rattle.jobs.specs.Counting.{Asks, IsAsked, IsQuestion};
 ghost use Rattle.jobs.specs.Failures.{status_of};
-ghost use Rattle.jobs.specs.FirstRefusal.{last_of};
+ghost use Rattle.jobs.specs.FirstRefusal.{IsDueAsked, last_of};
+ghost use Rattle.jobs.specs.Makings.{MayBeGiven, text_read};
 ghost use Rattle.request_types.specs.Requests.{questions_of};
 ghost use Rattle.jobs.specs.internal.QuestionFailures.{AreFailure, IsTextFailure};
 ghost use Rattle.statistics.specs.Counting.{Asked as AnAsked, Subject as ASubject};
 ghost use Rattle.statistics.specs.Subjects.{subject_of};
 
 use crate::failure::Failure;
-use cond_lang::parse_question;
+use cond_lang::{CondError, Question, parse_question, parse_question_after};
 use request_types::{QuestionName, Questions};
 use statistics::{Asked, Subject};
 use std::alloc::Global;
 
-/// Returns what the text of a question asks.
-fn asked_of(alloc: Global, name: QuestionName, text: &str) -> Result<Asked, Failure>
-    ensures asked { IfOk result (IsQuestion text.now) }
-    ensures only { IfOk result (λ a. (b : AnAsked) → IsQuestion text.now b → b ≡ a) }
-    ensures refused { IfErr result (IsTextFailure name text.now) }
-    ensures status { IfErr result (λ e. (status_of e ≡ 5) ⊎ (status_of e ≡ 3)) }
-    ensures memory { IfErr result (λ e. (b : AnAsked) → IsQuestion text.now b → status_of e ≡ 5) }
+/// The question that the text spells, after the definitions where some are given.
+fn ask_given(alloc: Global, definitions: Option<&str>, text: &str) -> Result<Question, CondError>
+    requires { MayBeGiven (option_map (λ t. t.now) definitions) }
+    ensures short { IfOk result (λ _. length text.now ≤ 1024) }
+    ensures asked { IfOk result
+        (SpellsQuestion (text_read (option_map (λ t. t.now) definitions.entry) text.now)) }
+    ensures few { IfOk result (λ q. parts_asked q ≤ MOST_PARTS) }
+    ensures spelled { (q : AQuestion) → length text.now ≤ 1024
+        → SpellsQuestion (text_read (option_map (λ t. t.now) definitions.entry) text.now) q
+        → parts_asked q ≤ MOST_PARTS
+        → MatchResult result (λ r. r ≡ q) (λ e. e ≡ CondError.Memory) }
+    ensures due { IfErr result (IsDueAsked (option_map (λ t. t.now) definitions.entry) text.now) }
 {
-    match parse_question(alloc, text.as_bytes()) {
+    match definitions {
+        None => parse_question(alloc, text.as_bytes()),
+        Some(definitions) => {
+            parse_question_after(alloc, definitions.as_bytes(), text.as_bytes())
+        }
+    }
+}
+
+/// Returns what the text of a question asks, after the definitions where some are given.
+fn asked_of(
+    alloc: Global,
+    definitions: Option<&str>,
+    name: QuestionName,
+    text: &str,
+) -> Result<Asked, Failure>
+    requires { MayBeGiven (option_map (λ t. t.now) definitions) }
+    ensures asked { IfOk result
+        (IsQuestion (option_map (λ t. t.now) definitions.entry) text.now) }
+    ensures only { IfOk result (λ a. (b : AnAsked)
+        → IsQuestion (option_map (λ t. t.now) definitions.entry) text.now b → b ≡ a) }
+    ensures refused { IfErr result
+        (IsTextFailure (option_map (λ t. t.now) definitions.entry) name text.now) }
+    ensures status { IfErr result (λ e. (status_of e ≡ 5) ⊎ (status_of e ≡ 3)) }
+    ensures memory { IfErr result (λ e. (b : AnAsked)
+        → IsQuestion (option_map (λ t. t.now) definitions.entry) text.now b
+        → status_of e ≡ 5) }
+{
+    match ask_given(alloc, definitions, text) {
         Ok(question) => Ok(Asked::new(question, text.as_bytes())),
         Err(error) => Err(Failure::of_question(name, error)),
     }
@@ -41,14 +77,22 @@ fn last_of(questions: &Questions<'_>) -> QuestionName
 
 /// Returns what the texts ask. The first that is refused is told, and then that the table could
 /// have too many cells.
-pub(crate) fn read_subject(alloc: Global, questions: &Questions<'_>) -> Result<Subject, Failure>
-    ensures asked { IfOk result (λ s. IsAsked (questions_of questions.now) (subject_of s)) }
-    ensures refused { IfErr result (AreFailure (questions_of questions.now)) }
+pub(crate) fn read_subject(
+    alloc: Global,
+    definitions: Option<&str>,
+    questions: &Questions<'_>,
+) -> Result<Subject, Failure>
+    requires { MayBeGiven (option_map (λ t. t.now) definitions) }
+    ensures asked { IfOk result (λ s. IsAsked (option_map (λ t. t.now) definitions.entry)
+        (questions_of questions.now) (subject_of s)) }
+    ensures refused { IfErr result (AreFailure (option_map (λ t. t.now) definitions.entry)
+        (questions_of questions.now)) }
     ensures status { IfErr result (λ e. (status_of e ≡ 5) ⊎ (status_of e ≡ 3)) }
     ensures memory { IfErr result (λ e. (s : ASubject)
-        → IsAsked (questions_of questions.now) s → status_of e ≡ 5) }
+        → IsAsked (option_map (λ t. t.now) definitions.entry) (questions_of questions.now) s
+        → status_of e ≡ 5) }
 {
-    let subject = read_texts(alloc, questions)?;
+    let subject = read_texts(alloc, definitions, questions)?;
     if subject.is_too_large() {
         return Err(Failure::Cells(last_of(questions)));
     }
@@ -56,21 +100,32 @@ pub(crate) fn read_subject(alloc: Global, questions: &Questions<'_>) -> Result<S
 }
 
 /// Returns what the texts ask, however many cells its table can have.
-fn read_texts(alloc: Global, questions: &Questions<'_>) -> Result<Subject, Failure>
-    ensures asks { IfOk result (λ s. Asks (questions_of questions.now) (subject_of s)) }
+fn read_texts(
+    alloc: Global,
+    definitions: Option<&str>,
+    questions: &Questions<'_>,
+) -> Result<Subject, Failure>
+    requires { MayBeGiven (option_map (λ t. t.now) definitions) }
+    ensures asks { IfOk result (λ s. Asks (option_map (λ t. t.now) definitions.entry)
+        (questions_of questions.now) (subject_of s)) }
     ensures only { IfOk result (λ s. (t : ASubject)
-        → Asks (questions_of questions.now) t → t ≡ subject_of s) }
-    ensures refused { IfErr result (AreFailure (questions_of questions.now)) }
+        → Asks (option_map (λ t. t.now) definitions.entry) (questions_of questions.now) t
+        → t ≡ subject_of s) }
+    ensures refused { IfErr result (AreFailure (option_map (λ t. t.now) definitions.entry)
+        (questions_of questions.now)) }
     ensures status { IfErr result (λ e. (status_of e ≡ 5) ⊎ (status_of e ≡ 3)) }
     ensures memory { IfErr result (λ e. (s : ASubject)
-        → Asks (questions_of questions.now) s → status_of e ≡ 5) }
+        → Asks (option_map (λ t. t.now) definitions.entry) (questions_of questions.now) s
+        → status_of e ≡ 5) }
 {
     match questions {
         Questions::None => Ok(Subject::DealsAlone),
-        Questions::One(text) => Ok(Subject::ByOne(asked_of(alloc, QuestionName::Of, text)?)),
+        Questions::One(text) => {
+            Ok(Subject::ByOne(asked_of(alloc, definitions, QuestionName::Of, text)?))
+        }
         Questions::Two { of, by } => {
-            let of = asked_of(alloc, QuestionName::Of, of)?;
-            let by = asked_of(alloc, QuestionName::By, by)?;
+            let of = asked_of(alloc, definitions, QuestionName::Of, of)?;
+            let by = asked_of(alloc, definitions, QuestionName::By, by)?;
             Ok(Subject::ByTwo(of, by))
         }
     }

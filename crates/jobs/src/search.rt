@@ -1,15 +1,17 @@
 //! What the texts of a search and a look mean, and the plan of both.
 
-ghost use Rattle.std.specs.Prelude.{◌≡◌, ◌⊎◌, IfErr, IfOk, option_map};
+ghost use Rattle.std.specs.Prelude.{◌≡◌, ◌⊎◌, IfErr, IfOk, Some, option_map};
 ghost use Rattle.cond_lang.specs.Form.{Form};
 ghost use Rattle.jobs.specs.Failures.{status_of};
-ghost use Rattle.jobs.specs.Makings.{Means, TextMeans, CanDate, CanLabel, HasLabels, HasHands};
+ghost use Rattle.jobs.specs.Makings.{BothMean, MayBeGiven, Means, TextMeans, CanDate, CanLabel};
+ghost use Rattle.jobs.specs.Makings.{HasLabels, HasHands};
 ghost use Rattle.jobs.specs.Makings.{HasNumbers};
 ghost use Rattle.jobs.specs.Makings.{IsPlanned, heading_of, plan_of, setting_of};
 ghost use Rattle.request_types.specs.PredealtHands.{fixed_of};
 ghost use Rattle.request_types.specs.Requests.{Search as ASearch, look_of, search_of};
-ghost use Rattle.jobs.specs.internal.Conditions.{IsConditionFailure, IsTextFailure};
-ghost use Rattle.jobs.specs.FirstRefusal.{IsFirstOf, of_labels, IsFirstHand, IsPlanDue};
+ghost use Rattle.jobs.specs.internal.Conditions.{IsConditionFailure, IsDefinitionsFailure};
+ghost use Rattle.jobs.specs.internal.Conditions.{IsEitherFailure, IsTextFailure};
+ghost use Rattle.jobs.specs.FirstRefusal.{IsDueRead, IsFirstOf, of_labels, IsFirstHand, IsPlanDue};
 ghost use Rattle.jobs.specs.FirstRefusal.{of_numbers};
 ghost use Rattle.boards.specs.Settings.{by_law};
 ghost use Rattle.cards.specs.Fixed.{none_fixed};
@@ -18,27 +20,86 @@ ghost use Rattle.boards.specs.Headings.{no_heading};
 use crate::failure::Failure;
 use boards::{Date, Heading, Label, Setting};
 use cards::Fixed;
-use cond_lang::{Cond, parse};
+use cond_lang::{Cond, CondError, check_definitions, parse, parse_after};
 use plans::{Plan, PlanError};
 use request_types::{LabelName, Look, Search};
 use std::alloc::Global;
 
+/// Accepts definitions alone, where some are given.
+fn read_definitions(alloc: Global, given: Option<&str>) -> Result<(), Failure>
+    ensures given { IfOk result (λ _. MayBeGiven (option_map (λ t. t.now) given.entry)) }
+    ensures refused { IfErr result (λ e. (status_of e ≡ 5) ⊎ (status_of e ≡ 3)) }
+    ensures memory { IfErr result (λ e.
+        MayBeGiven (option_map (λ t. t.now) given.entry) → status_of e ≡ 5) }
+    ensures due { IfErr result (IsDefinitionsFailure (option_map (λ t. t.now) given.entry)) }
+{
+    let Some(text) = given else {
+        return Ok(());
+    };
+    match check_definitions(alloc, text.as_bytes()) {
+        Ok(()) => Ok(()),
+        Err(error) => Err(Failure::of_definitions(error)),
+    }
+}
+
+/// The condition that the text spells, after the definitions where some are given.
+fn parse_given(alloc: Global, definitions: Option<&str>, text: &str) -> Result<Cond, CondError>
+    requires { MayBeGiven (option_map (λ t. t.now) definitions) }
+    ensures meant { IfOk result
+        (TextMeans (option_map (λ t. t.now) definitions.entry) (Some text.now)) }
+    ensures memory { IfErr result (λ e. (f : Form)
+        → TextMeans (option_map (λ t. t.now) definitions.entry) (Some text.now) f
+        → e ≡ CondError.Memory) }
+    ensures due { IfErr result (IsDueRead (option_map (λ t. t.now) definitions.entry) text.now) }
+{
+    match definitions {
+        None => parse(alloc, text.as_bytes()),
+        Some(definitions) => parse_after(alloc, definitions.as_bytes(), text.as_bytes()),
+    }
+}
+
 /// Returns what the text means; without one every deal is accepted.
-fn read_text(alloc: Global, given: Option<&str>) -> Result<Cond, Failure>
-    ensures meant { IfOk result (TextMeans (option_map (λ t. t.now) given.entry)) }
+fn read_text(alloc: Global, definitions: Option<&str>, given: Option<&str>) -> Result<Cond, Failure>
+    requires { MayBeGiven (option_map (λ t. t.now) definitions) }
+    ensures meant { IfOk result (TextMeans (option_map (λ t. t.now) definitions.entry)
+        (option_map (λ t. t.now) given.entry)) }
     ensures refused { IfErr result (λ e. (status_of e ≡ 5) ⊎ (status_of e ≡ 3)) }
     ensures memory { IfErr result (λ e. (f : Form)
-        → TextMeans (option_map (λ t. t.now) given.entry) f → status_of e ≡ 5) }
-    ensures due { IfErr result (IsTextFailure (option_map (λ t. t.now) given.entry)) }
+        → TextMeans (option_map (λ t. t.now) definitions.entry)
+        (option_map (λ t. t.now) given.entry) f → status_of e ≡ 5) }
+    ensures due { IfErr result (IsTextFailure (option_map (λ t. t.now) definitions.entry)
+        (option_map (λ t. t.now) given.entry)) }
 {
     let Some(text) = given else {
         return Ok(Cond::any(alloc));
     };
-    Ok(parse(alloc, text.as_bytes())?)
+    Ok(parse_given(alloc, definitions, text)?)
 }
 
-/// Returns which deals are accepted: those that meet the lesson's condition and the condition, each
-/// of them a text of its own.
+/// Returns what the lesson's condition and the condition mean, each of them a text of its own: with
+/// both a deal meets both. Only the condition sees the names of the definitions.
+fn read_both(alloc: Global, search: &Search<'_>) -> Result<Cond, Failure>
+    requires { MayBeGiven (search_of search.now).let_text }
+    ensures meant { IfOk result (BothMean (search_of search.now).lesson
+        (search_of search.now).let_text (search_of search.now).where_text) }
+    ensures refused { IfErr result (λ e. (status_of e ≡ 5) ⊎ (status_of e ≡ 3)) }
+    ensures memory { IfErr result (λ e. (f : Form)
+        → BothMean (search_of search.now).lesson (search_of search.now).let_text
+        (search_of search.now).where_text f → status_of e ≡ 5) }
+    ensures due { IfErr result (IsEitherFailure (search_of search.now)) }
+{
+    if search.lesson.is_none() {
+        return read_text(alloc, search.let_text, search.where_text);
+    }
+    let lesson = read_text(alloc, None, search.lesson)?;
+    if search.where_text.is_none() {
+        return Ok(lesson);
+    }
+    let condition = read_text(alloc, search.let_text, search.where_text)?;
+    Ok(lesson.and(condition)?)
+}
+
+/// Returns which deals are accepted, by the definitions, the lesson's condition and the condition.
 pub(crate) fn read_condition(alloc: Global, search: &Search<'_>) -> Result<Cond, Failure>
     ensures meant { IfOk result (Means (search_of search.now)) }
     ensures refused { IfErr result (λ e. (status_of e ≡ 5) ⊎ (status_of e ≡ 3)) }
@@ -46,15 +107,8 @@ pub(crate) fn read_condition(alloc: Global, search: &Search<'_>) -> Result<Cond,
         → Means (search_of search.now) f → status_of e ≡ 5) }
     ensures due { IfErr result (IsConditionFailure (search_of search.now)) }
 {
-    if search.lesson.is_none() {
-        return read_text(alloc, search.where_text);
-    }
-    let lesson = read_text(alloc, search.lesson)?;
-    if search.where_text.is_none() {
-        return Ok(lesson);
-    }
-    let condition = read_text(alloc, search.where_text)?;
-    Ok(lesson.and(condition)?)
+    read_definitions(alloc, search.let_text)?;
+    read_both(alloc, search)
 }
 
 /// Returns the labels. The first one that can't be written is refused.

@@ -1,6 +1,6 @@
 -- What an option comes to that isn't given.
 use Rattle.std.specs.Prelude.{◌^◌, ◌-◌, ℕ}
-use Rattle.std.specs.Prelude.{unwrap_or}
+use Rattle.std.specs.Prelude.{Some, unwrap_or}
 use Rattle.request_types.specs.Requests.{Look, Search}
 use Rattle.request_types.specs.declared.workers.Workers.{Workers}
 use Rattle.request_types.specs.declared.workers.Workers.TheVariants.{Number, Auto}
@@ -21,6 +21,11 @@ usual_lane Auto = 4096
 
 abbrev pub lane_of : Search → ℕ
 lane_of s = unwrap_or s.lane (usual_lane s.workers)
+
+-- what the words of a `count` ask for: it writes nothing before its end, so that a worker may be
+-- far ahead of what was counted
+abbrev pub with_long_lanes : Search → Search
+with_long_lanes s = record s { lane = Some (unwrap_or s.lane 4096) }
 
 abbrev pub first_board_of : Look → ℕ
 first_board_of l = unwrap_or l.first_board 1

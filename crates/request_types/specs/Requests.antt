@@ -25,8 +25,8 @@ use Rattle.request_types.specs.declared.when.When.TheVariants.{Auto}
 use Rattle.boards.specs.declared.style.Style.{Style}
 
 -- which candidates are tried, and which of them are accepted: what options were given, or their
--- defaults. A field is named as its option is, and `where` as where_text, since the bare word is
--- the language's
+-- defaults. A field is named as its option is, and `let` and `where` as let_text and where_text,
+-- since the bare words are the language's
 pub record Search : Type 0 where
   pub seed : ℕ
   pub candidates : Option ℕ
@@ -35,6 +35,7 @@ pub record Search : Type 0 where
   pub lane : Option ℕ
   -- the text of the lesson's condition
   pub lesson : Option (List ℕ)
+  pub let_text : Option (List ℕ)
   pub where_text : Option (List ℕ)
   pub boards : Option ℕ
   -- the texts of the options north, east, south and west
@@ -61,6 +62,7 @@ plain_search seed = record {
   workers = Number 1;
   lane = None;
   lesson = None;
+  let_text = None;
   where_text = None;
   boards = None;
   hands = none_given;
@@ -117,8 +119,9 @@ pub data Wish : Type 0 where
   lessons : Option Lesson → Wish
   -- a seed that the input draws
   draw : Wish
-  -- the boards of the candidates of a seed, around these hands, whose numbers the input gives
-  pick : ℕ → GivenHands → Look → When → Wish
+  -- the boards of the candidates of a seed, around these hands, whose numbers the input gives, each
+  -- with its tricks or none
+  pick : ℕ → GivenHands → Look → (tricks : Bool) → When → Wish
   -- the boards of the games that the input has: nothing is dealt, and of the look the format, the
   -- hands that are written and the labels count
   show : Look → When → Wish
@@ -134,6 +137,7 @@ search_of s = record {
   workers = s.workers;
   lane = s.lane;
   lesson = option_map (λ t. t.now) s.lesson;
+  let_text = option_map (λ t. t.now) s.let_text;
   where_text = option_map (λ t. t.now) s.where_text;
   boards = s.boards;
   hands = given_by s.hands;
@@ -164,7 +168,8 @@ wish_of (Make search look tricks notices) =
 wish_of (Find search format notices) = make (search_of search) (look_as format) notices
 wish_of (Count search asked style notices) =
     count (search_of search) (questions_of asked) style notices
-wish_of (Pick seed hands look hints) = pick seed (given_by hands) (look_of look) hints
+wish_of (Pick seed hands look tricks hints) =
+    pick seed (given_by hands) (look_of look) tricks hints
 wish_of (request.Show look hints) = show (look_of look) hints
 wish_of Conditions = conditions
 wish_of (Lessons lesson) = lessons (option_map lesson_of lesson)

@@ -60,6 +60,8 @@ pub enum Request<'a> {
         seed: u32,
         hands: PredealtHands<'a>,
         look: Look<'a>,
+        /// Whether each line tells the board's tricks after its number.
+        tricks: bool,
         hints: When,
     },
     /// The boards of the games that the input has. Of the look the format, the hands that are

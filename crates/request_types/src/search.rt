@@ -2,12 +2,15 @@
 
 ghost use Rattle.std.specs.Prelude.{◌≡◌};
 ghost use Rattle.request_types.specs.PredealtHands.{given_by};
-ghost use Rattle.request_types.specs.Defaults.{candidates_of, lane_of, workers_in};
+ghost use Rattle.request_types.specs.Defaults.{candidates_of, lane_of, with_long_lanes, workers_in};
 ghost use Rattle.request_types.specs.Requests.{no_search, search_of};
 
 use crate::hands::PredealtHands;
 use crate::workers::Workers;
 use cards::MAX_CANDIDATES;
+
+/// How many verdicts a lane holds where nobody waits for the first ones.
+const LONG_LANE: u32 = 4096;
 
 /// Which candidates of a seed are tried, and which of them are accepted. What an option was not
 /// given has its default.
@@ -25,6 +28,8 @@ pub struct Search<'a> {
     pub lane: Option<u32>,
     /// The text of the lesson's condition.
     pub lesson: Option<&'a str>,
+    /// The text of definitions, whose names the condition and the questions see.
+    pub let_text: Option<&'a str>,
     /// The text of the condition. With a lesson a deal meets both.
     pub where_text: Option<&'a str>,
     /// How many boards are written at most.
@@ -45,6 +50,7 @@ impl<'a> Search<'a> {
             workers: Workers::Number(1),
             lane: Some(1),
             lesson: None,
+            let_text: None,
             where_text: None,
             boards: None,
             hands,
@@ -75,8 +81,19 @@ impl<'a> Search<'a> {
     {
         let default = match self.workers {
             Workers::Number(_) => 64,
-            Workers::Auto => 4096,
+            Workers::Auto => LONG_LANE,
         };
         self.lane.unwrap_or(default)
+    }
+
+    /// Returns the same search with lanes of 4,096 verdicts, unless their capacity is given: that
+    /// of a `count`, which writes nothing before its end.
+    pub fn with_long_lanes(self) -> Search<'a>
+        ensures { search_of result ≡ with_long_lanes (search_of self.entry) }
+    {
+        Search {
+            lane: Some(self.lane.unwrap_or(LONG_LANE)),
+            ..self
+        }
     }
 }

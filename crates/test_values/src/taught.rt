@@ -24,7 +24,7 @@ fn each_lesson_is_read(rt: HostRuntime) -> Result<(), Fail> {
         );
         count = index + 1;
     }
-    same(&rt, count, 60);
+    same(&rt, count, 67);
     same(&rt, named("").is_none(), true);
     Ok(())
 }

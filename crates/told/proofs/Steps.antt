@@ -1,13 +1,11 @@
 -- One line more.
-use Rattle.std.proofs.Common.{◌≡◌, ◌∙◌, ◌≤◌, ◌<◌, ℕ, ◌+◌, ◌-◌, ◌==◌, ◌||◌, Bool, true, false, List, [], ◌∷◌, ◌++◌, length, take, Option, None, Some, refl, sym, ap, subst, arith, append_assoc, length-append}
+use Rattle.std.proofs.Common.{◌≡◌, ◌∙◌, ◌≤◌, ◌<◌, ℕ, ◌+◌, ◌-◌, ◌==◌, ◌||◌, Bool, true, false, List, [], ◌∷◌, ◌++◌, length, Option, None, Some, refl, sym, ap, subst, arith, append_assoc, length-append}
 use Rattle.std.specs.Prelude.{if◌then◌else◌, Err, Ok, Result, bytes_eq}
 use Rattle.std.specs.List.{flat_map}
 use Rattle.std.proofs.lemmas.Grind.{flat_map-append}
 use Rattle.std.proofs.lemmas.List.{append-nil, length-take}
-use Rattle.std.proofs.lemmas.Bool.{or_parts}
 use Rattle.std.proofs.KnownBytes.{Consumes-nil, Consumes-trans}
 use Rattle.std.specs.Io.KnownBytes.{Consumes, IsAtEnd}
-use Rattle.boards.specs.declared.board.Board.{Board}
 use Rattle.boards.specs.TricksLines.{TricksView, told}
 use Rattle.boards.proofs.TricksShort.{told_short}
 use Rattle.cards.specs.declared.seat.Seat.{Seat}
@@ -23,18 +21,17 @@ use Rattle.plans.specs.Plans.{Planned, candidate_of}
 use Rattle.plans.specs.Text.{board_of}
 use Rattle.plans.specs.declared.refusal.LineFault.{LineFault}
 use Rattle.plans.specs.declared.refusal.LineFault.TheVariants.{Missing, MoreThanBoards, NotTricks}
-use Rattle.plans.specs.declared.refusal.RefusedLine.{RefusedLine}
 use Rattle.sinks.specs.Appended.{AppendsAll, AppendsPart, append_known}
 use Rattle.sinks.proofs.SinkLemmas.{append_known-append, append_known-nil, whole_then_part}
 use Rattle.told.specs.Lines.{before_deal, deal_value, has_deal, if_same, told_of}
-use Rattle.told.specs.Told.{Solved, Tells, TellsOf, Told, Written, after, boards_text, by_line, footer_for, left_over, lines_tell, refused_after, solved_text, text_tells, told_text}
+use Rattle.told.specs.Told.{Solved, Tells, TellsBy, Told, Written, after, boards_text, by_line, footer_for, left_over, lines_tell, refused_after, solved_text, text_tells, told_text}
 use Rattle.told.specs.declared.line.LineEnd.{LineEnd}
 use Rattle.told.specs.declared.line.LineEnd.TheVariants.{Feed, Last, TooLong, Nothing}
 use Rattle.told.specs.internal.Telling.{EndsAfter, FailsWithin, HasTold, ReadsLine, Takes, TellsBoard, ToldFrom, ToldLast, judged}
 
 -- ---- ended lines
 
-ended-none : (xs : List ℕ) → has_lf xs ≡ false → ended xs ≡ []
+pub ended-none : (xs : List ℕ) → has_lf xs ≡ false → ended xs ≡ []
 ended-none [] h = refl
 ended-none (x ∷ xs) h = rw h refl
 
@@ -46,7 +43,7 @@ has_lf-within : (xs more : List ℕ) → has_lf (xs ++ 10 ∷ more) ≡ true
 has_lf-within [] more = refl
 has_lf-within (x ∷ xs) more = ap (λ t. x == 10 || t) (has_lf-within xs more) ∙ or-true (x == 10)
 
-ended-behind : (xs more : List ℕ) → has_lf more ≡ false → ended (xs ++ 10 ∷ more) ≡ xs ++ 10 ∷ []
+pub ended-behind : (xs more : List ℕ) → has_lf more ≡ false → ended (xs ++ 10 ∷ more) ≡ xs ++ 10 ∷ []
 ended-behind [] more h = ap (λ l. 10 ∷ l) (ended-none more h)
 ended-behind (x ∷ xs) more h =
     ap (λ t. if t then x ∷ ended (xs ++ 10 ∷ more) else []) (has_lf-within (x ∷ xs) more)
@@ -64,7 +61,7 @@ long_is_none l long = by_told (told l) refl
     by_told None e = refl
     by_told (Some t) e = let short = told_short l t e in absurd (omega arith)
 
-long_is_refused : (deal : List Seat) (l : List ℕ) → 124 ≤ length l → told_of deal l ≡ Err NotTricks
+pub long_is_refused : (deal : List Seat) (l : List ℕ) → 124 ≤ length l → told_of deal l ≡ Err NotTricks
 unfolding told_of
 long_is_refused deal l long = by_deal (has_deal l) refl
   where
@@ -77,7 +74,7 @@ long_is_refused deal l long = by_deal (has_deal l) refl
 
 -- ---- what is told
 
-after-after : (xs ys : List Solved) (t : Told) → after xs (after ys t) ≡ after (xs ++ ys) t
+pub after-after : (xs ys : List Solved) (t : Told) → after xs (after ys t) ≡ after (xs ++ ys) t
 after-after xs ys t = ap (λ (l : List Solved). let r : Told = record { boards = l; refused = t.refused } in r) (sym (append_assoc xs ys t.boards))
 
 after-refused : (xs : List Solved) (lines : ℕ) (fault : LineFault) → after xs (refused_after lines fault) ≡ record { boards = xs; refused = Some (record { line = lines + 1; fault = fault }) }
@@ -137,10 +134,10 @@ module _ (plan : Planned) (numbers given : List ℕ) (boards : List Solved) (lin
 
 -- ---- how it ends
 
-module _ (w : Written) (plan : Planned) (numbers : List ℕ) (before now base : Option (List ℕ)) where
+module _ (w : Written) (tells : List ℕ → Told) (before now base : Option (List ℕ)) where
   -- a line is refused
-  refused_at : (given : List ℕ) (boards : List Solved) (lines : ℕ) (fault : LineFault) (out : Option (List ℕ)) → Consumes before now given → AppendsAll base out (boards_text w boards)
-      → text_tells plan numbers given ≡ after boards (refused_after lines fault) → Tells {T = Unit {0}} w plan numbers (Err (Refused (record { line = lines + 1; fault = fault }))) before now base out
+  pub refused_at : (given : List ℕ) (boards : List Solved) (lines : ℕ) (fault : LineFault) (out : Option (List ℕ)) → Consumes before now given → AppendsAll base out (boards_text w boards)
+      → tells given ≡ after boards (refused_after lines fault) → TellsBy {T = Unit {0}} w tells (Err (Refused (record { line = lines + 1; fault = fault }))) before now base out
   refused_at given boards lines fault out consumed bytes is =
       let e = is ∙ after-refused boards lines fault in record {
         given = given;
@@ -149,7 +146,7 @@ module _ (w : Written) (plan : Planned) (numbers : List ℕ) (before now base : 
         written = rw e (refl, bytes ∙ ap (append_known base) (sym (append-nil (boards_text w boards))));
       }
 
-  more_text : (boards : List Solved) (s : Solved) → boards_text w (boards ++ s ∷ []) ≡ boards_text w boards ++ solved_text w s
+  pub more_text : (boards : List Solved) (s : Solved) → boards_text w (boards ++ s ∷ []) ≡ boards_text w boards ++ solved_text w s
   more_text boards s =
       ap (λ l. header ++ l) (flat_map-append (solved_text w) boards (s ∷ []) ∙ ap (λ l. flat_map (solved_text w) boards ++ l) (append-nil (solved_text w s)))
       ∙ sym (append_assoc header (flat_map (solved_text w) boards) (solved_text w s))
@@ -158,8 +155,8 @@ module _ (w : Written) (plan : Planned) (numbers : List ℕ) (before now base : 
       header = header_with_tricks w.format w.heading
 
   -- the output fails within a board
-  broken_at : (given : List ℕ) (boards : List Solved) (s : Solved) (later : Told) (out new : Option (List ℕ)) → Consumes before now given → AppendsAll base out (boards_text w boards)
-      → AppendsPart out new (solved_text w s) → text_tells plan numbers given ≡ after boards (after (s ∷ []) later) → Tells {T = Unit {0}} w plan numbers (Err Output) before now base new
+  pub broken_at : (given : List ℕ) (boards : List Solved) (s : Solved) (later : Told) (out new : Option (List ℕ)) → Consumes before now given → AppendsAll base out (boards_text w boards)
+      → AppendsPart out new (solved_text w s) → tells given ≡ after boards (after (s ∷ []) later) → TellsBy {T = Unit {0}} w tells (Err Output) before now base new
   broken_at given boards s later out new consumed bytes part is =
       let foot : List ℕ = footer_for w later.refused in
       let tail : List ℕ = flat_map (solved_text w) later.boards ++ foot in
@@ -179,13 +176,11 @@ module _ (w : Written) (plan : Planned) (numbers : List ℕ) (before now base : 
       }
 
   -- the input fails
-  failed_at : (given kept : List ℕ) (boards : List Solved) (lines : ℕ) (rest : List ℕ) (out : Option (List ℕ)) → Consumes before now (given ++ kept) → has_lf kept ≡ false
-      → AppendsAll base out (boards_text w boards) → HasTold plan numbers given boards lines rest → Tells {T = Unit {0}} w plan numbers (Err Input) before now base out
-  failed_at given kept boards lines rest out consumed clean bytes h =
-      let e : text_tells plan numbers (ended (given ++ kept)) ≡ after boards (lines_tell plan lines rest []) =
-      ap (text_tells plan numbers) (h.are_ended kept clean ∙ sym (append-nil given)) ∙ h.goes_on [] in
-      let told : (text_tells plan numbers (ended (given ++ kept))).boards ≡ boards =
-      ap (λ (t : Told). t.boards) e ∙ ap (λ l. boards ++ l) (none_left plan lines rest) ∙ append-nil boards in record {
+  pub failed_at : (given kept : List ℕ) (boards : List Solved) (left : Told) (out : Option (List ℕ)) → Consumes before now (given ++ kept) → ended (given ++ kept) ≡ given
+      → AppendsAll base out (boards_text w boards) → tells given ≡ after boards left → left.boards ≡ [] → TellsBy {T = Unit {0}} w tells (Err Input) before now base out
+  failed_at given kept boards left out consumed is_ended bytes is none =
+      let told : (tells (ended (given ++ kept))).boards ≡ boards =
+      ap (λ l. (tells l).boards) is_ended ∙ ap (λ (t : Told). t.boards) is ∙ ap (λ l. boards ++ l) none ∙ append-nil boards in record {
         given = given ++ kept;
         consumed = consumed;
         all = tt;
@@ -205,19 +200,19 @@ module _ (w : Written) (plan : Planned) (lines k : ℕ) (line : List ℕ) (then_
   pub line_refused : (end : LineEnd) (fault : LineFault) → ReadsLine end line then_it now → judged end deal line ≡ Err fault
       → Takes w plan lines k (Err (Refused (record { line = lines + 1; fault = fault }))) then_it now old old
   line_refused Feed fault read is numbers rest before base h =
-      refused_at w plan numbers before now base (h.given ++ (line ++ 10 ∷ [])) h.boards lines fault old (on before h.given (line ++ 10 ∷ []) h.consumed read.1) h.bytes
+      refused_at w (text_tells plan numbers) before now base (h.given ++ (line ++ 10 ∷ [])) h.boards lines fault old (on before h.given (line ++ 10 ∷ []) h.consumed read.1) h.bytes
       (ap (text_tells plan numbers) (sym (append-nil (h.given ++ (line ++ 10 ∷ [])))) ∙ with_feed plan numbers h.given h.boards lines k rest line [] read.0 h.told
       ∙ ap (λ r. after h.boards (by_line lines (board_of plan lines k (candidate_of plan k)) r (lines_tell plan (lines + 1) rest (text_lines [])))) is)
   line_refused Last fault read is numbers rest before base h =
-      refused_at w plan numbers before now base (h.given ++ line) h.boards lines fault old (on before h.given line h.consumed read.2) h.bytes
+      refused_at w (text_tells plan numbers) before now base (h.given ++ line) h.boards lines fault old (on before h.given line h.consumed read.2) h.bytes
       (with_last plan numbers h.given h.boards lines k rest line read.0 read.1 h.told
       ∙ ap (λ r. after h.boards (by_line lines (board_of plan lines k (candidate_of plan k)) r (lines_tell plan (lines + 1) rest []))) is)
   line_refused TooLong fault read is numbers rest before base h =
-      refused_at w plan numbers before now base (h.given ++ (line ++ read.0 ∷ [])) h.boards lines fault old (on before h.given (line ++ read.0 ∷ []) h.consumed read.3) h.bytes
+      refused_at w (text_tells plan numbers) before now base (h.given ++ (line ++ read.0 ∷ [])) h.boards lines fault old (on before h.given (line ++ read.0 ∷ []) h.consumed read.3) h.bytes
       (with_long plan numbers h.given h.boards lines k rest line read.0 read.1 read.2 h.told
       ∙ ap (λ r. after h.boards (by_line lines (board_of plan lines k (candidate_of plan k)) r (lines_tell plan (lines + 1) rest (text_lines [])))) is)
   line_refused Nothing fault read is numbers rest before base h =
-      refused_at w plan numbers before now base (h.given ++ []) h.boards lines fault old (on before h.given [] h.consumed read.0) h.bytes
+      refused_at w (text_tells plan numbers) before now base (h.given ++ []) h.boards lines fault old (on before h.given [] h.consumed read.0) h.bytes
       (with_none plan numbers h.given h.boards lines k rest line h.told
       ∙ ap (λ r. after h.boards (by_line lines (board_of plan lines k (candidate_of plan k)) r (lines_tell plan (lines + 1) rest (text_lines [])))) is)
 
@@ -231,7 +226,7 @@ module _ (w : Written) (plan : Planned) (lines k : ℕ) (line : List ℕ) (then_
     told = feed_told plan numbers h.given h.boards lines k rest line t read.0 is h.told;
     bytes = put ∙ ap (λ o. append_known o (solved_text w (solved plan lines k t))) h.bytes
         ∙ append_known-append base (boards_text w h.boards) (solved_text w (solved plan lines k t))
-        ∙ ap (append_known base) (sym (more_text w plan numbers before now base h.boards (solved plan lines k t)));
+        ∙ ap (append_known base) (sym (more_text w (text_tells plan numbers) before now base h.boards (solved plan lines k t)));
   }
   board_told Last t new read is put numbers rest before base h = record {
     given = h.given ++ line;
@@ -243,7 +238,7 @@ module _ (w : Written) (plan : Planned) (lines k : ℕ) (line : List ℕ) (then_
         ∙ after-after h.boards (solved plan lines k t ∷ []) (lines_tell plan (lines + 1) rest []);
     bytes = put ∙ ap (λ o. append_known o (solved_text w (solved plan lines k t))) h.bytes
         ∙ append_known-append base (boards_text w h.boards) (solved_text w (solved plan lines k t))
-        ∙ ap (append_known base) (sym (more_text w plan numbers before now base h.boards (solved plan lines k t)));
+        ∙ ap (append_known base) (sym (more_text w (text_tells plan numbers) before now base h.boards (solved plan lines k t)));
   }
   board_told TooLong t new read is put numbers rest before base h = absurd cc
   board_told Nothing t new read is put numbers rest before base h = absurd cc
@@ -252,12 +247,12 @@ module _ (w : Written) (plan : Planned) (lines k : ℕ) (line : List ℕ) (then_
   pub board_broken : (end : LineEnd) (t : TricksView) (new : Option (List ℕ)) → ReadsLine end line then_it now → judged end deal line ≡ Ok t
       → AppendsPart old new (solved_text w (solved plan lines k t)) → Takes w plan lines k (Err Output) then_it now old new
   board_broken Feed t new read is part numbers rest before base h =
-      broken_at w plan numbers before now base (h.given ++ (line ++ 10 ∷ [])) h.boards (solved plan lines k t) (lines_tell plan (lines + 1) rest (text_lines [])) old new
+      broken_at w (text_tells plan numbers) before now base (h.given ++ (line ++ 10 ∷ [])) h.boards (solved plan lines k t) (lines_tell plan (lines + 1) rest (text_lines [])) old new
       (on before h.given (line ++ 10 ∷ []) h.consumed read.1) h.bytes part
       (ap (text_tells plan numbers) (sym (append-nil (h.given ++ (line ++ 10 ∷ [])))) ∙ with_feed plan numbers h.given h.boards lines k rest line [] read.0 h.told
       ∙ ap (λ r. after h.boards (by_line lines (board_of plan lines k (candidate_of plan k)) r (lines_tell plan (lines + 1) rest (text_lines [])))) is)
   board_broken Last t new read is part numbers rest before base h =
-      broken_at w plan numbers before now base (h.given ++ line) h.boards (solved plan lines k t) (lines_tell plan (lines + 1) rest []) old new
+      broken_at w (text_tells plan numbers) before now base (h.given ++ line) h.boards (solved plan lines k t) (lines_tell plan (lines + 1) rest []) old new
       (on before h.given line h.consumed read.2) h.bytes part
       (with_last plan numbers h.given h.boards lines k rest line read.0 read.1 h.told
       ∙ ap (λ r. after h.boards (by_line lines (board_of plan lines k (candidate_of plan k)) r (lines_tell plan (lines + 1) rest []))) is)
@@ -267,7 +262,8 @@ module _ (w : Written) (plan : Planned) (lines k : ℕ) (line : List ℕ) (then_
   -- the input fails within its line
   pub board_failed : FailsWithin line then_it now → Takes w plan lines k (Err Input) then_it now old old
   board_failed fails numbers rest before base h =
-      failed_at w plan numbers before now base h.given line h.boards lines (k ∷ rest) old (on before h.given line h.consumed fails.1) fails.0 h.bytes h.told
+      failed_at w (text_tells plan numbers) before now base h.given line h.boards (lines_tell plan lines (k ∷ rest) []) old (on before h.given line h.consumed fails.1) (h.told.are_ended line fails.0) h.bytes
+      (ap (text_tells plan numbers) (sym (append-nil h.given)) ∙ h.told.goes_on []) (none_left plan lines (k ∷ rest))
 
 -- ---- the end
 
@@ -281,9 +277,9 @@ nothing_told w plan numbers before base now put = record {
   bytes = put ∙ ap (append_known base) (sym (append-nil (header_with_tricks w.format w.heading)));
 }
 
-pub header_broken : (w : Written) (plan : Planned) (numbers : List ℕ) (before base now : Option (List ℕ)) → AppendsPart base now (header_with_tricks w.format w.heading) → Tells {T = Unit {0}} w plan numbers (Err Output) before before base now
-header_broken w plan numbers before base now part =
-    let t = text_tells plan numbers [] in
+pub header_broken : (w : Written) (tells : List ℕ → Told) (before base now : Option (List ℕ)) → AppendsPart base now (header_with_tricks w.format w.heading) → TellsBy {T = Unit {0}} w tells (Err Output) before before base now
+header_broken w tells before base now part =
+    let t = tells [] in
     let header : List ℕ = header_with_tricks w.format w.heading in
     let more : List ℕ = flat_map (solved_text w) t.boards ++ footer_for w t.refused in
     let whole : told_text w t ≡ [] ++ header ++ more = append_assoc header (flat_map (solved_text w) t.boards) (footer_for w t.refused) in record {
@@ -293,9 +289,9 @@ header_broken w plan numbers before base now part =
       written = rw whole (whole_then_part [] header more (sym (append_known-nil base)) part);
     }
 
-module _ (w : Written) (plan : Planned) (numbers : List ℕ) (before now base old new : Option (List ℕ)) where
-  all_told : (given : List ℕ) (boards : List Solved) (T : Type 0) (value : T) → Consumes before now given → IsAtEnd now → text_tells plan numbers given ≡ record { boards = boards; refused = None }
-      → AppendsAll base old (boards_text w boards) → AppendsAll old new (footer_of w.format) → Tells w plan numbers (Ok value) before now base new
+module _ (w : Written) (tells : List ℕ → Told) (before now base old new : Option (List ℕ)) where
+  all_told : (given : List ℕ) (boards : List Solved) (T : Type 0) (value : T) → Consumes before now given → IsAtEnd now → tells given ≡ record { boards = boards; refused = None }
+      → AppendsAll base old (boards_text w boards) → AppendsAll old new (footer_of w.format) → TellsBy w tells (Ok value) before now base new
   all_told given boards T value consumed at_end is bytes put = record {
     given = given;
     consumed = consumed;
@@ -303,8 +299,8 @@ module _ (w : Written) (plan : Planned) (numbers : List ℕ) (before now base ol
     written = rw is (refl, put ∙ ap (λ o. append_known o (footer_of w.format)) bytes ∙ append_known-append base (boards_text w boards) (footer_of w.format));
   }
 
-  end_broken : (given : List ℕ) (boards : List Solved) (T : Type 0) → Consumes before now given → text_tells plan numbers given ≡ record { boards = boards; refused = None }
-      → AppendsAll base old (boards_text w boards) → AppendsPart old new (footer_of w.format) → Tells {T = T} w plan numbers (Err Output) before now base new
+  end_broken : (given : List ℕ) (boards : List Solved) (T : Type 0) → Consumes before now given → tells given ≡ record { boards = boards; refused = None }
+      → AppendsAll base old (boards_text w boards) → AppendsPart old new (footer_of w.format) → TellsBy {T = T} w tells (Err Output) before now base new
   end_broken given boards T consumed is bytes part =
       let whole : AppendsPart base new (boards_text w boards ++ footer_of w.format ++ []) = whole_then_part (boards_text w boards) (footer_of w.format) [] bytes part in record {
         given = given;
@@ -313,16 +309,17 @@ module _ (w : Written) (plan : Planned) (numbers : List ℕ) (before now base ol
         written = rw is (rw append-nil at whole);
       }
 
-  foot : (given : List ℕ) (boards : List Solved) (T : Type 0) (result : Result T PickFault) → Consumes before now given → IsAtEnd now → text_tells plan numbers given ≡ record { boards = boards; refused = None }
-      → AppendsAll base old (boards_text w boards) → EndsAfter w result old new → Tells w plan numbers result before now base new
+  pub foot : (given : List ℕ) (boards : List Solved) (T : Type 0) (result : Result T PickFault) → Consumes before now given → IsAtEnd now → tells given ≡ record { boards = boards; refused = None }
+      → AppendsAll base old (boards_text w boards) → EndsAfter w result old new → TellsBy w tells result before now base new
   foot given boards T (Ok value) consumed at_end is bytes ends = all_told given boards T value consumed at_end is bytes ends
   foot given boards T (Err fault) consumed at_end is bytes ends =
-      subst (λ f. Tells {T = T} w plan numbers (Err f) before now base new) (sym ends.0) (end_broken given boards T consumed is bytes ends.1)
+      subst (λ f. TellsBy {T = T} w tells (Err f) before now base new) (sym ends.0) (end_broken given boards T consumed is bytes ends.1)
 
+module _ (w : Written) (plan : Planned) (numbers : List ℕ) (before now base old new : Option (List ℕ)) where
   -- behind the last line, which had clean end
   pub last_ends : (T : Type 0) (lines : ℕ) (result : Result T PickFault) → ToldLast w plan numbers lines [] before now base old → EndsAfter w result old new → Tells w plan numbers result before now base new
   last_ends T lines result h ends =
-      foot h.given h.boards T result h.consumed h.at_end (h.told ∙ ap (λ (l : List Solved). let r : Told = record { boards = l; refused = None } in r) (append-nil h.boards)) h.bytes ends
+      foot w (text_tells plan numbers) before now base old new h.given h.boards T result h.consumed h.at_end (h.told ∙ ap (λ (l : List Solved). let r : Told = record { boards = l; refused = None } in r) (append-nil h.boards)) h.bytes ends
 
 no_more : (rest : List ℕ) → length rest ≡ 0 → rest ≡ []
 no_more [] e = refl
@@ -337,7 +334,7 @@ last_ends_at {T} w plan numbers rest before now base old new lines result none h
 pub last_missing : (w : Written) (plan : Planned) (numbers rest : List ℕ) (lines : ℕ) (before now base old : Option (List ℕ)) → 0 < length rest → ToldLast w plan numbers lines rest before now base old
     → Tells {T = Unit {0}} w plan numbers (Err (Refused (record { line = lines + 1; fault = Missing }))) before now base old
 last_missing w plan numbers [] lines before now base old some h = absurd (omega arith)
-last_missing w plan numbers (k ∷ ks) lines before now base old some h = refused_at w plan numbers before now base h.given h.boards lines Missing old h.consumed h.bytes h.told
+last_missing w plan numbers (k ∷ ks) lines before now base old some h = refused_at w (text_tells plan numbers) before now base h.given h.boards lines Missing old h.consumed h.bytes h.told
 
 -- ---- lines that are left over
 
@@ -365,7 +362,7 @@ module _ (w : Written) (plan : Planned) (numbers line : List ℕ) (lines : ℕ) 
 
   over_at : (more l : List ℕ) (ls : List (List ℕ)) → Consumes then_it now more → text_lines more ≡ l ∷ ls → 0 < length l → ToldFrom w plan numbers lines [] before then_it base old → IsMore
   over_at more l ls read is some h =
-      refused_at w plan numbers before now base (h.given ++ more) h.boards lines MoreThanBoards old (Consumes-trans before then_it now h.given more h.consumed read) h.bytes
+      refused_at w (text_tells plan numbers) before now base (h.given ++ more) h.boards lines MoreThanBoards old (Consumes-trans before then_it now h.given more h.consumed read) h.bytes
       (h.told.goes_on more ∙ ap (λ ls. after h.boards (left_over lines ls)) is ∙ ap (after h.boards) (left_more lines l ls some))
 
   pub more_line : (end : LineEnd) → ReadsLine end line then_it now → (end ≡ Nothing → ⊥) → (end ≡ Feed → 0 < length (without_cr line)) → ToldFrom w plan numbers lines [] before then_it base old → IsMore
@@ -393,7 +390,9 @@ module _ (w : Written) (plan : Planned) (numbers line : List ℕ) (lines : ℕ) 
   }
 
   pub over_failed : FailsWithin line then_it now → ToldFrom w plan numbers lines [] before then_it base old → Tells {T = Unit {0}} w plan numbers (Err Input) before now base old
-  over_failed fails h = failed_at w plan numbers before now base h.given line h.boards lines [] old (Consumes-trans before then_it now h.given line h.consumed fails.1) fails.0 h.bytes h.told
+  over_failed fails h =
+      failed_at w (text_tells plan numbers) before now base h.given line h.boards (left_over lines []) old (Consumes-trans before then_it now h.given line h.consumed fails.1) (h.told.are_ended line fails.0) h.bytes
+      (ap (text_tells plan numbers) (sym (append-nil h.given)) ∙ h.told.goes_on []) refl
 
 -- ---- boards one after the other
 

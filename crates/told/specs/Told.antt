@@ -101,32 +101,35 @@ told_text w t = boards_text w t.boards ++ footer_for w t.refused
 
 -- ---- how it ends
 
--- what was appended, by the bytes that the input gave
-abbrev pub TellsOf : {T : Type 0} → Written → Planned → List ℕ → List ℕ → Result T PickFault
+-- what was appended, by the bytes that the input gave, and by what they tell
+abbrev pub AppendsTold : {T : Type 0} → Written → (List ℕ → Told) → List ℕ → Result T PickFault
     → (old new : Option (List ℕ)) → Type 0
--- all, where each board has a line and none is left over
-TellsOf w plan numbers given (Ok value) old new =
-    ((text_tells plan numbers given).refused ≡ None)
-    × AppendsAll old new (told_text w (text_tells plan numbers given))
+-- all, where no line is refused
+AppendsTold w tells given (Ok value) old new =
+    ((tells given).refused ≡ None) × AppendsAll old new (told_text w (tells given))
 -- the boards up to the line that is refused
-TellsOf w plan numbers given (Err (Refused line)) old new =
-    ((text_tells plan numbers given).refused ≡ Some line)
-    × AppendsAll old new (told_text w (text_tells plan numbers given))
+AppendsTold w tells given (Err (Refused line)) old new =
+    ((tells given).refused ≡ Some line) × AppendsAll old new (told_text w (tells given))
 -- the boards of the lines that were ended before the input failed
-TellsOf w plan numbers given (Err Input) old new =
-    AppendsAll old new (boards_text w (text_tells plan numbers (ended given)).boards)
+AppendsTold w tells given (Err Input) old new =
+    AppendsAll old new (boards_text w (tells (ended given)).boards)
 -- not all of what they tell
-TellsOf w plan numbers given (Err Output) old new =
-    AppendsPart old new (told_text w (text_tells plan numbers given))
+AppendsTold w tells given (Err Output) old new = AppendsPart old new (told_text w (tells given))
 
 -- `given` is what the input gave, to its end at Ok: where it tells its bytes, these are the first
 -- of them
-pub record Tells {T : Type 0} (w : Written) (plan : Planned) (numbers : List ℕ)
-    (result : Result T PickFault) (before after old new : Option (List ℕ)) : Type 0 where
+pub record TellsBy {T : Type 0} (w : Written) (tells : List ℕ → Told) (result : Result T PickFault)
+    (before after old new : Option (List ℕ)) : Type 0 where
   pub given : List ℕ
   pub consumed : Consumes before after given
   pub all : OnOk result (IsAtEnd after)
-  pub written : TellsOf w plan numbers given result old new
+  pub written : AppendsTold w tells given result old new
+
+-- the boards of these candidates of the plan were told
+abbrev pub Tells : {T : Type 0} → Written → Planned → List ℕ → Result T PickFault
+    → (before after old new : Option (List ℕ)) → Type 0
+Tells w plan numbers result before after old new =
+    TellsBy w (text_tells plan numbers) result before after old new
 
 -- how often the output failed, and the input
 abbrev pub FaultsIn : {T : Type 0} → Result T PickFault → (old new : ℕ) → Type 0

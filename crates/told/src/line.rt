@@ -1,13 +1,15 @@
 //! A line of an input, read byte by byte.
 
 ghost use Rattle.std.specs.Prelude.{◌≡◌, ◌+◌, ◌-◌, ◌<◌, ◌≤◌, ◌^◌, ◌++◌, ◌∷◌, [], IfOk};
-ghost use Rattle.std.specs.Prelude.{MatchResult, OnErr, false, true};
+ghost use Rattle.std.specs.Prelude.{MatchResult, OnErr, false, if◌then◌else◌, true};
 ghost use Rattle.std.specs.Io.KnownBytes.{Consumes, IsAtEnd};
 ghost use Rattle.told.specs.declared.line.LineEnd.TheVariants.{Feed, Last, Nothing};
 ghost use Rattle.told.specs.internal.Telling.{Advances, FailsWithin, GivesByte, ReadsLine, count_of};
+ghost use Rattle.told.specs.internal.Picking.{FailsWithinText, FeedsOn, ReadsText};
 
+use crate::word::is_blank;
 use arrayvec::ArrayVec;
-use picking::{Source, SourceFault};
+use picking::{MOST_BYTES, Source, SourceFault};
 
 /// The most bytes that are kept of a line. A line of tricks has 123 at most, and a CR.
 pub(crate) const LONGEST: usize = 256;
@@ -103,6 +105,46 @@ pub(crate) fn read_line<I: Source>(input: &mut I, line: &mut Line) -> Result<Lin
             None if line.is_empty() => return Ok(LineEnd::Nothing),
             None => return Ok(LineEnd::Last),
             Some(b'\n') => return Ok(LineEnd::Feed),
+            Some(byte) => match line.try_push(byte) {
+                Ok(()) => {}
+                Err(_) => return Ok(LineEnd::TooLong),
+            },
+        }
+    }
+    unreachable!()
+}
+
+/// How a line ended at the end of the input.
+fn at_end(is_empty: bool) -> LineEnd
+    ensures { result ≡ (if is_empty then Nothing else Last) }
+{
+    if is_empty {
+        LineEnd::Nothing
+    } else {
+        LineEnd::Last
+    }
+}
+
+/// Reads the next line, without the spaces and tabs in front of it.
+///
+/// # Errors
+/// `SourceFault` if the input couldn't be read.
+pub(crate) fn read_text<I: Source>(input: &mut I, line: &mut Line) -> Result<LineEnd, SourceFault>
+    requires { I.faults input.old < 2 ^ 64 - 1 }
+    ensures reads { IfOk result (λ end. ReadsText end line.new.items
+        (I.rest input.old) (I.rest input.new)) }
+    ensures failed { OnErr result (FailsWithinText (I.rest input.old) (I.rest input.new)) }
+    ensures advances { IfOk result (λ end. FeedsOn end (I.given input.old) (I.given input.new)) }
+    ensures faults { MatchResult result
+        (λ _. I.faults input.new ≡ I.faults input.old)
+        (λ _. I.faults input.new ≡ I.faults input.old + 1) }
+{
+    line.clear();
+    for turn in 0..MOST_BYTES + 1 {
+        match read_byte(input)? {
+            None => return Ok(at_end(line.is_empty())),
+            Some(b'\n') => return Ok(LineEnd::Feed),
+            Some(byte) if line.is_empty() && is_blank(byte) => {}
             Some(byte) => match line.try_push(byte) {
                 Ok(()) => {}
                 Err(_) => return Ok(LineEnd::TooLong),

@@ -26,7 +26,7 @@ use sinks::{Sink, SinkFault, put_all};
 const MOST_LINES: u64 = MOST_BYTES + 1;
 
 /// Returns the line without a CR at its end.
-fn without_cr(line: &[u8]) -> &[u8]
+pub(crate) fn without_cr(line: &[u8]) -> &[u8]
     ensures { result.now ≡ without_cr line.now }
 {
     let Some(end) = line.len().checked_sub(1) else {
@@ -40,7 +40,7 @@ fn without_cr(line: &[u8]) -> &[u8]
 }
 
 /// The line after this many others is refused.
-fn refused(lines: u64, fault: LineFault) -> PickFault
+pub(crate) fn refused(lines: u64, fault: LineFault) -> PickFault
     requires { lines < 2 ^ 64 - 1 }
     ensures { result ≡ Refused (record { line = lines + 1; fault = fault }) }
 {
@@ -63,7 +63,7 @@ fn judged(end: LineEnd, line: &[u8], deal: &Deal) -> Result<Tricks, LineFault>
 }
 
 /// Writes the board with these tricks.
-fn put_board<S: Sink>(
+pub(crate) fn put_board<S: Sink>(
     printer: &mut AnyPrinter,
     tricks: &Tricks,
     board: &Board,
@@ -118,7 +118,11 @@ fn tell_board<I: Source, S: Sink>(
 }
 
 /// Writes what comes after the boards.
-fn put_end<S: Sink>(printer: &AnyPrinter, boards: u64, sink: &mut S) -> Result<(), PickFault>
+pub(crate) fn put_end<S: Sink>(
+    printer: &AnyPrinter,
+    boards: u64,
+    sink: &mut S,
+) -> Result<(), PickFault>
     requires faults { S.faults sink.old < 2 ^ 64 - 1 }
     requires ready { IsReady printer.now }
     ensures bytes { EndsAfter (written_by printer.now) result

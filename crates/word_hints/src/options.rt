@@ -39,10 +39,11 @@ const NUMBER: Takes = Takes::Number {
     most: 1099511627776,
 };
 
-static OPTIONS: [Known; 29] = [
+static OPTIONS: [Known; 30] = [
     known! { "--seed" "-s" SEED, "7" },
     known! { "--lesson" "" Takes::Choice, "stayman" },
     known! { "--where" "-w" Takes::Text, "'hcp(north)>=15'" },
+    known! { "--let" "" Takes::Text, "'let fit is (len(north,spades)+len(south,spades))'" },
     known! { "--boards" "-n" SEED, "36" },
     known! { "--candidates" "" NUMBER, "100000" },
     known! { "--first" "" NUMBER, "36" },

@@ -124,6 +124,10 @@ cond_alone N S = after (reading N unbound a_cond S) ended
 abbrev pub value_alone : Meanings → Reader Amount
 value_alone N S = after (reading N unbound a_value S) ended
 
+-- definitions, and no more
+unfoldable pub definitions_alone : Reader Meanings
+definitions_alone S = after (definitions [] S) ended
+
 -- definitions and one condition, and no more
 unfoldable pub whole : Reader Form
 whole S = after (definitions [] S) (λ N R. cond_alone N R)

@@ -7,14 +7,19 @@ ghost use Rattle.cond_lang.specs.declared.parser.Refusal.TheVariants.{Syntax};
 ghost use Rattle.conditions.specs.declared.limits.TheConstants.{MOST_PARTS};
 ghost use Rattle.conditions.specs.Form.{Amount, Form, form_of};
 ghost use Rattle.conditions.specs.Limits.{parts_of};
+ghost use Rattle.cond_lang.specs.After.{Defines};
 ghost use Rattle.cond_lang.specs.Definitions.{Spells, SpellsAmount, TellsName};
 ghost use Rattle.cond_lang.specs.Text.{kinds};
 ghost use Rattle.cond_lang.specs.Continuations.{IsLongestViable};
-ghost use Rattle.cond_lang.specs.Faults.{offset_of, IsPlace};
+ghost use Rattle.cond_lang.specs.Faults.{offset_of, IsPlace, IsPlaceIn};
+ghost use Rattle.cond_lang.specs.Grammar.{Meanings};
+ghost use Rattle.cond_lang.specs.internal.Defining.{definitions_alone, meanings};
 ghost use Rattle.cond_lang.specs.internal.Defining.{whole, whole_value};
+ghost use Rattle.cond_lang.specs.internal.Reading.{Gives};
 ghost use Rattle.cond_lang.specs.internal.Growing.{GivesBy, IsGrown, IsGrownValue};
 
 use super::grown::{Grown, GrownValue};
+use super::names::Named;
 use super::{Parser, Refusal};
 use crate::classes::Bound;
 use crate::scanner::Placed;
@@ -31,6 +36,18 @@ impl<'a> Parser<'a> {
             return Err(Refusal::Syntax);
         }
         Ok(())
+    }
+
+    /// Definitions, and no more.
+    #[tactic(auto, unfolding(crate::specs::internal::Defining::definitions_alone))]
+    fn definitions_alone(&mut self) -> Result<Vec<Named<'a>>, Refusal>
+        ensures gives { Gives (λ names. meanings names.items) result self.new
+            (definitions_alone self.old) }
+        ensures shorter { length self.new ≤ length self.old }
+    {
+        let names = self.definitions()?;
+        self.end()?;
+        Ok(names)
     }
 
     /// Definitions and one condition, and no more.
@@ -76,6 +93,33 @@ pub(crate) fn parse_tokens(alloc: Global, tokens: &[Placed], end: usize) -> Resu
             Some(tree) => Ok(Box::into_inner(tree)),
             None => Err(CondError::TooManyParts),
         },
+        Err(Refusal::Memory) => Err(CondError::Memory),
+        Err(Refusal::Syntax) => {
+            let index = tokens.len() - parser.left();
+            Err(CondError::Syntax {
+                at: offset_of(tokens, end, index),
+            })
+        }
+    }
+}
+
+/// Accepts tokens that are definitions, and no more, which are those of a text of `end` bytes.
+pub(crate) fn read_definitions(
+    alloc: Global,
+    tokens: &[Placed],
+    end: usize,
+) -> Result<(), CondError>
+    ensures names { IfOk result (λ _. (N : Meanings) × Defines (kinds tokens.now) N) }
+    ensures found { (N : Meanings) → Defines (kinds tokens.now) N
+        → IfErr result (λ e. e ≡ CondError.Memory) }
+    ensures place { (at : ℕ) → result ≡ Err (CondError.Syntax at)
+        → IsPlaceIn Defines tokens.now end at }
+    ensures errors { IfErr result (λ e. (e ≡ CondError.Memory)
+        ⊎ ((at : ℕ) × (e ≡ CondError.Syntax at))) }
+{
+    let mut parser = Parser::new(alloc, tokens);
+    match parser.definitions_alone() {
+        Ok(_) => Ok(()),
         Err(Refusal::Memory) => Err(CondError::Memory),
         Err(Refusal::Syntax) => {
             let index = tokens.len() - parser.left();

@@ -1,5 +1,5 @@
 -- How the parts of a job end.
-use Rattle.std.specs.Prelude.{◌≡◌, ◌⊎◌, ◌≤◌, ◌<◌, ◌^◌, ℕ, ◌+◌, All, length, List, [], Option, Some}
+use Rattle.std.specs.Prelude.{◌≡◌, ◌⊎◌, ◌≤◌, ◌<◌, ◌^◌, ℕ, Bool, ◌+◌, All, length, List, [], Option, Some}
 use Rattle.std.specs.Prelude.{Result, Ok, Err, false}
 use Rattle.dealrun.specs.Headline.{WritesTextIn}
 use Rattle.dealrun.specs.Interrupted.{FaultsAfter}
@@ -20,10 +20,10 @@ use Rattle.deals_cli.specs.declared.tricks_job.FoundNumbers.{FoundNumbers}
 use Rattle.notations.specs.Numbers.{numbers}
 use Rattle.request_types.specs.declared.workers.Workers.{Workers}
 use Rattle.picking.specs.FourBytes.{EndsBefore}
-use Rattle.picking.specs.Outcomes.{Picks}
 use Rattle.picking.specs.declared.fault.PickFault.{PickFault}
 use Rattle.picking.specs.declared.fault.PickFault.TheVariants as picks
 use Rattle.records.specs.Shown.{FaultsOf}
+use Rattle.deals_cli.specs.Picked.{PicksAs}
 use Rattle.deals_cli.specs.Shown.{ShowsUnder}
 use Rattle.records.specs.declared.shown.ShowFault.{ShowFault}
 use Rattle.records.specs.declared.shown.ShowFault.TheVariants as shown
@@ -43,6 +43,7 @@ use Rattle.jobs.specs.declared.job.ShowJob.{ShowJob}
 use Rattle.plans.specs.declared.report.Report.{Report}
 use Rattle.deals_cli.specs.declared.written.Written.{Written}
 use Rattle.sinks.specs.Appended.{AppendsAll, AppendsPart}
+use Rattle.told.specs.Told.{FaultsIn, InputFaultsIn}
 use Rattle.statistics.specs.Counting.{counting}
 use Rattle.statistics.specs.Subjects.{subject_of}
 
@@ -123,26 +124,40 @@ abbrev pub FaultsOfRun : {T : Type 0} → Result T Cause → ℕ → ℕ → Typ
 FaultsOfRun (Ok value) old new = new ≡ old
 FaultsOfRun (Err cause) old new = FaultsAfter cause old new
 
+-- boards were picked, or memory ran out before
+abbrev pub EndsPicked : {T E : Type 0} → (tricks : Bool) → PickJob → Result (Result T PickFault) E
+    → (before after old new : Option (List ℕ)) → Type 0
+EndsPicked tricks job (Ok result) before after old new =
+    PicksAs tricks job.format job.show job.plan result before after old new
+EndsPicked tricks job (Err e) before after old new = (after ≡ before) × (new ≡ old)
+
+abbrev pub FaultsPicked : {T E : Type 0} → Result (Result T PickFault) E → (old new : ℕ) → Type 0
+FaultsPicked (Ok result) old new = FaultsIn result old new
+FaultsPicked (Err e) old new = new ≡ old
+
+abbrev pub CountsPicked : {T E : Type 0} → Result (Result T PickFault) E → (old new : ℕ) → Type 0
+CountsPicked (Ok result) old new = InputFaultsIn result old new
+CountsPicked (Err e) old new = new ≡ old
+
+abbrev pub PicksFor : {T : Type 0} → PickJob → Result T PickFault
+    → (before after old new : Option (List ℕ)) → Type 0
+PicksFor job result before after old new =
+    PicksAs job.tricks job.format job.show job.plan result before after old new
+
 -- picking wrote all boards, or ended with a fault. The output may also fail where what is
 -- before a fault of the input is passed on
 abbrev pub EndsPicking : {T : Type 0} → PickJob → Result T Failure
     → (before after old new : Option (List ℕ)) → Type 0
 EndsPicking job (Ok value) before after old new =
-    (boards : ℕ)
-    × Picks (layout_showing job.format job.show job.plan.heading) job.plan (Ok boards)
-    before after old new
+    PicksFor {T = Unit {0}} job (Ok tt) before after old new
 EndsPicking job (Err (Interrupted Memory)) before after old new =
     (after ≡ before) × (new ≡ old)
 EndsPicking job (Err (Interrupted Output)) before after old new =
-    (fault : PickFault)
-    × Picks (layout_showing job.format job.show job.plan.heading) job.plan (Err fault)
-    before after old new
+    (fault : PickFault) × PicksFor {T = Unit {0}} job (Err fault) before after old new
 EndsPicking job (Err (Line line)) before after old new =
-    Picks (layout_showing job.format job.show job.plan.heading) job.plan (Err (picks.Refused line))
-    before after old new
+    PicksFor {T = Unit {0}} job (Err (picks.Refused line)) before after old new
 EndsPicking job (Err Input) before after old new =
-    Picks (layout_showing job.format job.show job.plan.heading) job.plan (Err picks.Input)
-    before after old new
+    PicksFor {T = Unit {0}} job (Err picks.Input) before after old new
 EndsPicking job (Err failure) before after old new = ⊥
 
 -- boards were shown, or the first read of the input failed, and nothing was written

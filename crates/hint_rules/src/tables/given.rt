@@ -23,6 +23,7 @@ pub(crate) const RULES: &str = "
     Can:Let ^ ,|; => leave \"%n0\" out: names follow one another without a sign
     Can:Let ) ^ Nothing => after the names comes the condition that uses them
     ^ Later => \"%n0\" is given only after this: move its \"let\" before it
+    ^ Own => \"%n0\" isn't known in its own brackets, only after them
 
     Call ^ is not Number => for this write: %v1!=%n2
     Call ^ is Number => write \"==\"

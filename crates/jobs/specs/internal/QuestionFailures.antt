@@ -1,5 +1,5 @@
 -- Why the questions of a `count` are not read.
-use Rattle.std.specs.Prelude.{◌≡◌, ◌⊎◌, ℕ, List}
+use Rattle.std.specs.Prelude.{◌≡◌, ◌⊎◌, ℕ, List, Option}
 use Rattle.conditions.specs.declared.error.CondError.{CondError}
 use Rattle.plans.specs.declared.cause.Cause.TheVariants.{Memory}
 use Rattle.jobs.specs.FirstRefusal.{AreRefused, IsQuestionDue}
@@ -9,12 +9,13 @@ use Rattle.jobs.specs.declared.failure.Failure.TheVariants.{Interrupted, Questio
 use Rattle.request_types.specs.declared.names.QuestionName.{QuestionName}
 
 -- memory ran out, or the text of this question is refused so
-abbrev pub IsTextFailure : QuestionName → List ℕ → Failure → Type 0
-IsTextFailure name text failure =
+abbrev pub IsTextFailure : Option (List ℕ) → QuestionName → List ℕ → Failure → Type 0
+IsTextFailure definitions name text failure =
     (failure ≡ Interrupted Memory)
-    ⊎ ((error : CondError) × (failure ≡ Question name error) × IsQuestionDue text error)
+    ⊎ ((error : CondError) × (failure ≡ Question name error)
+    × IsQuestionDue definitions text error)
 
 -- memory ran out, or the questions are refused so
-abbrev pub AreFailure : Questions → Failure → Type 0
-AreFailure questions failure =
-    (failure ≡ Interrupted Memory) ⊎ AreRefused questions failure
+abbrev pub AreFailure : Option (List ℕ) → Questions → Failure → Type 0
+AreFailure definitions questions failure =
+    (failure ≡ Interrupted Memory) ⊎ AreRefused definitions questions failure

@@ -8,9 +8,8 @@ pub(crate) const PLAY: &[Row] = &[
         "3NT with each suit stopped",
         "North and South have 26 to 28 points, a stopper in each suit and no major fit. It makes \
          on nearly nine of ten.",
-        "hcp(north)+hcp(south) in 26-28 and every ns (shortest(ns)>1) and every suit \
-         (stops(north,suit) or stops(south,suit)) and every major \
-         (len(north,major)+len(south,major)<8)",
+        "hcp(north)+hcp(south) in 26-28 and every ns (shortest(ns)>1) and every suit (any ns \
+         (stops(ns,suit))) and every major (len(north,major)+len(south,major)<8)",
     ),
     (
         "major-game",
@@ -26,9 +25,9 @@ pub(crate) const PLAY: &[Row] = &[
         "North has four hearts and South three, with the honours, and spades are open for notrump. \
          Four hearts make on four of five.",
         "hcp(north)+hcp(south) in 25-28 and len(north,hearts)==4 and len(south,hearts)==3 and \
-         cards(north,hearts,akq)+cards(south,hearts,akq)==3 and not stops(north,spades) and not \
-         stops(south,spades) and len(south,spades)<3 and losers(north)+losers(south)<=14 and every \
-         ew (len(ew,hearts)<5)",
+         cards(north,hearts,akq)+cards(south,hearts,akq)==3 and every ns (not stops(ns,spades)) \
+         and len(south,spades)<3 and losers(north)+losers(south)<=14 and every ew \
+         (len(ew,hearts)<5)",
     ),
     (
         "king-onside",
@@ -42,9 +41,9 @@ pub(crate) const PLAY: &[Row] = &[
         "hold-up",
         "A hold-up",
         "North and South play 3NT with the ace alone in the suit that is led.",
-        "hcp(north)+hcp(south) in 26-28 and every ns (balanced(ns)) and \
-         cards(south,hearts,akq)==1 and cards(south,hearts,a)==1 and len(south,hearts)==3 and \
-         cards(north,hearts,akqj)==0 and len(north,hearts)==3 and len(west,hearts)==5",
+        "hcp(north)+hcp(south) in 26-28 and every ns (balanced(ns) and len(ns,hearts)==3) and \
+         cards(south,hearts,akq)==1 and cards(south,hearts,a)==1 and cards(north,hearts,akqj)==0 \
+         and len(west,hearts)==5",
     ),
     (
         "bad-break",

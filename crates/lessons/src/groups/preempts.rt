@@ -18,6 +18,14 @@ pub(crate) const PREEMPTS: &[Row] = &[
          second(north)<4 and shortest(north)>0",
     ),
     (
+        "ogust",
+        "Ogust",
+        "North opens a weak two in a major, and South asks by 2NT how good it is.",
+        "any major (len(north,major)==6 and cards(north,major,akq)>=2 and len(south,major)>=2) \
+         and hcp(north) in 6-9 and second(north)<4 and shortest(north)>0 and hcp(south) in 15-18 \
+         and hcp(east)<10 and longest(east)<6 and second(east)<5",
+    ),
+    (
         "preempt",
         "A preempt",
         "North opens at the three level with a good seven-card suit and little else.",

@@ -8,9 +8,9 @@ pub(crate) const RESPONSES: &[Row] = &[
         "A new suit at the one level",
         "North opens 1D, and South bids a four-card major.",
         "hcp(north) in 12-14 and len(north,diamonds)>=4 and len(north,diamonds)>len(north,clubs) \
-         and every major (len(north,major)<5) and any major (len(south,major)==4) and every \
-         major (len(south,major)<5) and longest(south)<5 and hcp(south) in 6-11 and hcp(east)<8 \
-         and longest(east)<6 and second(east)<5",
+         and every major (len(north,major)<5) and any major (len(south,major)==4) and \
+         longest(south)==4 and hcp(south) in 6-11 and hcp(east)<8 and longest(east)<6 and \
+         second(east)<5",
     ),
     (
         "one-notrump-response",
@@ -21,13 +21,29 @@ pub(crate) const RESPONSES: &[Row] = &[
          and hcp(east)<8 and longest(east)<6 and second(east)<5",
     ),
     (
+        "two-way-checkback",
+        "Two-way checkback",
+        "North opens a minor and rebids 1NT over 1S, and South asks with five spades by 2C or 2D.",
+        "balanced(north) and hcp(north) in 12-14 and every major (len(north,major)<5) and \
+         len(north,spades)<4 and len(south,spades)==5 and second(south)<5 and hcp(south) in 11-15 \
+         and hcp(east)<8 and longest(east)<6 and second(east)<5",
+    ),
+    (
+        "reverse-flannery",
+        "Reverse Flannery",
+        "North opens a minor, and South shows five spades, four hearts and 6 to 8 points by 2H.",
+        "hcp(north) in 12-14 and every major (len(north,major)<5) and len(south,spades)==5 and \
+         len(south,hearts)==4 and hcp(south) in 6-8 and hcp(east)<8 and longest(east)<6 and \
+         second(east)<5",
+    ),
+    (
         "two-over-one",
         "Two over one",
         "North opens 1S, and South bids 2C with points for game.",
         "len(north,spades)==5 and second(north)<5 and hcp(north) in 12-21 and (hcp(north)<15 or \
          not balanced(north)) and len(south,spades)<3 and hcp(south) in 13-16 and \
-         len(south,clubs)>=5 and every suit (len(south,suit)<=len(south,clubs)) and \
-         second(south)<5 and hcp(east)<8 and longest(east)<6 and second(east)<5",
+         len(south,clubs)>=5 and second(south)<5 and hcp(east)<8 and longest(east)<6 and \
+         second(east)<5",
     ),
     (
         "reverse",
@@ -51,7 +67,6 @@ pub(crate) const RESPONSES: &[Row] = &[
         "strong-two-suiter",
         "A strong two-suiter",
         "North has two five-card suits, one of them a major, and 15 points or more.",
-        "any major (len(north,major)==5) and any suit (len(north,suit)==5 and any other \
-         (len(north,other)==5)) and hcp(north) in 15-20",
+        "pattern(north,5-5-x-x) and any major (len(north,major)==5) and hcp(north) in 15-20",
     ),
 ];

@@ -7,7 +7,7 @@ pub(crate) const SLAMS: &[Row] = &[
         "notrump-slam",
         "A slam at notrump",
         "North and South have 33 points and three aces or more. It makes on 19 of 20.",
-        "balanced(north) and balanced(south) and hcp(north)+hcp(south) in 33-36 and \
+        "every ns (balanced(ns)) and hcp(north)+hcp(south) in 33-36 and \
          cards(north,a)+cards(south,a)>=3",
     ),
     (
@@ -32,8 +32,8 @@ pub(crate) const SLAMS: &[Row] = &[
         "Keycard",
         "North and South have a major fit and points for a slam: the key cards decide.",
         "any major (len(north,major)>=5 and len(south,major)>=4 and \
-         cards(north,major,akq)+cards(south,major,akq)>=2) and hcp(north) in 15-19 and \
-         hcp(south) in 14-17 and shortest(north)>0 and shortest(south)>0",
+         cards(north,major,akq)+cards(south,major,akq)>=2) and hcp(north) in 15-19 and hcp(south) \
+         in 14-17 and every ns (shortest(ns)>0)",
     ),
     (
         "missing-ace",

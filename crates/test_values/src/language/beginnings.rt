@@ -258,7 +258,7 @@ fn names_of_texts(rt: HostRuntime) {
     assert_eq!(rt; names.len(), 2);
     assert_eq!(rt; names.get(0).copied(), Some(b"v".as_slice()));
     assert_eq!(rt; names.get(1).copied(), Some(b"mine".as_slice()));
-    assert_eq!(rt; names_of(&[b' '; 1025]).len(), 0);
+    assert_eq!(rt; names_of(&[b' '; 5122]).len(), 0);
 }
 
 /// Whether exactly these kinds may come there.
@@ -289,7 +289,7 @@ fn listed(kind: Kind) -> Kind {
 const REFUSALS: [(&[u8], CondError); 3] = [
     (b"hcp(nort", CondError::Word { at: 4 }),
     (b"1==1)12345", CondError::Number { at: 5 }),
-    (&[b' '; 1025], CondError::TooLong),
+    (&[b' '; 5122], CondError::TooLong),
 ];
 
 #[test]

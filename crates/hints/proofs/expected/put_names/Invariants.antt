@@ -7,7 +7,7 @@ abbrev pub invariant-loop-names : goal.invariant-loop-names
 invariant-loop-names l =
     (l.terms.items ++ names_from (wanted l.of_values (of_value l.can) (in_set l.can)) l.number (map (λ p. p.now) l.names)
     ≡ l.initial.terms.items ++ names_from (wanted l.of_values (of_value l.can) (in_set l.can)) 0 (map (λ p. p.now) l.initial.names))
-    × (l.number + length l.names ≤ 1024)
+    × (l.number + length l.names ≤ 5121)
 
 abbrev pub decreases-loop-names : goal.decreases-loop-names
 decreases-loop-names l = length l.names

@@ -1,4 +1,4 @@
-use Rattle.std.proofs.Common.{◌≡◌, ◌+◌, ℕ, ◌<◌, Bool, false, List, length, slice_index_or, subst, sym, arith}
+use Rattle.std.proofs.Common.{◌≡◌, Bool, List, length, arith}
 use Rattle.std.proofs.lemmas.List.{length-append}
 use Rattle.hints.specs.Asked.{IsOfValue}
 use Rattle.hints.proofs.KindLemmas.{one_answer_behind}

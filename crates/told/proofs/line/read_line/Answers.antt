@@ -1,9 +1,6 @@
-use Rattle.std.proofs.lemmas.Grind.{common_steps}
-use Rattle.std.proofs.Common.{◌≡◌, ◌<◌, ◌≤◌, ◌+◌, ◌++◌, ◌∷◌, ◌==◌, ◌∙◌, [], false, length, arith, rules, length-append}
+use Rattle.std.proofs.Common.{◌≡◌, ◌<◌, ◌+◌, ◌++◌, ◌∷◌, ◌==◌, ◌∙◌, [], false, length, arith, rules, length-append}
 use Rattle.std.proofs.KnownBytes.{Consumes-trans}
-use Rattle.picking.specs.NumberTexts.{has_lf}
 use Rattle.picking.proofs.Scanned.{has_lf-other}
-use Rattle.told.specs.internal.Telling.{GivesByte}
 use Rattle.told.proofs.line.read_line.Goals as goal
 
 pub returns-in-Err-clause-reads : goal.returns-in-Err-clause-reads

@@ -1,4 +1,4 @@
-use Rattle.std.proofs.Common.{◌≡◌, ◌∙◌, ◌+◌, ◌++◌, ◌∷◌, ◌<◌, [], ℕ, List, length, take, drop, get_or, sym, ap, arith, subst}
+use Rattle.std.proofs.Common.{◌≡◌, ◌∙◌, ◌+◌, ◌++◌, ◌∷◌, [], take, drop, get_or, sym, ap, arith, subst}
 use Rattle.std.proofs.lemmas.List.{append-nil, take_all, take_more}
 use Rattle.picking.specs.NumberTexts.{Said, said}
 use Rattle.picking.specs.Scans.{HasScanned}

@@ -1,4 +1,4 @@
-use Rattle.std.proofs.Common.{◌≡◌, ◌≤◌, take}
+use Rattle.std.proofs.Common.{◌≤◌, take}
 use Rattle.picking.specs.Scans.{HasScanned}
 use Rattle.told.proofs.numbers.numbers_of.Given as goal
 

@@ -1,7 +1,5 @@
-use Rattle.std.proofs.Common.{◌≡◌, ◌<◌, ◌∙◌, [], List, ℕ, length, refl, sym, arith, rules, subst}
-use Rattle.std.specs.Prelude.{Err}
-use Rattle.told.specs.Told.{Tells, written_by}
-use Rattle.told.specs.internal.Telling.{ToldLast}
+use Rattle.std.proofs.Common.{◌≡◌, ◌<◌, length, arith}
+use Rattle.told.specs.Told.{written_by}
 use Rattle.told.proofs.Steps.{last_ends_at, last_missing}
 use Rattle.told.proofs.teller.end_last.Goals as goal
 

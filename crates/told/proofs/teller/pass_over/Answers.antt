@@ -1,9 +1,5 @@
-use Rattle.std.proofs.Common.{◌≡◌, ◌<◌, ◌≤◌, ◌+◌, ◌^◌, length, rules, arith}
-use Rattle.std.specs.Prelude.{Err}
-use Rattle.picking.specs.internal.LineEnds.{without_cr}
-use Rattle.told.specs.declared.line.LineEnd.{LineEnd}
-use Rattle.told.specs.declared.line.LineEnd.TheVariants.{Feed, Nothing}
-use Rattle.told.specs.internal.Telling.{Advances, ReadsLine}
+use Rattle.std.proofs.Common.{◌≡◌, rules, arith}
+use Rattle.told.specs.declared.line.LineEnd.TheVariants.{Nothing}
 use Rattle.told.proofs.Steps.{empty_line, more_line, nothing_left, over_failed}
 use Rattle.told.proofs.teller.pass_over.Goals as goal
 

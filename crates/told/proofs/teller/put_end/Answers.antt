@@ -1,4 +1,4 @@
-use Rattle.std.proofs.Common.{◌≡◌, [], Some, refl, arith}
+use Rattle.std.proofs.Common.{◌≡◌, [], refl, arith}
 use Rattle.notations.specs.Formats.{HasPrinted, footer_of, layout_in}
 use Rattle.told.proofs.teller.put_end.Goals as goal
 

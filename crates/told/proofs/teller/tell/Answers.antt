@@ -1,13 +1,11 @@
-use Rattle.std.proofs.Common.{◌≡◌, ◌∙◌, ◌<◌, ◌≤◌, ◌+◌, ◌^◌, ◌∷◌, [], List, ℕ, All, length, refl, sym, ap, subst, rules, arith, Option}
-use Rattle.std.specs.Prelude.{Err, Ok}
+use Rattle.std.proofs.Common.{◌≡◌, ◌∙◌, ◌<◌, ◌+◌, ◌^◌, ◌∷◌, [], length, refl, sym, ap, subst, rules, arith}
 use Rattle.std.proofs.lemmas.List.Elements.{All-tail}
-use Rattle.boards.specs.declared.board.Board.{Board}
 use Rattle.notations.specs.Formats.{header_with_tricks, layout_in}
 use Rattle.plans.specs.Plans.{candidate_of}
 use Rattle.plans.specs.Text.{board_of}
-use Rattle.told.specs.Told.{Tells, Written, written_by}
+use Rattle.told.specs.Told.{Tells, Written, text_tells, written_by}
 use Rattle.told.specs.declared.line.LineEnd.TheVariants.{Last}
-use Rattle.told.specs.internal.Telling.{TellsBoard, ToldFrom, ToldLast}
+use Rattle.told.specs.internal.Telling.{ToldFrom, ToldLast}
 use Rattle.told.proofs.Steps.{any_lines, goes_on_told, header_broken, none_if, nothing_told}
 use Rattle.told.proofs.teller.tell.Goals as goal
 
@@ -16,7 +14,7 @@ returns-in-Err-clause-tells g c =
     let p = c.args.printer.now in
     let header : (layout_in p.format p.show p.heading p.tricks).header ≡ header_with_tricks p.format p.heading = rw c.requires.ready.1 refl in
     let part = rw header at (rw c.header.ensures at c.in-Err.ensures.bytes) in
-    header_broken (written_by p) c.args.plan.now c.args.numbers.now (g.I.Source.rest c.args.input.now) (g.S.Sink.bytes c.args.sink.now) (g.S.Sink.bytes c.put_all.new.sink) part
+    header_broken (written_by p) (text_tells c.args.plan.now c.args.numbers.now) (g.I.Source.rest c.args.input.now) (g.S.Sink.bytes c.args.sink.now) (g.S.Sink.bytes c.put_all.new.sink) part
 
 pub loop-number-init : goal.loop-number-init
 loop-number-init g c =

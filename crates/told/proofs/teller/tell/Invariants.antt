@@ -1,4 +1,4 @@
-use Rattle.std.proofs.Common.{◌≡◌, ◌≤◌, ◌<◌, ◌+◌, ◌^◌, ℕ, List, [], Option, All, length}
+use Rattle.std.proofs.Common.{◌≡◌, ◌<◌, ◌+◌, ◌^◌, All, length}
 use Rattle.told.specs.Told.{IsReady, written_by}
 use Rattle.told.specs.internal.Telling.{ToldFrom}
 use Rattle.told.proofs.teller.tell.Given as goal

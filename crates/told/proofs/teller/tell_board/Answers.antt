@@ -1,9 +1,8 @@
-use Rattle.std.proofs.Common.{◌≡◌, ◌∙◌, List, ℕ, sym, ap, subst, rules}
-use Rattle.std.specs.Prelude.{Err, Ok}
+use Rattle.std.proofs.Common.{◌∙◌, sym, ap, subst}
 use Rattle.boards.specs.declared.board.Board.{Board}
 use Rattle.sinks.specs.Appended.{AppendsAll, AppendsPart}
 use Rattle.told.specs.Told.{solved_text, written_by}
-use Rattle.told.specs.internal.Telling.{TellsBoard, judged}
+use Rattle.told.specs.internal.Telling.{judged}
 use Rattle.told.proofs.Steps.{board_broken, board_failed, board_told, line_refused}
 use Rattle.told.proofs.teller.tell_board.Goals as goal
 
