@@ -95,6 +95,21 @@ def of_make():
     yield Case("make, negations", asked("--where", "not " * 254 + "0==0"), out=model.games(7, 1), workers=1)
 
 
+def of_names():
+    """Definitions beside a condition and a question, and such that are refused."""
+    strong = ["--let", "let strong(seat) is (hcp(seat)>=15)"]
+    words = ["make", "--seed", "7", "--candidates", "40", "--workers", "3", *strong, "--where", "strong(north)"]
+    yield Case("make, names", words, out=model.games(7, 40, CONDITIONS["simple"][1]), workers=3)
+    words = ["count", "--seed", "7", "--candidates", "40", "--workers", "1", *strong, "--format", "csv"]
+    found = sum(1 for hands in deals_of_seven if CONDITIONS["simple"][1](hands))
+    out = b"value,deals\nno,%d\nyes,%d\n" % (40 - found, found)
+    yield Case("count, names", [*words, "--of", "strong(north)"], out=out, workers=1)
+    for names, line in (("let a is (1>0)", "at byte 4: syntax"), (" " * 4097, ": longer than 4096 bytes")):
+        line = f"let refused{'' if line.startswith(':') else ' '}{line}\n".encode()
+        yield Case(f"let, {line}", asked("--let", names, *HINTS), 3, err=None, line=line)
+        yield Case(f"let, {line} alone", asked("--let", names), 3, err=line)
+
+
 def asked(*more):
     return ["make", "--seed", "7", "--candidates", "1", *more]
 
@@ -296,5 +311,5 @@ def of_count():
 
 
 def every(is_all):
-    chosen = [*of_texts(), *of_make(), *of_find(), *of_count(), *of_pick(), *of_show(), *of_tricks(), *of_refusals()]
+    chosen = [*of_texts(), *of_make(), *of_names(), *of_find(), *of_count(), *of_pick(), *of_show(), *of_tricks(), *of_refusals()]
     return [*chosen, *of_more()] if is_all else chosen

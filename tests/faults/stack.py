@@ -49,6 +49,11 @@ def small_stacks():
     for text, status in deepest().values():
         words = ["make", "--seed", "7", "--candidates", "1", "--where", text]
         yield 1024, words, status, None
+    strong = ["--let", "let strong(seat) is (hcp(seat)>=15)", "--where", "strong(north)"]
+    yield 1024, ["make", "--seed", "7", "--candidates", "20", *strong], 0, None
+    for inside, status in (("(" * 4080, 3), ("(" * 2038 + "0==0" + ")" * 2038, 0)):
+        words = ["make", "--seed", "7", "--candidates", "1", "--let", f"let deep is ({inside})", "--where", "deep"]
+        yield 4096, words, status, None
     for words, text in ((["--format", "csv"], b"deals,candidates\n20,20\n"), (["--of", "7", "--format", "csv"], b"value,deals\n7,20\n")):
         yield 192, ["count", "--seed", "7", "--candidates", "20", *words], 0, text
     both = ["--of", "hcp(north)+hcp(south)", "--by", "longest(north)"]

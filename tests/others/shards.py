@@ -41,7 +41,7 @@ def made(deals):
 
 def picked(deals, folder):
     """What is picked by the numbers of the shards' files, in order."""
-    files = sorted(path for path in pathlib.Path(folder).iterdir() if path.suffix != ".part")
+    files = sorted(pathlib.Path(folder).glob("*[0-9]"))
     return deals("pick", *SEED, given=b"".join(path.read_bytes() for path in files)).stdout
 
 
@@ -136,13 +136,43 @@ def begun(_):
                 right = run.returncode == 2 and said in run.stderr and file.read_bytes() == kept
             yield f"resume, {kept}, {count}", None if right else str(run)
         file.write_bytes(b"5\n7\n")
+        (file.parent / "found.search").unlink()
         run = subprocess.run([*words[:3], "20", *SEED, "--where", "hcp(north)>37"], **settings)
         right = run.returncode == 2 and b"has candidate 5, which this search doesn't find" in run.stderr
         yield "resume, another search", None if right and file.read_bytes() == b"5\n7\n" else str(run)
 
 
+# Options that aren't those of the search that was begun, and what is said of them; None where it goes on.
+OTHERS = [
+    (["--where", "hcp(north)>=0"], b"of another search, for this one name another f"),
+    (["--boards", "3"], b"leave --boards out"),
+    (["--first=2"], b"leave --first out"),
+    (["--workers", "2", "--lane=8", "--hints", "always"], None),
+]
+
+
+def contents(folder):
+    """The files of a folder and of those in it, with their bytes."""
+    return {path: path.read_bytes() for path in pathlib.Path(folder).rglob("*") if path.is_file()}
+
+
+def known(_):
+    """Options of another search are refused, and what was found stays."""
+    settings = {"env": {**os.environ, "DEALS": str(harness.PROGRAM)}, "capture_output": True, "check": False}
+    for script, numbers in ((RESUME, ["20"]), (SHARD, ["0", "20"])):
+        with tempfile.TemporaryDirectory(prefix="known-") as folder:
+            words = ["sh", str(script), f"{folder}/found", *numbers, *SEED]
+            begun_by = subprocess.run(words, **settings)
+            found = contents(folder)
+            yield f"{script.name}, begun", None if begun_by.returncode == 0 and len(found) == 2 else str(begun_by)
+            for options, said in OTHERS:
+                run = subprocess.run([*words, *options], **settings)
+                right = run.returncode == 0 if said is None else run.returncode == 2 and said in run.stderr
+                yield f"{script.name}, {options}", None if right and contents(folder) == found else str(run)
+
+
 def stopped(deals):
-    """A shard that is stopped alone, by each signal: its search has ended, and nothing is left of it."""
+    """A shard that is stopped alone, by each signal: its search has ended, and no number is left of it."""
     for sign in (signal.SIGHUP, signal.SIGINT, signal.SIGQUIT, signal.SIGTERM):
         with tempfile.TemporaryDirectory(prefix="shards-") as folder:
             words = ["sh", str(SHARD), folder, "3", "1000000000000", *SEED, "--where", "hcp(north)>=37"]
@@ -153,7 +183,7 @@ def stopped(deals):
             process.send_signal(sign)
             status = process.wait(SECONDS)
             is_soon = time.monotonic() - began < 5
-            right = status == 128 + sign and is_soon and not os.listdir(folder) and search_of(3, 0) is None
+            right = status == 128 + sign and is_soon and os.listdir(folder) == ["search"] and search_of(3, 0) is None
             yield f"a shard, {sign.name}", None if found and right else f"{status}, {os.listdir(folder)}"
 
 

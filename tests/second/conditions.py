@@ -19,6 +19,7 @@ import sys
 
 import early
 import given
+import grammar
 import harness
 import language
 import model
@@ -107,14 +108,23 @@ def randoms():
     return [condition for condition in found if len(condition) <= 1024]
 
 
+def spelled(condition):
+    """The words that give a condition: itself, and without its definitions where it has some, which are beside it."""
+    yield ["--where", condition]
+    at = grammar.boundaries(condition)[-1]
+    if at > 0:
+        yield ["--let", condition[:at], "--where", condition[at:]]
+
+
 def random_complaint(condition, deals, asked=ASKED):
     """Why the program finds other candidates than the second one, or None."""
     is_true = language.condition(condition)
-    wanted = [number for number, hands in enumerate(deals[:asked]) if is_true(hands)]
-    words = ["find", "--seed", str(SEED), "--candidates", str(asked), "--where", condition]
-    run = subprocess.run([harness.PROGRAM, *words], capture_output=True, text=True, check=False)
-    if run.returncode != 0 or run.stdout.split() != [str(number) for number in wanted]:
-        return f"status {run.returncode}, {run.stdout.split()} for {wanted}"
+    wanted = [str(number) for number, hands in enumerate(deals[:asked]) if is_true(hands)]
+    for text in spelled(condition):
+        words = ["find", "--seed", str(SEED), "--candidates", str(asked), *text]
+        run = subprocess.run([harness.PROGRAM, *words], capture_output=True, text=True, check=False)
+        if run.returncode != 0 or run.stdout.split() != wanted:
+            return f"{text}: status {run.returncode}, {run.stdout.split()} for {wanted}"
     return None
 
 

@@ -37,6 +37,7 @@ WORDS = {
 SYMBOLS = {**{sign: sign for sign in "(),-+*"}, **dict.fromkeys(["==", "!=", "<=", ">=", "<", ">"], "relation")}
 PIECE = re.compile(rb"[ \t\r\n]+|#[^\n]*|(?P<word>[a-z]+)|(?P<number>[0-9]+)|(?P<symbol>[<>=!]=|[<>]|[(),+*-])")
 MOST_BYTES = 1024
+MOST_BYTES_ALONE = 4096
 MOST_PARTS = 16_384
 
 VALUES = {"number", "measure", "cards", "len", "longest"}
@@ -269,10 +270,11 @@ HEAD = {
 
 
 class Text:
-    """A text as far as it was read: definitions, and then a condition or a question."""
+    """A text as far as it was read: definitions, and then a condition or a question, or nothing more."""
 
-    def __init__(self, asks=False):
+    def __init__(self, asks=False, is_alone=False):
         self.asks = asks
+        self.is_alone = is_alone
         self.names = []
         # The token that came last in the head of a definition, and the parameters there.
         self.head = ""
@@ -281,9 +283,15 @@ class Text:
         self.inside = Machine(may_be_value=asks)
         self.is_begun = False
 
+    def is_between(self):
+        """Whether what was read is whole definitions."""
+        return not (self.head or self.given or self.is_begun)
+
     def allowed(self):
         if self.head:
             return HEAD[self.head]
+        if self.is_alone and self.is_between():
+            return {"let", "end"}
         allowed = self.inside.allowed()
         if self.given:
             return {")" if kind == "end" else kind for kind in allowed}
@@ -380,16 +388,49 @@ def tokens_of(text):
     return tokens, None
 
 
-def refusal(text, asks=False):
-    """Why a condition is refused, or a question, None where it isn't; and what could be there, where it isn't one."""
-    if len(text) > MOST_BYTES:
-        return "longer than 1024 bytes", None
+def fault_of(machine, text):
+    """Why the machine doesn't take a text, None where it does; and what could be there, where another token is."""
     tokens, fault = tokens_of(text)
     if fault:
         return fault, None
-    machine = Text(asks)
     for kind, at, word in [*tokens, ("end", len(text), "")]:
         if not machine.allows(kind):
             return f"at byte {at}: syntax", machine.said()
-        machine.take(kind, word)
+        if kind != "end":
+            machine.take(kind, word)
     return f"more than {MOST_PARTS} parts" if machine.inside.parts({}) > MOST_PARTS else None, None
+
+
+def refusal(text, asks=False):
+    """Why a condition is refused, or a question, None where it isn't; and what could be there, where it isn't one."""
+    return ("longer than 1024 bytes", None) if len(text) > MOST_BYTES else fault_of(Text(asks), text)
+
+
+def refusal_alone(text):
+    """Why definitions are refused, None where they aren't; and what could be there, which is told within one alone."""
+    if len(text) > MOST_BYTES_ALONE:
+        return "longer than 4096 bytes", None
+    machine = Text(is_alone=True)
+    why, expected = fault_of(machine, text)
+    return why, None if machine.is_between() else expected
+
+
+def refusal_after(definitions, text):
+    """The same as `refusal` of a condition after definitions that aren't refused; places count from its beginning."""
+    if len(text) > MOST_BYTES:
+        return "longer than 1024 bytes", None
+    why, expected = fault_of(Text(), definitions + b"\n" + text)
+    start = len(definitions) + 1
+    return why and re.sub(r"(?<=^at byte )\d+", lambda at: str(int(at.group()) - start), why), expected
+
+
+def boundaries(text):
+    """Where the definitions that a text begins with may be cut off from the rest."""
+    machine, found = Text(), [0]
+    for kind, at, word in tokens_of(text.encode())[0]:
+        if not machine.allows(kind):
+            break
+        machine.take(kind, word)
+        if machine.is_between():
+            found.append(at + len(word))
+    return found

@@ -64,6 +64,13 @@ def sentence(dice):
     return "".join(f"{word} " for word in words)
 
 
+def beside(dice):
+    """Definitions, and a text that may use them: a sentence that begins with some, cut in two; one in four anywhere."""
+    text = next(text for text in iter(lambda: sentence(dice), None) if text.startswith("let"))
+    at = dice.choice(grammar.boundaries(text)) if dice.randrange(4) else dice.randrange(len(text) + 1)
+    return text[:at] + dice.choice(["", "", "# names"]), text[at:]
+
+
 def pieces(dice):
     """Any words and signs, one list in a hundred a long one."""
     most = 250 if dice.randrange(100) == 0 else 12

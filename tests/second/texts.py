@@ -1,5 +1,6 @@
 """Random texts of conditions: the program has to refuse each where a second reader (grammar.py) does, say what could
-stand there, and take what it tells to write. With `many` there are 160,000 of them in place of 16,000.
+stand there, and take what it tells to write. So it does of texts after definitions that are given beside them, by
+`--let`. With `many` there are ten times as many.
 """
 
 import os
@@ -17,6 +18,7 @@ SECONDS = 60
 # How many texts there are of each kind.
 RANDOM = [(random_texts.sentence, 10_000), (random_texts.pieces, 5_000), (random_texts.characters, 1_000)]
 RANDOM += [(random_texts.large, 200), (random_texts.doubled, 200)]
+BESIDE = 1_000
 TIMES = 10 if report.has("many") else 1
 NEVER = "note: no deal meets this condition"
 MIXED = 'note: "and" binds first: A and B or C is (A and B) or C; brackets would say so\n'
@@ -76,14 +78,14 @@ def slip(condition):
     return MIXED if is_mixed(tokens) else ""
 
 
-def words(condition):
+def words(condition, *more):
     where = [f"--where={condition}"] if condition.startswith("-") else ["--where", condition]
-    return [harness.PROGRAM, "make", "--seed", "7", "--candidates", "1", "--hints", "always", *where]
+    return [harness.PROGRAM, "make", "--seed", "7", "--candidates", "1", "--hints", "always", *where, *more]
 
 
-def told(condition):
+def told(condition, *more):
     """The status, and the lines on standard error; of a refusal nothing is on standard output."""
-    ended = subprocess.run(words(condition), capture_output=True, timeout=SECONDS)
+    ended = subprocess.run(words(condition, *more), capture_output=True, timeout=SECONDS)
     if ended.returncode and ended.stdout:
         raise ValueError(f"wrote {ended.stdout!r}")
     return ended.returncode, ended.stderr.decode("ascii")
@@ -122,17 +124,38 @@ def fault_of_note(condition, note):
     return None if ended.returncode == 0 and is_so else f"status {ended.returncode}, {noted!r}"
 
 
-def fault_of_text(text):
-    """Why the program says something else of the text than the second reader, or None."""
-    why, expected = grammar.refusal(text.encode())
-    status, said = told(text)
+def difference(told_of, why, expected, what="condition"):
+    """What is wrong with what the program says of a text, or of the one that `what` names, by the second reader's
+    reason and by what that expects there; or None."""
+    status, said = told_of
     first, *lines = said.split("\n")
-    line = f"condition refused{' ' if why and why.startswith('at') else ': '}{why}" if why else ""
-    first = "" if status == 0 and (first.startswith(NEVER) or first + "\n" == slip(text)) else first
+    line = f"{what} refused{' ' if why and why.startswith('at') else ': '}{why}" if why else ""
     stands = [line for line in lines[2:] if line.startswith("  expected ")]
     if status != (3 if why else 0) or first != line or stands != ([f"  expected {expected}"] if expected else []):
         return f"status {status}, {said!r} for {why}, {expected}"
-    return fault_of_suggestion(said)
+    return None
+
+
+def without_note(told_of, text):
+    """What the program says, without the note on a text that it accepts."""
+    status, said = told_of
+    return status, "" if status == 0 and (said.startswith(NEVER) or said == slip(text)) else said
+
+
+def fault_of_text(text):
+    """Why the program says something else of the text than the second reader, or None."""
+    told_of = told(text)
+    return difference(without_note(told_of, text), *grammar.refusal(text.encode())) or fault_of_suggestion(told_of[1])
+
+
+def fault_of_beside(definitions, text):
+    """The same of a text after definitions, which are refused first."""
+    told_of = told(text, f"--let={definitions}")
+    why, expected = grammar.refusal_alone(definitions.encode())
+    if why:
+        return difference(told_of, why, expected, "let")
+    after = grammar.refusal_after(definitions.encode(), text.encode())
+    return difference(without_note(told_of, text), *after)
 
 
 def safely(fault_of, *given):
@@ -149,3 +172,10 @@ def random_ones():
         dice = random.Random(2026)
         rows = [make(dice) for _ in range(count * TIMES)]
         yield from report.asked(lambda text: safely(fault_of_text, text), rows, repr)
+
+
+def beside():
+    """Random definitions beside random texts, the same in each run."""
+    dice = random.Random(2026)
+    rows = [random_texts.beside(dice) for _ in range(BESIDE * TIMES)]
+    yield from report.asked(lambda row: safely(fault_of_beside, *row), rows, repr)

@@ -10,7 +10,7 @@ pub(crate) const RULES: &str = "
         say what the hand has, as in hcp(north) in 6-10 and any suit (len(north,suit)==6)
     ^ preempt|preempts|preemptive => \
         say what the hand has, as in hcp(north) in 6-10 and any suit (len(north,suit)>=7)
-    ^ opens|open|opening|opener|bids|bid => \
+    ^ opens|open|opening|opener|bids|bid|pass|passes|passed => \
         there is no bidding: say what the hand has, as in hcp(north)
     Nothing Number ^ Named:c|d|h|s|n|nt|sa => \
         there is no bidding: say what the hand has, as in hcp(north)

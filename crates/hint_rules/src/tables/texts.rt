@@ -8,6 +8,7 @@ pub(crate) const RULES: &str = "
     Nothing ^ /|.|~ .|/ => the condition itself stands here; from a file: --where \"$(cat FILE)\"
     Nothing ^ /|\\ Word => the condition itself stands here; from a file: --where \"$(cat FILE)\"
     Nothing ^ Word .|/|\\ => the condition itself stands here; from a file: --where \"$(cat FILE)\"
+    Nothing ^ $ ( => the shell reads a file in double quotes alone: --where \"$(cat FILE)\"
     ^ Begins:\u{FEFF} => a byte order mark stands here: leave it out
     Nothing ^ help|usage => all that a condition can say: deals conditions
     Nothing x ^ =|: => \
