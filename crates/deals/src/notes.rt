@@ -6,7 +6,7 @@ use clap::Error;
 use deals_cli::{Failure, Job, Report, Request, Task};
 use hint_rules::slip;
 use sinks::{Piped, put_all};
-use std::alloc::{AllocError, Global};
+use std::alloc::Global;
 use std::io::IsTerminal;
 
 /// Notes what there is to note of a task.
@@ -40,19 +40,18 @@ fn note(alloc: Global, words: &[String], request: &Request<'_>, job: &Job) -> Op
     }
 }
 
-/// The note on a condition that no deal meets, and below it that the lesson's is a part of it.
+/// The note on a condition that no deal meets, and below it that a lesson's is a part of it.
 fn with_lesson(mut noted: String, request: &Request<'_>) -> String {
-    let lesson = request.plans().and_then(|(search, _)| search.lesson);
-    if let Some(name) = lesson {
-        let _ = put_lesson(&mut noted, name);
+    let has_lesson = match request.plans() {
+        Some((search, _)) => search.lesson.is_some(),
+        None => false,
+    };
+    if has_lesson {
+        let _ = noted.push_str(
+            "note: the lesson's own condition counts too: deals lessons NAME prints it\n",
+        );
     }
     noted
-}
-
-fn put_lesson(noted: &mut String, name: &str) -> Result<(), AllocError> {
-    noted.push_str("note: the lesson's own condition counts too: deals lessons ")?;
-    noted.push_str(name)?;
-    noted.push_str(" prints it\n")
 }
 
 /// The note on a slip in the condition of a request. None if it has none, or if memory runs out.

@@ -206,7 +206,7 @@ pub line_failed : (w : Written) (plan : Planned) (lines count : ℕ) (before the
     → TellsBy {T = Unit {0}} w (text_picks plan) (Err Input) before now base old
 line_failed w plan lines count before then_it now base old fails h =
     failed_at w (text_picks plan) before now base h.given fails.0 h.boards no_more old (Consumes-trans before then_it now h.given fails.0 h.consumed fails.2) (h.are_ended fails.0 fails.1) h.bytes
-    (ap (text_picks plan) (sym (append-nil h.given)) ∙ h.goes_on []) refl
+    (ap (text_picks plan) (sym (append-nil h.given)) ∙ h.goes_on []) refl tt
 
 -- ---- the beginning and the end
 

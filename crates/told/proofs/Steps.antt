@@ -24,7 +24,7 @@ use Rattle.plans.specs.declared.refusal.LineFault.TheVariants.{Missing, MoreThan
 use Rattle.sinks.specs.Appended.{AppendsAll, AppendsPart, append_known}
 use Rattle.sinks.proofs.SinkLemmas.{append_known-append, append_known-nil, whole_then_part}
 use Rattle.told.specs.Lines.{before_deal, deal_value, has_deal, if_same, told_of}
-use Rattle.told.specs.Told.{Solved, Tells, TellsBy, Told, Written, after, boards_text, by_line, footer_for, left_over, lines_tell, refused_after, solved_text, text_tells, told_text}
+use Rattle.told.specs.Told.{NotRefused, Solved, Tells, TellsBy, Told, Written, after, boards_text, by_line, footer_for, left_over, lines_tell, refused_after, solved_text, text_tells, told_text}
 use Rattle.told.specs.declared.line.LineEnd.{LineEnd}
 use Rattle.told.specs.declared.line.LineEnd.TheVariants.{Feed, Last, TooLong, Nothing}
 use Rattle.told.specs.internal.Telling.{EndsAfter, FailsWithin, HasTold, ReadsLine, Takes, TellsBoard, ToldFrom, ToldLast, judged}
@@ -177,14 +177,17 @@ module _ (w : Written) (tells : List ℕ → Told) (before now base : Option (Li
 
   -- the input fails
   pub failed_at : (given kept : List ℕ) (boards : List Solved) (left : Told) (out : Option (List ℕ)) → Consumes before now (given ++ kept) → ended (given ++ kept) ≡ given
-      → AppendsAll base out (boards_text w boards) → tells given ≡ after boards left → left.boards ≡ [] → TellsBy {T = Unit {0}} w tells (Err Input) before now base out
-  failed_at given kept boards left out consumed is_ended bytes is none =
+      → AppendsAll base out (boards_text w boards) → tells given ≡ after boards left → left.boards ≡ [] → NotRefused left.refused
+      → TellsBy {T = Unit {0}} w tells (Err Input) before now base out
+  failed_at given kept boards left out consumed is_ended bytes is none not_refused =
+      let refused : left.refused ≡ (tells (ended (given ++ kept))).refused =
+      sym (ap (λ l. (tells l).refused) is_ended ∙ ap (λ (t : Told). t.refused) is) in
       let told : (tells (ended (given ++ kept))).boards ≡ boards =
       ap (λ l. (tells l).boards) is_ended ∙ ap (λ (t : Told). t.boards) is ∙ ap (λ l. boards ++ l) none ∙ append-nil boards in record {
         given = given ++ kept;
         consumed = consumed;
         all = tt;
-        written = bytes ∙ ap (λ l. append_known base (boards_text w l)) (sym told);
+        written = (subst NotRefused refused not_refused, bytes ∙ ap (λ l. append_known base (boards_text w l)) (sym told));
       }
 
 -- ---- a board
@@ -263,7 +266,7 @@ module _ (w : Written) (plan : Planned) (lines k : ℕ) (line : List ℕ) (then_
   pub board_failed : FailsWithin line then_it now → Takes w plan lines k (Err Input) then_it now old old
   board_failed fails numbers rest before base h =
       failed_at w (text_tells plan numbers) before now base h.given line h.boards (lines_tell plan lines (k ∷ rest) []) old (on before h.given line h.consumed fails.1) (h.told.are_ended line fails.0) h.bytes
-      (ap (text_tells plan numbers) (sym (append-nil h.given)) ∙ h.told.goes_on []) (none_left plan lines (k ∷ rest))
+      (ap (text_tells plan numbers) (sym (append-nil h.given)) ∙ h.told.goes_on []) (none_left plan lines (k ∷ rest)) refl
 
 -- ---- the end
 
@@ -392,7 +395,7 @@ module _ (w : Written) (plan : Planned) (numbers line : List ℕ) (lines : ℕ) 
   pub over_failed : FailsWithin line then_it now → ToldFrom w plan numbers lines [] before then_it base old → Tells {T = Unit {0}} w plan numbers (Err Input) before now base old
   over_failed fails h =
       failed_at w (text_tells plan numbers) before now base h.given line h.boards (left_over lines []) old (Consumes-trans before then_it now h.given line h.consumed fails.1) (h.told.are_ended line fails.0) h.bytes
-      (ap (text_tells plan numbers) (sym (append-nil h.given)) ∙ h.told.goes_on []) refl
+      (ap (text_tells plan numbers) (sym (append-nil h.given)) ∙ h.told.goes_on []) refl tt
 
 -- ---- boards one after the other
 

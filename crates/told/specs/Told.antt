@@ -1,6 +1,6 @@
 -- What a text of lines tells of boards in order, a line for each; and the text that is written.
 use Rattle.std.specs.Prelude.{◌≡◌, ℕ, ◌+◌, List, [], ◌∷◌, ◌++◌, Option, None, Some, Result, Ok, Err}
-use Rattle.std.specs.Prelude.{OnOk}
+use Rattle.std.specs.Prelude.{OnOk, ⊤}
 use Rattle.std.specs.Io.KnownBytes.{Consumes, IsAtEnd}
 use Rattle.std.specs.List.{flat_map}
 use Rattle.boards.specs.declared.board.Board.{Board}
@@ -101,6 +101,11 @@ told_text w t = boards_text w t.boards ++ footer_for w t.refused
 
 -- ---- how it ends
 
+-- no line that was given is refused: one may be missing
+abbrev pub NotRefused : Option RefusedLine → Type 0
+NotRefused None = ⊤
+NotRefused (Some line) = line.fault ≡ Missing
+
 -- what was appended, by the bytes that the input gave, and by what they tell
 abbrev pub AppendsTold : {T : Type 0} → Written → (List ℕ → Told) → List ℕ → Result T PickFault
     → (old new : Option (List ℕ)) → Type 0
@@ -110,9 +115,10 @@ AppendsTold w tells given (Ok value) old new =
 -- the boards up to the line that is refused
 AppendsTold w tells given (Err (Refused line)) old new =
     ((tells given).refused ≡ Some line) × AppendsAll old new (told_text w (tells given))
--- the boards of the lines that were ended before the input failed
+-- the boards of the lines that were ended before the input failed, none of which is refused
 AppendsTold w tells given (Err Input) old new =
-    AppendsAll old new (boards_text w (tells (ended given)).boards)
+    NotRefused (tells (ended given)).refused
+    × AppendsAll old new (boards_text w (tells (ended given)).boards)
 -- not all of what they tell
 AppendsTold w tells given (Err Output) old new = AppendsPart old new (told_text w (tells given))
 
