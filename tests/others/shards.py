@@ -207,7 +207,7 @@ def parallel(deals):
         if found is not None:
             os.kill(found, signal.SIGKILL)
         failed = process.wait(SECONDS)
-        left = sorted(path.name for path in folder.iterdir())
+        left = sorted(path.name for path in folder.glob("*[0-9]"))
         broken = f"{LONGEST[0]:013d}" not in left and len(left) == 6
         yield "a shard killed", None if found is not None and failed == 1 and broken else f"{failed}, {left}"
         resumed = start(folder, log, "--resume-failed").wait(SECONDS)
