@@ -9,6 +9,7 @@ pub mod Counts
 pub mod Balanced
 pub mod Ranks
 pub mod Fixed
+pub mod Given
 pub mod Candidates
 pub mod CandidateWalks
 pub mod Packed

@@ -7,3 +7,4 @@ pub mod Around
 pub mod Dealings
 pub mod Exchanges
 pub mod WeightMasks
+pub mod GivenMasks

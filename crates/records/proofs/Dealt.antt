@@ -1,6 +1,6 @@
 -- The value that games write for a deal is spelled as that deal.
 use Rattle.std.proofs.Common.{◌≡◌, ◌≢◌, ◌∙◌, ◌<◌, ◌≤◌, ℕ, zero, suc, ◌+◌, ◌*◌, ◌/◌, ◌%◌, ◌==◌, Bool, true, false, List, [], ◌∷◌, ◌++◌, map, get_or, length, Option, None, Some, ap, append_assoc, arith, refl, sym, subst, codes}
-use Rattle.std.specs.Prelude.{filter, replicate, is_some, nat_lt, slice_index, slice_set, if◌then◌else◌}
+use Rattle.std.specs.Prelude.{filter, replicate, nat_lt, slice_index, slice_set, if◌then◌else◌}
 use Rattle.std.specs.List.{list_all, range_with_len}
 use Rattle.std.proofs.lemmas.Bool.{and_right, eq-eqb, eqb-false, eqb-true, lt-ltb, ltb-false, ltb-true, ne_eqb}
 use Rattle.std.proofs.lemmas.Bool.Decides.{nat_tests}
@@ -19,9 +19,9 @@ use Rattle.cards.specs.Deals.{IsPartition}
 use Rattle.cards.specs.Hands.{hand_of, holds_card}
 use Rattle.cards.specs.Pack.{seat_number, seat_of_number}
 use Rattle.pbn_text.specs.Games.{deal_text, suit_text}
-use Rattle.records.specs.DealValues.{deal_in, given, gives, none_given, rank_in, seat_in, seats_of, separator, whole}
+use Rattle.records.specs.DealValues.{deal_in, given, gives, none_given, rank_in, seat_in, separator, whole}
 use Rattle.records.specs.Values.{dealer_in}
-use Rattle.records.proofs.Partitions.{passes}
+use Rattle.records.proofs.Partitions.{all_some, passes, seats_again}
 
 -- ---- letters
 
@@ -207,14 +207,6 @@ at_last deal count = ext_get_or None (written deal 208) (map (λ seat. Some seat
     let less : nat_lt (place deal c) 208 ≡ true = lt-ltb (place deal c) 208 (omega (arith, few, seats)) in
     let all : written_at deal 208 c ≡ Some (get_or deal c North) = rw less refl in
     read_at deal 208 c few ∙ all ∙ sym (get_or-map (λ seat. Some seat) deal c North None (omega (arith, few, count))))
-
-all_some : (deal : List Seat) → list_all is_some (map (λ seat. Some seat) deal) ≡ true
-all_some [] = refl
-all_some (x ∷ xs) = all_some xs
-
-seats_again : (deal : List Seat) → seats_of (map (λ seat. Some seat) deal) ≡ deal
-seats_again [] = refl
-seats_again (x ∷ xs) = ap (λ l. x ∷ l) (seats_again xs)
 
 -- the parts, one after another
 nested : (t0 t1 t2 t3 t4 t5 t6 t7 t8 t9 t10 t11 t12 t13 t14 t15 : List ℕ)

@@ -13,3 +13,5 @@ pub mod Written
 pub mod Dealt
 pub mod Made
 pub mod MadeGames
+pub mod HandTexts
+pub mod PlainBytes

@@ -1,38 +1,21 @@
 //! The deal that a Deal tag tells.
 
-ghost use Rattle.std.specs.Prelude.{◌≡◌, ◌≤◌, Some, length};
+ghost use Rattle.std.specs.Prelude.{◌≡◌, ◌*◌, ◌+◌, ◌≤◌, ◌++◌, ℕ, IfSome, List, Some, true};
 ghost use Rattle.records.specs.DealValues.{deal_in, gives};
 ghost use Rattle.records.specs.DealValues.{none_given, rank_in, seat_in, separator, whole};
 
+use crate::hand_value::{RANKS, cards_in, rank_in};
 use crate::values::dealer_in;
-use cards::{Deal, Seat};
-
-/// How many ranks there are.
-const RANKS: usize = 13;
+use cards::{Deal, Given, Seat};
 
 /// The last part of a deal: the clubs of the last hand.
 const LAST_PART: usize = 15;
 
-/// Who has each card, as far as that is known.
-type Given = [Option<Seat>; 52];
+/// The bytes of a hand of thirteen cards: a letter for each, and three dots.
+const HAND: usize = 16;
 
-/// The ranks of the bytes from `2` to `T`; 13 where a byte is no rank's letter.
-const RANK_OF: [u8; 35] = [
-    12, 11, 10, 9, 8, 7, 6, 5, 13, 13, 13, 13, 13, 13, 13, 0, 13, 13, 13, 13, 13, 13, 13, 13, 3, 1,
-    13, 13, 13, 13, 13, 2, 13, 13, 4,
-];
-
-/// The rank of a letter; 13 where there is none.
-#[tactic(auto, unfolding(crate::specs::DealValues::rank_in))]
-fn rank_in(byte: u8) -> usize
-    ensures value { result ≡ rank_in byte }
-    ensures range { result ≤ 13 }
-{
-    match byte {
-        b'2'..=b'T' => usize::from(RANK_OF[usize::from(byte - b'2')]),
-        _ => RANKS,
-    }
-}
+/// The bytes of four such hands, with spaces between them.
+const WHOLE: usize = 67;
 
 /// What is after a part of a deal.
 fn separator(part: usize) -> u8
@@ -55,11 +38,11 @@ fn seat_in(first: Seat, part: usize) -> Seat
     }
 }
 
-/// What the hands give, from that of the first seat on.
-fn gives(first: Seat, hands: &[u8]) -> Option<Given>
-    ensures value { result ≡ gives first 0 none_given hands.now }
+/// What the hands give, from that of the first seat on, byte by byte.
+fn given_by_bytes(first: Seat, hands: &[u8]) -> Option<Given>
+    ensures { result ≡ gives first 0 none_given hands.now }
 {
-    let mut seats = [None; 52];
+    let mut given = Given::none();
     let mut part = 0;
     for byte in hands {
         if part < LAST_PART && *byte == separator(part) {
@@ -70,28 +53,65 @@ fn gives(first: Seat, hands: &[u8]) -> Option<Given>
         if rank == RANKS {
             return None;
         }
-        let card = 13 * (part % 4) + rank;
-        if seats[card].is_some() {
+        if !given.give(13 * (part % 4) + rank, seat_in(first, part)) {
             return None;
         }
-        seats[card] = Some(seat_in(first, part));
     }
-    if part == LAST_PART { Some(seats) } else { None }
+    if part == LAST_PART { Some(given) } else { None }
+}
+
+/// Gives the seat of this hand the cards that the text tells. Returns whether it could.
+fn give_hand(given: &mut Given, first: Seat, hand: usize, text: &[u8]) -> bool
+    requires { hand ≤ 3 }
+    ensures { result ≡ true → (rest : List ℕ)
+        → gives first (4 * hand) given.old (text.now ++ rest)
+        ≡ gives first (4 * hand + 3) given.new rest }
+{
+    match cards_in(text) {
+        Some(cards) => given.give_all(cards, seat_in(first, 4 * hand)),
+        None => false,
+    }
+}
+
+/// What the hands give, from that of the first seat on, if they are whole: then each has sixteen
+/// bytes, and can be read without a look for its end.
+fn given_by_hands(first: Seat, hands: &[u8]) -> Option<Given>
+    ensures { IfSome result (λ given. gives first 0 none_given hands.now ≡ Some given) }
+{
+    if hands.len() != WHOLE {
+        return None;
+    }
+    let mut given = Given::none();
+    for hand in 0..3 {
+        let from = (HAND + 1) * hand;
+        if !give_hand(&mut given, first, hand, &hands[from..from + HAND])
+            || hands[from + HAND] != b' '
+        {
+            return None;
+        }
+    }
+    if give_hand(&mut given, first, 3, &hands[WHOLE - HAND..]) {
+        Some(given)
+    } else {
+        None
+    }
+}
+
+/// What the hands give, from that of the first seat on.
+fn gives(first: Seat, hands: &[u8]) -> Option<Given>
+    ensures { result ≡ gives first 0 none_given hands.now }
+{
+    match given_by_hands(first, hands) {
+        Some(given) => Some(given),
+        None => given_by_bytes(first, hands),
+    }
 }
 
 /// The deal, if every card is given and every seat has thirteen.
-fn whole(seats: &Given) -> Option<Deal>
-    requires { length seats.now ≡ 52 }
-    ensures { result ≡ whole (Some seats.now) }
+fn whole(given: &Given) -> Option<Deal>
+    ensures { result ≡ whole (Some given.now) }
 {
-    let mut deal = [Seat::North; 52];
-    for card in 0..deal.len() {
-        match seats[card] {
-            Some(seat) => deal[card] = seat,
-            None => return None,
-        }
-    }
-    Deal::from_seats(&deal)
+    given.deal()
 }
 
 /// The deal that the value of a Deal tag tells.
@@ -103,6 +123,6 @@ pub(crate) fn deal_in(value: &[u8]) -> Option<Deal>
         return None;
     }
     let first = dealer_in(&value[..1])?;
-    let seats = gives(first, &value[2..])?;
-    whole(&seats)
+    let given = gives(first, &value[2..])?;
+    whole(&given)
 }

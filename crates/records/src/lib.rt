@@ -8,6 +8,7 @@
 mod deal_value;
 mod fault;
 mod game;
+mod hand_value;
 mod kind;
 pub mod laws;
 mod line;

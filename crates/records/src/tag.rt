@@ -19,11 +19,32 @@ pub(crate) struct Tag<'a> {
     pub(crate) rest: &'a [u8],
 }
 
+/// Which bytes stand for themselves in a value: all but a quote, a backslash, LF and CR.
+const PLAIN: [bool; 256] = [
+    true, true, true, true, true, true, true, true, true, true, false, true, true, false, true,
+    true, true, true, true, true, true, true, true, true, true, true, true, true, true, true, true,
+    true, true, true, false, true, true, true, true, true, true, true, true, true, true, true,
+    true, true, true, true, true, true, true, true, true, true, true, true, true, true, true, true,
+    true, true, true, true, true, true, true, true, true, true, true, true, true, true, true, true,
+    true, true, true, true, true, true, true, true, true, true, true, true, true, true, false,
+    true, true, true, true, true, true, true, true, true, true, true, true, true, true, true, true,
+    true, true, true, true, true, true, true, true, true, true, true, true, true, true, true, true,
+    true, true, true, true, true, true, true, true, true, true, true, true, true, true, true, true,
+    true, true, true, true, true, true, true, true, true, true, true, true, true, true, true, true,
+    true, true, true, true, true, true, true, true, true, true, true, true, true, true, true, true,
+    true, true, true, true, true, true, true, true, true, true, true, true, true, true, true, true,
+    true, true, true, true, true, true, true, true, true, true, true, true, true, true, true, true,
+    true, true, true, true, true, true, true, true, true, true, true, true, true, true, true, true,
+    true, true, true, true, true, true, true, true, true, true, true, true, true, true, true, true,
+    true, true, true, true, true, true, true, true, true, true, true, true, true, true, true, true,
+    true, true, true,
+];
+
 /// Whether the byte stands for itself in a value.
 fn is_plain(byte: u8) -> bool
     ensures { result ≡ is_plain byte }
 {
-    !(byte == b'"' || byte == b'\\' || byte == b'\n' || byte == b'\r')
+    PLAIN[usize::from(byte)]
 }
 
 /// How many bytes a name has that the text begins with.

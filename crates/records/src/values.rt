@@ -67,16 +67,12 @@ pub(crate) fn is_unknown(value: &[u8]) -> bool
 pub(crate) fn dealer_in(value: &[u8]) -> Option<Seat>
     ensures { result ≡ dealer_in value.now }
 {
-    if value == b"N".as_slice() {
-        Some(Seat::North)
-    } else if value == b"E".as_slice() {
-        Some(Seat::East)
-    } else if value == b"S".as_slice() {
-        Some(Seat::South)
-    } else if value == b"W".as_slice() {
-        Some(Seat::West)
-    } else {
-        None
+    match value {
+        b"N" => Some(Seat::North),
+        b"E" => Some(Seat::East),
+        b"S" => Some(Seat::South),
+        b"W" => Some(Seat::West),
+        _ => None,
     }
 }
 
