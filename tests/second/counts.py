@@ -4,6 +4,7 @@ the cells of a page say. Answers are numbers; those of a condition are 0 and 1, 
 
 import fractions
 import html.parser
+import json
 import math
 
 
@@ -119,6 +120,21 @@ def csv(kinds, answers, candidates):
         for row, column in sorted(set(answers))
     ]
     return ["value,by,deals", *lines]
+
+
+def counted(kinds, answers):
+    """A question's members of JSON: the numbers that came, and of a value its sums."""
+    if len(kinds) == 2:
+        return {"values": [[*pair, answers.count(pair)] for pair in sorted(set(answers))]}
+    sums = {"sum": sum(answers), "squares": sum(n * n for n in answers)} if kinds[0] == "value" else {}
+    return {"values": [[n, answers.count(n)] for n in sorted(set(answers))], **sums}
+
+
+def as_json(texts, kinds, answers, candidates):
+    """The whole object, as Python's own writer of JSON has it."""
+    asked = [{**dict(zip(["of", "by"], texts)), **counted(kinds, answers)}] if kinds else []
+    whole = {"candidates": candidates, "deals": len(answers), "questions": asked}
+    return json.dumps(whole, ensure_ascii=False, separators=(",", ":"))
 
 
 def table(texts, kinds, answers, candidates):

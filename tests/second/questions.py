@@ -64,7 +64,7 @@ def asked():
         questions = [random_question(dice) for _ in range(dice.choice([0, 1, 1, 1, 2, 2]))]
         first = dice.randrange(200)
         count = dice.choice([0, 1, 5, 20, CANDIDATES - first])
-        style = dice.choice(["table", "csv", "html"])
+        style = dice.choice(["table", "csv", "html", "json"])
         boards = dice.choice([None, None, 1, 3])
         # Two questions with numbers of thousands would have too many cells.
         if sum("995" in text or "1200" in text for text in questions) == 2:
@@ -107,6 +107,9 @@ def complaint(deals, style, where, questions, first, count, boards):
     written = run.stdout.decode()
     if style == "csv":
         wanted = "\n".join(counts.csv(kinds, answers, tried)) + "\n"
+        return None if written == wanted else f"{written!r} for {wanted!r}"
+    if style == "json":
+        wanted = counts.as_json(questions, kinds, answers, tried) + "\n"
         return None if written == wanted else f"{written!r} for {wanted!r}"
     if style == "table":
         wanted = "\n".join(counts.table(questions, kinds, answers, tried)) + "\n"

@@ -9,6 +9,8 @@ pub enum Style {
     Csv,
     /// One page of HTML, to look at and to print.
     Html,
+    /// One object of JSON, for programs.
+    Json,
 }
 
 /// The styles, each with its name.
@@ -16,7 +18,8 @@ pub const STYLES: &[(&str, Style)] = &[
     ("table", Style::Table),
     ("csv", Style::Csv),
     ("html", Style::Html),
+    ("json", Style::Json),
 ];
 
 /// Their names, as help lists them.
-pub const STYLE_WORDS: &str = "table, csv, html";
+pub const STYLE_WORDS: &str = "table, csv, html, json";

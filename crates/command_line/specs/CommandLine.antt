@@ -34,7 +34,7 @@ use Rattle.request_types.specs.declared.workers.Workers.TheVariants as workers
 use Rattle.request_types.specs.declared.when.When.{When}
 use Rattle.request_types.specs.declared.when.When.TheVariants.{Auto, Always, Never}
 use Rattle.boards.specs.declared.style.Style.{Style}
-use Rattle.boards.specs.declared.style.Style.TheVariants.{Csv, Html, Table}
+use Rattle.boards.specs.declared.style.Style.TheVariants.{Csv, Html, Json, Table}
 
 -- the number that an option was given in decimal, if it was given
 abbrev pub number_in : Text → List Row → Option ℕ
@@ -68,7 +68,9 @@ abbrev pub times : List (Text × When)
 times = (codes "auto", Auto) ∷ (codes "always", Always) ∷ (codes "never", Never) ∷ []
 
 abbrev pub styles : List (Text × Style)
-styles = (codes "table", Table) ∷ (codes "csv", Csv) ∷ (codes "html", Html) ∷ []
+styles =
+    (codes "table", Table) ∷ (codes "csv", Csv) ∷ (codes "html", Html) ∷ (codes "json", Json)
+    ∷ []
 
 -- what a word means in such a table
 abbrev pub meant_by : {A : Type 0} → List (Text × A) → Text → Option A

@@ -170,8 +170,8 @@ const OF_COUNT: &[Section] = &[
     (
         COUNTED,
         "format: How the table is written: table for people, csv for
-spreadsheets and programs, html for a page
-[default: table] [possible values: table, csv, html]",
+spreadsheets and programs, html for a page, json for programs of your own
+[default: table] [possible values: table, csv, html, json]",
     ),
 ];
 

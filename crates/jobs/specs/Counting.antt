@@ -10,16 +10,18 @@ use Rattle.plans.specs.Text.{accepted, end_of}
 use Rattle.request_types.specs.Requests.{Questions, no_question, one_question, two_questions}
 use Rattle.statistics.specs.Counting.{Asked, Subject, by_one, by_two, cells_of, count_text}
 use Rattle.statistics.specs.Counting.{deals_alone, title_of}
+use Rattle.statistics.specs.Json.{string_of}
 use Rattle.boards.specs.declared.style.Style.{Style}
 
 -- the text asks this question after the definitions, and it has no more parts than the limit; the
--- text is its title if it fits
+-- text is its title if it fits, and its string in JSON
 pub record IsQuestion (definitions : Option (List ℕ)) (text : List ℕ) (asked : Asked)
     : Type 0 where
   pub short : length text ≤ 1024
   pub spells : SpellsQuestion (text_read definitions text) asked.question
   pub few : parts_asked asked.question ≤ MOST_PARTS
   pub title : asked.title ≡ title_of text
+  pub string : asked.string ≡ string_of text
 
 -- the texts ask this of the deals
 abbrev pub Asks : (definitions : Option (List ℕ)) → Questions → Subject → Type 0

@@ -60,7 +60,7 @@ fn asked_of(
         → status_of e ≡ 5) }
 {
     match ask_given(alloc, definitions, text) {
-        Ok(question) => Ok(Asked::new(question, text.as_bytes())),
+        Ok(question) => Ok(Asked::new(alloc, question, text.as_bytes())?),
         Err(error) => Err(Failure::of_question(name, error)),
     }
 }

@@ -10,6 +10,10 @@ pub mod Paging
 pub mod Alike
 pub mod OneTable
 pub mod TwoTable
+pub mod Items
+pub mod OneJson
+pub mod TwoJson
+pub mod Objects
 pub mod OnePage
 pub mod TwoPage
 pub mod Shading

@@ -3,7 +3,7 @@ use Rattle.std.proofs.Common.{◌≡◌, ◌++◌, ◌∙◌, ℕ, List, length,
 use Rattle.std.specs.List.{flat_map}
 use Rattle.conditions.specs.Questions.{is_condition}
 use Rattle.statistics.specs.declared.one.table.Widths.{Widths}
-use Rattle.boards.specs.declared.style.Style.TheVariants.{Html}
+use Rattle.statistics.specs.declared.line_style.LineStyle.TheVariants.{Html}
 use Rattle.statistics.specs.declared.sums.Sums.{Sums}
 use Rattle.statistics.specs.Answers.{count_of, most_in, rows}
 use Rattle.statistics.specs.Counting.{Asked}

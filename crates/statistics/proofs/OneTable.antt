@@ -4,7 +4,7 @@ use Rattle.std.specs.List.{flat_map}
 use Rattle.std.proofs.lemmas.List.{append-nil}
 use Rattle.conditions.specs.Questions.{is_condition, rows_of}
 use Rattle.statistics.specs.declared.one.table.Widths.{Widths}
-use Rattle.boards.specs.declared.style.Style.TheVariants.{Csv, Table}
+use Rattle.statistics.specs.declared.line_style.LineStyle.TheVariants.{Csv, Table}
 use Rattle.statistics.specs.declared.sums.Sums.{Sums}
 use Rattle.statistics.specs.Answers.{count_of, most_in, rows}
 use Rattle.statistics.specs.Counting.{Asked}

@@ -1,8 +1,8 @@
 -- The lines that are written are lines of the table, and no cell of a page is darker than the darkest.
 use Rattle.std.proofs.Common.{◌≡◌, ◌+◌, ◌-◌, ◌<◌, ◌≤◌, ℕ, length, subst, arith}
 use Rattle.statistics.specs.declared.rows.Rows.{Rows}
-use Rattle.boards.specs.declared.style.Style.{Style}
-use Rattle.boards.specs.declared.style.Style.TheVariants.{Csv, Html, Table}
+use Rattle.statistics.specs.declared.line_style.LineStyle.{LineStyle}
+use Rattle.statistics.specs.declared.line_style.LineStyle.TheVariants.{Csv, Html, Table}
 use Rattle.statistics.specs.declared.two.table.Line.{Line}
 use Rattle.statistics.specs.declared.two.table.Line.TheVariants.{All, CsvRow, Header, Mean, Page, Row}
 use Rattle.statistics.specs.declared.two.page.PageLine.{PageLine}
@@ -29,18 +29,18 @@ cell_up_to two n m le lt ge below =
     (most_up_to (λ (j : ℕ). cell_at two n j) (columns_of_two two).first ((columns_of_two two).end - (columns_of_two two).first)) in
     omega (arith, row, column)
 
-pub is_line : (two : KeptTwo) (style : Style) (n : ℕ) → n < length two.of.counts → (rows_of_one two.of).first ≤ n → n < (rows_of_one two.of).end
+pub is_line : (two : KeptTwo) (style : LineStyle) (n : ℕ) → n < length two.of.counts → (rows_of_one two.of).first ≤ n → n < (rows_of_one two.of).end
     → IsLine two (row_of style (most_for two style) n)
 is_line two Table n low le lt = low
 is_line two Csv n low le lt = low
 is_line two Html n low le lt = record { within = low; up_to = λ m ge below. cell_up_to two n m le lt ge below }
 
-pub are_totals : (two : KeptTwo) (style : Style) → IsLine two (totals_of style)
+pub are_totals : (two : KeptTwo) (style : LineStyle) → IsLine two (totals_of style)
 are_totals two Table = tt
 are_totals two Csv = tt
 are_totals two Html = tt
 
-pub are_means : (two : KeptTwo) (style : Style) → IsLine two (means_of style)
+pub are_means : (two : KeptTwo) (style : LineStyle) → IsLine two (means_of style)
 are_means two Table = tt
 are_means two Csv = tt
 are_means two Html = tt

@@ -3,7 +3,7 @@ use Rattle.std.proofs.Common.{◌≡◌, ◌<◌, ◌++◌, ◌∙◌, ℕ, List
 use Rattle.std.specs.List.{flat_map}
 use Rattle.std.proofs.lemmas.List.{length-map}
 use Rattle.conditions.specs.Questions.{is_condition}
-use Rattle.boards.specs.declared.style.Style.TheVariants.{Html}
+use Rattle.statistics.specs.declared.line_style.LineStyle.TheVariants.{Html}
 use Rattle.statistics.specs.declared.two.page.PageLine.{PageLine}
 use Rattle.statistics.specs.declared.two.page.PageLine.TheVariants.{Cells, Heads, Means, Totals}
 use Rattle.statistics.specs.declared.two.table.Line.TheVariants.{Page}

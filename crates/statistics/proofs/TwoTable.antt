@@ -3,7 +3,7 @@ use Rattle.std.proofs.Common.{◌≡◌, ◌<◌, ◌≤◌, ◌++◌, ◌∙◌
 use Rattle.std.specs.List.{flat_map}
 use Rattle.std.proofs.lemmas.List.{append-nil, length-map}
 use Rattle.conditions.specs.Questions.{is_condition, rows_of}
-use Rattle.boards.specs.declared.style.Style.TheVariants.{Csv, Table}
+use Rattle.statistics.specs.declared.line_style.LineStyle.TheVariants.{Csv, Table}
 use Rattle.statistics.specs.declared.sums.Sums.{Sums}
 use Rattle.statistics.specs.declared.two.table.Line.{Line}
 use Rattle.statistics.specs.declared.two.table.Line.TheVariants.{All, CsvRow, Header, Mean, Row}

@@ -6,18 +6,20 @@ use Rattle.boards.specs.Layouts.{Layout}
 use Rattle.cards.specs.declared.seat.Seat.{Seat}
 use Rattle.conditions.specs.Questions.{Question, answer, is_condition, rows_of}
 use Rattle.boards.specs.declared.style.Style.{Style}
-use Rattle.boards.specs.declared.style.Style.TheVariants.{Csv, Html, Table}
+use Rattle.boards.specs.declared.style.Style.TheVariants.{Csv, Html, Json, Table}
 use Rattle.statistics.specs.Answers.{answers_of}
 use Rattle.statistics.specs.Csv.{csv_one, csv_total, csv_two}
+use Rattle.statistics.specs.Json.{json_object, json_one, json_two}
 use Rattle.statistics.specs.OneQuestion.{one_table}
 use Rattle.statistics.specs.Page.{page_foot, page_head, page_one, page_two}
 use Rattle.statistics.specs.Sentence.{sentence}
 use Rattle.statistics.specs.TwoQuestions.{Kinds, Pairs, two_table}
 
--- a question, and the title that it has in a table
+-- a question, the title that it has in a table, and its text as a string of JSON
 pub record Asked : Type 0 where
   pub question : Question
   pub title : List ℕ
+  pub string : List ℕ
 
 -- whether a text may come in a table: at most 72 bytes of printable ASCII
 abbrev pub is_shown : List ℕ → Bool
@@ -81,6 +83,20 @@ page_text subject deals candidates =
     ++ (if length deals == 0 then [] else page_table subject deals)
     ++ page_foot
 
+-- the questions of the object, each with a comma before it
+unfoldable pub json_questions : Subject → List (List Seat) → List ℕ
+json_questions deals_alone deals = []
+json_questions (by_one asked) deals =
+    codes ","
+    ++ json_one (is_condition asked.question) asked.string (answers_of asked.question deals)
+json_questions (by_two of by) deals =
+    codes ","
+    ++ json_two (kinds_of of by) of.string by.string (pairs_of of.question by.question deals)
+
+abbrev pub json_text : Subject → List (List Seat) → ℕ → List ℕ
+json_text subject deals candidates =
+    json_object (length deals) candidates (json_questions subject deals)
+
 -- all that is told of these deals, and of how many candidates were tried
 unfoldable pub count_text : Style → Subject → List (List Seat) → ℕ → List ℕ
 count_text Table subject deals candidates =
@@ -88,6 +104,7 @@ count_text Table subject deals candidates =
     ++ (if length deals == 0 then [] else table_text subject deals)
 count_text Csv subject deals candidates = csv_text subject deals candidates
 count_text Html subject deals candidates = page_text subject deals candidates
+count_text Json subject deals candidates = json_text subject deals candidates
 
 -- the most rows or cells that a table can have: so no answer that is counted is as great
 abbrev pub most_counted : ℕ

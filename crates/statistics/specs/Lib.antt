@@ -6,6 +6,7 @@ pub mod Sentence
 pub mod OneQuestion
 pub mod TwoQuestions
 pub mod Csv
+pub mod Json
 pub mod PageStyle
 pub mod Page
 pub mod Counting

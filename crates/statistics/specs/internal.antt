@@ -5,3 +5,4 @@ pub mod Counters
 pub mod Texts
 pub mod PageLines
 pub mod Lines
+pub mod Items

@@ -5,6 +5,7 @@ ghost use Rattle.statistics.specs.Counting.{cells_of, counting};
 ghost use Rattle.statistics.specs.Subjects.{subject_of};
 
 use crate::kept::Kept;
+use crate::line_style::LineStyle;
 use crate::subject::Subject;
 use boards::{Board, Notation, Style};
 use sinks::{Sink, SinkFault};
@@ -76,8 +77,9 @@ impl Notation for Counter {
     fn put_footer<S: Sink>(&self, tried: u64, sink: &mut S) -> Result<(), SinkFault> {
         match self.style {
             Style::Table => self.kept.put_table(tried, sink),
-            Style::Csv => self.kept.put_body(Style::Csv, tried, sink),
+            Style::Csv => self.kept.put_body(LineStyle::Csv, tried, sink),
             Style::Html => self.kept.put_page(tried, sink),
+            Style::Json => self.kept.put_json(tried, sink),
         }
     }
 }

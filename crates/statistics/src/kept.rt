@@ -1,6 +1,7 @@
 //! What is kept of the deals that were counted.
 
 ghost use Rattle.std.specs.Prelude.{◌≡◌, ◌≤◌, ◌<◌, ◌-◌, ◌++◌, ◌∷◌, ◌^◌, [], IfOk, List, length};
+ghost use Rattle.boards.specs.declared.style.Style.TheVariants.{Html, Table};
 ghost use Rattle.cards.specs.declared.seat.Seat.{Seat};
 ghost use Rattle.sinks.specs.Sinks.{AppendsOrBreaksOff, CountsFault};
 ghost use Rattle.statistics.specs.Counting.{cells_of, count_text, most_deals, page_title};
@@ -10,15 +11,18 @@ ghost use Rattle.statistics.specs.internal.Counters.{sentence_line};
 ghost use Rattle.statistics.specs.internal.Texts.{HasDeals};
 ghost use Rattle.statistics.specs.Subjects.{subject_of};
 
+mod json;
+
 use crate::csv_lines::put_total;
 use crate::deals::Deals;
+use crate::line_style::LineStyle;
 use crate::one::One;
 use crate::page::{PAGE_FOOT, put_page_head};
 use crate::pieces::put_piece;
 use crate::sentence::put_sentence;
 use crate::subject::Subject;
 use crate::two::Two;
-use boards::{Style, TextBuffer};
+use boards::TextBuffer;
 use cards::Deal;
 use sinks::{Sink, SinkFault, put_all};
 use std::alloc::{AllocError, Global};
@@ -85,14 +89,14 @@ impl Kept {
         requires { S.faults sink.old < 2 ^ 64 - 1 }
         ensures bytes { (deals : List (List Seat)) → Counts self.now deals
             → AppendsOrBreaksOff (S.bytes sink.old) (S.bytes sink.new) result
-            (count_text Style.Table (asked_of self.now) deals tried) }
+            (count_text Table (asked_of self.now) deals tried) }
         ensures faults { CountsFault (S.faults sink.old) (S.faults sink.new) result }
     {
         put_piece(sink, &sentence_line(self.deals(), tried))?;
         if self.deals() == 0 {
             Ok(())
         } else {
-            self.put_body(Style::Table, tried, sink)
+            self.put_body(LineStyle::Table, tried, sink)
         }
     }
 
@@ -105,7 +109,7 @@ impl Kept {
         requires { S.faults sink.old < 2 ^ 64 - 1 }
         ensures bytes { (deals : List (List Seat)) → Counts self.now deals
             → AppendsOrBreaksOff (S.bytes sink.old) (S.bytes sink.new) result
-            (count_text Style.Html (asked_of self.now) deals tried) }
+            (count_text Html (asked_of self.now) deals tried) }
         ensures faults { CountsFault (S.faults sink.old) (S.faults sink.new) result }
     {
         put_piece(sink, &self.page_head(tried))?;
@@ -127,7 +131,7 @@ impl Kept {
         if self.deals() == 0 {
             Ok(())
         } else {
-            self.put_body(Style::Html, tried, sink)
+            self.put_body(LineStyle::Html, tried, sink)
         }
     }
 
@@ -165,7 +169,7 @@ impl Kept {
     /// `SinkFault` if the sink failed: a proper prefix of the text was written.
     pub(crate) fn put_body<S: Sink>(
         &self,
-        style: Style,
+        style: LineStyle,
         tried: u64,
         sink: &mut S,
     ) -> Result<(), SinkFault>
@@ -198,13 +202,13 @@ fn sentence_line(deals: u64, tried: u64) -> TextBuffer
 
 /// What is told below the sentence, where nothing but the number of the deals is asked.
 #[tactic(auto, unfolding(crate::specs::internal::Counters::alone_text))]
-fn alone_text(style: Style, deals: u64, tried: u64) -> TextBuffer
+fn alone_text(style: LineStyle, deals: u64, tried: u64) -> TextBuffer
     ensures { result ≡ alone_text style deals tried }
 {
     let mut text = TextBuffer::new();
     match style {
-        Style::Table | Style::Html => {}
-        Style::Csv => put_total(&mut text, deals, tried),
+        LineStyle::Table | LineStyle::Html => {}
+        LineStyle::Csv => put_total(&mut text, deals, tried),
     }
     text
 }

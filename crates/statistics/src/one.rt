@@ -8,6 +8,7 @@ ghost use Rattle.statistics.specs.Answers.{answers_of};
 ghost use Rattle.statistics.specs.Counting.{most_deals};
 ghost use Rattle.statistics.specs.internal.Kept.{AreSmall, CountsOne, IsKeptOne, with_answer};
 
+mod json;
 mod table;
 
 use crate::subject::Asked;
@@ -117,6 +118,13 @@ impl One {
         ensures few { length result.now ≤ 72 }
     {
         self.asked.title.as_bytes()
+    }
+
+    /// The question's text as a string of JSON.
+    pub(crate) fn string(&self) -> &[u8]
+        ensures { result.now ≡ self.now.asked.string }
+    {
+        self.asked.string.as_slice()
     }
 
     /// The sums of the answers.

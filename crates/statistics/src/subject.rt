@@ -1,17 +1,21 @@
 //! What is asked of the deals.
 
-ghost use Rattle.std.specs.Prelude.{◌≡◌, nat_lt};
+ghost use Rattle.std.specs.Prelude.{◌≡◌, IfOk, nat_lt};
 ghost use Rattle.statistics.specs.Counting.{cells_of, title_of};
+ghost use Rattle.statistics.specs.Json.{string_of};
 ghost use Rattle.statistics.specs.Subjects.{subject_of};
 
+use crate::json::string_of;
 use crate::title::Title;
 use conditions::Question;
+use std::alloc::{AllocError, Global};
 use std::marker::Model;
 
-/// A question, and the title that it has in a table.
+/// A question, the title that it has in a table, and its text as a string of JSON.
 pub struct Asked {
     pub(crate) question: Question,
     pub(crate) title: Title,
+    pub(crate) string: Vec<u8>,
 }
 
 impl Model for Asked {
@@ -22,7 +26,11 @@ impl Model for Asked {
 
     ghost coded = { asked_code };
 
-    ghost view = { λ a. record { question = a.question; title = a.title } };
+    ghost view = { λ a. record {
+      question = a.question;
+      title = a.title;
+      string = a.string.items;
+    } };
 }
 
 // By hand, so that to drop one is a call (docs/DECISIONS.md).
@@ -31,6 +39,7 @@ impl Drop for Asked {
         let Asked {
             question: _,
             title: _,
+            string: _,
         } = self;
     }
 }
@@ -38,14 +47,19 @@ impl Drop for Asked {
 impl Asked {
     /// The question, with its text as its title. A text that has more than 72 bytes, or one that
     /// isn't printable ASCII, gives the title `value`.
-    pub fn new(question: Question, text: &[u8]) -> Asked
-        ensures question { result.question ≡ question }
-        ensures title { result.title ≡ title_of text.now }
+    ///
+    /// # Errors
+    /// `AllocError` if the allocation of the text as a string failed.
+    pub fn new(alloc: Global, question: Question, text: &[u8]) -> Result<Asked, AllocError>
+        ensures question { IfOk result (λ a. a.question ≡ question) }
+        ensures title { IfOk result (λ a. a.title ≡ title_of text.now) }
+        ensures string { IfOk result (λ a. a.string ≡ string_of text.now) }
     {
-        Asked {
+        Ok(Asked {
             question,
             title: Title::of(text),
-        }
+            string: string_of(alloc, text)?,
+        })
     }
 }
 

@@ -7,6 +7,7 @@ ghost use Rattle.conditions.specs.Questions.{answer, rows_of};
 ghost use Rattle.statistics.specs.Counting.{most_deals, pairs_of};
 ghost use Rattle.statistics.specs.internal.Kept.{CountsTwo, with_pair};
 
+mod json;
 mod page;
 mod table;
 
@@ -118,6 +119,20 @@ impl Two {
         ensures few { length result.now ≤ 72 }
     {
         self.by.title.as_bytes()
+    }
+
+    /// The text of the rows' question as a string of JSON.
+    pub(crate) fn string(&self) -> &[u8]
+        ensures { result.now ≡ self.now.of.asked.string }
+    {
+        self.of.string()
+    }
+
+    /// The text of the columns' question as a string of JSON.
+    pub(crate) fn by_string(&self) -> &[u8]
+        ensures { result.now ≡ self.now.by.string }
+    {
+        self.by.string.as_slice()
     }
 
     /// Counts the deal.

@@ -42,6 +42,7 @@ const SPELLINGS: &str = "
     count table text txt plain => table
     count csv tsv excel xls xlsx spreadsheet => csv
     count html htm page web pdf chart => html
+    count json jsonl ndjson => json
 ";
 
 /// What a person wants of an option that has no value for it, and what to write then.
@@ -61,8 +62,6 @@ const WISHES: &str = "
         for programs write --format json, a line for each board; deals count --format csv writes a \
         table
 
-    count json jsonl ndjson => \
-        for programs write --format csv; deals make --format json writes boards
     count pbn lin bbo hands sheet slips => \
         deals count writes a table of numbers; deals make writes boards
 ";

@@ -9,9 +9,10 @@ use Rattle.statistics.specs.internal.Kept.{KeptOne, KeptTwo}
 
 abbrev pub asked_code : Coded Asked
 asked_code =
-    code_by (Question × List ℕ) (coded× question_code (coded_list coded_ℕ))
-    (λ a. (a.question, a.title))
-    (λ p. record { question = p.0; title = p.1 })
+    code_by (Question × (List ℕ × List ℕ))
+    (coded× question_code (coded× (coded_list coded_ℕ) (coded_list coded_ℕ)))
+    (λ a. (a.question, (a.title, a.string)))
+    (λ p. record { question = p.0; title = p.1.0; string = p.1.1 })
     (λ _. refl)
 
 abbrev pub sums_code : Coded Sums

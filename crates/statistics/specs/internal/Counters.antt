@@ -1,11 +1,11 @@
 -- What a counter keeps, of whatever is asked.
-use Rattle.std.specs.Prelude.{◌≡◌, ◌==◌, if◌then◌else◌, ℕ, List, [], ◌++◌, codes, length, map, take}
+use Rattle.std.specs.Prelude.{◌≡◌, ◌==◌, if◌then◌else◌, ℕ, List, [], ◌++◌, codes, decimal, length, map, take}
 use Rattle.boards.specs.declared.board.Board.{Board}
 use Rattle.cards.specs.declared.seat.Seat.{Seat}
 use Rattle.statistics.specs.declared.kept.Kept.{Kept}
 use Rattle.statistics.specs.declared.kept.Kept.TheVariants.{Alone, Rows, Cells}
-use Rattle.boards.specs.declared.style.Style.{Style}
-use Rattle.boards.specs.declared.style.Style.TheVariants.{Csv, Html, Table}
+use Rattle.statistics.specs.declared.line_style.LineStyle.{LineStyle}
+use Rattle.statistics.specs.declared.line_style.LineStyle.TheVariants.{Csv, Html, Table}
 use Rattle.statistics.specs.Answers.{answers_of}
 use Rattle.statistics.specs.Counting.{Subject, by_one, by_two, csv_text, deals_alone, most_deals}
 use Rattle.statistics.specs.Counting.{page_table, page_title, pairs_of, table_text}
@@ -34,13 +34,13 @@ Counts (Cells two) deals =
     CountsTwo two (pairs_of two.of.asked.question two.by.question deals)
 
 -- the text below the sentence
-abbrev pub body_text : Style → Subject → List (List Seat) → ℕ → List ℕ
+abbrev pub body_text : LineStyle → Subject → List (List Seat) → ℕ → List ℕ
 body_text Table subject deals tried = table_text subject deals
 body_text Csv subject deals tried = csv_text subject deals tried
 body_text Html subject deals tried = page_table subject deals
 
 -- the same, where nothing but their number is asked
-unfoldable pub alone_text : Style → ℕ → ℕ → List ℕ
+unfoldable pub alone_text : LineStyle → ℕ → ℕ → List ℕ
 alone_text Table deals tried = []
 alone_text Csv deals tried = csv_total deals tried
 alone_text Html deals tried = []
@@ -48,6 +48,12 @@ alone_text Html deals tried = []
 -- what is above a table: the sentence
 unfoldable pub sentence_line : ℕ → ℕ → List ℕ
 sentence_line deals tried = sentence deals tried ++ codes "\n"
+
+-- what is before the questions in JSON
+unfoldable pub json_start : ℕ → ℕ → List ℕ
+json_start deals tried =
+    codes "{\"candidates\":" ++ decimal tried ++ codes ",\"deals\":" ++ decimal deals
+    ++ codes ",\"questions\":["
 
 -- the table of a page: none if there is no deal
 abbrev pub page_part : Subject → List (List Seat) → List ℕ

@@ -3,8 +3,8 @@ use Rattle.std.specs.Prelude.{◌<◌, ℕ, Bool, true, false, List, [], ◌++�
 use Rattle.std.specs.Prelude.{length, max, slice_index}
 use Rattle.std.specs.List.{flat_map}
 use Rattle.conditions.specs.Questions.{is_condition}
-use Rattle.boards.specs.declared.style.Style.{Style}
-use Rattle.boards.specs.declared.style.Style.TheVariants.{Csv, Html, Table}
+use Rattle.statistics.specs.declared.line_style.LineStyle.{LineStyle}
+use Rattle.statistics.specs.declared.line_style.LineStyle.TheVariants.{Csv, Html, Table}
 use Rattle.statistics.specs.declared.two.table.Line.{Line}
 use Rattle.statistics.specs.declared.two.table.Line.TheVariants.{All, CsvRow, Header, Mean, Page}
 use Rattle.statistics.specs.declared.two.table.Line.TheVariants.{Row}
@@ -139,26 +139,26 @@ line_text two line =
     ++ end_piece two line
 
 -- the line of a number, where a cell has at most this many deals
-abbrev pub row_of : Style → ℕ → ℕ → Line
+abbrev pub row_of : LineStyle → ℕ → ℕ → Line
 row_of Table most n = Row n
 row_of Csv most n = CsvRow n
 row_of Html most n = Page (Cells n most)
 
-abbrev pub two_row : KeptTwo → Style → ℕ → List ℕ
+abbrev pub two_row : KeptTwo → LineStyle → ℕ → List ℕ
 two_row two style n = line_text two (row_of style (most_for two style) n)
 
 -- the lines of all deals, and of the means
-abbrev pub totals_of : Style → Line
+abbrev pub totals_of : LineStyle → Line
 totals_of Table = All
 totals_of Csv = All
 totals_of Html = Page Totals
 
-abbrev pub means_of : Style → Line
+abbrev pub means_of : LineStyle → Line
 means_of Table = Mean
 means_of Csv = Mean
 means_of Html = Page Means
 
-abbrev pub totals_kept : KeptTwo → Style → List ℕ
+abbrev pub totals_kept : KeptTwo → LineStyle → List ℕ
 totals_kept two style =
     line_text two (totals_of style)
     ++ (if is_condition two.of.asked.question then [] else line_text two (means_of style))
@@ -167,18 +167,18 @@ unfoldable pub title_line : KeptTwo → List ℕ
 title_line two = codes "\n" ++ two.of.asked.title ++ codes " by " ++ two.by.title ++ codes "\n"
 
 -- the lines above the rows, the rows, and the lines below them
-unfoldable pub top_kept : KeptTwo → Style → List ℕ
+unfoldable pub top_kept : KeptTwo → LineStyle → List ℕ
 top_kept two Table = title_line two ++ line_text two Header
 top_kept two Csv = codes "value,by,deals\n"
 top_kept two Html = line_text two (Page Heads)
 
-unfoldable pub bottom_kept : KeptTwo → Style → List ℕ
+unfoldable pub bottom_kept : KeptTwo → LineStyle → List ℕ
 bottom_kept two Table = totals_kept two Table
 bottom_kept two Csv = []
 bottom_kept two Html =
     codes "</tbody>\n<tfoot>\n" ++ totals_kept two Html ++ codes "</tfoot>\n</table>\n</div>\n"
 
-unfoldable pub two_text : KeptTwo → Style → List ℕ
+unfoldable pub two_text : KeptTwo → LineStyle → List ℕ
 two_text two style =
     top_kept two style ++ flat_map (two_row two style) (numbers_in (rows_of_one two.of))
     ++ bottom_kept two style

@@ -2,8 +2,8 @@
 use Rattle.std.specs.Prelude.{◌≤◌, ◌<◌, ℕ, List, codes, fold, length, map, max, slice_index}
 use Rattle.conditions.specs.Questions.{is_condition}
 use Rattle.statistics.specs.declared.rows.Rows.{Rows as ARows}
-use Rattle.boards.specs.declared.style.Style.{Style}
-use Rattle.boards.specs.declared.style.Style.TheVariants.{Csv, Html, Table}
+use Rattle.statistics.specs.declared.line_style.LineStyle.{LineStyle}
+use Rattle.statistics.specs.declared.line_style.LineStyle.TheVariants.{Csv, Html, Table}
 use Rattle.statistics.specs.declared.two.page.PageLine.{PageLine}
 use Rattle.statistics.specs.declared.two.page.PageLine.TheVariants.{Cells, Heads, Means, Totals}
 use Rattle.statistics.specs.Columns.{label, or_dash}
@@ -24,7 +24,7 @@ abbrev pub most_kept : KeptTwo → ℕ
 most_kept two = fold max 0 (map (λ n. most_in_row two n) (numbers_in (rows_of_one two.of)))
 
 -- where the cells are shaded
-abbrev pub most_for : KeptTwo → Style → ℕ
+abbrev pub most_for : KeptTwo → LineStyle → ℕ
 most_for two Table = 0
 most_for two Csv = 0
 most_for two Html = most_kept two

@@ -6,8 +6,8 @@ use Rattle.conditions.specs.Questions.{is_condition}
 use Rattle.statistics.specs.declared.sums.Sums.{Sums}
 use Rattle.statistics.specs.declared.rows.Rows.{Rows as ARows}
 use Rattle.statistics.specs.declared.one.table.Widths.{Widths}
-use Rattle.boards.specs.declared.style.Style.{Style}
-use Rattle.boards.specs.declared.style.Style.TheVariants.{Csv, Html, Table}
+use Rattle.statistics.specs.declared.line_style.LineStyle.{LineStyle}
+use Rattle.statistics.specs.declared.line_style.LineStyle.TheVariants.{Csv, Html, Table}
 use Rattle.statistics.specs.Columns.{commas}
 use Rattle.statistics.specs.Csv.{csv_row}
 use Rattle.statistics.specs.OneQuestion.{line, mean_text, row, second_width}
@@ -47,14 +47,14 @@ pub record AreWidths (one : KeptOne) (widths : Widths) : Type 0 where
   pub second_fits : widths.second ≤ 100
 
 -- what comes before the rows, a row, and what comes after them
-unfoldable pub one_head : Style → Widths → KeptOne → List ℕ
+unfoldable pub one_head : LineStyle → Widths → KeptOne → List ℕ
 one_head Table widths one =
     codes "\n" ++ one.asked.title ++ codes "\n"
     ++ line widths.first widths.second (codes "value") (codes "deals") (codes "%") []
 one_head Csv widths one = codes "value,deals\n"
 one_head Html widths one = page_header
 
-unfoldable pub one_row : Style → Widths → KeptOne → ℕ → List ℕ
+unfoldable pub one_row : LineStyle → Widths → KeptOne → ℕ → List ℕ
 one_row Table widths one n =
     row (asks_condition one) widths.first widths.second widths.most one.sums.deals n
     (slice_index one.counts n)
@@ -62,7 +62,7 @@ one_row Csv widths one n = csv_row (asks_condition one) n (slice_index one.count
 one_row Html widths one n =
     page_row (asks_condition one) widths.most one.sums.deals n (slice_index one.counts n)
 
-unfoldable pub one_tail : Style → KeptOne → List ℕ
+unfoldable pub one_tail : LineStyle → KeptOne → List ℕ
 one_tail Table one =
     if asks_condition one then []
     else codes "\n" ++ mean_text one.sums.deals one.sums.sum one.sums.squares ++ codes "\n"
@@ -72,13 +72,13 @@ one_tail Html one =
     ++ (if asks_condition one then []
     else codes "<p>" ++ mean_text one.sums.deals one.sums.sum one.sums.squares ++ codes "</p>\n")
 
-unfoldable pub one_text : Style → Widths → KeptOne → List ℕ
+unfoldable pub one_text : LineStyle → Widths → KeptOne → List ℕ
 one_text style widths one =
     one_head style widths one ++ flat_map (one_row style widths one) (numbers_in (rows_of_one one))
     ++ one_tail style one
 
 -- a table for people has a deal
-abbrev pub HasDeals : Style → ℕ → Type 0
+abbrev pub HasDeals : LineStyle → ℕ → Type 0
 HasDeals Table deals = 0 < deals
 HasDeals Csv deals = Unit {0}
 HasDeals Html deals = 0 < deals

@@ -8,13 +8,14 @@ ghost use Rattle.statistics.specs.internal.Texts.{AreWidths, HasDeals, numbers_i
 ghost use Rattle.statistics.specs.internal.Texts.{one_row, one_tail, one_text, rows_of_one};
 
 use crate::csv_lines::put_csv_row;
+use crate::line_style::LineStyle;
 use crate::one::One;
 use crate::one_lines::{Row, put_header, put_mean, put_row};
 use crate::page::{put_page_header, put_page_mean, put_page_row};
 use crate::pieces::{commas_len, first_len, put_piece};
 use crate::rows::{Rows, most_of, rows_shown};
 use crate::sums::Sums;
-use boards::{Style, TextBuffer};
+use boards::TextBuffer;
 use sinks::{Sink, SinkFault};
 
 /// How wide the columns are, and how many deals the longest row has.
@@ -32,7 +33,7 @@ impl One {
     /// `SinkFault` if the sink failed: a proper prefix of the table was written.
     pub(crate) fn put<S: Sink>(
         &self,
-        style: Style,
+        style: LineStyle,
         widths: Widths,
         sink: &mut S,
     ) -> Result<(), SinkFault>
@@ -73,7 +74,12 @@ impl One {
     ///
     /// # Errors
     /// `SinkFault` if the sink failed: a proper prefix of the rows was written.
-    fn put_rows<S: Sink>(&self, style: Style, widths: Widths, sink: &mut S) -> Result<(), SinkFault>
+    fn put_rows<S: Sink>(
+        &self,
+        style: LineStyle,
+        widths: Widths,
+        sink: &mut S,
+    ) -> Result<(), SinkFault>
         requires deals { HasDeals style self.now.sums.deals }
         requires widths { AreWidths self.now widths }
         requires faults { S.faults sink.old < 2 ^ 64 - 1 }
@@ -90,7 +96,7 @@ impl One {
 
     /// The row of a number.
     #[tactic(auto, unfolding(crate::specs::internal::Texts::one_row))]
-    fn row(&self, style: Style, widths: Widths, number: u32) -> TextBuffer
+    fn row(&self, style: LineStyle, widths: Widths, number: u32) -> TextBuffer
         requires deals { HasDeals style self.now.sums.deals }
         requires widths { AreWidths self.now widths }
         requires within { number < length self.now.counts }
@@ -108,36 +114,36 @@ impl One {
             count: self.counts[number as usize],
         };
         match style {
-            Style::Table => put_row(&mut text, &shown),
-            Style::Csv => put_csv_row(&mut text, shown.is_condition, number, shown.count),
-            Style::Html => put_page_row(&mut text, &shown),
+            LineStyle::Table => put_row(&mut text, &shown),
+            LineStyle::Csv => put_csv_row(&mut text, shown.is_condition, number, shown.count),
+            LineStyle::Html => put_page_row(&mut text, &shown),
         }
         text
     }
 
     /// What comes before the rows: for people the title and the header.
     #[tactic(auto, unfolding(crate::specs::internal::Texts::one_head))]
-    fn head(&self, style: Style, widths: Widths) -> TextBuffer
+    fn head(&self, style: LineStyle, widths: Widths) -> TextBuffer
         requires { AreWidths self.now widths }
         ensures { result ≡ one_head style widths self.now }
     {
         let mut text = TextBuffer::new();
         match style {
-            Style::Table => {
+            LineStyle::Table => {
                 text.put(b"\n");
                 text.put(self.asked.title.as_bytes());
                 text.put(b"\n");
                 put_header(&mut text, widths.first, widths.second);
             }
-            Style::Csv => text.put(b"value,deals\n"),
-            Style::Html => put_page_header(&mut text),
+            LineStyle::Csv => text.put(b"value,deals\n"),
+            LineStyle::Html => put_page_header(&mut text),
         }
         text
     }
 
     /// What comes after the rows: for people the mean of a value.
     #[tactic(auto, unfolding(crate::specs::internal::Texts::one_tail))]
-    fn tail(&self, style: Style) -> TextBuffer
+    fn tail(&self, style: LineStyle) -> TextBuffer
         requires { HasDeals style self.now.sums.deals }
         ensures { result ≡ one_tail style self.now }
     {
@@ -150,15 +156,15 @@ impl One {
             ..
         } = self.sums;
         match style {
-            Style::Table => {
+            LineStyle::Table => {
                 if !is_condition {
                     text.put(b"\n");
                     put_mean(&mut text, deals, sum, squares);
                     text.put(b"\n");
                 }
             }
-            Style::Csv => {}
-            Style::Html => {
+            LineStyle::Csv => {}
+            LineStyle::Html => {
                 text.put(b"</tbody>\n</table>\n");
                 if !is_condition {
                     put_page_mean(&mut text, deals, sum, squares);

@@ -7,13 +7,14 @@ ghost use Rattle.statistics.specs.internal.PageLines.{most_kept, page_cell, page
 ghost use Rattle.statistics.specs.internal.Texts.{rows_of_one};
 
 use crate::cells::put_mean_or_dash;
+use crate::line_style::LineStyle;
 use crate::numbers::{put_label, put_or_dash};
 use crate::page::{
     COLUMNS_HEAD, COLUMNS_TAIL, put_column_head, put_line_head, put_line_tail, put_plain,
     put_shaded,
 };
 use crate::two::Two;
-use boards::{Style, TextBuffer};
+use boards::TextBuffer;
 
 /// What a line of a page tells.
 #[derive(Clone, Copy, Drop)]
@@ -30,12 +31,12 @@ pub(crate) enum PageLine {
 
 impl Two {
     /// The most deals that a cell has, if the style shades its cells.
-    pub(crate) fn most(&self, style: Style) -> u64
+    pub(crate) fn most(&self, style: LineStyle) -> u64
         ensures { result ≡ most_for self.now style }
     {
         match style {
-            Style::Table | Style::Csv => 0,
-            Style::Html => self.most_cell(),
+            LineStyle::Table | LineStyle::Csv => 0,
+            LineStyle::Html => self.most_cell(),
         }
     }
 

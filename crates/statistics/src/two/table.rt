@@ -17,13 +17,14 @@ ghost use Rattle.statistics.specs.internal.Texts.{numbers_in, rows_of_one};
 
 use crate::cells::put_mean_or_dash;
 use crate::csv_lines::put_csv_cell;
+use crate::line_style::LineStyle;
 use crate::numbers::{put_label, put_or_dash, put_right};
 use crate::page::{TOTALS_HEAD, TOTALS_TAIL};
 use crate::pieces::{first_len, put_piece};
 use crate::rows::{Rows, rows_shown};
 use crate::two::Two;
 use crate::two::page::PageLine;
-use boards::{Style, TextBuffer};
+use boards::TextBuffer;
 use sinks::{Sink, SinkFault, put_all};
 
 /// What a line tells.
@@ -45,33 +46,33 @@ pub(crate) enum Line {
 
 impl Line {
     /// The line of a number, where a cell has at most this many deals.
-    fn of_row(style: Style, most: u64, number: u32) -> Line
+    fn of_row(style: LineStyle, most: u64, number: u32) -> Line
         ensures { result ≡ row_of style most number }
     {
         match style {
-            Style::Table => Line::Row(number),
-            Style::Csv => Line::CsvRow(number),
-            Style::Html => Line::Page(PageLine::Cells(number, most)),
+            LineStyle::Table => Line::Row(number),
+            LineStyle::Csv => Line::CsvRow(number),
+            LineStyle::Html => Line::Page(PageLine::Cells(number, most)),
         }
     }
 
     /// The line of all deals.
-    fn of_totals(style: Style) -> Line
+    fn of_totals(style: LineStyle) -> Line
         ensures { result ≡ totals_of style }
     {
         match style {
-            Style::Table | Style::Csv => Line::All,
-            Style::Html => Line::Page(PageLine::Totals),
+            LineStyle::Table | LineStyle::Csv => Line::All,
+            LineStyle::Html => Line::Page(PageLine::Totals),
         }
     }
 
     /// The line of the means.
-    fn of_means(style: Style) -> Line
+    fn of_means(style: LineStyle) -> Line
         ensures { result ≡ means_of style }
     {
         match style {
-            Style::Table | Style::Csv => Line::Mean,
-            Style::Html => Line::Page(PageLine::Means),
+            LineStyle::Table | LineStyle::Csv => Line::Mean,
+            LineStyle::Html => Line::Page(PageLine::Means),
         }
     }
 }
@@ -81,7 +82,7 @@ impl Two {
     ///
     /// # Errors
     /// `SinkFault` if the sink failed: a proper prefix of the table was written.
-    pub(crate) fn put<S: Sink>(&self, style: Style, sink: &mut S) -> Result<(), SinkFault>
+    pub(crate) fn put<S: Sink>(&self, style: LineStyle, sink: &mut S) -> Result<(), SinkFault>
         requires { S.faults sink.old < 2 ^ 64 - 1 }
         ensures bytes { AppendsOrBreaksOff (S.bytes sink.old) (S.bytes sink.new) result
             (two_text self.now style) }
@@ -99,23 +100,23 @@ impl Two {
     /// # Errors
     /// `SinkFault` if the sink failed: a proper prefix of it was written.
     #[tactic(auto, unfolding(crate::specs::internal::Lines::top_kept))]
-    fn put_top<S: Sink>(&self, style: Style, sink: &mut S) -> Result<(), SinkFault>
+    fn put_top<S: Sink>(&self, style: LineStyle, sink: &mut S) -> Result<(), SinkFault>
         requires { S.faults sink.old < 2 ^ 64 - 1 }
         ensures bytes { AppendsOrBreaksOff (S.bytes sink.old) (S.bytes sink.new) result
             (top_kept self.now style) }
         ensures faults { CountsFault (S.faults sink.old) (S.faults sink.new) result }
     {
         match style {
-            Style::Table => {
+            LineStyle::Table => {
                 put_piece(sink, &self.title_line())?;
                 self.put_line(Line::Header, sink)
             }
-            Style::Csv => {
+            LineStyle::Csv => {
                 let mut header = TextBuffer::new();
                 header.put(b"value,by,deals\n");
                 put_piece(sink, &header)
             }
-            Style::Html => self.put_line(Line::Page(PageLine::Heads), sink),
+            LineStyle::Html => self.put_line(Line::Page(PageLine::Heads), sink),
         }
     }
 
@@ -124,16 +125,16 @@ impl Two {
     /// # Errors
     /// `SinkFault` if the sink failed: a proper prefix of it was written.
     #[tactic(auto, unfolding(crate::specs::internal::Lines::bottom_kept))]
-    fn put_bottom<S: Sink>(&self, style: Style, sink: &mut S) -> Result<(), SinkFault>
+    fn put_bottom<S: Sink>(&self, style: LineStyle, sink: &mut S) -> Result<(), SinkFault>
         requires { S.faults sink.old < 2 ^ 64 - 1 }
         ensures bytes { AppendsOrBreaksOff (S.bytes sink.old) (S.bytes sink.new) result
             (bottom_kept self.now style) }
         ensures faults { CountsFault (S.faults sink.old) (S.faults sink.new) result }
     {
         match style {
-            Style::Table => self.put_totals(Style::Table, sink),
-            Style::Csv => put_piece(sink, &TextBuffer::new()),
-            Style::Html => self.put_page_totals(sink),
+            LineStyle::Table => self.put_totals(LineStyle::Table, sink),
+            LineStyle::Csv => put_piece(sink, &TextBuffer::new()),
+            LineStyle::Html => self.put_page_totals(sink),
         }
     }
 
@@ -144,11 +145,11 @@ impl Two {
     fn put_page_totals<S: Sink>(&self, sink: &mut S) -> Result<(), SinkFault>
         requires { S.faults sink.old < 2 ^ 64 - 1 }
         ensures bytes { AppendsOrBreaksOff (S.bytes sink.old) (S.bytes sink.new) result
-            (bottom_kept self.now Style.Html) }
+            (bottom_kept self.now LineStyle.Html) }
         ensures faults { CountsFault (S.faults sink.old) (S.faults sink.new) result }
     {
         put_all(sink, TOTALS_HEAD)?;
-        self.put_totals(Style::Html, sink)?;
+        self.put_totals(LineStyle::Html, sink)?;
         put_all(sink, TOTALS_TAIL)
     }
 
@@ -157,7 +158,7 @@ impl Two {
     /// # Errors
     /// `SinkFault` if the sink failed: a proper prefix of it was written.
     #[tactic(auto, unfolding(crate::specs::internal::Lines::bottom_kept))]
-    fn put_totals<S: Sink>(&self, style: Style, sink: &mut S) -> Result<(), SinkFault>
+    fn put_totals<S: Sink>(&self, style: LineStyle, sink: &mut S) -> Result<(), SinkFault>
         requires { S.faults sink.old < 2 ^ 64 - 1 }
         ensures bytes { AppendsOrBreaksOff (S.bytes sink.old) (S.bytes sink.new) result
             (totals_kept self.now style) }
@@ -175,7 +176,7 @@ impl Two {
     ///
     /// # Errors
     /// `SinkFault` if the sink failed: a proper prefix of the rows was written.
-    fn put_rows<S: Sink>(&self, style: Style, sink: &mut S) -> Result<(), SinkFault>
+    fn put_rows<S: Sink>(&self, style: LineStyle, sink: &mut S) -> Result<(), SinkFault>
         requires { S.faults sink.old < 2 ^ 64 - 1 }
         ensures bytes { AppendsOrBreaksOff (S.bytes sink.old) (S.bytes sink.new) result
             (flat_map (two_row self.now style) (numbers_in (rows_of_one self.now.of))) }

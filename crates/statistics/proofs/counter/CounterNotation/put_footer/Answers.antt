@@ -23,3 +23,9 @@ returns-in-Html-clause-bytes g c boards h =
     subst (λ (style : Style). AppendsOrBreaksOff (g.S.Sink.bytes c.args.sink.now) (g.S.Sink.bytes c.put_page.new.sink) c.put_page.result
     (count_text style (asked_of c.args.self.now.kept) (deals_of boards) c.args.tried)) (sym c.in-Html.is)
     (c.put_page.ensures.bytes (deals_of boards) h)
+
+pub returns-in-Json-clause-bytes : goal.returns-in-Json-clause-bytes
+returns-in-Json-clause-bytes g c boards h =
+    subst (λ (style : Style). AppendsOrBreaksOff (g.S.Sink.bytes c.args.sink.now) (g.S.Sink.bytes c.put_json.new.sink) c.put_json.result
+    (count_text style (asked_of c.args.self.now.kept) (deals_of boards) c.args.tried)) (sym c.in-Json.is)
+    (c.put_json.ensures.bytes (deals_of boards) h)

@@ -1,6 +1,6 @@
 use Rattle.std.proofs.Common.{codes, refl}
 use Rattle.std.proofs.lemmas.Result.{MatchResult-from_err}
-use Rattle.boards.specs.declared.style.Style.TheVariants.{Html}
+use Rattle.statistics.specs.declared.line_style.LineStyle.TheVariants.{Html}
 use Rattle.statistics.specs.internal.Lines.{bottom_kept, totals_kept}
 use Rattle.statistics.proofs.Parts.{three_at_first, three_at_second, three_parts}
 use Rattle.statistics.proofs.two.Two.put_page_totals.Goals as goal
