@@ -135,6 +135,9 @@ def cases():
     for event, site in itertools.product(("", "   ", "Pairs & <Teams>'"), ("", " ", "&lt;&&>" * 14)):
         words = ["--seed", "3", "--candidates", "2", "--format", "html", "--event", event, "--site", site]
         yield words, notation.text(3, 2, "html", labels=[("Event", event), ("Site", site)])
+    for form, event in itertools.product(("hands", *notation.PAGES), ('Coupe d\u2019\xe9t\xe9 "\\', "<\u738b>" * 33)):
+        words = ["--seed", "3", "--candidates", "2", "--format", form, "--event", event, "--site", "Z\xfcrich"]
+        yield words, notation.text(3, 2, form, labels=[("Event", event), ("Site", "Z\xfcrich")])
     for words in (["--first-board", "1099511627776"], ["--first-board", "99", "--date", "2024.05.01"]):
         labels = [("Date", words[-1])] if "--date" in words else []
         wanted = notation.text(3, 1, "html", first_board=int(words[1]), labels=labels)

@@ -186,8 +186,9 @@ def frame(part, labels, form="html", with_tricks=False):
     title = ", ".join(value for _, value in labels if value.strip(" ")) or "Boards"
     escaped = html.escape(title, quote=False)
     first, *rest = text.split("Boards")
+    quoted = title.replace("\\", "\\5C ").replace('"', "\\22 ").replace("<", "\\3C ")
     # It is the title, a string of CSS, and the heading.
-    return first + "".join(put + piece for put, piece in zip([escaped, title.replace("<", "\\3C "), escaped], rest))
+    return first + "".join(put + piece for put, piece in zip([escaped, quoted, escaped], rest))
 
 
 def header(form, labels, with_tricks=False):

@@ -12,6 +12,7 @@ from __future__ import annotations
 
 import re
 from dataclasses import dataclass, field
+from unicodedata import bidirectional, category
 
 MOST_BYTES = 4096
 MOST_NUMBER = 2**40
@@ -79,11 +80,28 @@ def hands_of(value: str) -> list[list[str]] | None:
     return hands if len(seen) == 52 else None
 
 
+def printable(letter: str) -> bool:
+    """Whether a character is neither a control character, nor ends a line, nor sets the direction of text."""
+    directions = ("LRE", "RLE", "LRO", "RLO", "PDF", "LRI", "RLI", "FSI", "PDI")
+    return category(letter) not in ("Cc", "Zl", "Zp") and bidirectional(letter) not in directions
+
+
+def label(value: str) -> str | None:
+    """The text of an event or a site in UTF-8, if it can be one."""
+    try:
+        text = value.encode("latin1").decode()
+    except UnicodeDecodeError:
+        return None
+    whole = len(text) <= 100 and "\\" not in text and text not in ("?", "#")
+    return text if whole and all(map(printable, text)) else None
+
+
 def labels_of(game: Game) -> list[tuple[str, str]]:
     """The labels of a game: `?` and `#` are none."""
-    forms = {"Event": r'[ !#-\[\]-~]{0,100}', "Site": r'[ !#-\[\]-~]{0,100}', "Date": r"[0-9]{4}\.[0-9]{2}\.[0-9]{2}"}
-    values = {name: game.tags[name][1] for name in forms if name in game.tags}
-    return [(name, value) for name, value in values.items() if value not in ("?", "#") and re.fullmatch(forms[name], value)]
+    values = {name: label(game.tags[name][1]) for name in ("Event", "Site") if name in game.tags}
+    date = game.tags["Date"][1] if "Date" in game.tags else ""
+    values["Date"] = date if re.fullmatch(r"[0-9]{4}\.[0-9]{2}\.[0-9]{2}", date) else None
+    return [(name, value) for name, value in values.items() if value is not None]
 
 
 def tricks_of(game: Game) -> tuple[str, str, str]:

@@ -4,6 +4,7 @@ by a second reading of them (records.py) and a second program (notation.py).
 from __future__ import annotations
 
 import random
+import re
 import subprocess
 from collections.abc import Iterator
 
@@ -17,6 +18,7 @@ import report
 # How many games the texts have in the gate, and with `many`.
 GAMES, MANY = 3_000, 20_000
 PLAYERS = ("West", "North", "East", "South", "Scoring", "Declarer", "Contract", "Result", "Auction", "_x1")
+IN_UTF_8 = ("Z\xfcrich", "\u738b" * 100, "\u738b" * 101, "\U0001f0a1" * 100, "to\u202eend", "a\u2028b", "a\x85b")
 COMMENTS = ("; a remark", "{one line}", "{over\n[Board \"9\"]\n\nlines}", "% an escape [Deal]", "{a {b} c", "}", ";{")
 TABLES = ("[Auction \"N\"]\n1NT Pass 3NT\nPass Pass", "[Play \"W\"]\nSA S2 S3 S4\n*", "\t", "AP", "-- [Deal \"no\"]")
 BAD_DEALS = ("N:.... ... ... ...", "", "X:AKQ.J.T.9", "N:AK.AK.AK.AK - - -", "n:AKQJT98765432... - - -", "N:")
@@ -59,7 +61,8 @@ def random_value(rng: random.Random, name: str) -> str:
     if name == "ParContract":
         return rng.choice(CONTRACTS)
     if name in ("Event", "Site"):
-        return rng.choice(["Club night", "?", "#", "", "a" * 100, "a" * 101, r"an \"open\" one", "<b>", "caf\xe9", "  "])
+        return rng.choice(["Club night", "?", "#", "", "a" * 100, "a" * 101, r"an \"open\" one", "<b>", "caf\xe9", "  ",
+                           r"back\\slash", *(text.encode().decode("latin1") for text in IN_UTF_8)])
     return rng.choice(["?", "x", r"back\\slash", "[{;%"])
 
 
@@ -105,7 +108,8 @@ def written(form: str, boards: list[records.Board], whole: bool) -> bytes:
         dealer, tricks = model.SEATS.index(board.dealer), board.tricks
         hands = [[13 * suit + model.RANKS.index(r) for suit in range(4) for r in hand[suit]] for hand in board.hands]
         if form == "pbn":
-            parts.append(notation.game(board.number, dealer, board.vulnerable, hands, tricks, labels))
+            ascii_only = [(name, value) for name, value in labels if re.fullmatch(r"[ !#-\[\]-~]*", value)]
+            parts.append(notation.game(board.number, dealer, board.vulnerable, hands, tricks, ascii_only))
         elif form == "json":
             line = notation.json_line(board.number, dealer, board.vulnerable, hands, tricks, 0)
             parts.append(line.replace(',"number":0', ""))

@@ -61,10 +61,11 @@ REFUSED = [
     ("find --seed 0 --boards 4 --first-board 2", 2, None),
     ("conditions --seed 0", 2, None),
     ("make --seed 0 --boards 4 --lane 0 --rotate", 2, "plan refused: lane capacity"),
-    ("make --seed 0 --boards 4 --format hands --event Clés", 2, "label refused: event"),
+    ("make --seed 0 --boards 4 --format pbn --event Clés", 2, "label refused: event"),
     ("find --seed 0 --boards 4 --where losers(nort)<=5", 3, "condition refused at byte 7: unknown word"),
 ]
 LABEL = 'at most 100 characters of ASCII, from space to ~, without " and \\'
+CAPTION = "at most 100 characters, none of them a control character"
 DATE = "a date is written YYYY.MM.DD, as 2024.05.01"
 DOTS = "three dots part spades, hearts, diamonds and clubs, as AKQ32.K..A"
 CAPITALS = "ranks are capital letters, A K Q J T 9 8 7 6 5 4 3 2"
@@ -99,6 +100,8 @@ ADVISED = [
     (["--boards", "1", "--event", "Zürich, Œuvre"], f'--event "Z??rich, ??uvre": {LABEL}\n  hint: write Zurich, OEuvre'),
     (["--boards", "1", "--event", "Киев"], f'--event "????????": {LABEL}'),
     (["--boards", "1", "--site", "a\\b\t\a"], f'--site "a\\b ?": {LABEL}'),
+    (["--boards", "1", "--format", "html", "--event", "Clés\u202e"], f'--event "Cl??s???": {CAPTION}'),
+    (["--boards", "1", "--format", "hands", "--site", "Clés\t1"], f'--site "Cl??s 1": {CAPTION}\n  hint: write Clés 1'),
     (["--boards", "1", "--north", "AK.."], f'--north "AK..": {DOTS}'),
     (["--boards", "1", "--north", "A...", "--east", "KA..."], '--east "KA...": the ace of spades is north\'s'),
     (["--boards", "1", "--south", "ak...", "--west", "ak..."], f'--south "ak...": {CAPITALS}'),

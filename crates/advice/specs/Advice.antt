@@ -3,6 +3,8 @@
 use Rattle.std.specs.Prelude.{◌≡◌, ◌-◌, ◌^◌, ℕ, List, [], ◌++◌, codes, decimal, length}
 use Rattle.std.specs.Prelude.{map, nat_le, nat_lt, take, if◌then◌else◌}
 use Rattle.std.specs.Prelude.{Option, None, Some, false, unwrap_or}
+use Rattle.boards.specs.declared.format.Format.{Format}
+use Rattle.boards.specs.declared.format.Format.TheVariants.{Pbn}
 use Rattle.cards.specs.declared.seat.Seat.{Seat}
 use Rattle.cards.specs.declared.seat.Seat.TheVariants as seat
 use Rattle.request_types.specs.HandFaults.{IsFaultOf}
@@ -58,9 +60,10 @@ given_text option text =
 abbrev pub text_line : List ℕ → Option (List ℕ) → List ℕ → List ℕ
 text_line option text rule = given_text option (unwrap_or text []) ++ rule ++ codes "\n"
 
--- what an event and a site may be
-abbrev pub label_rule : List ℕ
-label_rule = codes "at most 100 characters of ASCII, from space to ~, without \" and \\"
+-- what an event and a site may be in a format
+abbrev pub label_rule : Format → List ℕ
+label_rule Pbn = codes "at most 100 characters of ASCII, from space to ~, without \" and \\"
+label_rule _ = codes "at most 100 characters, none of them a control character"
 
 -- what a date may be
 abbrev pub date_rule : List ℕ
@@ -68,8 +71,8 @@ date_rule = codes "a date is written YYYY.MM.DD, as 2024.05.01"
 
 -- what the label may be
 abbrev pub label_advice : Look → LabelName → List ℕ
-label_advice l label.Event = text_line (codes "event") l.event label_rule
-label_advice l label.Site = text_line (codes "site") l.site label_rule
+label_advice l label.Event = text_line (codes "event") l.event (label_rule l.format)
+label_advice l label.Site = text_line (codes "site") l.site (label_rule l.format)
 label_advice l label.Date = text_line (codes "date") l.date date_rule
 
 -- the option of a seat's hand

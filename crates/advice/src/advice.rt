@@ -4,11 +4,12 @@
 ghost use Rattle.std.specs.Prelude.{◌≡◌, ◌++◌, [], option_map, string_bytes, unwrap_or};
 ghost use Rattle.std.specs.Prelude.{IfOk, OnOk};
 ghost use Rattle.advice.specs.Advice.{IsAdviceOn, IsAdviceOnHand, candidates_advice, given_text};
-ghost use Rattle.advice.specs.Advice.{label_advice, plan_advice, range_line, seat_option};
-ghost use Rattle.advice.specs.Advice.{shown_text, text_line};
+ghost use Rattle.advice.specs.Advice.{label_advice, label_rule, plan_advice, range_line};
+ghost use Rattle.advice.specs.Advice.{seat_option, shown_text, text_line};
 ghost use Rattle.request_types.specs.Requests.{look_of, search_of};
 
-use boards::MAX_LABEL_LEN;
+use boards::{Format, MAX_LABEL_LEN};
+use captions::MAX_CAPTION_CHARS;
 use cards::{MAX_CANDIDATES, MAX_CAPACITY, MAX_WORKERS, Seat};
 use itoa::Buffer;
 use jobs::Failure;
@@ -142,8 +143,8 @@ fn of_label(alloc: Global, look: &Look<'_>, name: LabelName) -> Result<String, A
     ensures { IfOk result (λ line. string_bytes line ≡ label_advice (look_of look.now) name) }
 {
     match name {
-        LabelName::Event => of_text(alloc, "event", look.event, LABEL_RULE),
-        LabelName::Site => of_text(alloc, "site", look.site, LABEL_RULE),
+        LabelName::Event => of_text(alloc, "event", look.event, label_rule(look.format)),
+        LabelName::Site => of_text(alloc, "site", look.site, label_rule(look.format)),
         LabelName::Date => of_text(alloc, "date", look.date, DATE_RULE),
     }
 }
@@ -178,11 +179,20 @@ fn option_of(seat: Seat) -> &'static str
     }
 }
 
-// The rule names the length.
+// The rules name the lengths.
 const _: () = prove!(MAX_LABEL_LEN == 100);
 
-/// What an event and a site may be.
-const LABEL_RULE: &str = "at most 100 characters of ASCII, from space to ~, without \" and \\";
+const _: () = prove!(MAX_CAPTION_CHARS == 100);
+
+/// What an event and a site may be in the format.
+fn label_rule(format: Format) -> &'static str
+    ensures { result.now ≡ label_rule format }
+{
+    match format {
+        Format::Pbn => "at most 100 characters of ASCII, from space to ~, without \" and \\",
+        _ => "at most 100 characters, none of them a control character",
+    }
+}
 
 /// What a date may be.
 const DATE_RULE: &str = "a date is written YYYY.MM.DD, as 2024.05.01";

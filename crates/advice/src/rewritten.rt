@@ -1,7 +1,8 @@
-//! How a label that is refused is to be written: an event or a site in ASCII, and a date with the
-//! year first.
+//! How a label that is refused is to be written: an event or a site in letters that its format has,
+//! and a date with the year first.
 
-use boards::{Date, Label};
+use boards::{Date, Format, Label};
+use captions::Caption;
 use request_types::{LabelName, Look};
 use std::alloc::Global;
 
@@ -54,12 +55,31 @@ const SPELLINGS: [(&str, &str); 41] = [
 /// runs out.
 pub(crate) fn hint(alloc: Global, look: &Look<'_>, name: LabelName) -> Option<String> {
     let spelt = match name {
-        LabelName::Event => in_ascii(alloc, look.event?)?,
-        LabelName::Site => in_ascii(alloc, look.site?)?,
+        LabelName::Event => titled(alloc, look.format, look.event?)?,
+        LabelName::Site => titled(alloc, look.format, look.site?)?,
         LabelName::Date => year_first(alloc, look.date?)?,
     };
     let spelt = spelt.as_str();
     format!(in alloc; "  hint: write {spelt}\n").ok()
+}
+
+/// The text as an event or a site of the format; none if it isn't known how.
+fn titled(alloc: Global, format: Format, text: &str) -> Option<String> {
+    match format {
+        Format::Pbn => in_ascii(alloc, text),
+        _ => in_a_line(alloc, text),
+    }
+}
+
+/// The text as a caption, with spaces for tabs and ends of lines. `None` if that is none either.
+fn in_a_line(alloc: Global, text: &str) -> Option<String> {
+    let mut line = String::new(alloc);
+    for letter in text.chars() {
+        let blank = matches!(letter, '\t' | '\n' | '\r');
+        line.push(if blank { ' ' } else { letter }).ok()?;
+    }
+    Caption::new(line.as_bytes())?;
+    Some(line)
 }
 
 /// The text as a label, each letter without its accents. `None` if a letter has no spelling, or if

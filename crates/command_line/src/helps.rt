@@ -128,8 +128,8 @@ first-board: The number of the first board, 1 to 1099511627776;
 give --first too to go on with new deals
 [default: 1]
 
-event: The event, at most 100 characters of ASCII without
-\" and \\ [default: no line]
+event: The event, at most 100 characters, in pbn of ASCII
+without \" and \\ [default: no line]
 
 site: The place, like the event [default: no line]
 
@@ -170,7 +170,7 @@ const OF_COUNT: &[Section] = &[
     (
         COUNTED,
         "format: How the table is written: table for people, csv for
-spreadsheets and programs, html for a page, json for programs of your own
+spreadsheets, html for a page, json for programs
 [default: table] [possible values: table, csv, html, json]",
     ),
 ];
@@ -193,8 +193,8 @@ first-board: The number of the first board, 1 to 1099511627776
 
 const OF_SHOW: &[Section] = &[(
     LOOK,
-    "event: The event, at most 100 characters of ASCII without
-\" and \\ [default: that of the first board]
+    "event: The event, at most 100 characters, in pbn of ASCII
+without \" and \\ [default: that of the first board]
 
 site: The place, like the event
 

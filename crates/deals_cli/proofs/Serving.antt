@@ -35,7 +35,7 @@ use Rattle.statistics.specs.Subjects.{subject_of}
 run_text : (w : Wish) (job : BoardsJob) (report : Report) (r : Option Report) (before after old new : Option (List ℕ)) → IsReady w (Boards job) → EndsBoards job (Ok report) old new
     → (job.report ≡ true) × (r ≡ Some report) ⊎ (job.report ≡ false) × (r ≡ None) → Serves w (Ok r) before after old new
 run_text (make s l notices) job report r before after old new ready ends asked =
-    let written = rw (ready.plan_is, ready.format_is, ready.show_is) at ends in record {
+    let written = rw (ready.plan_is, ready.heading_is, ready.format_is, ready.show_is) at ends in record {
       text = (job.condition, ready.means, written.0);
       report = elim asked [
         | inl made ↦ rw made.1 (sym ready.report_is ∙ made.0, (job.condition, ready.means, written.1))
@@ -74,7 +74,7 @@ run_leaves s l notices (Unclosed worker) before after old new h = (h, λ bad. ab
 
 pub interrupts : (w : Wish) (job : BoardsJob) (c : Cause) (before after old new : Option (List ℕ)) → IsReady w (Boards job) → EndsBoards job (Err c) old new → Serves w (Err (Interrupted c)) before after old new
 interrupts (make s l notices) job c before after old new ready ends =
-    let run = rw (ready.plan_is, ready.format_is, ready.show_is, ready.workers_are) at ends in
+    let run = rw (ready.plan_is, ready.heading_is, ready.format_is, ready.show_is, ready.workers_are) at ends in
     let leaves = run_leaves s l notices c before after old new (record { form = job.condition; means = ready.means; workers = run.0; are_workers = run.1; run = run.2 }) in record {
       text = tt;
       report = tt;
@@ -147,8 +147,8 @@ count_interrupts T (show l hints) job c before after old new ready ends = absurd
 -- ---- a pick
 
 pub picked : {T : Type 0} (w : Wish) (job : PickJob) (value : T) (before after old new : Option (List ℕ)) → IsReady w (Pick job) → EndsPicking {T = T} job (Ok value) before after old new → Serves w (Ok None) before after old new
-picked (pick seed hands l tricks hints) job value before after old new (planned, plan_is, format_is, show_is, tricks_is) ends = record {
-  text = rw (plan_is, format_is, show_is, tricks_is) at ends;
+picked (pick seed hands l tricks hints) job value before after old new (planned, plan_is, heading_is, format_is, show_is, tricks_is) ends = record {
+  text = rw (plan_is, heading_is, format_is, show_is, tricks_is) at ends;
   report = refl;
   status = served (pick seed hands l tricks hints) 0 (inl refl) planned tt;
   untouched = tt;
@@ -165,7 +165,7 @@ picked (stream seed n) job value before after old new ready ends = absurd ready
 picked (show l hints) job value before after old new ready ends = absurd ready
 
 pub pick_fails : (T : Type 0) (w : Wish) (job : PickJob) (f : Failure) (before after old new : Option (List ℕ)) → IsReady w (Pick job) → EndsPicking {T = T} job (Err f) before after old new → Serves w (Err f) before after old new
-pick_fails T (pick seed hands l tricks hints) job (Interrupted Memory) before after old new (planned, plan_is, format_is, show_is, tricks_is) ends = record {
+pick_fails T (pick seed hands l tricks hints) job (Interrupted Memory) before after old new (planned, plan_is, heading_is, format_is, show_is, tricks_is) ends = record {
   text = tt;
   report = tt;
   status = no_memory (pick seed hands l tricks hints) 5 refl;
@@ -173,28 +173,28 @@ pick_fails T (pick seed hands l tricks hints) job (Interrupted Memory) before af
   stands = ends.1;
   due = planned;
 }
-pick_fails T (pick seed hands l tricks hints) job (Interrupted Output) before after old new (planned, plan_is, format_is, show_is, tricks_is) ends = record {
+pick_fails T (pick seed hands l tricks hints) job (Interrupted Output) before after old new (planned, plan_is, heading_is, format_is, show_is, tricks_is) ends = record {
   text = tt;
   report = tt;
   status = served (pick seed hands l tricks hints) 4 (inr refl) planned tt;
   untouched = λ bad. absurd cc;
-  stands = rw (plan_is, format_is, show_is, tricks_is) at ends;
+  stands = rw (plan_is, heading_is, format_is, show_is, tricks_is) at ends;
   due = planned;
 }
-pick_fails T (pick seed hands l tricks hints) job (Line line) before after old new (planned, plan_is, format_is, show_is, tricks_is) ends = record {
+pick_fails T (pick seed hands l tricks hints) job (Line line) before after old new (planned, plan_is, heading_is, format_is, show_is, tricks_is) ends = record {
   text = tt;
   report = tt;
   status = failed_input (pick seed hands l tricks hints) 7 refl planned tt tt;
   untouched = λ bad. absurd cc;
-  stands = rw (plan_is, format_is, show_is, tricks_is) at ends;
+  stands = rw (plan_is, heading_is, format_is, show_is, tricks_is) at ends;
   due = planned;
 }
-pick_fails T (pick seed hands l tricks hints) job Input before after old new (planned, plan_is, format_is, show_is, tricks_is) ends = record {
+pick_fails T (pick seed hands l tricks hints) job Input before after old new (planned, plan_is, heading_is, format_is, show_is, tricks_is) ends = record {
   text = tt;
   report = tt;
   status = failed_input (pick seed hands l tricks hints) 7 refl planned tt tt;
   untouched = λ bad. absurd cc;
-  stands = rw (plan_is, format_is, show_is, tricks_is) at ends;
+  stands = rw (plan_is, heading_is, format_is, show_is, tricks_is) at ends;
   due = planned;
 }
 pick_fails T (pick seed hands l tricks hints) job (Record line) before after old new ready ends = absurd ends

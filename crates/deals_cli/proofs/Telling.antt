@@ -1,5 +1,6 @@
 -- From how boards with tricks were found and told to what is said of that.
 use Rattle.std.proofs.Common.{◌≡◌, ◌∙◌, ◌≤◌, ◌^◌, ℕ, ◌+◌, List, [], length, Option, None, Some, Result, Ok, Err, refl, ap, subst, inl, inr}
+use Rattle.captions.specs.Captions.{captions_in}
 use Rattle.cond_lang.specs.Form.{Form}
 use Rattle.notations.specs.Numbers.{numbers}
 use Rattle.picking.specs.NumberTexts.{said}
@@ -56,10 +57,10 @@ finding_broken plan run form asked (Unclosed w) found n are is h = (found, (n, a
 
 -- ---- of a job
 
-module _ (job : BoardsJob) (w : Written) (found : List ℕ) (before after old new : Option (List ℕ)) (w_is : w ≡ record { format = job.format; show = job.show; heading = job.plan.heading }) (found_is : found ≡ accepted job.plan job.condition) where
+module _ (job : BoardsJob) (w : Written) (found : List ℕ) (before after old new : Option (List ℕ)) (w_is : w ≡ record { format = job.format; show = job.show; heading = captions_in job.format job.heading }) (found_is : found ≡ accepted job.plan job.condition) where
   tells_for : {T : Type 0} (s : Search) (l : Look) (notices : Notices) (result : Result T PickFault) → IsReadyRun s l notices job → Tells w job.plan found result before after old new
       → TellsBoards s l job.condition result before after old new
-  tells_for s l notices result ready h = rw (ready.plan_is, ready.format_is, ready.show_is) at (rw (w_is, found_is) at h)
+  tells_for s l notices result ready h = rw (ready.plan_is, ready.heading_is, ready.format_is, ready.show_is) at (rw (w_is, found_is) at h)
 
   pub ends_told : (report : Report) (value : Unit {0}) → Tells w job.plan found (Ok value) before after old new → report.format ≡ job.format → report.plan ≡ job.plan
       → report.candidates ≡ end_of job.plan job.condition → report.boards ≡ length (accepted job.plan job.condition) → EndsReady job (Ok report) before after old new

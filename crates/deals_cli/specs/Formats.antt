@@ -7,18 +7,19 @@ use Rattle.notations.specs.Formats.{layout_of, layout_showing}
 use Rattle.boards.specs.declared.show.Show.{Show}
 use Rattle.boards.specs.declared.format.Format.{Format}
 use Rattle.plans.specs.Plans.{Planned}
-use Rattle.jobs.specs.Makings.{plan_of}
-use Rattle.request_types.specs.Requests.{Look, Search}
+use Rattle.boards.specs.Headings.{HeadingView}
+use Rattle.jobs.specs.Makings.{title_of}
+use Rattle.request_types.specs.Requests.{Look}
 
 -- the whole text of a plan under a condition
 abbrev pub text_as : Format → Planned → Form → List ℕ
 text_as format plan form = text_in (layout_of format plan.heading) plan form
 
--- the same where these hands are written
-abbrev pub text_showing : Format → Show → Planned → Form → List ℕ
-text_showing format show plan form =
-    text_in (layout_showing format show plan.heading) plan form
+-- the same where these hands are written, under these labels
+abbrev pub text_showing : Format → Show → HeadingView → Planned → Form → List ℕ
+text_showing format show heading plan form =
+    text_in (layout_showing format show heading) plan form
 
 -- how boards are laid out
-abbrev pub layout_in : Search → Look → Layout
-layout_in s l = layout_showing l.format l.show (plan_of s l).heading
+abbrev pub layout_in : Look → Layout
+layout_in l = layout_showing l.format l.show (title_of l)

@@ -15,7 +15,7 @@ use Rattle.records.specs.declared.shown.ShowFault.TheVariants as shown
 use Rattle.deals_cli.specs.Formats.{layout_in}
 use Rattle.deals_cli.specs.Picked.{PicksAs}
 use Rattle.deals_cli.specs.Shown.{ShowsUnder}
-use Rattle.jobs.specs.Makings.{AreWorkers, Means, heading_of, plan_of}
+use Rattle.jobs.specs.Makings.{AreWorkers, Means, heading_of, plan_of, title_of}
 use Rattle.request_types.specs.Requests.{Look, Questions, Search, Wish, conditions, count, draw, make}
 use Rattle.lessons.specs.Lessons.{lessons_text}
 use Rattle.request_types.specs.Requests.{lessons, make_with_tricks, no_search, numbers_look}
@@ -36,7 +36,7 @@ pub record InterruptsMake (s : Search) (l : Look) (cause : Cause) (old new : Opt
   pub means : Means s form
   pub workers : ℕ
   pub are_workers : AreWorkers s.workers workers
-  pub run : InterruptsRun (layout_in s l) (record (plan_of s l) { workers = workers }) form cause
+  pub run : InterruptsRun (layout_in l) (record (plan_of s l) { workers = workers }) form cause
       old new
 
 -- the run of a `count` was interrupted: no board is written, and the table as far as it was
@@ -56,7 +56,8 @@ pub record InterruptsCount (s : Search) (questions : Questions) (style : Style) 
 abbrev pub EndsPick : Search → Look → (tricks : Bool) → PickFault
     → (before after old new : Option (List ℕ)) → Type 0
 EndsPick s l tricks fault before after old new =
-    PicksAs {T = Unit {0}} tricks l.format l.show (plan_of s l) (Err fault) before after old new
+    PicksAs {T = Unit {0}} tricks l.format l.show (title_of l) (plan_of s l) (Err fault)
+    before after old new
 
 -- showing ended with this fault
 abbrev pub EndsShow : Look → ShowFault → (before after old new : Option (List ℕ)) → Type 0

@@ -6,6 +6,7 @@ use Rattle.boards.specs.Headings.{HeadingView, no_heading}
 use Rattle.boards.specs.declared.format.Format.{Format}
 use Rattle.boards.specs.declared.show.Show.{Show}
 use Rattle.boards.specs.TricksLines.{TricksView}
+use Rattle.captions.specs.Captions.{captions_in}
 use Rattle.notations.specs.Formats.{layout_solved}
 use Rattle.records.specs.Readers.{IsFresh, ReadsNext}
 use Rattle.records.specs.Shown.{EndsBy, Shows}
@@ -45,7 +46,7 @@ GoesOn (Ok next) result = Unit {0}
 GoesOn (Err (read.Refused line)) result = EndsBy (read.Refused line) result
 GoesOn (Err read.Input) result = ⊥
 
--- boards were shown in this format, with these hands and labels
+-- boards were shown in this format, with these hands, under those labels that it writes
 pub record ShowsUnder (format : Format) (show : Show) (given : HeadingView)
     (result : Result ℕ ShowFault) (before after old new : Option (List ℕ)) : Type 0 where
   -- what was read first, by a reader that had read nothing
@@ -57,5 +58,5 @@ pub record ShowsUnder (format : Format) (show : Show) (given : HeadingView)
   pub reads : ReadsNext start next first before rest
   pub goes_on : GoesOn first result
   pub shows : Shows
-      (layout_solved format show (labelled given (labels_told first)) (expects first)) result
-      before after old new
+      (layout_solved format show (captions_in format (labelled given (labels_told first)))
+      (expects first)) result before after old new

@@ -13,7 +13,7 @@ use Rattle.jobs.specs.Counting.{IsAsked, table_by}
 use Rattle.deals_cli.specs.Formats.{text_showing}
 use Rattle.deals_cli.specs.Picked.{PicksAs}
 use Rattle.deals_cli.specs.Shown.{ShowsUnder}
-use Rattle.jobs.specs.Makings.{Means, heading_of, plan_of}
+use Rattle.jobs.specs.Makings.{Means, heading_of, plan_of, title_of}
 use Rattle.request_types.specs.Requests.{Wish, conditions, count, draw, make, make_with_tricks}
 use Rattle.lessons.specs.Lessons.{lessons_text}
 use Rattle.request_types.specs.Requests.{lessons, no_search, numbers_look, pick, show, stream}
@@ -41,7 +41,7 @@ AppendsFrom conditions before after old new = AppendsAll old new language_page
 AppendsFrom (lessons l) before after old new = AppendsAll old new (lessons_text l)
 AppendsFrom (make s l notices) before after old new =
     (form : Form) × Means s form
-    × AppendsAll old new (text_showing l.format l.show (plan_of s l) form)
+    × AppendsAll old new (text_showing l.format l.show (title_of l) (plan_of s l) form)
 AppendsFrom (make_with_tricks s l notices) before after old new =
     (form : Form) × Means s form × WritesTold s l form before after old new
 AppendsFrom draw before after old new =
@@ -51,8 +51,8 @@ AppendsFrom (count s questions style notices) before after old new =
     × ((subject : Subject) × IsAsked s.let_text questions subject
     × AppendsAll old new (table_by style subject (plan_of s numbers_look) form))
 AppendsFrom (pick seed hands l tricks hints) before after old new =
-    PicksAs {T = Unit {0}} tricks l.format l.show (plan_of (no_search seed hands) l) (Ok tt)
-    before after old new
+    PicksAs {T = Unit {0}} tricks l.format l.show (title_of l) (plan_of (no_search seed hands) l)
+    (Ok tt) before after old new
 AppendsFrom (show l hints) before after old new =
     (boards : ℕ) × ShowsUnder l.format l.show (heading_of l) (Ok boards) before after old new
 

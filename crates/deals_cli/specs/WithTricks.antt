@@ -9,20 +9,20 @@ use Rattle.picking.specs.declared.fault.PickFault.{PickFault}
 use Rattle.picking.specs.declared.fault.PickFault.TheVariants as picks
 use Rattle.plans.specs.declared.refusal.RefusedLine.{RefusedLine}
 use Rattle.plans.specs.Text.{accepted}
-use Rattle.jobs.specs.Makings.{AreWorkers, plan_of}
+use Rattle.jobs.specs.Makings.{AreWorkers, plan_of, title_of}
 use Rattle.request_types.specs.Requests.{Look, Search}
 use Rattle.deals_cli.specs.Runs.{InterruptsRun}
 use Rattle.told.specs.Told.{Tells, Written}
 
 -- the boards are written so
-abbrev pub look_of : Search → Look → Written
-look_of s l = record { format = l.format; show = l.show; heading = (plan_of s l).heading }
+abbrev pub look_of : Look → Written
+look_of l = record { format = l.format; show = l.show; heading = title_of l }
 
 -- the boards of the accepted candidates were told
 abbrev pub TellsBoards : {T : Type 0} → Search → Look → Form → Result T PickFault
     → (before after old new : Option (List ℕ)) → Type 0
 TellsBoards s l form result before after old new =
-    Tells (look_of s l) (plan_of s l) (accepted (plan_of s l) form) result before after old new
+    Tells (look_of l) (plan_of s l) (accepted (plan_of s l) form) result before after old new
 
 -- each board has a line, none is left over, and all was written
 abbrev pub WritesTold : Search → Look → Form → (before after old new : Option (List ℕ)) → Type 0

@@ -27,7 +27,7 @@ fn pick_alone<I: Source, O: Sink>(
     ensures faults { FaultsPicked result (O.faults out.old) (O.faults out.new) }
     ensures input { CountsPicked result (I.faults input.old) (I.faults input.new) }
 {
-    let mut printer = AnyPrinter::showing(alloc, job.format, job.show, job.plan.heading())?;
+    let mut printer = AnyPrinter::showing(alloc, job.format, job.show, &job.heading)?;
     let picked = picking::pick(&job.plan, &mut printer, input, out);
     // Here and not at each end, which would take room on the stack for each.
     drop(printer);
@@ -53,8 +53,7 @@ fn pick_with_tricks<I: Source, O: Sink>(
     ensures input { CountsPicked result (I.faults input.old) (I.faults input.new) }
 {
     let none = Vec::new(alloc);
-    let heading = job.plan.heading();
-    let mut printer = AnyPrinter::with_tricks(alloc, job.format, job.show, heading, 1, none)?;
+    let mut printer = AnyPrinter::with_tricks(alloc, job.format, job.show, &job.heading, 1, none)?;
     let picked = told::pick(&job.plan, &mut printer, input, out);
     drop(printer);
     Ok(picked)

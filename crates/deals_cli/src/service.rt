@@ -42,13 +42,14 @@ fn write_boards<R: Threads + Wait + Clone + Send + 'static, O: Sink>(
     let BoardsJob {
         plan,
         condition,
+        heading,
         format,
         show,
         workers,
         ..
     } = job;
     let run = worked(rt, &plan, workers);
-    let Ok(mut printer) = AnyPrinter::showing(alloc, format, show, plan.heading()) else {
+    let Ok(mut printer) = AnyPrinter::showing(alloc, format, show, &heading) else {
         return Err(Cause::Memory);
     };
     let written = write_plan(rt, alloc, &run, condition, &mut printer, out)?;

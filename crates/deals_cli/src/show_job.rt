@@ -5,7 +5,7 @@ ghost use Rattle.jobs.specs.Failures.{CountsInput, faults_in, status_of};
 ghost use Rattle.deals_cli.specs.Shown.{expects, labelled, labels_told};
 ghost use Rattle.deals_cli.specs.internal.Ends.{CountsShown, EndsShowing, EndsShown, FaultsShown};
 
-use boards::Heading;
+use captions::Captions;
 use jobs::{Failure, ShowJob};
 use notations::SolvedPrinter;
 use picking::Source;
@@ -15,18 +15,18 @@ use sinks::Sink;
 use std::alloc::{AllocError, Global};
 
 /// Returns each label of the job, or else that of the game that was read first.
-fn labelled(given: &Heading, first: &Result<Next, ReadFault>) -> Heading
+fn labelled(given: &Captions, first: &Result<Next, ReadFault>) -> Captions
     ensures { result ≡ labelled given.now (labels_told first.now) }
 {
     let game = match first {
         Ok(Next::Board(told) | Next::Last(told)) => told.heading,
-        _ => Heading::none(),
+        _ => Captions::none(),
     };
-    Heading {
-        event: given.event.or(game.event),
-        site: given.site.or(game.site),
-        date: given.date.or(game.date),
-    }
+    Captions::new(
+        given.event().or(*game.event()),
+        given.site().or(*game.site()),
+        given.date().or(*game.date()),
+    )
 }
 
 /// Whether the board that was read first has tricks.

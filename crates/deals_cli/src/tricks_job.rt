@@ -9,6 +9,7 @@ ghost use Rattle.deals_cli.specs.internal.Ends.{EndsFinding, EndsReady, finding_
 use crate::workers::worked;
 use crate::written::{Written, write_plan};
 use boards::Format;
+use captions::Captions;
 use cond_lang::Cond;
 use jobs::{BoardsJob, Failure};
 use notations::AnyPrinter;
@@ -52,7 +53,7 @@ fn find<R: Threads + Wait + Clone + Send + 'static>(
     let run = worked(rt, plan, workers);
     // The plan tells that its candidates are below 2^40.
     let _first = plan.first();
-    let Ok(mut printer) = AnyPrinter::new(alloc, Format::Numbers, plan.heading()) else {
+    let Ok(mut printer) = AnyPrinter::new(alloc, Format::Numbers, &Captions::none()) else {
         return Err(Cause::Memory);
     };
     let mut sink = MemSink::new(alloc);
@@ -88,6 +89,7 @@ pub(crate) fn write_with_tricks<R: Threads + Wait + Clone + Send + 'static, I: S
     let BoardsJob {
         plan,
         condition,
+        heading,
         format,
         show,
         workers,
@@ -98,7 +100,7 @@ pub(crate) fn write_with_tricks<R: Threads + Wait + Clone + Send + 'static, I: S
         Err(cause) => return Err(Failure::Interrupted(cause)),
     };
     let none = Vec::new(alloc);
-    let mut printer = AnyPrinter::with_tricks(alloc, format, show, plan.heading(), 1, none)?;
+    let mut printer = AnyPrinter::with_tricks(alloc, format, show, &heading, 1, none)?;
     let told = tell(&plan, found.numbers.as_slice(), &mut printer, input, out);
     drop(printer);
     match told {

@@ -3,3 +3,4 @@ pub mod FirstDue
 pub mod Refusals
 pub mod Asking
 pub mod Joined
+pub mod Titles

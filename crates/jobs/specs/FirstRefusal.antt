@@ -38,8 +38,8 @@ Meets s l (Plan Workers) = (0 < workers_in s.workers) × (workers_in s.workers �
 Meets s l (Plan Capacity) = (0 < lane_of s) × (lane_of s ≤ 4096)
 Meets s l (Plan Boards) = s.boards ≡ Some 0 → ⊥
 Meets s l (Plan FirstBoard) = (0 < first_board_of l) × (first_board_of l ≤ 2 ^ 40)
-Meets s l (Label Event) = CanLabel l.event
-Meets s l (Label Site) = CanLabel l.site
+Meets s l (Label Event) = CanLabel l.format l.event
+Meets s l (Label Site) = CanLabel l.format l.site
 Meets s l (Label Date) = CanDate l.date
 Meets s l _ = Unit {0}
 

@@ -23,6 +23,7 @@ pub record IsReadyRun (s : Search) (l : Look) (notices : Notices) (job : BoardsJ
   pub planned : IsPlanned s l
   pub plan_is : job.plan ≡ plan_of s l
   pub means : Means s job.condition
+  pub heading_is : job.heading ≡ heading_of l
   pub format_is : job.format ≡ l.format
   pub show_is : job.show ≡ l.show
   pub workers_are : job.workers ≡ s.workers
@@ -38,7 +39,8 @@ IsReady (count s questions style notices) (Count job) =
     × (job.style ≡ style) × (job.workers ≡ s.workers)
 IsReady (pick seed hands l tricks hints) (Pick job) =
     IsPlanned (no_search seed hands) l × (job.plan ≡ plan_of (no_search seed hands) l)
-    × (job.format ≡ l.format) × (job.show ≡ l.show) × (job.tricks ≡ tricks)
+    × (job.heading ≡ heading_of l) × (job.format ≡ l.format) × (job.show ≡ l.show)
+    × (job.tricks ≡ tricks)
 IsReady (show l hints) (Show job) =
     HasLabels l × (job.format ≡ l.format) × (job.show ≡ l.show) × (job.heading ≡ heading_of l)
 IsReady conditions Conditions = Unit {0}

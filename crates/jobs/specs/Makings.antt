@@ -1,5 +1,5 @@
 -- What a search and a look come to: the plan of a run, and the meaning of its condition.
-use Rattle.std.specs.Prelude.{◌≡◌, ◌≤◌, ◌<◌, ◌^◌, ◌+◌, ℕ, List, Option, None, Some, length}
+use Rattle.std.specs.Prelude.{◌≡◌, ◌≤◌, ◌<◌, ◌^◌, ◌+◌, ℕ, List, Option, None, Some, length, true}
 use Rattle.boards.specs.Headings.{HeadingView}
 use Rattle.boards.specs.declared.setting.Setting.{Setting}
 use Rattle.cond_lang.specs.Form.{Form, all_of, compare, number}
@@ -10,6 +10,9 @@ use Rattle.conditions.specs.declared.limits.TheConstants.{MOST_PARTS}
 use Rattle.conditions.specs.declared.tree.Op.TheVariants.{Equal}
 use Rattle.request_types.specs.PredealtHands.{first_refused, fixed_of}
 use Rattle.boards.specs.Labels.{IsDate, IsLabel}
+use Rattle.boards.specs.declared.format.Format.{Format}
+use Rattle.boards.specs.declared.format.Format.TheVariants.{Pbn}
+use Rattle.captions.specs.Captions.{captions_in, is_caption, labels_of}
 use Rattle.plans.specs.Plans.{Planned}
 use Rattle.request_types.specs.Defaults.{candidates_of, first_board_of, lane_of, workers_in}
 use Rattle.request_types.specs.Requests.{Look, Search}
@@ -21,14 +24,18 @@ abbrev pub AreWorkers : Workers → ℕ → Type 0
 AreWorkers (Number n) workers = workers ≡ n
 AreWorkers Auto workers = (0 < workers) × (workers ≤ 16)
 
--- the labels of all boards, and what replaces Law 2
+-- the labels that are given, those that the format writes, and what replaces Law 2
 abbrev pub heading_of : Look → HeadingView
 heading_of l = record { event = l.event; site = l.site; date = l.date }
+
+abbrev pub title_of : Look → HeadingView
+title_of l = captions_in l.format (heading_of l)
 
 abbrev pub setting_of : Look → Setting
 setting_of l = record { dealer = l.dealer; vulnerable = l.vulnerable; rotate = l.rotate }
 
--- the plan: from here on the candidates are its count, the lane its capacity, the boards its limit
+-- the plan: from here on the candidates are its count, the lane its capacity, the boards its limit.
+-- Of the labels it has those that Portable Bridge Notation has
 abbrev pub plan_of : Search → Look → Planned
 plan_of s l = record {
   seed = s.seed;
@@ -38,7 +45,7 @@ plan_of s l = record {
   capacity = lane_of s;
   limit = s.boards;
   first_board = first_board_of l;
-  heading = heading_of l;
+  heading = labels_of (heading_of l);
   setting = setting_of l;
   fixed = fixed_of s.hands;
 }
@@ -51,17 +58,22 @@ pub record HasNumbers (s : Search) (l : Look) : Type 0 where
   pub boards : s.boards ≡ Some 0 → ⊥
   pub first_board : (0 < first_board_of l) × (first_board_of l ≤ 2 ^ 40)
 
--- a text given can be written as a label, or as a date
-abbrev pub CanLabel : Option (List ℕ) → Type 0
-CanLabel given = (t : List ℕ) → given ≡ Some t → IsLabel t
+-- an event or a site of this format: in Portable Bridge Notation a label, and else a caption
+abbrev pub IsTitle : Format → List ℕ → Type 0
+IsTitle Pbn text = IsLabel text
+IsTitle _ text = is_caption text ≡ true
+
+-- a text given can be written as one in this format, or as a date
+abbrev pub CanLabel : Format → Option (List ℕ) → Type 0
+CanLabel format given = (t : List ℕ) → given ≡ Some t → IsTitle format t
 
 abbrev pub CanDate : Option (List ℕ) → Type 0
 CanDate given = (t : List ℕ) → given ≡ Some t → IsDate t
 
 -- its labels can be written
 pub record HasLabels (l : Look) : Type 0 where
-  pub event : CanLabel l.event
-  pub site : CanLabel l.site
+  pub event : CanLabel l.format l.event
+  pub site : CanLabel l.format l.site
   pub date : CanDate l.date
 
 -- each text of a hand given is a hand, without a card of an earlier one

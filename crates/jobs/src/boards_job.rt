@@ -4,6 +4,7 @@ ghost use Rattle.std.specs.Prelude.{◌≡◌};
 ghost use Rattle.request_types.specs.Defaults.{workers_in};
 
 use boards::{Format, Show};
+use captions::Captions;
 use cond_lang::Cond;
 use plans::Plan;
 use request_types::Workers;
@@ -13,6 +14,8 @@ use request_types::Workers;
 pub struct BoardsJob {
     pub plan: Plan,
     pub condition: Cond,
+    /// What is above the boards, as far as the format can write it.
+    pub heading: Captions,
     pub format: Format,
     pub show: Show,
     /// How many workers are asked for: with `Auto` the plan has one, until the job is done.

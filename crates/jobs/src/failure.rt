@@ -27,7 +27,7 @@ pub enum Failure {
     /// The words ask for nothing; with the text that says so.
     CommandLine(String),
     Plan(PlanError),
-    /// The label can't be written between the quotes of a tag.
+    /// The label can't be written in the format.
     Label(LabelName),
     /// The text of this seat's hand is malformed, or has a card of an earlier one.
     Hand(Seat),

@@ -11,7 +11,8 @@ use crate::count_job::CountJob;
 use crate::failure::Failure;
 use crate::questions::read_subject;
 use crate::search::{planned, read_condition, read_heading};
-use boards::{Format, Heading, Show, Style};
+use boards::{Format, Show, Style};
+use captions::Captions;
 use lessons::page;
 use plans::Plan;
 use request_types::{Look, Notices, Questions, Request, Search, StreamRequest};
@@ -37,6 +38,8 @@ pub enum Job {
 #[derive(Clone, Copy)]
 pub struct PickJob {
     pub plan: Plan,
+    /// What is above the boards, as far as the format can write it.
+    pub heading: Captions,
     pub format: Format,
     pub show: Show,
     /// Whether each line tells the board's tricks after its number.
@@ -48,7 +51,7 @@ pub struct PickJob {
 pub struct ShowJob {
     pub format: Format,
     pub show: Show,
-    pub heading: Heading,
+    pub heading: Captions,
 }
 
 /// Returns the job of a request.
@@ -96,10 +99,11 @@ pub fn prepare(alloc: Global, request: &Request<'_>) -> Result<Job, Failure>
             tricks,
             ..
         } => {
-            let plan = planned(&Search::none(*seed, *hands), look)?;
+            let (plan, heading) = planned(&Search::none(*seed, *hands), look)?;
             let Look { format, show, .. } = *look;
             Ok(Job::Pick(PickJob {
                 plan,
+                heading,
                 format,
                 show,
                 tricks: *tricks,
@@ -135,11 +139,12 @@ fn boards_job(
     ensures refused_with_tricks { IfErr result
         (IsRefused (make_with_tricks (search_of search.now) (look_of look.now) notices.now)) }
 {
-    let plan = planned(search, look)?;
+    let (plan, heading) = planned(search, look)?;
     let condition = read_condition(alloc, search)?;
     Ok(BoardsJob {
         plan,
         condition,
+        heading,
         format: look.format,
         show: look.show,
         workers: search.workers,
@@ -159,7 +164,7 @@ fn count_job(
     ensures refused { (notices : ANotices) → IfErr result
         (IsRefused (count (search_of search.now) (questions_of questions.now) style notices)) }
 {
-    let plan = planned(search, &Look::plain(Format::Numbers))?;
+    let (plan, _) = planned(search, &Look::plain(Format::Numbers))?;
     let condition = read_condition(alloc, search)?;
     let subject = read_subject(alloc, search.let_text, questions)?;
     Ok(Job::Count(CountJob {

@@ -1,11 +1,11 @@
-//! What a search with a lesson and a condition accepts.
+//! Laws of what requests come to: functions that do nothing, whose contracts are the laws.
 
 ghost use Rattle.std.specs.Prelude.{◌≡◌, ◌&&◌, List, None, Some, ℕ};
 ghost use Rattle.cards.specs.declared.seat.Seat.{Seat};
 ghost use Rattle.cond_lang.specs.Form.{Form};
 ghost use Rattle.conditions.specs.Meaning.{holds};
-ghost use Rattle.jobs.specs.Makings.{Means, TextMeans};
-ghost use Rattle.request_types.specs.Requests.{Search as ASearch};
+ghost use Rattle.jobs.specs.Makings.{HasLabels, Means, TextMeans, heading_of, title_of};
+ghost use Rattle.request_types.specs.Requests.{Look as ALook, Search as ASearch};
 
 /// With a lesson and a condition, each a text of its own of which only the condition is after the
 /// definitions, a deal is accepted if and only if both
@@ -15,4 +15,10 @@ pub fn a_lesson_and_a_condition()
         → s.where_text ≡ Some given → (form : Form) → Means s form
         → (a b : Form) × TextMeans None (Some lesson) a × TextMeans s.let_text (Some given) b
         × ((deal : List Seat) → holds form deal ≡ (holds a deal && holds b deal)) }
+{}
+
+/// Labels that are accepted are written as they are given.
+#[tactic(auto, using(crate::proofs::Titles::written))]
+pub fn accepted_labels_are_written()
+    ensures { (l : ALook) → HasLabels l → title_of l ≡ heading_of l }
 {}

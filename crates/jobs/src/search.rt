@@ -1,10 +1,10 @@
 //! What the texts of a search and a look mean, and the plan of both.
 
-ghost use Rattle.std.specs.Prelude.{◌≡◌, ◌⊎◌, IfErr, IfOk, Some, option_map};
+ghost use Rattle.std.specs.Prelude.{◌≡◌, ◌⊎◌, ◌↔◌, IfErr, IfOk, IfSome, IsSome, Some, option_map};
 ghost use Rattle.cond_lang.specs.Form.{Form};
 ghost use Rattle.jobs.specs.Failures.{status_of};
 ghost use Rattle.jobs.specs.Makings.{BothMean, MayBeGiven, Means, TextMeans, CanDate, CanLabel};
-ghost use Rattle.jobs.specs.Makings.{HasLabels, HasHands};
+ghost use Rattle.jobs.specs.Makings.{HasLabels, HasHands, IsTitle};
 ghost use Rattle.jobs.specs.Makings.{HasNumbers};
 ghost use Rattle.jobs.specs.Makings.{IsPlanned, heading_of, plan_of, setting_of};
 ghost use Rattle.request_types.specs.PredealtHands.{fixed_of};
@@ -18,7 +18,8 @@ ghost use Rattle.cards.specs.Fixed.{none_fixed};
 ghost use Rattle.boards.specs.Headings.{no_heading};
 
 use crate::failure::Failure;
-use boards::{Date, Heading, Label, Setting};
+use boards::{Date, Format, Label, Setting};
+use captions::{Caption, Captions};
 use cards::Fixed;
 use cond_lang::{Cond, CondError, check_definitions, parse, parse_after};
 use plans::{Plan, PlanError};
@@ -111,8 +112,8 @@ pub(crate) fn read_condition(alloc: Global, search: &Search<'_>) -> Result<Cond,
     read_both(alloc, search)
 }
 
-/// Returns the labels. The first one that can't be written is refused.
-pub(crate) fn read_heading(look: &Look<'_>) -> Result<Heading, Failure>
+/// Returns the labels. The first one that can't be written in the format is refused.
+pub(crate) fn read_heading(look: &Look<'_>) -> Result<Captions, Failure>
     ensures made { IfOk result (λ h. h ≡ heading_of (look_of look.now)) }
     ensures sound { IfOk result (λ _. HasLabels (look_of look.now)) }
     ensures refused { IfErr result (λ e.
@@ -120,11 +121,9 @@ pub(crate) fn read_heading(look: &Look<'_>) -> Result<Heading, Failure>
     ensures due { IfErr result (λ e. (s : ASearch)
         → IsFirstOf of_labels s (look_of look.now) e) }
 {
-    Ok(Heading {
-        event: label_of(look.event, LabelName::Event)?,
-        site: label_of(look.site, LabelName::Site)?,
-        date: date_of(look.date)?,
-    })
+    let event = label_of(look.format, look.event, LabelName::Event)?;
+    let site = label_of(look.format, look.site, LabelName::Site)?;
+    Ok(Captions::new(event, site, date_of(look.date)?))
 }
 
 /// Returns what the options set in place of Law 2, and whether deals are turned.
@@ -138,17 +137,32 @@ fn read_setting(look: &Look<'_>) -> Setting
     }
 }
 
-/// Returns the label of a text that was given. It is refused if and only if no label has the text.
-fn label_of(text: Option<&str>, name: LabelName) -> Result<Option<Label>, Failure>
+/// Returns the caption of a text, if it is an event or a site of the format.
+fn caption_in(format: Format, text: &str) -> Option<Caption>
+    ensures kept { IfSome result (λ c. c ≡ text.now) }
+    ensures sound { IsSome result ↔ IsTitle format text.now }
+{
+    match format {
+        Format::Pbn => match Label::new(text.as_bytes()) {
+            Some(label) => Some(Caption::of_label(&label)),
+            None => None,
+        },
+        _ => Caption::new(text.as_bytes()),
+    }
+}
+
+/// Returns the caption of a text that was given. It is refused if and only if it is no event or
+/// site of the format.
+fn label_of(format: Format, text: Option<&str>, name: LabelName) -> Result<Option<Caption>, Failure>
     ensures made { IfOk result (λ l. l ≡ option_map (λ s. s.now) text.entry) }
-    ensures sound { IfOk result (λ _. CanLabel (option_map (λ s. s.now) text.entry)) }
+    ensures sound { IfOk result (λ _. CanLabel format (option_map (λ s. s.now) text.entry)) }
     ensures refused { IfErr result (λ e. (e ≡ Failure.Label name)
-        × (CanLabel (option_map (λ s. s.now) text.entry) → ⊥)) }
+        × (CanLabel format (option_map (λ s. s.now) text.entry) → ⊥)) }
 {
     match text {
         None => Ok(None),
-        Some(text) => match Label::new(text.as_bytes()) {
-            Some(label) => Ok(Some(label)),
+        Some(text) => match caption_in(format, text) {
+            Some(caption) => Ok(Some(caption)),
             None => Err(Failure::Label(name)),
         },
     }
@@ -217,15 +231,16 @@ fn fixed_of(search: &Search<'_>) -> Result<Fixed, Failure>
     }
 }
 
-/// Returns the plan of a search and a look, with its labels, its fixed cards and its setting.
+/// Returns the plan of a search and a look, with its fixed cards and its setting, and the labels.
 ///
 /// # Errors
 ///
 /// `Plan` with the first number that is refused; else `Label` with the first label that can't be
 /// written; else `Hand` with the first seat whose text is refused.
 #[tactic(auto, using(crate::proofs::FirstDue::plans))]
-pub fn planned(search: &Search<'_>, look: &Look<'_>) -> Result<Plan, Failure>
-    ensures made { IfOk result (λ p. p ≡ plan_of (search_of search.now) (look_of look.now)) }
+pub fn planned(search: &Search<'_>, look: &Look<'_>) -> Result<(Plan, Captions), Failure>
+    ensures made { IfOk result (λ p. p.0 ≡ plan_of (search_of search.now) (look_of look.now)) }
+    ensures heading { IfOk result (λ p. p.1 ≡ heading_of (look_of look.now)) }
     ensures sound { IfOk result (λ _. IsPlanned (search_of search.now) (look_of look.now)) }
     ensures refused { IfErr result (λ e.
         (status_of e ≡ 2) × (IsPlanned (search_of search.now) (look_of look.now) → ⊥)) }
@@ -237,5 +252,6 @@ pub fn planned(search: &Search<'_>, look: &Look<'_>) -> Result<Plan, Failure>
     };
     let heading = read_heading(look)?;
     let fixed = fixed_of(search)?;
-    Ok(plan.headed(heading).set(read_setting(look)).around(fixed))
+    let plan = plan.headed(heading.labels()).set(read_setting(look));
+    Ok((plan.around(fixed), heading))
 }

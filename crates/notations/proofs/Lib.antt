@@ -5,3 +5,4 @@ pub mod Pairs
 pub mod GameLemmas
 pub mod Solving
 pub mod LayoutLemmas
+pub mod TitleLemmas

@@ -57,9 +57,13 @@ paper_style =
     ++ codes "h2{padding:.3rem}\n"
     ++ codes "}\n"
 
--- in a string of CSS: `<` is escaped, so that no text ends the style
+-- in a string of CSS: `<` is escaped, so that no text ends the style, and what ends the string
 unfoldable pub css_byte : ℕ → List ℕ
-css_byte byte = if byte == 0x3C then codes "\\3C " else byte ∷ []
+css_byte byte =
+    if byte == 0x3C then codes "\\3C "
+    else if byte == 0x22 then codes "\\22 "
+    else if byte == 0x5C then codes "\\5C "
+    else byte ∷ []
 
 abbrev pub css_string : List ℕ → List ℕ
 css_string text = flat_map css_byte text

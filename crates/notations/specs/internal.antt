@@ -2,3 +2,4 @@
 pub mod Parts
 pub mod Looks
 pub mod Pens
+pub mod Titles

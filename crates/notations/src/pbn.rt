@@ -12,7 +12,8 @@ ghost use Rattle.pbn_text.specs.Games.{board_text, heading_text, label, tag};
 use crate::dotted::{put_deal, seat_letter};
 use crate::names::vulnerable_name;
 use crate::results::{five_of, put_given, put_two_columns};
-use boards::{Board, Date, Heading, Label, Show, SuitLetters, TextBuffer, Tricks};
+use boards::{Board, Date, Show, SuitLetters, TextBuffer, Tricks};
+use captions::{Caption, Captions};
 use cards::Seat;
 
 /// Writes the board's game into the empty buffer.
@@ -20,7 +21,7 @@ use cards::Seat;
 pub(crate) fn put_game(
     text: &mut TextBuffer,
     letters: &SuitLetters,
-    heading: &Heading,
+    heading: &Captions,
     show: Show,
     tricks: Option<&Tricks>,
     board: &Board,
@@ -39,24 +40,24 @@ pub(crate) fn put_game(
 }
 
 /// Appends the lines of the given labels.
-fn put_heading(text: &mut TextBuffer, heading: &Heading)
-    requires { length text.old + 400 ≤ CAPACITY }
+fn put_heading(text: &mut TextBuffer, heading: &Captions)
+    requires { length text.old + 1_000 ≤ CAPACITY }
     ensures text { text.new ≡ text.old ++ heading_text heading.now }
-    ensures most { length text.new ≤ length text.old + 300 }
+    ensures most { length text.new ≤ length text.old + 900 }
 {
-    put_label(text, b"Event", &heading.event);
-    put_label(text, b"Site", &heading.site);
-    put_date(text, &heading.date);
+    put_caption(text, b"Event", heading.event());
+    put_caption(text, b"Site", heading.site());
+    put_date(text, heading.date());
 }
 
 /// Appends the line of the label, if it is given.
-fn put_label(text: &mut TextBuffer, name: &[u8], given: &Option<Label>)
-    requires { length text.old + length name.now + 106 ≤ CAPACITY }
+fn put_caption(text: &mut TextBuffer, name: &[u8], given: &Option<Caption>)
+    requires { length text.old + length name.now + 406 ≤ CAPACITY }
     ensures text { text.new ≡ text.old ++ label name.now given.now }
-    ensures most { length text.new ≤ length text.old + length name.now + 106 }
+    ensures most { length text.new ≤ length text.old + length name.now + 406 }
 {
-    if let Some(label) = given {
-        put_tag(text, name, label.as_bytes());
+    if let Some(caption) = given {
+        put_tag(text, name, caption.as_bytes());
     }
 }
 

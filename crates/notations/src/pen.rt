@@ -2,12 +2,14 @@
 
 ghost use Rattle.std.specs.Prelude.{◌≡◌, [], IfOk, true};
 ghost use Rattle.std.specs.Option.{option_copied};
+ghost use Rattle.captions.specs.Captions.{captions_in};
 ghost use Rattle.notations.specs.Formats.{board_text, footer_of};
 ghost use Rattle.notations.specs.Tricks.{or_nothing};
 ghost use Rattle.notations.specs.internal.Pens.{IsPlain, IsUnder, Writes, format_of, text_of};
 
 use crate::{hands, json, lin, numbers, page, pbn, sheet, slips};
-use boards::{Board, Format, Heading, Show, SuitLetters, TextBuffer, Tricks};
+use boards::{Board, Format, Show, SuitLetters, TextBuffer, Tricks};
+use captions::Captions;
 use pbn_text::Printer;
 use std::alloc::{AllocError, Global};
 
@@ -34,15 +36,15 @@ impl Pen {
         alloc: Global,
         format: Format,
         is_plain: bool,
-        heading: &Heading,
+        captions: &Captions,
     ) -> Result<Pen, AllocError>
         ensures format { IfOk result (λ pen. format_of pen ≡ format) }
-        ensures heading { IfOk result (λ pen. IsUnder heading.now pen) }
+        ensures heading { IfOk result (λ pen. IsUnder (captions_in format captions.now) pen) }
         ensures text { IfOk result (λ pen. text_of pen [] ≡ []) }
         ensures plain { IfOk result (λ pen. IsPlain pen → is_plain ≡ true) }
     {
         match format {
-            Format::Pbn if is_plain => Ok(Pen::Games(Printer::new(alloc, heading)?)),
+            Format::Pbn if is_plain => Ok(Pen::Games(Printer::new(alloc, &captions.labels())?)),
             Format::Pbn => Ok(Pen::Pbn(SuitLetters::new(alloc)?)),
             Format::Hands => Ok(Pen::Hands(SuitLetters::new(alloc)?)),
             Format::Lin => Ok(Pen::Lin(SuitLetters::new(alloc)?)),
@@ -58,7 +60,7 @@ impl Pen {
     pub(crate) fn put(
         &mut self,
         text: &mut TextBuffer,
-        heading: &Heading,
+        heading: &Captions,
         show: Show,
         tricks: Option<&Tricks>,
         board: &Board,

@@ -4,6 +4,7 @@ ghost use Rattle.std.specs.Prelude.{◌≡◌, ◌≢◌, [], IfOk, None, Some};
 ghost use Rattle.notations.specs.Formats.{HasPrinted, beside_hands, board_text, footer_of, header_of, header_with_tricks, layout_in};
 ghost use Rattle.notations.specs.Formats.{layout_of, layout_showing, layout_with};
 ghost use Rattle.boards.specs.TricksLines.{nothing_known};
+ghost use Rattle.captions.specs.Captions.{captions_in};
 ghost use Rattle.notations.specs.internal.Pens.{footer_after, format_of};
 
 use crate::page::Look;
@@ -11,7 +12,8 @@ use crate::pen::Pen;
 use crate::shown::{beside, is_all};
 use crate::table::Table;
 use crate::{hands, page};
-use boards::{Board, Format, Heading, Notation, Show, TextBuffer, Tricks};
+use boards::{Board, Format, Notation, Show, TextBuffer, Tricks};
+use captions::Captions;
 use pbn_text::HEADER;
 use sinks::{Sink, SinkFault, put_all};
 use std::alloc::{AllocError, Global};
@@ -24,7 +26,7 @@ use std::marker::Model;
 /// need none at all.
 pub struct AnyPrinter {
     show: Show,
-    heading: Heading,
+    heading: Captions,
     header: TextBuffer,
     pen: Pen,
     tricks: Option<Table>,
@@ -70,24 +72,24 @@ impl Drop for AnyPrinter {
 }
 
 impl AnyPrinter {
-    /// Returns a printer in the format and under the heading, which has printed nothing. It shows
-    /// all hands.
+    /// Returns a printer in the format and under those captions that the format can write, which
+    /// has printed nothing. It shows all hands.
     ///
     /// # Errors
     /// `AllocError` if the allocation of its memory failed.
-    pub fn new(alloc: Global, format: Format, heading: &Heading) -> Result<AnyPrinter, AllocError>
+    pub fn new(alloc: Global, format: Format, captions: &Captions) -> Result<AnyPrinter, AllocError>
         ensures format { IfOk result (λ p. p.format ≡ format) }
-        ensures heading { IfOk result (λ p. p.heading ≡ heading.now) }
+        ensures heading { IfOk result (λ p. p.heading ≡ captions_in format captions.now) }
         ensures layout { IfOk result (λ p. ⟦<AnyPrinter as Notation>⟧.layout p
-            ≡ layout_of format heading.now) }
+            ≡ layout_of format (captions_in format captions.now)) }
         ensures text { IfOk result (λ p. p.text ≡ []) }
         ensures printed { IfOk result (λ p. ⟦<AnyPrinter as Notation>⟧.has_printed p []) }
     {
-        AnyPrinter::showing(alloc, format, Show::ALL, heading)
+        AnyPrinter::showing(alloc, format, Show::ALL, captions)
     }
 
-    /// Returns a printer in the format and under the heading that shows these hands and has printed
-    /// nothing.
+    /// Returns a printer in the format and under those captions that the format can write, which
+    /// shows these hands and has printed nothing.
     ///
     /// # Errors
     /// `AllocError` if the allocation of its memory failed.
@@ -95,23 +97,24 @@ impl AnyPrinter {
         alloc: Global,
         format: Format,
         show: Show,
-        heading: &Heading,
+        captions: &Captions,
     ) -> Result<AnyPrinter, AllocError>
         ensures format { IfOk result (λ p. p.format ≡ format) }
         ensures show { IfOk result (λ p. p.show ≡ show) }
-        ensures heading { IfOk result (λ p. p.heading ≡ heading.now) }
+        ensures heading { IfOk result (λ p. p.heading ≡ captions_in format captions.now) }
         ensures tricks { IfOk result (λ p. p.tricks ≡ None) }
         ensures layout { IfOk result (λ p. ⟦<AnyPrinter as Notation>⟧.layout p
-            ≡ layout_showing format show heading.now) }
+            ≡ layout_showing format show (captions_in format captions.now)) }
         ensures text { IfOk result (λ p. p.text ≡ []) }
         ensures printed { IfOk result (λ p. ⟦<AnyPrinter as Notation>⟧.has_printed p []) }
     {
-        let pen = Pen::new(alloc, format, is_all(show), heading)?;
+        let pen = Pen::new(alloc, format, is_all(show), captions)?;
+        let heading = captions.in_format(format);
         let mut header = TextBuffer::new();
-        put_header(&mut header, format, heading);
+        put_header(&mut header, format, &heading);
         Ok(AnyPrinter {
             show,
-            heading: *heading,
+            heading,
             header,
             pen,
             tricks: None,
@@ -120,10 +123,10 @@ impl AnyPrinter {
         })
     }
 
-    /// Returns a printer in the format and under the heading that shows these hands and has printed
-    /// nothing. It writes the board of number `first + i` with line i of the tricks, which are
-    /// written only beside all hands. Of a board without a line it writes nothing, and no footer
-    /// after more boards than there are lines.
+    /// Returns a printer in the format and under those captions that the format can write, which
+    /// shows these hands and has printed nothing. It writes the board of number `first + i` with
+    /// line i of the tricks, which are written only beside all hands. Of a board without a line it
+    /// writes nothing, and no footer after more boards than there are lines.
     ///
     /// # Errors
     /// `AllocError` if the allocation of its memory failed.
@@ -131,26 +134,27 @@ impl AnyPrinter {
         alloc: Global,
         format: Format,
         show: Show,
-        heading: &Heading,
+        captions: &Captions,
         first: u64,
         table: Vec<Tricks>,
     ) -> Result<AnyPrinter, AllocError>
         ensures format { IfOk result (λ p. p.format ≡ format) }
         ensures show { IfOk result (λ p. p.show ≡ show) }
-        ensures heading { IfOk result (λ p. p.heading ≡ heading.now) }
+        ensures heading { IfOk result (λ p. p.heading ≡ captions_in format captions.now) }
         ensures tricks { IfOk result (λ p. p.tricks
             ≡ Some (record { first = first; lines = table.items })) }
         ensures layout { IfOk result (λ p. ⟦<AnyPrinter as Notation>⟧.layout p
-            ≡ layout_with format show heading.now first table.items) }
+            ≡ layout_with format show (captions_in format captions.now) first table.items) }
         ensures text { IfOk result (λ p. p.text ≡ []) }
         ensures printed { IfOk result (λ p. ⟦<AnyPrinter as Notation>⟧.has_printed p []) }
     {
-        let pen = Pen::new(alloc, format, false, heading)?;
+        let pen = Pen::new(alloc, format, false, captions)?;
+        let heading = captions.in_format(format);
         let mut header = TextBuffer::new();
-        put_header_with_tricks(&mut header, format, heading);
+        put_header_with_tricks(&mut header, format, &heading);
         Ok(AnyPrinter {
             show,
-            heading: *heading,
+            heading,
             header,
             pen,
             tricks: Some(Table {
@@ -244,7 +248,7 @@ fn footer(pen: &Pen, tricks: &Option<Table>, boards: usize) -> &'static [u8]
 }
 
 /// Writes the format's header into the empty buffer.
-fn put_header(text: &mut TextBuffer, format: Format, heading: &Heading)
+fn put_header(text: &mut TextBuffer, format: Format, heading: &Captions)
     requires { text.old ≡ [] }
     ensures { text.new ≡ header_of format heading.now }
 {
@@ -259,7 +263,7 @@ fn put_header(text: &mut TextBuffer, format: Format, heading: &Heading)
 }
 
 /// Writes the format's header before boards with tricks into the empty buffer.
-fn put_header_with_tricks(text: &mut TextBuffer, format: Format, heading: &Heading)
+fn put_header_with_tricks(text: &mut TextBuffer, format: Format, heading: &Captions)
     requires { text.old ≡ [] }
     ensures { text.new ≡ header_with_tricks format heading.now }
 {

@@ -1,10 +1,12 @@
 //! The printer of boards of which some may have tricks.
 
 ghost use Rattle.std.specs.Prelude.{◌≡◌, [], IfOk};
+ghost use Rattle.captions.specs.Captions.{captions_in};
 ghost use Rattle.notations.specs.Formats.{layout_solved};
 
 use crate::printer::AnyPrinter;
-use boards::{Board, Format, Heading, Notation, Show, SolvedNotation, Tricks};
+use boards::{Board, Format, Notation, Show, SolvedNotation, Tricks};
+use captions::Captions;
 use std::alloc::{AllocError, Global};
 use std::marker::Model;
 
@@ -46,8 +48,9 @@ impl Model for SolvedPrinter {
 }
 
 impl SolvedPrinter {
-    /// Returns a printer in the format and under the heading that shows these hands and has printed
-    /// nothing. Where tricks are expected, its header is one before boards with tricks.
+    /// Returns a printer in the format and under those captions that the format can write, which
+    /// shows these hands and has printed nothing. Where tricks are expected, its header is one
+    /// before boards with tricks.
     ///
     /// # Errors
     /// `AllocError` if the allocation of its memory failed.
@@ -55,16 +58,16 @@ impl SolvedPrinter {
         alloc: Global,
         format: Format,
         show: Show,
-        heading: &Heading,
+        captions: &Captions,
         expects: bool,
     ) -> Result<SolvedPrinter, AllocError>
         ensures layout { IfOk result (λ p. ⟦<SolvedPrinter as SolvedNotation>⟧.layout p
-            ≡ layout_solved format show heading.now expects) }
+            ≡ layout_solved format show (captions_in format captions.now) expects) }
         ensures text { IfOk result (λ p. p.text ≡ []) }
     {
-        let plain = AnyPrinter::showing(alloc, format, show, heading)?;
+        let plain = AnyPrinter::showing(alloc, format, show, captions)?;
         let none = Vec::new(alloc);
-        let solved = AnyPrinter::with_tricks(alloc, format, show, heading, 1, none)?;
+        let solved = AnyPrinter::with_tricks(alloc, format, show, captions, 1, none)?;
         Ok(SolvedPrinter {
             plain,
             solved,

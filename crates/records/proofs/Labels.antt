@@ -1,30 +1,18 @@
 -- Which values are labels and dates.
 use Rattle.std.proofs.Common.{◌≡◌, ◌↔◌, ◌≤◌, ℕ, Bool, true, false, List, [], ◌∷◌, length, Option, None, Some, arith, refl, rules, sym, ◌∙◌}
-use Rattle.std.specs.Prelude.{IfSome, IsSome, if◌then◌else◌, nat_le}
+use Rattle.std.specs.Prelude.{◌==◌, IfSome, IsSome, if◌then◌else◌}
 use Rattle.std.specs.Char.{is_ascii_digit}
 use Rattle.std.specs.List.{All, list_all}
 use Rattle.std.specs.Bool.{Decides}
 use Rattle.std.proofs.lemmas.Bool.{le-leb, leb-true, false≢true}
 use Rattle.std.proofs.lemmas.Bool.Decides.{Decides-and, Decides-by_and, Decides-eqb, Decides-like, Decides-not}
-use Rattle.std.proofs.lemmas.List.Elements.{All-cons, All-nil}
+use Rattle.std.proofs.lemmas.List.Elements.{All-cons, All-nil, All-tail}
+use Rattle.std.proofs.lemmas.Bool.{and_from, ne_eqb, not_from_false}
 use Rattle.boards.specs.Labels.{IsDate, IsLabel, IsLabelByte}
 use Rattle.boards.proofs.Dates.{length-date, places_from_date}
-use Rattle.records.specs.Values.{date_in, is_date, is_label, is_label_byte, is_no_label, label_in}
-
--- ---- labels
-
-at_most : (a b : ℕ) → Decides (nat_le a b) (a ≤ b)
-at_most a b = (leb-true a b, le-leb a b)
-
-byte_decides : (b : ℕ) → Decides (is_label_byte b) (IsLabelByte b)
-byte_decides b =
-    Decides-like (is_label_byte b) (λ h. (h.0, h.1.0, h.1.1.0, h.1.1.1)) (λ h. (h.0, (h.1, (h.2, h.3))))
-    (Decides-and _ _ (at_most 32 b) (Decides-and _ _ (at_most b 126) (Decides-and _ _ (Decides-not _ (Decides-eqb b 34)) (Decides-not _ (Decides-eqb b 92)))))
-
-label_decides : (v : List ℕ) → Decides (is_label v) (IsLabel v)
-label_decides v =
-    Decides-like (is_label v) (λ h. record { short = h.0; printable = h.1 }) (λ h. (h.short, h.printable))
-    (Decides-and _ _ (at_most (length v) 100) (Decides-by_and is_label_byte IsLabelByte (list_all is_label_byte) byte_decides refl (λ x xs. refl) v))
+use Rattle.captions.proofs.OfLabels.{label_is_caption}
+use Rattle.captions.proofs.Tested.{at_most, by_test}
+use Rattle.records.specs.Values.{date_in, is_date, is_no_label, is_unescaped, label_in}
 
 -- ---- dates
 
@@ -95,25 +83,20 @@ date_decides (a ∷ b ∷ c ∷ d ∷ e ∷ f ∷ g ∷ h ∷ k ∷ l ∷ m ∷ 
 
 -- ---- what is made of a value
 
-by_test : (P : Type 0) (test : Bool) (v : List ℕ) (r : Option (List ℕ)) → Decides test P → IsSome r ↔ P → IfSome r (λ l. l ≡ v) → r ≡ (if test then Some v else None)
-by_test P true v (Some l) d sound kept = rw kept refl
-by_test P true v None d sound kept = absurd (let t = sound.1 (d.0 refl) in search rules)
-by_test P false v None d sound kept = refl
-by_test P false v (Some l) d sound kept = absurd (let t = d.1 (sound.0 refl) in false≢true t)
-
-pub label_made : (v : List ℕ) (r : Option (List ℕ)) → is_no_label v ≡ false → IsSome r ↔ IsLabel v → IfSome r (λ l. l ≡ v) → r ≡ label_in v
-unfolding label_in
-label_made v r other sound kept = rw other (by_test (IsLabel v) (is_label v) v r (label_decides v) sound kept)
-
 pub date_made : (v : List ℕ) (r : Option (List ℕ)) → IsSome r ↔ IsDate v → IfSome r (λ l. l ≡ v) → r ≡ date_in v
 unfolding date_in
 date_made v r sound kept = by_test (IsDate v) (is_date v) v r (date_decides v) sound kept
 
 -- ---- values that are labels and dates
 
+unescaped : (v : List ℕ) → All IsLabelByte v → is_unescaped v ≡ true
+unescaped [] all = refl
+unescaped (b ∷ bs) all =
+    and_from _ _ (not_from_false (b == 0x5C) (ne_eqb b 0x5C (all 0 b (omega arith)).3)) (unescaped bs (All-tail IsLabelByte b bs all))
+
 pub label_again : (v : List ℕ) → IsLabel v → label_in v ≡ (if is_no_label v then None else Some v)
 unfolding label_in
-label_again v label = rw ((label_decides v).1 label) refl
+label_again v label = rw (unescaped v label.printable, label_is_caption v label) refl
 
 pub date_again : (v : List ℕ) → IsDate v → date_in v ≡ Some v
 unfolding date_in

@@ -7,16 +7,9 @@ use Rattle.std.specs.List.{list_all}
 use Rattle.std.specs.Str.Parse.{digits_value}
 use Rattle.boards.specs.declared.setting.Vul.{Vul}
 use Rattle.boards.specs.declared.setting.Vul.TheVariants.{Neither, NorthSouth, EastWest, Both}
+use Rattle.captions.specs.Captions.{caption_of}
 use Rattle.cards.specs.declared.seat.Seat.{Seat}
 use Rattle.cards.specs.declared.seat.Seat.TheVariants.{North, East, South, West}
-
--- a printable character of ASCII other than the quote and the backslash
-abbrev pub is_label_byte : ℕ → Bool
-is_label_byte b = nat_le 32 b && (nat_le b 126 && (not (b == 34) && not (b == 92)))
-
--- at most 100 of them
-abbrev pub is_label : List ℕ → Bool
-is_label value = nat_le (length value) 100 && list_all is_label_byte value
 
 -- YYYY.MM.DD
 abbrev pub is_date : List ℕ → Bool
@@ -30,10 +23,14 @@ is_date _ = false
 abbrev pub is_no_label : List ℕ → Bool
 is_no_label value = bytes_eq value (codes "?") || bytes_eq value (codes "#")
 
+-- no backslash is before a sign
+abbrev pub is_unescaped : List ℕ → Bool
+is_unescaped value = list_all (λ byte. not (byte == 0x5C)) value
+
 unfoldable pub label_in : List ℕ → Option (List ℕ)
 label_in value =
     if is_no_label value then None
-    else (if is_label value then Some value else None)
+    else (if is_unescaped value then caption_of value else None)
 
 unfoldable pub date_in : List ℕ → Option (List ℕ)
 date_in value = if is_date value then Some value else None

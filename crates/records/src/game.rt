@@ -12,7 +12,8 @@ use crate::kind::Kind;
 use crate::values::{
     Short, date_in, dealer_in, is_unknown, label_in, number_in, short_in, vulnerable_in,
 };
-use boards::{Board, Date, Heading, Label, Tricks, Vul, dealer, vulnerable};
+use boards::{Board, Date, Tricks, Vul, dealer, vulnerable};
+use captions::{Caption, Captions};
 use cards::{Deal, Seat};
 
 /// No candidate has this number.
@@ -22,7 +23,7 @@ const NO_CANDIDATE: u64 = 1 << 40;
 #[derive(Drop)]
 pub struct Told {
     pub board: Board,
-    pub heading: Heading,
+    pub heading: Captions,
     pub tricks: Tricks,
 }
 
@@ -32,8 +33,8 @@ pub struct Told {
 /// tag.
 #[derive(Drop)]
 pub struct Game {
-    pub event: Option<Option<Label>>,
-    pub site: Option<Option<Label>>,
+    pub event: Option<Option<Caption>>,
+    pub site: Option<Option<Caption>>,
     pub date: Option<Option<Date>>,
     pub number: Option<u64>,
     pub dealer: Option<Option<Seat>>,
@@ -193,14 +194,14 @@ impl Game {
     }
 
     /// The labels of the game.
-    fn heading(&self) -> Heading
+    fn heading(&self) -> Captions
         ensures { result ≡ heading_of self.now }
     {
-        Heading {
-            event: self.event.unwrap_or(None),
-            site: self.site.unwrap_or(None),
-            date: self.date.unwrap_or(None),
-        }
+        Captions::new(
+            self.event.unwrap_or(None),
+            self.site.unwrap_or(None),
+            self.date.unwrap_or(None),
+        )
     }
 
     /// What the tags tell of the board's tricks.

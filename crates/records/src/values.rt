@@ -2,10 +2,11 @@
 
 ghost use Rattle.std.specs.Prelude.{◌≡◌, ◌≤◌, ◌^◌};
 ghost use Rattle.records.specs.Values.{date_in, dealer_in, is_no_label, is_unknown, is_word};
-ghost use Rattle.records.specs.Values.{label_in, number_in, short_in, vulnerable_in};
+ghost use Rattle.records.specs.Values.{is_unescaped, label_in, number_in, short_in, vulnerable_in};
 
 use arrayvec::ArrayVec;
-use boards::{Date, Label, Vul};
+use boards::{Date, Vul};
+use captions::Caption;
 use cards::Seat;
 use std::marker::Model;
 
@@ -37,14 +38,23 @@ fn is_no_label(value: &[u8]) -> bool
     value == b"?".as_slice() || value == b"#".as_slice()
 }
 
+/// Whether no backslash is before a sign of the value.
+fn is_unescaped(value: &[u8]) -> bool
+    ensures { result ≡ is_unescaped value.now }
+{
+    value.iter().all(|byte| *byte != b'\\')
+}
+
 /// The event or the site of a value, unless it is none.
-pub(crate) fn label_in(value: &[u8]) -> Option<Label>
+pub(crate) fn label_in(value: &[u8]) -> Option<Caption>
     ensures { result ≡ label_in value.now }
 {
     if is_no_label(value) {
         None
+    } else if is_unescaped(value) {
+        Caption::new(value)
     } else {
-        Label::new(value)
+        None
     }
 }
 

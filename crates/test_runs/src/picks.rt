@@ -1,6 +1,7 @@
 //! Lines of LIN that were worked out by hand, of two candidates of seed 0, picked by their numbers.
 
 use crate::support::{equals, holds};
+use captions::Captions;
 use notations::{AnyPrinter, Format};
 use picking::{LineFault, NoBytes, PickFault, Reader, RefusedLine, pick};
 use plans::Plan;
@@ -52,7 +53,7 @@ fn check<R: Read + Drop>(
     text: &[u8],
 ) -> std::result::Result<(), Fail> {
     let plan = Plan::new(0, 0, 0, 1, 64)?;
-    let mut printer = AnyPrinter::new(rt.alloc(), Format::Lin, plan.heading())?;
+    let mut printer = AnyPrinter::new(rt.alloc(), Format::Lin, &Captions::none())?;
     let mut input = Reader::new(reader);
     let mut sink = MemSink::new(rt.alloc());
     let ended = pick(&plan, &mut printer, &mut input, &mut sink);
@@ -99,7 +100,7 @@ fn picks_nothing(
     rt: &(impl Abort + AllocGlobal),
     plan: &Plan,
 ) -> std::result::Result<(), AllocError> {
-    let mut printer = AnyPrinter::new(rt.alloc(), Format::Lin, plan.heading())?;
+    let mut printer = AnyPrinter::new(rt.alloc(), Format::Lin, &Captions::none())?;
     let mut sink = MemSink::new(rt.alloc());
     let ended = pick(plan, &mut printer, &mut NoBytes, &mut sink);
     equals(rt, &ended, &Ok(0));
@@ -111,7 +112,7 @@ fn picks_until_the_output_fails(
     rt: &(impl Abort + AllocGlobal),
     plan: &Plan,
 ) -> std::result::Result<(), AllocError> {
-    let mut printer = AnyPrinter::new(rt.alloc(), Format::Lin, plan.heading())?;
+    let mut printer = AnyPrinter::new(rt.alloc(), Format::Lin, &Captions::none())?;
     let mut sink = Fuse::new(MemSink::new(rt.alloc()), 2, 1000, true);
     let mut input = Reader::new(b"0\n1\n".as_slice());
     let ended = pick(plan, &mut printer, &mut input, &mut sink);

@@ -23,6 +23,7 @@ use Rattle.picking.specs.FourBytes.{EndsBefore}
 use Rattle.picking.specs.declared.fault.PickFault.{PickFault}
 use Rattle.picking.specs.declared.fault.PickFault.TheVariants as picks
 use Rattle.records.specs.Shown.{FaultsOf}
+use Rattle.captions.specs.Captions.{captions_in}
 use Rattle.deals_cli.specs.Picked.{PicksAs}
 use Rattle.deals_cli.specs.Shown.{ShowsUnder}
 use Rattle.records.specs.declared.shown.ShowFault.{ShowFault}
@@ -73,10 +74,12 @@ EndsWritten layout plan form (Err cause) old new = InterruptsRun layout plan for
 -- a run wrote its text and was counted, or was interrupted
 abbrev pub EndsBoards : BoardsJob → Result Report Cause → (old new : Option (List ℕ)) → Type 0
 EndsBoards job (Ok report) old new =
-    AppendsAll old new (text_showing job.format job.show job.plan job.condition)
+    AppendsAll old new
+    (text_showing job.format job.show (captions_in job.format job.heading) job.plan job.condition)
     × Counts job.format job.plan job.condition report
 EndsBoards job (Err cause) old new =
-    InterruptsWorked (layout_showing job.format job.show job.plan.heading) job.plan job.workers
+    InterruptsWorked (layout_showing job.format job.show (captions_in job.format job.heading))
+    job.plan job.workers
     job.condition cause old new
 
 -- the plan with this many workers as are asked for
@@ -128,7 +131,8 @@ FaultsOfRun (Err cause) old new = FaultsAfter cause old new
 abbrev pub EndsPicked : {T E : Type 0} → (tricks : Bool) → PickJob → Result (Result T PickFault) E
     → (before after old new : Option (List ℕ)) → Type 0
 EndsPicked tricks job (Ok result) before after old new =
-    PicksAs tricks job.format job.show job.plan result before after old new
+    PicksAs tricks job.format job.show (captions_in job.format job.heading) job.plan result
+    before after old new
 EndsPicked tricks job (Err e) before after old new = (after ≡ before) × (new ≡ old)
 
 abbrev pub FaultsPicked : {T E : Type 0} → Result (Result T PickFault) E → (old new : ℕ) → Type 0
@@ -142,7 +146,8 @@ CountsPicked (Err e) old new = new ≡ old
 abbrev pub PicksFor : {T : Type 0} → PickJob → Result T PickFault
     → (before after old new : Option (List ℕ)) → Type 0
 PicksFor job result before after old new =
-    PicksAs job.tricks job.format job.show job.plan result before after old new
+    PicksAs job.tricks job.format job.show (captions_in job.format job.heading) job.plan result
+    before after old new
 
 -- picking wrote all boards, or ended with a fault. The output may also fail where what is
 -- before a fault of the input is passed on

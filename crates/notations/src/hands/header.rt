@@ -4,28 +4,29 @@ ghost use Rattle.std.specs.Prelude.{◌≡◌, ◌≤◌, ◌+◌, ◌++◌, [],
 ghost use Rattle.boards.specs.declared.buffer.TheConstants.{CAPACITY};
 ghost use Rattle.notations.specs.Records.{header_text, label_line};
 
-use boards::{Date, Heading, Label, TextBuffer};
+use boards::{Date, TextBuffer};
+use captions::{Caption, Captions};
 
 /// Writes the header into the empty buffer.
-pub(crate) fn put_header(text: &mut TextBuffer, heading: &Heading)
+pub(crate) fn put_header(text: &mut TextBuffer, heading: &Captions)
     requires { text.old ≡ [] }
     ensures { text.new ≡ header_text heading.now }
 {
-    put_label(text, &heading.event);
-    put_label(text, &heading.site);
-    put_date(text, &heading.date);
+    put_caption(text, heading.event());
+    put_caption(text, heading.site());
+    put_date(text, heading.date());
     if text.len() > 0 {
         text.put(b"\n");
     }
 }
 
-fn put_label(text: &mut TextBuffer, label: &Option<Label>)
-    requires { length text.old + 101 ≤ CAPACITY }
-    ensures text { text.new ≡ text.old ++ label_line label.now }
-    ensures most { length text.new ≤ length text.old + 101 }
+fn put_caption(text: &mut TextBuffer, caption: &Option<Caption>)
+    requires { length text.old + 401 ≤ CAPACITY }
+    ensures text { text.new ≡ text.old ++ label_line caption.now }
+    ensures most { length text.new ≤ length text.old + 401 }
 {
-    if let Some(label) = label {
-        text.put(label.as_bytes());
+    if let Some(caption) = caption {
+        text.put(caption.as_bytes());
         text.put(b"\n");
     }
 }

@@ -1,15 +1,18 @@
 //! The header: the title, of the given labels, and the style.
 
-ghost use Rattle.std.specs.Prelude.{◌≡◌, ◌≤◌, ◌+◌, ◌*◌, ◌++◌, [], length};
+ghost use Rattle.std.specs.Prelude.{◌≡◌, ◌≤◌, ◌+◌, ◌++◌, [], ℕ, Some, length};
 ghost use Rattle.boards.specs.declared.buffer.TheConstants.{CAPACITY};
+ghost use Rattle.captions.specs.Room.{room, room_of};
 ghost use Rattle.notations.specs.Pages.{escaped, escaped_byte, header_text, is_blank, joined};
 ghost use Rattle.notations.specs.Pages.{opening, shown, title_of};
 ghost use Rattle.notations.specs.internal.Looks.{style_of};
+ghost use Rattle.notations.specs.internal.Titles.{AddsAtMost, IsWithin};
 
 use crate::page::style::{put_style, put_style_with_tricks};
 use crate::sheet::put_sheet_style;
 use crate::slips::put_slip_style;
-use boards::{Date, Heading, Label, TextBuffer};
+use boards::{Date, TextBuffer};
+use captions::{Caption, Captions};
 
 /// How a page looks.
 #[derive(Clone, Copy)]
@@ -25,7 +28,7 @@ pub(crate) enum Look {
 }
 
 /// Writes the header into the empty buffer.
-pub(crate) fn put_header(text: &mut TextBuffer, look: Look, heading: &Heading)
+pub(crate) fn put_header(text: &mut TextBuffer, look: Look, heading: &Captions)
     requires { text.old ≡ [] }
     ensures { text.new ≡ header_text (style_of look) heading.now }
 {
@@ -43,9 +46,9 @@ pub(crate) fn put_header(text: &mut TextBuffer, look: Look, heading: &Heading)
 
 /// Appends the style of a page that looks so and has this title.
 fn put_look(text: &mut TextBuffer, look: Look, title: &[u8])
-    requires { length text.old + 1_820 + 4 * length title.now ≤ CAPACITY }
+    requires { length text.old + 1_820 + room 4 title.now ≤ CAPACITY }
     ensures text { text.new ≡ text.old ++ style_of look title.now }
-    ensures most { length text.new ≤ length text.old + 1_820 + 4 * length title.now }
+    ensures most { length text.new ≤ length text.old + 1_820 + room 4 title.now }
 {
     match look {
         Look::Plain => put_style(text, title),
@@ -67,33 +70,34 @@ fn put_opening(text: &mut TextBuffer)
 }
 
 /// Writes the title into the empty buffer: event, site and date.
-fn put_title(title: &mut TextBuffer, heading: &Heading)
+fn put_title(title: &mut TextBuffer, heading: &Captions)
     requires { title.old ≡ [] }
     ensures text { title.new ≡ title_of heading.now }
-    ensures most { length title.new ≤ 216 }
+    ensures wide { room 5 title.new ≤ 1_080 }
+    ensures narrow { room 4 title.new ≤ 864 }
 {
-    put_label(title, &heading.event);
-    put_label(title, &heading.site);
-    put_date(title, &heading.date);
+    put_caption(title, heading.event());
+    put_caption(title, heading.site());
+    put_date(title, heading.date());
     if title.len() == 0 {
         title.put(b"Boards");
     }
 }
 
-fn put_label(title: &mut TextBuffer, label: &Option<Label>)
-    requires { length title.old + 102 ≤ CAPACITY }
-    ensures text { title.new ≡ joined title.old (shown label.now) }
-    ensures most { length title.new ≤ length title.old + 102 }
+fn put_caption(title: &mut TextBuffer, caption: &Option<Caption>)
+    requires { length title.old + 402 ≤ CAPACITY }
+    ensures text { title.new ≡ joined title.old (shown caption.now) }
+    ensures most { AddsAtMost 402 102 title.old title.new }
 {
-    if let Some(label) = label {
-        put_shown(title, label.as_bytes());
+    if let Some(caption) = caption {
+        put_shown(title, caption.as_bytes());
     }
 }
 
 fn put_date(title: &mut TextBuffer, date: &Option<Date>)
     requires { length title.old + 12 ≤ CAPACITY }
     ensures text { title.new ≡ joined title.old (shown date.now) }
-    ensures most { length title.new ≤ length title.old + 12 }
+    ensures most { AddsAtMost 12 12 title.old title.new }
 {
     if let Some(date) = date {
         put_shown(title, date.as_bytes());
@@ -104,7 +108,8 @@ fn put_date(title: &mut TextBuffer, date: &Option<Date>)
 fn put_shown(title: &mut TextBuffer, label: &[u8])
     requires { length title.old + length label.now + 2 ≤ CAPACITY }
     ensures text { title.new ≡ joined title.old (shown (Some label.now)) }
-    ensures most { length title.new ≤ length title.old + length label.now + 2 }
+    ensures most { (n m : ℕ) → length label.now ≤ n → IsWithin m label.now
+        → AddsAtMost (n + 2) (m + 2) title.old title.new }
 {
     if is_blank(label) {
         return;
@@ -124,9 +129,9 @@ fn is_blank(text: &[u8]) -> bool
 
 /// Appends the text with &, < and > as HTML has them.
 fn put_escaped(text: &mut TextBuffer, label: &[u8])
-    requires { length text.old + 5 * length label.now ≤ CAPACITY }
+    requires { length text.old + room 5 label.now ≤ CAPACITY }
     ensures text { text.new ≡ text.old ++ escaped label.now }
-    ensures most { length text.new ≤ length text.old + 5 * length label.now }
+    ensures most { length text.new ≤ length text.old + room 5 label.now }
 {
     for byte in label {
         put_byte(text, *byte);
@@ -136,9 +141,9 @@ fn put_escaped(text: &mut TextBuffer, label: &[u8])
 /// Appends a byte of a text.
 #[tactic(auto, unfolding(crate::specs::Pages::escaped_byte))]
 fn put_byte(text: &mut TextBuffer, byte: u8)
-    requires { length text.old + 5 ≤ CAPACITY }
+    requires { length text.old + room_of 5 byte ≤ CAPACITY }
     ensures text { text.new ≡ text.old ++ escaped_byte byte }
-    ensures most { length text.new ≤ length text.old + 5 }
+    ensures most { length text.new ≤ length text.old + room_of 5 byte }
 {
     match byte {
         b'&' => text.put(b"&amp;"),

@@ -2,6 +2,7 @@
 
 ghost use Rattle.std.specs.Prelude.{◌≡◌, ◌≤◌, ◌+◌, ◌*◌, ◌++◌, length};
 ghost use Rattle.boards.specs.declared.buffer.TheConstants.{CAPACITY};
+ghost use Rattle.captions.specs.Room.{room, room_of};
 ghost use Rattle.notations.specs.Style.{alone_style, beside_style, board_style, css_byte};
 ghost use Rattle.notations.specs.Style.{css_string, first_style, hand_style, number_style, page_style};
 ghost use Rattle.notations.specs.Style.{paper_style, shared_style, sign_style, style, style_with_tricks};
@@ -12,9 +13,9 @@ use boards::TextBuffer;
 /// Appends the style of a page with this title.
 #[tactic(auto, unfolding(crate::specs::Style::style))]
 pub(crate) fn put_style(text: &mut TextBuffer, title: &[u8])
-    requires { length text.old + 1_690 + 4 * length title.now ≤ CAPACITY }
+    requires { length text.old + 1_690 + room 4 title.now ≤ CAPACITY }
     ensures text { text.new ≡ text.old ++ style title.now }
-    ensures most { length text.new ≤ length text.old + 1_690 + 4 * length title.now }
+    ensures most { length text.new ≤ length text.old + 1_690 + room 4 title.now }
 {
     put_shared_style(text, title);
     text.put(alone_style());
@@ -23,9 +24,9 @@ pub(crate) fn put_style(text: &mut TextBuffer, title: &[u8])
 /// Appends the style of a page with this title and with tricks.
 #[tactic(auto, unfolding(crate::specs::Style::style_with_tricks))]
 pub(crate) fn put_style_with_tricks(text: &mut TextBuffer, title: &[u8])
-    requires { length text.old + 1_790 + 4 * length title.now ≤ CAPACITY }
+    requires { length text.old + 1_790 + room 4 title.now ≤ CAPACITY }
     ensures text { text.new ≡ text.old ++ style_with_tricks title.now }
-    ensures most { length text.new ≤ length text.old + 1_790 + 4 * length title.now }
+    ensures most { length text.new ≤ length text.old + 1_790 + room 4 title.now }
 {
     put_shared_style(text, title);
     text.put(table_style());
@@ -35,9 +36,9 @@ pub(crate) fn put_style_with_tricks(text: &mut TextBuffer, title: &[u8])
 /// Appends what the styles of pages with this title share.
 #[tactic(auto, unfolding(crate::specs::Style::shared_style))]
 fn put_shared_style(text: &mut TextBuffer, title: &[u8])
-    requires { length text.old + 1_500 + 4 * length title.now ≤ CAPACITY }
+    requires { length text.old + 1_500 + room 4 title.now ≤ CAPACITY }
     ensures text { text.new ≡ text.old ++ shared_style title.now }
-    ensures most { length text.new ≤ length text.old + 1_500 + 4 * length title.now }
+    ensures most { length text.new ≤ length text.old + 1_500 + room 4 title.now }
 {
     text.put(page_style());
     text.put(board_style());
@@ -117,9 +118,9 @@ pub(crate) fn sign_style() -> &'static [u8]
 /// On paper the title is at the top of each sheet.
 #[tactic(auto, unfolding(crate::specs::Style::title_style))]
 pub(crate) fn put_title_style(text: &mut TextBuffer, title: &[u8])
-    requires { length text.old + 90 + 4 * length title.now ≤ CAPACITY }
+    requires { length text.old + 90 + room 4 title.now ≤ CAPACITY }
     ensures text { text.new ≡ text.old ++ title_style title.now }
-    ensures most { length text.new ≤ length text.old + 90 + 4 * length title.now }
+    ensures most { length text.new ≤ length text.old + 90 + room 4 title.now }
 {
     text.put(b"@page{margin:13mm 9mm 10mm;@top-left{content:\"");
     put_string(text, title);
@@ -145,12 +146,11 @@ fn first_style() -> &'static [u8]
     b"@page:first{@top-left{content:\"\"}}\n"
 }
 
-/// Appends the text as a string of CSS. A label has no quote and no backslash; `<` is escaped, so
-/// that no text ends the style.
+/// Appends the text as a string of CSS, of which no text ends the style or the string.
 fn put_string(text: &mut TextBuffer, title: &[u8])
-    requires { length text.old + 4 * length title.now ≤ CAPACITY }
+    requires { length text.old + room 4 title.now ≤ CAPACITY }
     ensures text { text.new ≡ text.old ++ css_string title.now }
-    ensures most { length text.new ≤ length text.old + 4 * length title.now }
+    ensures most { length text.new ≤ length text.old + room 4 title.now }
 {
     for byte in title {
         put_css_byte(text, *byte);
@@ -160,12 +160,14 @@ fn put_string(text: &mut TextBuffer, title: &[u8])
 /// Appends a byte of a string of CSS.
 #[tactic(auto, unfolding(crate::specs::Style::css_byte))]
 fn put_css_byte(text: &mut TextBuffer, byte: u8)
-    requires { length text.old + 4 ≤ CAPACITY }
+    requires { length text.old + room_of 4 byte ≤ CAPACITY }
     ensures text { text.new ≡ text.old ++ css_byte byte }
-    ensures most { length text.new ≤ length text.old + 4 }
+    ensures most { length text.new ≤ length text.old + room_of 4 byte }
 {
     match byte {
         b'<' => text.put(b"\\3C "),
+        b'"' => text.put(b"\\22 "),
+        b'\\' => text.put(b"\\5C "),
         _ => text.put(&[byte]),
     }
 }

@@ -2,6 +2,7 @@
 
 ghost use Rattle.std.specs.Prelude.{◌≡◌, ◌≤◌, ◌+◌, ◌*◌, ◌++◌, length};
 ghost use Rattle.boards.specs.declared.buffer.TheConstants.{CAPACITY};
+ghost use Rattle.captions.specs.Room.{room};
 ghost use Rattle.notations.specs.SheetStyle.{corner_style, middle_style, print_style, seat_style};
 ghost use Rattle.notations.specs.SheetStyle.{section_style, sheet_style};
 
@@ -13,9 +14,9 @@ use boards::TextBuffer;
 /// Appends the style of a sheet with this title.
 #[tactic(auto, unfolding(crate::specs::SheetStyle::sheet_style))]
 pub(crate) fn put_sheet_style(text: &mut TextBuffer, title: &[u8])
-    requires { length text.old + 1_820 + 4 * length title.now ≤ CAPACITY }
+    requires { length text.old + 1_820 + room 4 title.now ≤ CAPACITY }
     ensures text { text.new ≡ text.old ++ sheet_style title.now }
-    ensures most { length text.new ≤ length text.old + 1_820 + 4 * length title.now }
+    ensures most { length text.new ≤ length text.old + 1_820 + room 4 title.now }
 {
     text.put(page_style());
     text.put(section_style());

@@ -2,6 +2,7 @@
 
 ghost use Rattle.std.specs.Prelude.{◌≡◌, ◌≤◌, ◌+◌, ◌*◌, ◌++◌, length};
 ghost use Rattle.boards.specs.declared.buffer.TheConstants.{CAPACITY};
+ghost use Rattle.captions.specs.Room.{room};
 ghost use Rattle.notations.specs.SlipStyle.{card_style, cut_style, four_style, slip_style};
 
 use crate::page::{number_style, page_style, put_title_style, sign_style};
@@ -10,9 +11,9 @@ use boards::TextBuffer;
 /// Appends the style of slips with this title.
 #[tactic(auto, unfolding(crate::specs::SlipStyle::slip_style))]
 pub(crate) fn put_slip_style(text: &mut TextBuffer, title: &[u8])
-    requires { length text.old + 1_820 + 4 * length title.now ≤ CAPACITY }
+    requires { length text.old + 1_820 + room 4 title.now ≤ CAPACITY }
     ensures text { text.new ≡ text.old ++ slip_style title.now }
-    ensures most { length text.new ≤ length text.old + 1_820 + 4 * length title.now }
+    ensures most { length text.new ≤ length text.old + 1_820 + room 4 title.now }
 {
     text.put(page_style());
     text.put(cut_style());

@@ -1,0 +1,3 @@
+pub mod Rooms
+pub mod Tested
+pub mod OfLabels
