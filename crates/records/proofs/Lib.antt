@@ -15,3 +15,4 @@ pub mod Made
 pub mod MadeGames
 pub mod HandTexts
 pub mod PlainBytes
+pub mod NameBytes
