@@ -171,7 +171,8 @@ const OF_COUNT: &[Section] = &[
         COUNTED,
         "format: How the table is written: table for people, csv for
 spreadsheets, html for a page, json for programs
-[default: table] [possible values: table, csv, html, json]",
+[default: table]
+[possible values: table, csv, html, json]",
     ),
 ];
 
