@@ -12,12 +12,12 @@ use Rattle.clap.specs.Walk.{Row, Text, rows_after}
 use Rattle.clap.specs.Words.{found_of, kind_of, rows_of, subcommand_name_of}
 use Rattle.clap.specs.declared.error.Error.{Error}
 use Rattle.clap.specs.declared.error.kind.ErrorKind.{ErrorKind}
-use Rattle.clap.specs.declared.error.kind.ErrorKind.TheVariants.{InvalidValue, MissingRequiredArgument, OutOfMemory, ValueValidation}
+use Rattle.clap.specs.declared.error.kind.ErrorKind.TheVariants.{ArgumentConflict, InvalidValue, MissingRequiredArgument, OutOfMemory, ValueValidation}
 use Rattle.clap.specs.declared.parser.matches.ArgMatches.{ArgMatches}
 use Rattle.clap.specs.declared.parser.matches.ArgMatches.TheViews.{out-ArgMatches, out-SubCommand}
 use Rattle.clap.specs.declared.parser.matches.SubCommand.{SubCommand}
 use Rattle.command_line.specs.Commands.{deals}
-use Rattle.command_line.specs.CommandLine.{asked, asks_page, further_kinds, has_bad_workers, has_unknown, is_no_lesson, kinds_by, kinds_for, lacks_option, lessons_wish, made_by, missing_kinds, read_kinds, search_in, show_wish, unless_fault, wish_by, wish_in}
+use Rattle.command_line.specs.CommandLine.{asked, asks_page, extra_kinds, further_kinds, has_bad_workers, has_extra, has_unknown, is_no_lesson, kinds_by, kinds_for, lacks_option, lessons_wish, made_by, missing_kinds, read_kinds, search_in, show_wish, unless_fault, wish_by, wish_in}
 use Rattle.request_types.specs.Requests.{Wish, conditions}
 use Rattle.command_line.specs.internal.Asking.{AsksLessons, AsksMake, AsksShow, Chosen, IsRefused}
 use Rattle.command_line.proofs.OptionValues.{Makes, Reads, each_reads, read_by}
@@ -116,7 +116,11 @@ by_kinds words p read is =
 
 asks_make : (words : List Text) (name : Text) (rows : List Row) → Makes name → IsRead words → subcommand_of deals words ≡ Some (name, rows) → AsksMake words name rows
 asks_make words name rows makes f is = record {
-  ends = λ u n w e. by_wish words found f is ∙ wishes ∙ ap (λ (k : Kinds). unless_fault k wish) (known u ∙ taught n ∙ counted w ∙ ending e);
+  ends = λ u n w e x. by_wish words found f is ∙ wishes ∙ ap (λ (k : Kinds). unless_fault k wish) (known u ∙ taught n ∙ counted w ∙ ending e ∙ extra x);
+  extra = λ u n w e x. record {
+    asked_is = by_wish words found f is ∙ wishes ∙ ap (λ (k : Kinds). unless_fault k wish) (known u ∙ taught n ∙ counted w ∙ ending e ∙ extra x);
+    kinds_are = by_kinds words found f is ∙ known u ∙ taught n ∙ counted w ∙ ending e ∙ extra x;
+  };
   missing = λ u n w e. record {
     asked_is = by_wish words found f is ∙ wishes ∙ ap (λ (k : Kinds). unless_fault k wish) (known u ∙ taught n ∙ counted w ∙ ending e);
     kinds_are = by_kinds words found f is ∙ known u ∙ taught n ∙ counted w ∙ ending e;
@@ -160,8 +164,11 @@ asks_make words name rows makes f is = record {
     counted : {b : Bool} → has_bad_workers rows ≡ b → further ≡ (if b then ValueValidation ∷ [] else missing_kinds name (search_in rows) rows)
     counted {b} w = ap (λ (x : Bool). if x then ValueValidation ∷ [] else missing_kinds name (search_in rows) rows) w
 
-    ending : {b : Bool} → lacks_option name (search_in rows) rows ≡ b → missing_kinds name (search_in rows) rows ≡ (if b then MissingRequiredArgument ∷ [] else [])
-    ending {b} e = ap (λ (x : Bool). if x then MissingRequiredArgument ∷ [] else []) e
+    ending : {b : Bool} → lacks_option name (search_in rows) rows ≡ b → missing_kinds name (search_in rows) rows ≡ (if b then MissingRequiredArgument ∷ [] else extra_kinds rows)
+    ending {b} e = ap (λ (x : Bool). if x then MissingRequiredArgument ∷ [] else extra_kinds rows) e
+
+    extra : {b : Bool} → has_extra rows ≡ b → extra_kinds rows ≡ (if b then ArgumentConflict ∷ [] else [])
+    extra {b} x = ap (λ (y : Bool). if y then ArgumentConflict ∷ [] else []) x
 
 asks_lessons : (words : List Text) (rows : List Row) → IsRead words → subcommand_of deals words ≡ Some (codes "lessons", rows) → AsksLessons words rows
 asks_lessons words rows f is = record {

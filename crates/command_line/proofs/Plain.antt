@@ -8,12 +8,13 @@ use Rattle.clap.specs.Facts.{unwrap_or_range}
 use Rattle.clap.specs.Values.{is_request}
 use Rattle.clap.specs.Walk.{Rule, Text, action_of, arg_by_id, values_or_missing}
 use Rattle.clap.specs.declared.builder.ArgAction.{ArgAction}
-use Rattle.clap.specs.declared.builder.ArgAction.TheVariants.{Set, SetTrue}
-use Rattle.command_line.proofs.Walks.{IsFlag, IsIn, PlainRules}
+use Rattle.clap.specs.declared.builder.ArgAction.TheVariants.{Append, Set, SetTrue}
+use Rattle.command_line.proofs.Walks.{IsFlag, IsIn, PlainRules, Repeats}
 
 -- a rule that does this takes a value, asks for a text or is a flag that has a value of its own
 abbrev acts_plainly : ArgAction → Rule → Bool
 acts_plainly Set a = nat_lt 0 (unwrap_or_range a.range).start_inclusive
+acts_plainly Append a = nat_lt 0 (unwrap_or_range a.range).start_inclusive
 acts_plainly SetTrue a = nat_lt 0 (length a.missing)
 acts_plainly x a = is_request x
 
@@ -62,7 +63,7 @@ own_of (x ∷ c) h a (inr more) =
 
 abbrev Acts : Rule → Type 0
 Acts a = ((action_of a ≡ Set) × (nat_lt 0 (unwrap_or_range a.range).start_inclusive ≡ true))
-    ⊎ (is_request (action_of a) ≡ true) ⊎ IsFlag a
+    ⊎ (is_request (action_of a) ≡ true) ⊎ IsFlag a ⊎ Repeats a
 
 -- a flag has a value however it is used
 flag_value : (a : Rule) → nat_lt 0 (length a.missing) ≡ true → (vs : List Text) → 0 < length (values_or_missing a vs)
@@ -74,7 +75,8 @@ acts_of a h = go (action_of a) refl h
   where
     go : (x : ArgAction) → action_of a ≡ x → acts_plainly x a ≡ true → Acts a
     go Set e h = inl (e, h)
-    go SetTrue e h = inr (inr (e, flag_value a h))
+    go SetTrue e h = inr (inr (inl (e, flag_value a h)))
+    go Append e h = inr (inr (inr (e, h)))
     go x e h = inr (inl (rw e h))
 
 pub plain_of : (c : List Rule) → is_plain c ≡ true → PlainRules c

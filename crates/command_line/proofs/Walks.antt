@@ -60,10 +60,14 @@ found_is_in test (x ∷ xs) a h = go (test x) refl (λ rest. found_is_in test xs
 abbrev pub IsFlag : Rule → Type 0
 IsFlag a = (action_of a ≡ SetTrue) × ((vs : List Text) → 0 < length (values_or_missing a vs))
 
--- each rule is found by its id, and takes a value, asks for a text or is a flag
+-- an option that may be given again, with a value each time
+abbrev pub Repeats : Rule → Type 0
+Repeats a = (action_of a ≡ Append) × (nat_lt 0 (unwrap_or_range a.range).start_inclusive ≡ true)
+
+-- each rule is found by its id, and takes a value, asks for a text, is a flag or may be given again
 pub record PlainRules (c : List Rule) : Type 0 where
   pub own : (a : Rule) → IsIn a c → arg_by_id c a.id ≡ Some a
-  pub acts : (a : Rule) → IsIn a c → ((action_of a ≡ Set) × (nat_lt 0 (unwrap_or_range a.range).start_inclusive ≡ true)) ⊎ (is_request (action_of a) ≡ true) ⊎ IsFlag a
+  pub acts : (a : Rule) → IsIn a c → ((action_of a ≡ Set) × (nat_lt 0 (unwrap_or_range a.range).start_inclusive ≡ true)) ⊎ (is_request (action_of a) ≡ true) ⊎ IsFlag a ⊎ Repeats a
 
 -- ---- rows
 
@@ -151,11 +155,25 @@ flag_passing c a again vs rows found flag f h =
     with_values_passing c a.id a (reading_by a) _ values (without a.id rows) found passed (flag.1 vs) refl (without_passing c a.id rows h) in
     subst (λ (x : ArgAction). Passing c (used_as x a.id (reading_by a) values rows)) (sym flag.0) done
 
+repeated_passing : (c : List Rule) (a : Rule) (again : Bool) (vs : List Text) (rows : List Row) → arg_by_id c a.id ≡ Some a → Repeats a
+    → use_fault again a vs rows ≡ [] → Passing c rows → Passing c (used a vs rows)
+repeated_passing c a again [] rows found repeats f h =
+    let range = or_none_first _ (action_fault (action_of a) again a (values_or_missing a []) rows) f in
+    let bad = rw repeats.1 at range in
+    absurd cc
+repeated_passing c a again (v ∷ vs) rows found repeats f h =
+    let acts = or_none_second _ (action_fault (action_of a) again a (v ∷ vs) rows) f in
+    let passed : values_fault a (v ∷ vs) ≡ [] = subst (λ (x : ArgAction). action_fault x again a (v ∷ vs) rows ≡ []) repeats.0 acts in
+    let done : Passing c (used_as Append a.id (reading_by a) (v ∷ vs) rows) =
+    with_values_passing c a.id a (reading_by a) _ (v ∷ vs) rows found passed (omega arith) refl h in
+    subst (λ (x : ArgAction). Passing c (used_as x a.id (reading_by a) (v ∷ vs) rows)) (sym repeats.0) done
+
 pub used_passing : (c : List Rule) → PlainRules c → (a : Rule) → IsIn a c → (again : Bool) (vs : List Text) (rows : List Row)
     → use_fault again a vs rows ≡ [] → Passing c rows → Passing c (used a vs rows)
 used_passing c p a is again vs rows f h = elim (p.acts a is) [
   | inl set ↦ set_passing c a again vs rows (p.own a is) set.1 set.0 f h
-  | inr (inr flag) ↦ flag_passing c a again vs rows (p.own a is) flag f h
+  | inr (inr (inl flag)) ↦ flag_passing c a again vs rows (p.own a is) flag f h
+  | inr (inr (inr repeats)) ↦ repeated_passing c a again vs rows (p.own a is) repeats f h
   | inr (inl asks) ↦ absurd (no_request (action_of a) again a (values_or_missing a vs) rows asks
       (or_none_second _ (action_fault (action_of a) again a (values_or_missing a vs) rows) f))
 ]

@@ -1,13 +1,13 @@
 -- The command line: what the program's words ask for, by clap's own functions of the words.
-use Rattle.std.specs.Prelude.{true, ◌&&◌, ◌||◌, ◌==◌, ℕ, Bool, false, not, List, [], ◌∷◌, Option, Some, None, is_some, codes, get_or, length, nat_lt, option_map, unwrap_or, if◌then◌else◌}
+use Rattle.std.specs.Prelude.{true, ◌&&◌, ◌||◌, ◌==◌, ℕ, Bool, false, not, List, [], ◌∷◌, Option, Some, None, is_some, codes, get_or, length, nat_lt, option_map, take, unwrap_or, if◌then◌else◌}
 use Rattle.std.specs.Option.{option_and_then, option_map_or}
 use Rattle.std.specs.Str.{bytes_eq}
 use Rattle.std.specs.Str.Parse.{digits_value, without_leading_plus}
 use Rattle.std.specs.Char.{digit_value}
 use Rattle.std.specs.List.{list_all}
-use Rattle.clap.specs.Words.{Kinds, Row, Text, fault_of, first_of, one_of, subcommand_of}
+use Rattle.clap.specs.Words.{Kinds, Row, Text, all_of, fault_of, first_of, one_of, subcommand_of}
 use Rattle.clap.specs.Kinds.{or_else}
-use Rattle.clap.specs.declared.error.kind.ErrorKind.TheVariants.{InvalidValue, ValueValidation}
+use Rattle.clap.specs.declared.error.kind.ErrorKind.TheVariants.{ArgumentConflict, InvalidValue, ValueValidation}
 use Rattle.clap.specs.declared.error.kind.ErrorKind.TheVariants.{MissingRequiredArgument}
 use Rattle.command_line.specs.Commands.{deals, finders}
 use Rattle.boards.specs.declared.setting.Vul.{Vul}
@@ -18,7 +18,7 @@ use Rattle.request_types.specs.Defaults.{with_long_lanes}
 use Rattle.request_types.specs.PredealtHands.{GivenHands}
 use Rattle.request_types.specs.Requests.{Look, Questions, Search, Wish, conditions, count, draw}
 use Rattle.lessons.specs.Lessons.{Lesson, lesson_named}
-use Rattle.request_types.specs.Requests.{lessons, look_as, make, make_with_tricks, no_question, one_question, pick, plain_look, show, stream, two_questions}
+use Rattle.request_types.specs.Requests.{lessons, look_as, make, make_with_tricks, each_question, no_question, one_question, pick, plain_look, show, stream, two_questions}
 use Rattle.request_types.specs.declared.request.Notices.{Notices}
 use Rattle.boards.specs.Formats.{formats}
 use Rattle.boards.specs.declared.format.Format.{Format}
@@ -214,14 +214,18 @@ notices_in rows = record {
   hints = when_in (codes "hints") rows;
 }
 
--- the texts of the questions that the options were given
-abbrev pub questions_from : Option Text → Option Text → Questions
-questions_from None by = no_question
-questions_from (Some text) None = one_question text
-questions_from (Some text) (Some by) = two_questions text by
+-- the texts of the questions that the options were given: of `of` up to eight
+abbrev pub questions_from : List Text → Option Text → Questions
+questions_from [] by = no_question
+questions_from (text ∷ []) None = one_question text
+questions_from (text ∷ []) (Some by) = two_questions text by
+questions_from (text ∷ other ∷ texts) by = each_question (take 8 (text ∷ other ∷ texts))
+
+abbrev pub of_texts : List Row → List Text
+of_texts rows = unwrap_or (all_of (codes "of") rows) []
 
 abbrev pub questions_in : List Row → Questions
-questions_in rows = questions_from (first_of (codes "of") rows) (first_of (codes "by") rows)
+questions_in rows = questions_from (of_texts rows) (first_of (codes "by") rows)
 
 abbrev pub style_in : List Row → Style
 style_in rows = unwrap_or (choice_in styles (codes "format") rows) Table
@@ -271,9 +275,18 @@ has_by_alone rows =
 abbrev pub lacks_option : Text → Search → List Row → Bool
 lacks_option name s rows = has_no_end name s || has_by_alone rows
 
+-- there are more than eight questions, or one for columns beside several
+abbrev pub has_extra : List Row → Bool
+has_extra rows =
+    nat_lt 8 (length (of_texts rows))
+    || (nat_lt 1 (length (of_texts rows)) && is_some (first_of (codes "by") rows))
+
+abbrev pub extra_kinds : List Row → Kinds
+extra_kinds rows = if has_extra rows then ArgumentConflict ∷ [] else []
+
 abbrev pub missing_kinds : Text → Search → List Row → Kinds
 missing_kinds name s rows =
-    if lacks_option name s rows then MissingRequiredArgument ∷ [] else []
+    if lacks_option name s rows then MissingRequiredArgument ∷ [] else extra_kinds rows
 
 -- clap reads those words as texts: one that means nothing is refused as clap refuses a value
 abbrev pub make_kinds : Text → List Row → Kinds

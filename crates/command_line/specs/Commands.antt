@@ -1,7 +1,7 @@
 -- The commands of the program and their options, in clap's terms.
 use Rattle.std.specs.Prelude.{true, List, ◌∷◌, ◌++◌, [], Some, codes, fold, map, pos, slice_get}
 use Rattle.clap.specs.Words.{App, Rule, Text, new_app, new_rule, with_rule, with_subcommand}
-use Rattle.clap.specs.declared.builder.action.ArgAction.TheVariants.{Help, SetTrue}
+use Rattle.clap.specs.declared.builder.action.ArgAction.TheVariants.{Append, Help, SetTrue}
 use Rattle.clap.specs.Simple.{on_top}
 use Rattle.clap.specs.declared.builder.value_parser.ValueParser.{ValueParser}
 use Rattle.clap.specs.declared.builder.value_parser.ValueParser.TheVariants as parsed
@@ -31,6 +31,10 @@ lettered letter rule = record rule { short = slice_get letter 0 }
 
 abbrev pub required : Rule → Rule
 required rule = record rule { required = true }
+
+-- an option that may be given again, with a value each time
+abbrev pub repeated : Rule → Rule
+repeated rule = record rule { action = Some Append }
 
 abbrev pub u32_parser : ValueParser
 u32_parser = parsed.Signed (pos 0) (pos 4294967295)
@@ -124,7 +128,7 @@ find_app = command_with (codes "find") (
 abbrev pub count_app : App
 count_app = command_with (codes "count") (
     seed_rule ∷ search_rules ++ hand_rules
-    ++ option_rule (codes "of") parsed.String
+    ++ repeated (option_rule (codes "of") parsed.String)
     ∷ option_rule (codes "by") parsed.String
     ∷ format_rule ∷ speed_rules
     ++ progress_rule ∷ hints_rule ∷ help_flag ∷ [])

@@ -7,7 +7,7 @@ ghost use Rattle.command_line.specs.Commands.{asking_rule, deals, deals_top, fla
 ghost use Rattle.command_line.specs.Commands.{option_rule, subcommands, value_rule};
 ghost use Rattle.command_line.specs.internal.Rows.{app_for, rule_for, taking, top_for};
 
-use self::Takes::{Count, Help, Nothing, Text, U32, U64, Value};
+use self::Takes::{Count, Help, Nothing, Text, Texts, U32, U64, Value};
 use crate::helps::{about_of, examples_of, help_of};
 use crate::texts::{ABOUT, PROGRAM_EXAMPLES};
 use boards::Format;
@@ -25,6 +25,8 @@ pub(crate) enum Takes {
     /// clap's flag for help, which takes none either.
     Help,
     Text(&'static str),
+    /// A text, and another each time that it is given again.
+    Texts(&'static str),
     /// A value on its own, without the option's name.
     Value(&'static str),
     U32(&'static str),
@@ -89,6 +91,9 @@ fn taking<'a>(alloc: Global, takes: &Takes, id: &'static str) -> Arg<'a>
         Takes::Nothing => return flag(alloc, id),
         Takes::Help => return help_flag(alloc, id),
         Takes::Text(name) => (ValueParser::String, name),
+        Takes::Texts(name) => {
+            return option(alloc, id, ValueParser::String, name).action(ArgAction::Append);
+        }
         Takes::Value(name) => return value(alloc, id, name),
         Takes::U32(name) => (value_parser!(u32), name),
         Takes::U64(name) => (value_parser!(u64), name),
@@ -204,7 +209,7 @@ const SOUTH: Row = optional! { "south" Text("HAND") };
 
 const WEST: Row = optional! { "west" Text("HAND") };
 
-const OF: Row = optional! { "of" Text("TEXT") };
+const OF: Row = optional! { "of" Texts("TEXT") };
 
 const BY: Row = optional! { "by" Text("TEXT") };
 

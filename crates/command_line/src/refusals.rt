@@ -19,6 +19,13 @@ pub const NO_END: &str = "the following required arguments were not provided:
 pub const NO_QUESTION: &str = "the following required arguments were not provided:
   --of <TEXT>";
 
+/// Why one question more can't be asked.
+pub const TOO_MANY: &str = "the argument '--of <TEXT>' cannot be used more than 8 times";
+
+/// Why a question for columns can't be asked beside several that have a table each.
+pub const COLUMNS_OF_SEVERAL: &str =
+    "the argument '--by <TEXT>' cannot be used with more than one '--of <TEXT>'";
+
 /// A refusal of this kind, with this message, by the command of this name.
 fn refusal(alloc: Global, name: &str, kind: ErrorKind, message: &str) -> Result<Error, AllocError>
     ensures { IfOk result (λ e. kind_of e ≡ kind) }
@@ -32,6 +39,13 @@ pub fn missing_option(alloc: Global, name: &str, missing: &str) -> Result<Error,
     ensures { IfOk result (λ e. kind_of e ≡ ErrorKind.MissingRequiredArgument) }
 {
     refusal(alloc, name, ErrorKind::MissingRequiredArgument, missing)
+}
+
+/// clap's refusal of words in which an option doesn't go with others.
+pub fn conflicting_option(alloc: Global, name: &str, why: &str) -> Result<Error, AllocError>
+    ensures { IfOk result (λ e. kind_of e ≡ ErrorKind.ArgumentConflict) }
+{
+    refusal(alloc, name, ErrorKind::ArgumentConflict, why)
 }
 
 /// clap's refusal of a number of workers that is none.

@@ -1,14 +1,16 @@
 //! From the words of a command line to a request.
 
-ghost use Rattle.std.specs.Prelude.{◌≡◌, ◌∷◌, [], IfOk, List, codes, is_some, map, option_map};
+ghost use Rattle.std.specs.Prelude.{◌≡◌, ◌∷◌, [], IfOk, List, codes, is_some, length, map};
+ghost use Rattle.std.specs.Prelude.{option_map};
 ghost use Rattle.std.specs.Prelude.{string_bytes};
 ghost use Rattle.clap.specs.Kinds.{HasKind};
 ghost use Rattle.clap.specs.Walk.{Text};
 ghost use Rattle.clap.specs.Words.{first_of, found_of, kind_of, rows_of};
 ghost use Rattle.clap.specs.declared.error.kind.ErrorKind.{ErrorKind};
-ghost use Rattle.command_line.specs.CommandLine.{asks_page, hands_in, has_by_alone, has_no_end};
+ghost use Rattle.command_line.specs.CommandLine.{asks_page, hands_in, has_by_alone, has_extra, has_no_end};
+ghost use Rattle.command_line.specs.CommandLine.{of_texts};
 ghost use Rattle.command_line.specs.CommandLine.{is_set, is_turned, lacks_option, look_in, made_by};
-ghost use Rattle.command_line.specs.CommandLine.{notices_in, number_in, number_or, questions_in};
+ghost use Rattle.command_line.specs.CommandLine.{notices_in, number_in, number_or, questions_from, questions_in};
 ghost use Rattle.command_line.specs.CommandLine.{search_in, show_in, shown_look, when_in};
 ghost use Rattle.command_line.specs.Reading.{AreRead};
 ghost use Rattle.command_line.specs.internal.Asking.{AsksLessons, AsksShow, Chosen, HasValues};
@@ -24,14 +26,16 @@ use crate::choices::{
 use crate::lesson_names::{lesson_in, no_lesson_in};
 use crate::options::{FINDERS, command};
 use crate::refusals::{
-    NO_END, NO_QUESTION, invalid_name, invalid_number, invalid_value, missing_option,
+    COLUMNS_OF_SEVERAL, NO_END, NO_QUESTION, TOO_MANY, conflicting_option, invalid_name,
+    invalid_number, invalid_value, missing_option,
 };
 use crate::workers::{bad_workers_in, workers_in};
 use boards::{Seats, Show};
 use clap::{ArgMatches, Error};
 use lessons::Lesson;
 use request_types::{
-    Format, Look, Notices, PredealtHands, Questions, Request, Search, StreamRequest, Style, When,
+    Format, Look, MAX_QUESTIONS, Notices, PredealtHands, Questions, Request, Search, StreamRequest,
+    Style, Texts, When,
 };
 use std::alloc::{AllocError, Global};
 
@@ -190,16 +194,55 @@ fn notices_in(matches: &ArgMatches) -> Notices
     }
 }
 
-/// What the options of questions were given. One for the columns counts only beside one for the
-/// rows.
+/// What the options of questions were given.
 fn questions_in<'a>(matches: &ArgMatches<'a>) -> Questions<'a>
     ensures { questions_of result ≡ questions_in (rows_of (found_of matches.now)) }
 {
-    match (text_in(matches, "of"), text_in(matches, "by")) {
-        (None, _) => Questions::None,
-        (Some(text), None) => Questions::One(text),
-        (Some(of), Some(by)) => Questions::Two { of, by },
+    match matches.get_strs("of") {
+        Some(texts) => questions_from(texts, text_in(matches, "by")),
+        None => Questions::None,
     }
+}
+
+/// The questions of these texts: one for the columns counts only beside a single other.
+fn questions_from<'a>(texts: &[&'a str], by: Option<&'a str>) -> Questions<'a>
+    ensures { questions_of result
+        ≡ questions_from (map (λ t. t.now) texts.now) (option_map (λ t. t.now) by.entry) }
+{
+    if texts.is_empty() {
+        return Questions::None;
+    }
+    if texts.len() > 1 {
+        return Questions::Each(Texts::of(texts));
+    }
+    match by {
+        None => Questions::One(texts[0]),
+        Some(by) => Questions::Two { of: texts[0], by },
+    }
+}
+
+/// How many texts the option of questions was given.
+fn count_of(matches: &ArgMatches) -> usize
+    ensures { result ≡ length (of_texts (rows_of (found_of matches.now))) }
+{
+    match matches.get_strs("of") {
+        Some(texts) => texts.len(),
+        None => 0,
+    }
+}
+
+/// Why the questions can't be asked beside one another, if they can't.
+fn extra_of(matches: &ArgMatches) -> Option<&'static str>
+    ensures { is_some result ≡ has_extra (rows_of (found_of matches.now)) }
+{
+    let count = count_of(matches);
+    if count > MAX_QUESTIONS {
+        return Some(TOO_MANY);
+    }
+    if count > 1 && text_in(matches, "by").is_some() {
+        return Some(COLUMNS_OF_SEVERAL);
+    }
+    None
 }
 
 /// Whether neither a number of candidates nor a limit of boards was given, where one is needed.
@@ -363,6 +406,9 @@ fn request_of<'a>(alloc: Global, name: &str, matches: &ArgMatches<'a>) -> Result
     let search = search_in(matches);
     if let Some(options) = missing_of(name, &search, matches) {
         return Err(written(missing_option(alloc, name, options)));
+    }
+    if let Some(why) = extra_of(matches) {
+        return Err(written(conflicting_option(alloc, name, why)));
     }
     Ok(request_by(name, search, matches))
 }

@@ -4,3 +4,4 @@ pub mod Refusals
 pub mod Asking
 pub mod Joined
 pub mod Titles
+pub mod EachAsked

@@ -1,5 +1,5 @@
 -- What the questions of a `count` ask, and the table that tells of it.
-use Rattle.std.specs.Prelude.{◌≡◌, ◌≤◌, ◌^◌, ℕ, List, Option, length, map}
+use Rattle.std.specs.Prelude.{◌≡◌, ◌≤◌, ◌^◌, ℕ, List, [], ◌∷◌, Option, length, map}
 use Rattle.cond_lang.specs.Asking.{SpellsQuestion}
 use Rattle.cond_lang.specs.Form.{Form}
 use Rattle.cond_lang.specs.Questions.{parts_asked}
@@ -7,9 +7,10 @@ use Rattle.conditions.specs.declared.limits.TheConstants.{MOST_PARTS}
 use Rattle.jobs.specs.Makings.{text_read}
 use Rattle.plans.specs.Plans.{Planned, candidate_of}
 use Rattle.plans.specs.Text.{accepted, end_of}
-use Rattle.request_types.specs.Requests.{Questions, no_question, one_question, two_questions}
-use Rattle.statistics.specs.Counting.{Asked, Subject, by_one, by_two, cells_of, count_text}
-use Rattle.statistics.specs.Counting.{deals_alone, title_of}
+use Rattle.request_types.specs.Requests.{Questions, each_question, no_question, one_question}
+use Rattle.request_types.specs.Requests.{two_questions}
+use Rattle.statistics.specs.Counting.{Asked, Subject, by_each, by_one, by_two, cells_of}
+use Rattle.statistics.specs.Counting.{count_text, deals_alone, title_of}
 use Rattle.statistics.specs.Json.{string_of}
 use Rattle.boards.specs.declared.style.Style.{Style}
 
@@ -23,6 +24,13 @@ pub record IsQuestion (definitions : Option (List ℕ)) (text : List ℕ) (asked
   pub title : asked.title ≡ title_of text
   pub string : asked.string ≡ string_of text
 
+-- each of the texts asks its question
+abbrev pub AskEach : (definitions : Option (List ℕ)) → List (List ℕ) → List Asked → Type 0
+AskEach definitions [] [] = Unit {0}
+AskEach definitions (text ∷ texts) (a ∷ asked) =
+    IsQuestion definitions text a × AskEach definitions texts asked
+AskEach definitions texts asked = ⊥
+
 -- the texts ask this of the deals
 abbrev pub Asks : (definitions : Option (List ℕ)) → Questions → Subject → Type 0
 Asks definitions no_question subject = subject ≡ deals_alone
@@ -31,8 +39,10 @@ Asks definitions (one_question text) subject =
 Asks definitions (two_questions rows columns) subject =
     (a : Asked) × (b : Asked) × IsQuestion definitions rows a × IsQuestion definitions columns b
     × (subject ≡ by_two a b)
+Asks definitions (each_question texts) subject =
+    (asked : List Asked) × AskEach definitions texts asked × (subject ≡ by_each asked)
 
--- and the table has at most 1,048,576 cells: one of a single question has as many as rows
+-- and each table has at most 1,048,576 cells: one of a single question has as many as rows
 pub record IsAsked (definitions : Option (List ℕ)) (questions : Questions) (subject : Subject)
     : Type 0 where
   pub asks : Asks definitions questions subject

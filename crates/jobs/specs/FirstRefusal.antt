@@ -18,7 +18,7 @@ use Rattle.jobs.specs.Makings.{IsPlanned, MayBeGiven, Means, TextMeans}
 use Rattle.request_types.specs.Defaults.{lane_of, workers_in}
 use Rattle.request_types.specs.Requests.{Look, Questions, Search, Wish, conditions, count, draw}
 use Rattle.request_types.specs.Requests.{lessons}
-use Rattle.request_types.specs.Requests.{make, make_with_tricks, no_question, no_search, numbers_look, one_question}
+use Rattle.request_types.specs.Requests.{each_question, make, make_with_tricks, no_question, no_search, numbers_look, one_question}
 use Rattle.request_types.specs.Requests.{pick, plain_search, show, stream, two_questions}
 use Rattle.jobs.specs.declared.failure.Failure.{Failure}
 use Rattle.jobs.specs.declared.failure.Failure.TheVariants.{Plan, Label, Hand}
@@ -115,11 +115,19 @@ pub record IsQuestionDue (definitions : Option (List ℕ)) (text : List ℕ) (er
   pub due : IsDueAsked definitions text error
   pub refused : error ≢ no_memory
 
+-- the first of the texts that is refused is refused so: those before it are questions
+abbrev pub IsFirstDue : (definitions : Option (List ℕ)) → List (List ℕ) → CondError → Type 0
+IsFirstDue definitions [] error = ⊥
+IsFirstDue definitions (text ∷ texts) error =
+    IsQuestionDue definitions text error
+    ⊎ (((asked : Asked) × IsQuestion definitions text asked) × IsFirstDue definitions texts error)
+
 -- the text of `of` is refused so; or it is a question, and that of `by` is refused
 abbrev pub IsOfDue : (definitions : Option (List ℕ)) → Questions → CondError → Type 0
 IsOfDue definitions no_question error = ⊥
 IsOfDue definitions (one_question text) error = IsQuestionDue definitions text error
 IsOfDue definitions (two_questions rows columns) error = IsQuestionDue definitions rows error
+IsOfDue definitions (each_question texts) error = IsFirstDue definitions texts error
 
 abbrev pub IsByDue : (definitions : Option (List ℕ)) → Questions → CondError → Type 0
 IsByDue definitions (two_questions rows columns) error =

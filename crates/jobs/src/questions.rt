@@ -1,23 +1,24 @@
 //! What the texts of a `count` ask.
 
-ghost use Rattle.std.specs.Prelude.{◌≡◌, ◌⊎◌, ◌≤◌, IfErr, IfOk, MatchResult, length, option_map};
+ghost use Rattle.std.specs.Prelude.{◌≡◌, ◌⊎◌, ◌≤◌, ◌++◌, ◌∷◌, [], IfErr, IfOk, List, MatchResult};
+ghost use Rattle.std.specs.Prelude.{length, option_map};
 ghost use Rattle.cond_lang.specs.Asking.{SpellsQuestion};
 ghost use Rattle.conditions.specs.Questions.{Question as AQuestion, parts_asked};
 ghost use Rattle.conditions.specs.declared.limits.TheConstants.{MOST_PARTS};
-ghost use Rattle.jobs.specs.Counting.{Asks, IsAsked, IsQuestion};
+ghost use Rattle.jobs.specs.Counting.{AskEach, Asks, IsAsked, IsQuestion};
 ghost use Rattle.jobs.specs.Failures.{status_of};
 ghost use Rattle.jobs.specs.FirstRefusal.{IsDueAsked, last_of};
 ghost use Rattle.jobs.specs.Makings.{MayBeGiven, text_read};
-ghost use Rattle.request_types.specs.Requests.{questions_of};
+ghost use Rattle.request_types.specs.Requests.{each_question, questions_of, texts_of};
 ghost use Rattle.jobs.specs.internal.QuestionFailures.{AreFailure, IsTextFailure};
 ghost use Rattle.statistics.specs.Counting.{Asked as AnAsked, Subject as ASubject};
 ghost use Rattle.statistics.specs.Subjects.{subject_of};
 
 use crate::failure::Failure;
 use cond_lang::{CondError, Question, parse_question, parse_question_after};
-use request_types::{QuestionName, Questions};
+use request_types::{MAX_QUESTIONS, QuestionName, Questions, Texts};
 use statistics::{Asked, Subject};
-use std::alloc::Global;
+use std::alloc::{AllocError, Global};
 
 /// The question that the text spells, after the definitions where some are given.
 fn ask_given(alloc: Global, definitions: Option<&str>, text: &str) -> Result<Question, CondError>
@@ -71,7 +72,7 @@ fn last_of(questions: &Questions<'_>) -> QuestionName
 {
     match questions {
         Questions::Two { .. } => QuestionName::By,
-        Questions::None | Questions::One(_) => QuestionName::Of,
+        Questions::None | Questions::One(_) | Questions::Each(_) => QuestionName::Of,
     }
 }
 
@@ -128,5 +129,43 @@ fn read_texts(
             let by = asked_of(alloc, definitions, QuestionName::By, by)?;
             Ok(Subject::ByTwo(of, by))
         }
+        Questions::Each(texts) => Ok(Subject::ByEach(read_each(alloc, definitions, texts)?)),
     }
+}
+
+/// Returns the questions that the texts ask. The first that is refused is told.
+fn read_each(
+    alloc: Global,
+    definitions: Option<&str>,
+    texts: &Texts<'_>,
+) -> Result<Vec<Asked>, Failure>
+    requires { MayBeGiven (option_map (λ t. t.now) definitions) }
+    ensures asks { IfOk result (λ v. AskEach (option_map (λ t. t.now) definitions.entry)
+        (texts_of texts.now) v.items) }
+    ensures only { IfOk result (λ v. (b : List AnAsked)
+        → AskEach (option_map (λ t. t.now) definitions.entry) (texts_of texts.now) b
+        → b ≡ v.items) }
+    ensures refused { IfErr result (AreFailure (option_map (λ t. t.now) definitions.entry)
+        (each_question (texts_of texts.now))) }
+    ensures status { IfErr result (λ e. (status_of e ≡ 5) ⊎ (status_of e ≡ 3)) }
+    ensures memory { IfErr result (λ e. (b : List AnAsked)
+        → AskEach (option_map (λ t. t.now) definitions.entry) (texts_of texts.now) b
+        → status_of e ≡ 5) }
+{
+    let mut asked = Vec::with_capacity(alloc, MAX_QUESTIONS)?;
+    for place in 0..MAX_QUESTIONS {
+        if let Some(text) = texts.get(place) {
+            let question = asked_of(alloc, definitions, QuestionName::Of, text)?;
+            keep(&mut asked, question)?;
+        }
+    }
+    Ok(asked)
+}
+
+/// Keeps one question more.
+fn keep(asked: &mut Vec<Asked>, question: Asked) -> Result<(), AllocError>
+    ensures { IfOk result (λ _. asked.new.items ≡ asked.old.items ++ question ∷ []) }
+{
+    asked.push(question)?;
+    Ok(())
 }

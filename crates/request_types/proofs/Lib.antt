@@ -3,3 +3,4 @@ pub mod Cards
 pub mod Chains
 pub mod Faults
 pub mod Room
+pub mod Places

@@ -1,6 +1,7 @@
 -- What can be asked for.
 use Rattle.std.specs.Prelude.{ℕ, Bool, List, Option, None, Some, false, option_map}
-use Rattle.std.specs.Prelude.{if◌then◌else◌}
+use Rattle.std.specs.Prelude.{[], ◌∷◌, if◌then◌else◌, map, option_to_list}
+use Rattle.std.specs.List.{flat_map}
 use Rattle.boards.specs.declared.setting.Vul.{Vul}
 use Rattle.cards.specs.declared.seat.Seat.{Seat}
 use Rattle.lessons.specs.Lessons.{Lesson, lesson_of}
@@ -14,6 +15,7 @@ use Rattle.request_types.specs.declared.request.Notices.{Notices}
 use Rattle.request_types.specs.declared.request.Request.{Request}
 use Rattle.request_types.specs.declared.questions.Questions.{Questions as GivenQuestions}
 use Rattle.request_types.specs.declared.questions.Questions.TheVariants as questions
+use Rattle.request_types.specs.declared.questions.Texts.{Texts}
 use Rattle.request_types.specs.declared.request.Request.TheVariants.{Conditions, Count, Find, Lessons, Make, Pick}
 use Rattle.request_types.specs.declared.request.Request.TheVariants.{Seed, Stream}
 use Rattle.request_types.specs.declared.request.Request.TheVariants as request
@@ -100,11 +102,13 @@ no_search seed hands = record (plain_search seed) {
   hands = hands;
 }
 
--- the texts of the questions of a `count`: none, that of `of`, or those of `of` and `by`
+-- the texts of the questions of a `count`: none, that of `of`, those of `of` and `by`, or several
+-- of `of`
 pub data Questions : Type 0 where
   no_question : Questions
   one_question : List ℕ → Questions
   two_questions : (rows columns : List ℕ) → Questions
+  each_question : List (List ℕ) → Questions
 
 pub data Wish : Type 0 where
   -- `make`, and `find` with the look of its format alone
@@ -156,10 +160,21 @@ look_of l = record {
   rotate = l.rotate;
 }
 
+-- the places for texts, and the texts in them
+abbrev pub places_of : Texts → List (Option (List ℕ))
+places_of texts =
+    map (λ place. option_map (λ t. t.now) place)
+    (texts.first ∷ texts.second ∷ texts.third ∷ texts.fourth ∷ texts.fifth ∷ texts.sixth
+    ∷ texts.seventh ∷ texts.eighth ∷ [])
+
+abbrev pub texts_of : Texts → List (List ℕ)
+texts_of texts = flat_map option_to_list (places_of texts)
+
 abbrev pub questions_of : GivenQuestions → Questions
 questions_of questions.None = no_question
 questions_of (questions.One text) = one_question text.now
 questions_of (questions.Two rows columns) = two_questions rows.now columns.now
+questions_of (questions.Each texts) = each_question (texts_of texts)
 
 abbrev pub wish_of : Request → Wish
 wish_of (Make search look tricks notices) =

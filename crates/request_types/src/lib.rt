@@ -27,7 +27,7 @@ pub use hand_fault::HandFault;
 pub use hands::PredealtHands;
 pub use look::Look;
 pub use names::{LabelName, QuestionName};
-pub use questions::Questions;
+pub use questions::{MAX_QUESTIONS, Questions, Texts};
 pub use request::{Notices, Request, StreamRequest};
 pub use search::Search;
 pub use when::When;

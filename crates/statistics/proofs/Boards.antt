@@ -4,7 +4,7 @@ use Rattle.std.proofs.lemmas.List.{length-map, length-take, length_push, map-app
 use Rattle.boards.specs.declared.board.Board.{Board}
 use Rattle.cards.specs.declared.seat.Seat.{Seat}
 use Rattle.statistics.specs.declared.kept.Kept.{Kept}
-use Rattle.statistics.specs.declared.kept.Kept.TheVariants.{Alone, Rows, Cells}
+use Rattle.statistics.specs.declared.kept.Kept.TheVariants.{Alone, Cells, Each, Rows}
 use Rattle.statistics.specs.declared.sums.Sums.{Sums}
 use Rattle.statistics.specs.Counting.{most_deals, pairs_of}
 use Rattle.conditions.specs.Questions.{answer}
@@ -17,6 +17,7 @@ deals_counted (Rows one) deals h = ap (λ (s : Sums). s.deals) h.sums ∙ length
 deals_counted (Cells two) deals h =
     ap (λ (s : Sums). s.deals) h.rows.sums ∙ length-map (pairs_of two.of.asked.question two.by.question deals) (λ (p : ℕ × ℕ). p.0)
     ∙ length-map deals (λ (d : List Seat). (answer two.of.asked.question d, answer two.by.question d))
+deals_counted (Each each) deals h = h.number
 
 length_deals_of : (boards : List Board) → length (deals_of boards) ≡ min most_deals (length boards)
 length_deals_of boards = length-map (take most_deals boards) (λ (b : Board). b.deal) ∙ length-take most_deals boards

@@ -8,13 +8,14 @@ use Rattle.boards.specs.declared.style.Style.TheVariants as styles
 use Rattle.statistics.specs.declared.line_style.LineStyle.{LineStyle}
 use Rattle.statistics.specs.declared.line_style.LineStyle.TheVariants.{Csv, Html, Table}
 use Rattle.statistics.specs.Answers.{answers_of}
-use Rattle.statistics.specs.Counting.{Subject, by_one, by_two, count_text, csv_text, deals_alone, page_table, pairs_of, table_text}
+use Rattle.statistics.specs.Counting.{Asked, Subject, by_each, by_one, by_two, count_text, csv_text, deals_alone, page_table, pairs_of, table_text}
 use Rattle.statistics.specs.Csv.{csv_total}
 use Rattle.statistics.specs.Sentence.{sentence}
 use Rattle.statistics.specs.internal.Counters.{alone_text, body_text, page_part, sentence_line}
 use Rattle.statistics.specs.internal.Kept.{CountsOne, CountsTwo, IsKeptOne, IsKeptTwo, KeptOne, KeptTwo}
 use Rattle.statistics.specs.internal.Lines.{two_text}
 use Rattle.statistics.specs.internal.Texts.{AreWidths, one_text}
+use Rattle.statistics.specs.internal.Parts.{each_text}
 use Rattle.statistics.proofs.OneTable.{one_csv_is, one_table_is}
 use Rattle.statistics.proofs.OnePage.{one_page_is}
 use Rattle.statistics.proofs.TwoPage.{two_page_is}
@@ -39,6 +40,12 @@ unfolding table_text csv_text page_table
 two_body Table two deals tried kept h = two_table_is two (pairs_of two.of.asked.question two.by.question deals) kept h
 two_body Html two deals tried kept h = two_page_is two (pairs_of two.of.asked.question two.by.question deals) kept h
 two_body Csv two deals tried kept h = two_csv_is two (pairs_of two.of.asked.question two.by.question deals) kept h
+
+pub each_body : (style : LineStyle) (asked : List Asked) (deals : List (List Seat)) (tried : ℕ) → each_text style asked deals tried ≡ body_text style (by_each asked) deals tried
+unfolding table_text csv_text page_table
+each_body Table asked deals tried = refl
+each_body Csv asked deals tried = refl
+each_body Html asked deals tried = refl
 
 pub sentence_is : (n m tried : ℕ) → n ≡ m → sentence_line n tried ≡ sentence m tried ++ codes "\n"
 unfolding sentence_line

@@ -14,6 +14,9 @@ pub mod Items
 pub mod OneJson
 pub mod TwoJson
 pub mod Objects
+pub mod Questions
+pub mod Numbered
+pub mod EachDeal
 pub mod OnePage
 pub mod TwoPage
 pub mod Shading

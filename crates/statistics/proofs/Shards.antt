@@ -1,18 +1,19 @@
 -- The csv tables of two lists of deals, and of both.
 use Rattle.std.proofs.Common.{◌≡◌, ◌⊎◌, ◌+◌, ◌-◌, ◌<◌, ◌≤◌, ◌&&◌, ◌++◌, ◌∷◌, ◌∙◌, ℕ, suc, zero, Bool, true, false, cond, eqb, List, [], length, map, inl, inr, refl, sym, ap, ap₂, arith}
-use Rattle.std.specs.Prelude.{codes}
-use Rattle.std.specs.List.{flat_map, range_with_len}
+use Rattle.std.specs.Prelude.{codes, decimal}
+use Rattle.std.specs.List.{enumerate_from, flat_map, range_with_len}
 use Rattle.std.proofs.lemmas.Bool.{ne_eqb}
 use Rattle.std.proofs.lemmas.Grind.{flat_map-append}
 use Rattle.std.proofs.lemmas.List.{length-append, map-append}
 use Rattle.std.proofs.lemmas.List.Sums.{sum_by-append, sum_by-cons}
+use Rattle.boards.specs.declared.style.Style.TheVariants.{Csv}
 use Rattle.cards.specs.declared.seat.Seat.{Seat}
 use Rattle.conditions.specs.Questions.{answer, is_condition}
 use Rattle.statistics.specs.Answers.{answers_of, count_of, greatest_of, least_of, rows}
 use Rattle.statistics.specs.Columns.{plain_label}
-use Rattle.statistics.specs.Counting.{Subject, by_one, by_two, csv_text, deals_alone, kinds_of, pairs_of}
-use Rattle.statistics.specs.Csv.{csv_cell, csv_one, csv_row, csv_total, csv_two}
-use Rattle.statistics.specs.Shards.{AddUp, Line, LinesAddUp, counted}
+use Rattle.statistics.specs.Counting.{Asked, Subject, by_each, by_one, by_two, csv_text, deals_alone, kinds_of, pairs_of, part_of, parts_text}
+use Rattle.statistics.specs.Csv.{csv_cell, csv_counts, csv_numbered, csv_numbered_row, csv_one, csv_row, csv_total, csv_two}
+use Rattle.statistics.specs.Shards.{AddUp, Line, LinesAddUp, PartsAddUp, counted}
 use Rattle.statistics.specs.TwoQuestions.{Kinds, Pairs, cell, columns, of_columns, of_rows}
 use Rattle.statistics.proofs.Adding.{AreIn, count_of-append, from_least, least_is_less}
 
@@ -198,6 +199,68 @@ two_adds kinds p q = record {
     line : ℕ → ℕ → Line
     line n m = record { label = two_label kinds n m; one = cell p n m; two = cell q n m }
 
+-- ---- several questions
+
+numbered_line : ℕ → Bool → List ℕ → List ℕ → ℕ → Line
+numbered_line k c xs ys n = record { label = decimal k ++ codes "," ++ plain_label c n; one = count_of n xs; two = count_of n ys }
+
+one_numbered : (k : ℕ) (c : Bool) (xs : List ℕ) (N : ℕ) → greatest_of xs + 1 ≤ N → csv_numbered k c xs ≡ flat_map (λ n. csv_numbered_row k c n (count_of n xs)) (wide c N)
+unfolding csv_numbered
+one_numbered k c xs N fits = rows_widened c (λ n. csv_numbered_row k c n (count_of n xs)) xs N fits (λ n zero. ap (csv_numbered_row k c n) zero)
+
+-- greater than all answers of both
+abbrev beyond : List ℕ → List ℕ → ℕ
+beyond xs ys = (greatest_of xs + 1) + (greatest_of ys + 1) + (greatest_of (xs ++ ys) + 1)
+
+question_lines : ℕ → Bool → List ℕ → List ℕ → List Line
+question_lines k c xs ys = map (numbered_line k c xs ys) (wide c (beyond xs ys))
+
+in_first : (k : ℕ) (c : Bool) (xs ys : List ℕ) → csv_numbered k c xs ≡ flat_map (λ l. counted l.label l.one) (question_lines k c xs ys)
+unfolding question_lines numbered_line
+in_first k c xs ys = one_numbered k c xs (beyond xs ys) (omega arith) ∙ sym (over_map (λ l. counted l.label l.one) (numbered_line k c xs ys) (wide c (beyond xs ys)))
+
+in_second : (k : ℕ) (c : Bool) (xs ys : List ℕ) → csv_numbered k c ys ≡ flat_map (λ l. counted l.label l.two) (question_lines k c xs ys)
+unfolding question_lines numbered_line
+in_second k c xs ys = one_numbered k c ys (beyond xs ys) (omega arith) ∙ sym (over_map (λ l. counted l.label l.two) (numbered_line k c xs ys) (wide c (beyond xs ys)))
+
+in_both : (k : ℕ) (c : Bool) (xs ys : List ℕ) → csv_numbered k c (xs ++ ys) ≡ flat_map (λ l. counted l.label (l.one + l.two)) (question_lines k c xs ys)
+unfolding question_lines numbered_line
+in_both k c xs ys =
+    one_numbered k c (xs ++ ys) (beyond xs ys) (omega arith)
+    ∙ along (λ n. csv_numbered_row k c n (count_of n (xs ++ ys))) (λ n. csv_numbered_row k c n (count_of n xs + count_of n ys)) (wide c (beyond xs ys)) (λ n. ap (csv_numbered_row k c n) (count_of-append n xs ys))
+    ∙ sym (over_map (λ l. counted l.label (l.one + l.two)) (numbered_line k c xs ys) (wide c (beyond xs ys)))
+
+-- the lines of all questions, numbered from k on
+lines_of : ℕ → List Asked → (deals more : List (List Seat)) → List Line
+lines_of k [] deals more = []
+lines_of k (a ∷ asked) deals more =
+    question_lines k (is_condition a.question) (answers_of a.question deals) (answers_of a.question more) ++ lines_of (k + 1) asked deals more
+
+parts_are : (k : ℕ) (asked : List Asked) (deals more told : List (List Seat)) (f : Line → List ℕ)
+    → ((j : ℕ) (a : Asked) → csv_numbered j (is_condition a.question) (answers_of a.question told) ≡ flat_map f (question_lines j (is_condition a.question) (answers_of a.question deals) (answers_of a.question more)))
+    → flat_map (part_of Csv told) (enumerate_from k asked) ≡ flat_map f (lines_of k asked deals more)
+unfolding lines_of
+parts_are k [] deals more told f same = refl
+parts_are k (a ∷ asked) deals more told f same =
+    ap₂ (λ (x y : List ℕ). x ++ y) (same k a) (parts_are (k + 1) asked deals more told f same)
+    ∙ sym (flat_map-append f (question_lines k (is_condition a.question) (answers_of a.question deals) (answers_of a.question more)) (lines_of (k + 1) asked deals more))
+
+each_adds : (asked : List Asked) (deals more : List (List Seat)) (m n : ℕ)
+    → PartsAddUp (csv_counts (length deals) m ++ parts_text Csv asked deals) (csv_counts (length more) n ++ parts_text Csv asked more)
+    (csv_counts (length (deals ++ more)) (m + n) ++ parts_text Csv asked (deals ++ more))
+each_adds asked deals more m n = record {
+  deals = (length deals, length more);
+  tried = (m, n);
+  lines = lines_of 1 asked deals more;
+  one_is = ap (λ (l : List ℕ). csv_counts (length deals) m ++ l) (parts_are 1 asked deals more deals (λ l. counted l.label l.one)
+      (λ j a. in_first j (is_condition a.question) (answers_of a.question deals) (answers_of a.question more)));
+  two_is = ap (λ (l : List ℕ). csv_counts (length more) n ++ l) (parts_are 1 asked deals more more (λ l. counted l.label l.two)
+      (λ j a. in_second j (is_condition a.question) (answers_of a.question deals) (answers_of a.question more)));
+  both_is = ap₂ (λ (k : ℕ) (l : List ℕ). csv_counts k (m + n) ++ l) (length-append deals more) (parts_are 1 asked deals more (deals ++ more) (λ l. counted l.label (l.one + l.two))
+      (λ j a. ap (csv_numbered j (is_condition a.question)) (map-append (answer a.question) deals more)
+      ∙ in_both j (is_condition a.question) (answers_of a.question deals) (answers_of a.question more)));
+}
+
 -- ---- all subjects
 
 pub adds_up : (subject : Subject) (deals more : List (List Seat)) (m n : ℕ) → AddUp subject (csv_text subject deals m) (csv_text subject more n) (csv_text subject (deals ++ more) (m + n))
@@ -214,3 +277,4 @@ adds_up (by_one asked) deals more m n =
 adds_up (by_two of by) deals more m n =
     rw (map-append {B = ℕ × ℕ} (λ (deal : List Seat). (answer of.question deal, answer by.question deal)) deals more)
     (two_adds (kinds_of of by) (pairs_of of.question by.question deals) (pairs_of of.question by.question more))
+adds_up (by_each asked) deals more m n = each_adds asked deals more m n

@@ -21,6 +21,24 @@ csv_one is_condition answers =
     codes "value,deals\n"
     ++ flat_map (λ n. csv_row is_condition n (count_of n answers)) (rows is_condition answers)
 
+-- of several questions: how many candidates and deals there are, as answers to question 0
+unfoldable pub csv_counts : ℕ → ℕ → List ℕ
+csv_counts deals candidates =
+    codes "question,value,deals\n0,candidates," ++ decimal candidates
+    ++ codes "\n0,deals," ++ decimal deals ++ codes "\n"
+
+-- and the lines of the question of this number
+abbrev pub csv_numbered_row : ℕ → Bool → ℕ → ℕ → List ℕ
+csv_numbered_row question is_condition n count =
+    if count == 0 then []
+    else decimal question ++ codes "," ++ plain_label is_condition n ++ codes "," ++ decimal count
+    ++ codes "\n"
+
+unfoldable pub csv_numbered : ℕ → Bool → List ℕ → List ℕ
+csv_numbered question is_condition answers =
+    flat_map (λ n. csv_numbered_row question is_condition n (count_of n answers))
+    (rows is_condition answers)
+
 -- the line of a pair that came
 abbrev pub csv_cell : Kinds → ℕ → ℕ → ℕ → List ℕ
 csv_cell kinds n m count =

@@ -70,8 +70,8 @@ json_two kinds of_string by_string pairs =
     (rows kinds.of_condition (of_rows pairs)))
     ++ codes "}"
 
--- the whole object
+-- the whole object, of the questions' texts
 unfoldable pub json_object : ℕ → ℕ → List ℕ → List ℕ
 json_object deals candidates questions =
     codes "{\"candidates\":" ++ decimal candidates ++ codes ",\"deals\":" ++ decimal deals
-    ++ codes ",\"questions\":" ++ array questions ++ codes "}\n"
+    ++ codes ",\"questions\":[" ++ questions ++ codes "]}\n"

@@ -71,6 +71,10 @@ page_one is_condition answers =
     (rows is_condition answers)
     ++ codes "</tbody>\n</table>\n" ++ page_mean is_condition answers
 
+-- one of several questions has its title above its table
+abbrev pub page_heading : List ℕ → List ℕ
+page_heading title = codes "<h2>" ++ escaped title ++ codes "</h2>\n"
+
 -- ---- two questions
 
 -- the most deals that a cell of a row has, and that any cell has

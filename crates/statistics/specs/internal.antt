@@ -6,3 +6,4 @@ pub mod Texts
 pub mod PageLines
 pub mod Lines
 pub mod Items
+pub mod Parts

@@ -2,7 +2,8 @@
 
 ghost use Rattle.std.specs.Prelude.{◌≡◌, ◌≤◌, ◌+◌, ◌++◌, codes, decimal, length};
 ghost use Rattle.boards.specs.declared.buffer.TheConstants.{CAPACITY};
-ghost use Rattle.statistics.specs.Csv.{csv_cell, csv_row, csv_total};
+ghost use Rattle.statistics.specs.Csv.{csv_cell, csv_counts, csv_numbered_row, csv_row};
+ghost use Rattle.statistics.specs.Csv.{csv_total};
 
 use crate::numbers::put_plain_label;
 use boards::TextBuffer;
@@ -19,6 +20,40 @@ pub(crate) fn put_total(text: &mut TextBuffer, deals: u64, candidates: u64)
     text.put(b",");
     text.put_number(candidates);
     text.put(b"\n");
+}
+
+/// How many candidates and deals there are, above the lines of several questions.
+#[tactic(auto, unfolding(crate::specs::Csv::csv_counts))]
+pub(crate) fn counts_text(deals: u64, candidates: u64) -> TextBuffer
+    ensures { result ≡ csv_counts deals candidates }
+{
+    let mut text = TextBuffer::new();
+    text.put(b"question,value,deals\n0,candidates,");
+    text.put_number(candidates);
+    text.put(b"\n0,deals,");
+    text.put_number(deals);
+    text.put(b"\n");
+    text
+}
+
+/// Appends the line of a number, if it came, of the question of this number.
+pub(crate) fn put_numbered_row(
+    text: &mut TextBuffer,
+    question: u64,
+    is_condition: bool,
+    number: u32,
+    count: u64,
+)
+    requires { length text.old + 120 ≤ CAPACITY }
+    ensures { text.new ≡ text.old ++ csv_numbered_row question is_condition number count }
+{
+    if count == 0 {
+        return;
+    }
+    text.put_number(question);
+    text.put(b",");
+    put_plain_label(text, is_condition, number);
+    put_count(text, count);
 }
 
 /// Appends the line of a number, if it came.

@@ -15,6 +15,7 @@ mod json;
 
 use crate::csv_lines::put_total;
 use crate::deals::Deals;
+use crate::each::Each;
 use crate::line_style::LineStyle;
 use crate::one::One;
 use crate::page::{PAGE_FOOT, put_page_head};
@@ -36,6 +37,8 @@ pub(crate) enum Kept {
     Rows(One),
     /// The answers to two.
     Cells(Two),
+    /// The answers to several, of which each has a table of its own.
+    Each(Each),
 }
 
 impl Kept {
@@ -52,6 +55,7 @@ impl Kept {
             Subject::DealsAlone => Ok(Kept::Alone(Deals::new())),
             Subject::ByOne(asked) => Ok(Kept::Rows(One::new(alloc, asked)?)),
             Subject::ByTwo(of, by) => Ok(Kept::Cells(Two::new(alloc, of, by)?)),
+            Subject::ByEach(asked) => Ok(Kept::Each(Each::new(alloc, asked)?)),
         }
     }
 
@@ -64,6 +68,7 @@ impl Kept {
             Kept::Alone(deals) => deals.count(),
             Kept::Rows(one) => one.deals(),
             Kept::Cells(two) => two.deals(),
+            Kept::Each(each) => each.deals(),
         }
     }
 
@@ -78,6 +83,7 @@ impl Kept {
             Kept::Alone(deals) => deals.add(),
             Kept::Rows(one) => one.count(deal),
             Kept::Cells(two) => two.count(deal),
+            Kept::Each(each) => each.count(deal),
         }
     }
 
@@ -152,7 +158,7 @@ impl Kept {
     {
         let mut title = TextBuffer::new();
         match self {
-            Kept::Alone(_) => title.put(b"Deals"),
+            Kept::Alone(_) | Kept::Each(_) => title.put(b"Deals"),
             Kept::Rows(one) => title.put(one.title()),
             Kept::Cells(two) => {
                 title.put(two.title());
@@ -184,6 +190,7 @@ impl Kept {
             Kept::Alone(deals) => put_piece(sink, &alone_text(style, deals.count(), tried)),
             Kept::Rows(one) => one.put(style, one.widths(), sink),
             Kept::Cells(two) => two.put(style, sink),
+            Kept::Each(each) => each.put(style, tried, sink),
         }
     }
 }

@@ -7,6 +7,7 @@ mod cells;
 mod counter;
 mod csv_lines;
 mod deals;
+mod each;
 mod fractions;
 mod json;
 mod kept;

@@ -9,6 +9,7 @@ ghost use Rattle.statistics.specs.Counting.{most_deals};
 ghost use Rattle.statistics.specs.internal.Kept.{AreSmall, CountsOne, IsKeptOne, with_answer};
 
 mod json;
+mod part;
 mod table;
 
 use crate::subject::Asked;
@@ -81,6 +82,7 @@ impl One {
     pub(crate) fn count(&mut self, deal: &Deal)
         requires { self.old.sums.deals < most_deals }
         ensures asked { self.new.asked ≡ self.old.asked }
+        ensures number { self.new.sums.deals ≡ self.old.sums.deals + 1 }
         ensures counted { (deals : List (List Seat))
             → CountsOne self.old (answers_of self.old.asked.question deals)
             → CountsOne self.new (answers_of self.old.asked.question (deals ++ deal.now ∷ [])) }

@@ -1,7 +1,7 @@
 //! What is asked of the deals.
 
 ghost use Rattle.std.specs.Prelude.{◌≡◌, IfOk, nat_lt};
-ghost use Rattle.statistics.specs.Counting.{cells_of, title_of};
+ghost use Rattle.statistics.specs.Counting.{cells_of, most_rows, title_of};
 ghost use Rattle.statistics.specs.Json.{string_of};
 ghost use Rattle.statistics.specs.Subjects.{subject_of};
 
@@ -72,6 +72,8 @@ pub enum Subject {
     ByOne(Asked),
     /// Two questions: that of the rows, and that of the columns.
     ByTwo(Asked, Asked),
+    /// Several questions, each with a table of its own.
+    ByEach(Vec<Asked>),
 }
 
 /// How many rows a table of one question can have at most, or how many cells one of two.
@@ -79,7 +81,7 @@ pub const MAX_CELLS: u64 = 1_048_576;
 
 impl Subject {
     /// Whether a table of the answers can have more than `MAX_CELLS` cells: of one question as many
-    /// as it has rows.
+    /// as it has rows; of several tables, whether one of them can.
     pub fn is_too_large(&self) -> bool
         ensures { result ≡ nat_lt MAX_CELLS (cells_of (subject_of self.now)) }
     {
@@ -89,6 +91,18 @@ impl Subject {
             Subject::ByTwo(of, by) => {
                 of.question.rows().saturating_mul(by.question.rows()) > MAX_CELLS
             }
+            Subject::ByEach(asked) => most_rows(asked) > MAX_CELLS,
         }
     }
+}
+
+/// The most rows that a table of one of the questions can have: 0 if there are none.
+fn most_rows(asked: &[Asked]) -> u64
+    ensures { result ≡ most_rows asked.now }
+{
+    let mut most = 0;
+    for asked in asked {
+        most = most.max(asked.question.rows());
+    }
+    most
 }

@@ -3,8 +3,8 @@ use Rattle.std.specs.Prelude.{◌≡◌, true, false, List, [], ◌∷◌, None,
 use Rattle.std.specs.Str.{bytes_eq}
 use Rattle.clap.specs.Walk.{Row, Text}
 use Rattle.clap.specs.declared.error.kind.ErrorKind.{ErrorKind}
-use Rattle.clap.specs.declared.error.kind.ErrorKind.TheVariants.{InvalidValue, MissingRequiredArgument, ValueValidation}
-use Rattle.command_line.specs.CommandLine.{asked, has_bad_workers, has_unknown, is_no_lesson, lacks_option, kinds_for, lessons_wish, made_by, search_in, show_wish, stream_wish}
+use Rattle.clap.specs.declared.error.kind.ErrorKind.TheVariants.{ArgumentConflict, InvalidValue, MissingRequiredArgument, ValueValidation}
+use Rattle.command_line.specs.CommandLine.{asked, has_bad_workers, has_extra, has_unknown, is_no_lesson, lacks_option, kinds_for, lessons_wish, made_by, search_in, show_wish, stream_wish}
 use Rattle.command_line.specs.internal.Readings.{MakeValues, StreamValues}
 use Rattle.request_types.specs.Requests.{conditions, draw}
 
@@ -26,12 +26,15 @@ pub record AsksShow (words : List Text) (rows : List Row) : Type 0 where
   pub unknown : has_unknown (codes "show") rows ≡ true → IsRefused words InvalidValue
 
 -- words that name `make` or one of its kind ask for it if each word is one of its option's values,
--- the lesson is one, the workers are a number or `auto` and no option is missing, and else they are
+-- the lesson is one, the workers are a number or `auto`, no option is missing and no question is too many, and else they are
 -- refused
 pub record AsksMake (words : List Text) (name : Text) (rows : List Row) : Type 0 where
   pub ends : has_unknown name rows ≡ false → is_no_lesson (codes "lesson") rows ≡ false
       → has_bad_workers rows ≡ false → lacks_option name (search_in rows) rows ≡ false
-      → asked words ≡ Some (made_by name (search_in rows) rows)
+      → has_extra rows ≡ false → asked words ≡ Some (made_by name (search_in rows) rows)
+  pub extra : has_unknown name rows ≡ false → is_no_lesson (codes "lesson") rows ≡ false
+      → has_bad_workers rows ≡ false → lacks_option name (search_in rows) rows ≡ false
+      → has_extra rows ≡ true → IsRefused words ArgumentConflict
   pub missing : has_unknown name rows ≡ false → is_no_lesson (codes "lesson") rows ≡ false
       → has_bad_workers rows ≡ false → lacks_option name (search_in rows) rows ≡ true
       → IsRefused words MissingRequiredArgument

@@ -7,12 +7,13 @@ use Rattle.command_line.specs.declared.options.Subcommand.{Subcommand}
 use Rattle.command_line.specs.declared.options.Row.{Row}
 use Rattle.command_line.specs.declared.options.Takes.{Takes}
 use Rattle.command_line.specs.declared.options.Takes.TheVariants as kinds
-use Rattle.command_line.specs.Commands.{asking_rule, command_with, count_parser, flag_rule, option_rule, u32_parser, u64_parser, value_rule}
+use Rattle.command_line.specs.Commands.{asking_rule, command_with, count_parser, flag_rule, option_rule, repeated, u32_parser, u64_parser, value_rule}
 
 abbrev pub taking : Takes → Text → Rule
 taking kinds.Nothing id = flag_rule id
 taking kinds.Help id = asking_rule id
 taking (kinds.Text _) id = option_rule id String
+taking (kinds.Texts _) id = repeated (option_rule id String)
 taking (kinds.Value _) id = value_rule id
 taking (kinds.U32 _) id = option_rule id u32_parser
 taking (kinds.U64 _) id = option_rule id u64_parser

@@ -5,7 +5,7 @@ use Rattle.conditions.specs.Questions.{Question}
 use Rattle.conditions.specs.internal.FormCode.{question_code}
 use Rattle.statistics.specs.declared.sums.Sums.{Sums}
 use Rattle.statistics.specs.Counting.{Asked}
-use Rattle.statistics.specs.internal.Kept.{KeptOne, KeptTwo}
+use Rattle.statistics.specs.internal.Kept.{KeptEach, KeptOne, KeptTwo}
 
 abbrev pub asked_code : Coded Asked
 asked_code =
@@ -35,6 +35,13 @@ one_code =
     (coded× asked_code (coded× sums_code (coded_list coded_ℕ)))
     (λ o. (o.asked, (o.sums, o.counts)))
     (λ p. record { asked = p.0; sums = p.1.0; counts = p.1.1 })
+    (λ _. refl)
+
+abbrev pub each_code : Coded KeptEach
+each_code =
+    code_by (ℕ × List KeptOne) (coded× coded_ℕ (coded_list one_code))
+    (λ e. (e.deals, e.ones))
+    (λ p. record { deals = p.0; ones = p.1 })
     (λ _. refl)
 
 abbrev pub two_code : Coded KeptTwo

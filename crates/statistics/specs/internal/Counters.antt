@@ -3,28 +3,30 @@ use Rattle.std.specs.Prelude.{◌≡◌, ◌==◌, if◌then◌else◌, ℕ, Lis
 use Rattle.boards.specs.declared.board.Board.{Board}
 use Rattle.cards.specs.declared.seat.Seat.{Seat}
 use Rattle.statistics.specs.declared.kept.Kept.{Kept}
-use Rattle.statistics.specs.declared.kept.Kept.TheVariants.{Alone, Rows, Cells}
+use Rattle.statistics.specs.declared.kept.Kept.TheVariants.{Alone, Cells, Each, Rows}
 use Rattle.statistics.specs.declared.line_style.LineStyle.{LineStyle}
 use Rattle.statistics.specs.declared.line_style.LineStyle.TheVariants.{Csv, Html, Table}
 use Rattle.statistics.specs.Answers.{answers_of}
-use Rattle.statistics.specs.Counting.{Subject, by_one, by_two, csv_text, deals_alone, most_deals}
+use Rattle.statistics.specs.Counting.{Subject, by_each, by_one, by_two, csv_text, deals_alone, most_deals}
 use Rattle.statistics.specs.Counting.{page_table, page_title, pairs_of, table_text}
 use Rattle.statistics.specs.Csv.{csv_total}
 use Rattle.statistics.specs.Page.{page_head}
 use Rattle.statistics.specs.Sentence.{sentence}
-use Rattle.statistics.specs.internal.Kept.{CountsOne, CountsTwo}
+use Rattle.statistics.specs.internal.Kept.{CountsEach, CountsOne, CountsTwo, asked_each}
 
 -- what is asked
 abbrev pub asked_of : Kept → Subject
 asked_of (Alone deals) = deals_alone
 asked_of (Rows one) = by_one one.asked
 asked_of (Cells two) = by_two two.of.asked two.by
+asked_of (Each each) = by_each (asked_each each)
 
 -- how many deals were counted
 abbrev pub deals_kept : Kept → ℕ
 deals_kept (Alone deals) = deals
 deals_kept (Rows one) = one.sums.deals
 deals_kept (Cells two) = two.of.sums.deals
+deals_kept (Each each) = each.deals
 
 -- the deals are what was counted
 abbrev pub Counts : Kept → List (List Seat) → Type 0
@@ -32,6 +34,7 @@ Counts (Alone n) deals = n ≡ length deals
 Counts (Rows one) deals = CountsOne one (answers_of one.asked.question deals)
 Counts (Cells two) deals =
     CountsTwo two (pairs_of two.of.asked.question two.by.question deals)
+Counts (Each each) deals = CountsEach each deals
 
 -- the text below the sentence
 abbrev pub body_text : LineStyle → Subject → List (List Seat) → ℕ → List ℕ

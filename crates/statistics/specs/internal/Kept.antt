@@ -1,9 +1,10 @@
 -- What a counter keeps of the deals that it was given.
 use Rattle.std.specs.Prelude.{◌≡◌, ◌≤◌, ◌<◌, ◌+◌, ◌*◌, ◌^◌, ◌==◌, ℕ, List, length, max, min}
-use Rattle.std.specs.Prelude.{if◌then◌else◌, slice_index, slice_set, sum}
+use Rattle.std.specs.Prelude.{All, [], ◌∷◌, ◌++◌, if◌then◌else◌, map, slice_index, slice_set, sum}
+use Rattle.cards.specs.declared.seat.Seat.{Seat}
 use Rattle.conditions.specs.Questions.{rows_of}
 use Rattle.statistics.specs.declared.sums.Sums.{Sums}
-use Rattle.statistics.specs.Answers.{count_of, greatest_of, least_of, squares}
+use Rattle.statistics.specs.Answers.{answers_of, count_of, greatest_of, least_of, squares}
 use Rattle.statistics.specs.Counting.{Asked, most_counted, most_deals}
 use Rattle.statistics.specs.TwoQuestions.{Pairs, cell, in_column, of_columns, of_rows}
 
@@ -72,6 +73,31 @@ pub record IsKeptOne (one : KeptOne) : Type 0 where
 pub record CountsOne (one : KeptOne) (answers : List ℕ) : Type 0 where
   pub sums : one.sums ≡ sums_of answers
   pub counts : IsListOf (λ n. count_of n answers) one.counts
+
+-- of several questions: how many deals there are, and of each question what is kept of it
+pub record KeptEach : Type 0 where
+  pub deals : ℕ
+  pub ones : List KeptOne
+
+pub record IsKeptEach (each : KeptEach) : Type 0 where
+  pub few : each.deals ≤ most_deals
+  pub alike : All (λ one. one.sums.deals ≡ each.deals) each.ones
+
+abbrev pub asked_each : KeptEach → List Asked
+asked_each each = map (λ one. one.asked) each.ones
+
+-- the deals are what was counted
+pub record CountsEach (each : KeptEach) (deals : List (List Seat)) : Type 0 where
+  pub number : each.deals ≡ length deals
+  pub ones : All (λ one. CountsOne one (answers_of one.asked.question deals)) each.ones
+
+-- one deal more was counted
+pub record IsCounted (deal : List Seat) (old new : KeptOne) : Type 0 where
+  pub asked : new.asked ≡ old.asked
+  pub number : new.sums.deals ≡ old.sums.deals + 1
+  pub counted : (deals : List (List Seat))
+      → CountsOne old (answers_of old.asked.question deals)
+      → CountsOne new (answers_of old.asked.question (deals ++ deal ∷ []))
 
 -- of two questions: besides what is kept of the rows' question, the sums of the columns' answers,
 -- how many deals each cell has, row by row, and of each column its deals and the sum of their rows

@@ -1,6 +1,6 @@
 //! What is kept, as JSON.
 
-ghost use Rattle.std.specs.Prelude.{◌≡◌, ◌<◌, ◌-◌, ◌^◌, List, drop};
+ghost use Rattle.std.specs.Prelude.{◌≡◌, ◌<◌, ◌-◌, ◌^◌, List};
 ghost use Rattle.boards.specs.declared.style.Style.TheVariants.{Json};
 ghost use Rattle.cards.specs.declared.seat.Seat.{Seat};
 ghost use Rattle.sinks.specs.Sinks.{AppendsOrBreaksOff, CountsFault};
@@ -10,7 +10,7 @@ ghost use Rattle.statistics.specs.internal.Counters.{Counts, asked_of, json_star
 use crate::json::put_member;
 use crate::kept::Kept;
 use crate::pieces::put_piece;
-use boards::TextBuffer;
+use boards::{Style, TextBuffer};
 use sinks::{Sink, SinkFault, put_all};
 
 impl Kept {
@@ -38,13 +38,14 @@ impl Kept {
         requires { S.faults sink.old < 2 ^ 64 - 1 }
         ensures bytes { (deals : List (List Seat)) → Counts self.now deals
             → AppendsOrBreaksOff (S.bytes sink.old) (S.bytes sink.new) result
-            (drop 1 (json_questions (asked_of self.now) deals)) }
+            (json_questions (asked_of self.now) deals) }
         ensures faults { CountsFault (S.faults sink.old) (S.faults sink.new) result }
     {
         match self {
             Kept::Alone(_) => Ok(()),
             Kept::Rows(one) => one.put_json(sink),
             Kept::Cells(two) => two.put_json(sink),
+            Kept::Each(each) => each.put_parts(Style::Json, sink),
         }
     }
 }

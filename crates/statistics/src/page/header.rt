@@ -39,7 +39,7 @@ fn put_opening(text: &mut TextBuffer)
 }
 
 /// Appends the text with &, < and > as HTML has them.
-fn put_escaped(text: &mut TextBuffer, title: &[u8])
+pub(crate) fn put_escaped(text: &mut TextBuffer, title: &[u8])
     requires { length text.old + 5 * length title.now ≤ CAPACITY }
     ensures text { text.new ≡ text.old ++ escaped title.now }
     ensures most { length text.new ≤ length text.old + 5 * length title.now }

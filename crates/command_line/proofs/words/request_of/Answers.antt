@@ -1,6 +1,6 @@
 use Rattle.std.proofs.Common.{◌∙◌, ap, ap₂, is_some, sym, Some}
 use Rattle.clap.specs.Words.{found_of, rows_of}
-use Rattle.clap.specs.declared.error.kind.ErrorKind.TheVariants.{InvalidValue, MissingRequiredArgument, ValueValidation}
+use Rattle.clap.specs.declared.error.kind.ErrorKind.TheVariants.{ArgumentConflict, InvalidValue, MissingRequiredArgument, ValueValidation}
 use Rattle.request_types.specs.Requests.{Wish, stream}
 use Rattle.command_line.specs.CommandLine.{lacks_option, made_by}
 use Rattle.command_line.proofs.Asked.{refused_asked, refused_kind}
@@ -68,6 +68,19 @@ returns-in-Some-missing_of c words at =
       refused_kind words MissingRequiredArgument c.written-in-Some-missing_of.result (asks.missing known taught counted lacks) (c.written-in-Some-missing_of.ensures MissingRequiredArgument c.missing_option.ensures),
     )
 
+pub returns-in-Some-extra_of : goal.returns-in-Some-extra_of
+returns-in-Some-extra_of c words at =
+    let asks = at.make (sym c.if-eq.ensures) (sym c.if-eq-2.ensures) (sym c.if-eq-3.ensures) (sym c.if-eq-4.ensures) (sym c.if-eq-5.ensures) in
+    let known = sym c.unknown_in.ensures ∙ ap is_some c.in_default.is in
+    let taught = sym c.no_lesson_in.ensures ∙ ap is_some c.in_default-no_lesson_in.is in
+    let counted = sym c.bad_workers_in.ensures ∙ ap is_some c.in_default-bad_workers_in.is in
+    let rows = rows_of (found_of c.args.matches.now) in
+    let lacks = ap (λ s. lacks_option c.args.name.now s rows) (sym c.search_in-search.ensures) ∙ sym c.missing_of.ensures ∙ ap is_some c.in_default-missing_of.is in
+    let extra = sym c.extra_of.ensures ∙ ap is_some c.in-Some-extra_of.is in (
+      λ some. refused_asked words ArgumentConflict (asks.extra known taught counted lacks extra) some,
+      refused_kind words ArgumentConflict c.written-in-Some-extra_of.result (asks.extra known taught counted lacks extra) (c.written-in-Some-extra_of.ensures ArgumentConflict c.conflicting_option.ensures),
+    )
+
 pub returns : goal.returns
 returns c words at =
     let asks = at.make (sym c.if-eq.ensures) (sym c.if-eq-2.ensures) (sym c.if-eq-3.ensures) (sym c.if-eq-4.ensures) (sym c.if-eq-5.ensures) in
@@ -76,5 +89,6 @@ returns c words at =
     let counted = sym c.bad_workers_in.ensures ∙ ap is_some c.in_default-bad_workers_in.is in
     let rows = rows_of (found_of c.args.matches.now) in
     let lacks = ap (λ s. lacks_option c.args.name.now s rows) (sym c.search_in-search.ensures) ∙ sym c.missing_of.ensures ∙ ap is_some c.in_default-missing_of.is in
-    asks.ends known taught counted lacks ∙ ap (λ s. Some (made_by c.args.name.now s rows)) (sym c.search_in-search.ensures)
+    let extra = sym c.extra_of.ensures ∙ ap is_some c.in_default-extra_of.is in
+    asks.ends known taught counted lacks extra ∙ ap (λ s. Some (made_by c.args.name.now s rows)) (sym c.search_in-search.ensures)
     ∙ ap (λ (w : Wish). Some w) (sym c.request_by.ensures)
