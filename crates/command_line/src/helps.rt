@@ -85,8 +85,8 @@ west: Cards that West gets, in the same form [default: none]",
     (
         COUNTED,
         "of: What is counted of each deal: a value, as
-'hcp(south)', or a condition [default: only how many
-deals there are]
+'hcp(south)', or a condition; up to eight times
+[default: only how many deals there are]
 
 by: A second value or condition, for the columns of the
 table [default: none]",
