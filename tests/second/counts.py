@@ -130,11 +130,27 @@ def counted(kinds, answers):
     return {"values": [[n, answers.count(n)] for n in sorted(set(answers))], **sums}
 
 
-def as_json(texts, kinds, answers, candidates):
+def as_object(deals, candidates, asked):
     """The whole object, as Python's own writer of JSON has it."""
-    asked = [{**dict(zip(["of", "by"], texts)), **counted(kinds, answers)}] if kinds else []
-    whole = {"candidates": candidates, "deals": len(answers), "questions": asked}
+    whole = {"candidates": candidates, "deals": deals, "questions": asked}
     return json.dumps(whole, ensure_ascii=False, separators=(",", ":"))
+
+
+def as_json(texts, kinds, answers, candidates):
+    asked = [{**dict(zip(["of", "by"], texts)), **counted(kinds, answers)}] if kinds else []
+    return as_object(len(answers), candidates, asked)
+
+
+def each(style, texts, kinds, answers, candidates):
+    """The lines of several questions: the answers to each are in a list of their own."""
+    deals, asked = len(answers[0]), list(zip(texts, kinds, answers))
+    if style == "json":
+        return [as_object(deals, candidates, [{"of": text, **counted([kind], found)} for text, kind, found in asked])]
+    if style == "csv":
+        rows = [[f"{number},{plain(kind, n)},{found.count(n)}" for n in sorted(set(found))]
+                for number, (_, kind, found) in enumerate(asked, 1)]
+        return ["question,value,deals", f"0,candidates,{candidates}", f"0,deals,{deals}", *sum(rows, [])]
+    return [sentence(deals, candidates), *sum((one(*question) for question in asked if deals), [])]
 
 
 def table(texts, kinds, answers, candidates):

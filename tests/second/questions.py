@@ -97,6 +97,26 @@ def expected(deals, where, questions, first, count, boards):
     return kinds, answers, tried
 
 
+def asked_of_each():
+    """The same of two to eight questions that have a table each."""
+    dice = random.Random(1912)
+    for _ in range(ASKED // 5):
+        where = random_conditions.test(dice, []) if dice.randrange(3) else None
+        questions = [random_question(dice) for _ in range(dice.randrange(2, 9))]
+        if all(len(text.encode()) <= 1024 for text in [*questions, where or ""]):
+            yield dice.choice(["table", "csv", "json"]), where, questions, 0, dice.choice([0, 1, 20, 90]), None
+
+
+def complaint_of_each(deals, style, where, questions, first, count, boards):
+    """What is wrong with the program's answer to several questions, or None."""
+    words = words_of(style, where, [], first, count, boards)
+    run = subprocess.run([harness.PROGRAM, *words, *(f"--of={text}" for text in questions)], capture_output=True, check=False)
+    kinds, answers, tried = expected(deals, where, questions, first, count, boards)
+    found = [[answer[at] for answer in answers] for at in range(len(questions))]
+    wanted = "\n".join(counts.each(style, questions, kinds, found, tried)) + "\n"
+    return None if run.stdout.decode() == wanted else f"status {run.returncode}: {run.stdout.decode()!r} for {wanted!r}"
+
+
 def complaint(deals, style, where, questions, first, count, boards):
     """What is wrong with the program's answer, or None."""
     words = words_of(style, where, questions, first, count, boards)
@@ -159,3 +179,4 @@ def random_ones():
     """Random questions."""
     deals = list(dealt())
     yield from report.asked(lambda row: complaint(deals, *row), asked())
+    yield from report.asked(lambda row: complaint_of_each(deals, *row), asked_of_each())
