@@ -1,6 +1,6 @@
 """Random texts of conditions: the program has to refuse each where a second reader (grammar.py) does, say what could
-stand there, and take what it tells to write. So it does of texts after definitions that are given beside them, by
-`--let`. With `many` there are ten times as many.
+stand there, and take what it tells to write. So it does of texts after definitions beside them, in `--let`. With `many`
+there are ten times as many.
 """
 
 import os

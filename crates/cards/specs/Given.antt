@@ -1,4 +1,4 @@
--- Cards that are given to a seat all at once. They are a number, in which bit c is set for card c.
+-- Cards given to a seat all at once. They are a number, in which bit c is set for card c.
 use Rattle.std.specs.Prelude.{◌≡◌, ℕ, ◌==◌, Bool, List, map, slice_index_or, Option, Some, None, if◌then◌else◌}
 use Rattle.std.specs.Int.{bit_at}
 use Rattle.cards.specs.declared.seat.Seat.{Seat}

@@ -1,4 +1,4 @@
-//! Cards that are given to seats one by one, until they are a deal.
+//! Cards given to seats one by one, until they are a deal.
 
 ghost use Rattle.std.specs.Prelude.{◌≡◌, ◌<◌, ◌^◌, List, IfSome, IsSome, map, Some, None, length};
 ghost use Rattle.std.specs.Prelude.{slice_index_or, slice_set, false, true};

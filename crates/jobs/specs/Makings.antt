@@ -24,7 +24,7 @@ abbrev pub AreWorkers : Workers → ℕ → Type 0
 AreWorkers (Number n) workers = workers ≡ n
 AreWorkers Auto workers = (0 < workers) × (workers ≤ 16)
 
--- the labels that are given, those that the format writes, and what replaces Law 2
+-- the labels of the options, those that the format writes, and what replaces Law 2
 abbrev pub heading_of : Look → HeadingView
 heading_of l = record { event = l.event; site = l.site; date = l.date }
 

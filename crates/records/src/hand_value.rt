@@ -7,7 +7,7 @@ ghost use Rattle.records.specs.internal.Hands.{IsHand, Steps};
 /// How many ranks there are.
 pub(crate) const RANKS: usize = 13;
 
-/// The ranks of all bytes; 13 where a byte is no rank's letter.
+/// The ranks of all bytes; 13 where a byte stands for none.
 const RANK_OF: [u8; 256] = [
     13, 13, 13, 13, 13, 13, 13, 13, 13, 13, 13, 13, 13, 13, 13, 13, 13, 13, 13, 13, 13, 13, 13, 13,
     13, 13, 13, 13, 13, 13, 13, 13, 13, 13, 13, 13, 13, 13, 13, 13, 13, 13, 13, 13, 13, 13, 13, 13,

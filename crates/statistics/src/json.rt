@@ -118,7 +118,7 @@ pub(crate) fn put_member(text: &mut TextBuffer, name: &[u8], number: u128)
 }
 
 /// Writes an item of an array, which begins with a comma: without it, unless another item is before
-/// it. Returns whether some item was written by then. An empty text is no item.
+/// it. Returns whether some item was written by then. An empty text isn't an item.
 ///
 /// # Errors
 /// `SinkFault` if the sink failed: a proper prefix of the item was written.
