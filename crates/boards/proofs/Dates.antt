@@ -41,31 +41,15 @@ listed a b c d e f g h k l fits =
 
 pub date_from_places : (text : List ℕ) → length text ≡ 10 → FitsAll text → IsDate text
 date_from_places (a ∷ b ∷ c ∷ d ∷ e ∷ f ∷ g ∷ h ∷ k ∷ l ∷ []) count fits = listed a b c d e f g h k l fits
-date_from_places [] count fits = absurd (omega arith)
-date_from_places (a ∷ []) count fits = absurd (omega arith)
-date_from_places (a ∷ b ∷ []) count fits = absurd (omega arith)
-date_from_places (a ∷ b ∷ c ∷ []) count fits = absurd (omega arith)
-date_from_places (a ∷ b ∷ c ∷ d ∷ []) count fits = absurd (omega arith)
-date_from_places (a ∷ b ∷ c ∷ d ∷ e ∷ []) count fits = absurd (omega arith)
-date_from_places (a ∷ b ∷ c ∷ d ∷ e ∷ f ∷ []) count fits = absurd (omega arith)
-date_from_places (a ∷ b ∷ c ∷ d ∷ e ∷ f ∷ g ∷ []) count fits = absurd (omega arith)
-date_from_places (a ∷ b ∷ c ∷ d ∷ e ∷ f ∷ g ∷ h ∷ []) count fits = absurd (omega arith)
-date_from_places (a ∷ b ∷ c ∷ d ∷ e ∷ f ∷ g ∷ h ∷ k ∷ []) count fits = absurd (omega arith)
-date_from_places (a ∷ b ∷ c ∷ d ∷ e ∷ f ∷ g ∷ h ∷ k ∷ l ∷ m ∷ rest) count fits = absurd (omega arith)
+date_from_places _ count fits = absurd (omega arith)
 
 two_items : (text : List ℕ) → length text ≡ 2 → (x : ℕ) × (y : ℕ) × (text ≡ x ∷ y ∷ [])
 two_items (x ∷ y ∷ []) h = (x, y, refl)
-two_items [] h = absurd (omega arith)
-two_items (x ∷ []) h = absurd (omega arith)
-two_items (x ∷ y ∷ z ∷ rest) h = absurd (omega arith)
+two_items _ h = absurd (omega arith)
 
 four_items : (text : List ℕ) → length text ≡ 4 → (x : ℕ) × (y : ℕ) × (z : ℕ) × (w : ℕ) × (text ≡ x ∷ y ∷ z ∷ w ∷ [])
 four_items (x ∷ y ∷ z ∷ w ∷ []) h = (x, y, z, w, refl)
-four_items [] h = absurd (omega arith)
-four_items (x ∷ []) h = absurd (omega arith)
-four_items (x ∷ y ∷ []) h = absurd (omega arith)
-four_items (x ∷ y ∷ z ∷ []) h = absurd (omega arith)
-four_items (x ∷ y ∷ z ∷ w ∷ v ∷ rest) h = absurd (omega arith)
+four_items _ h = absurd (omega arith)
 
 digit : (i byte : ℕ) → i ≢ 4 → i ≢ 7 → IsDigit byte → FitsDate i byte
 digit i byte p q h = (λ e. absurd (p e), λ e. absurd (q e), λ r s. h)

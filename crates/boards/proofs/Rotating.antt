@@ -38,9 +38,7 @@ hands setting number candidate deal seat rotates =
 -- North's hand goes to the first one
 north_goes : (to : Seat) → goes_to to North ≡ to
 north_goes North = refl
-north_goes East = refl
-north_goes South = refl
-north_goes West = refl
+north_goes _ = refl
 
 pub dealers_hand : (setting : Setting) (number candidate : ℕ) (deal : List Seat) → setting.rotate ≡ true
     → hand_of (board_in setting number candidate deal).deal (dealer_in setting number) ≡ hand_of deal North

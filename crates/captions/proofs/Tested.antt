@@ -50,10 +50,4 @@ label_stays (Some text) label = rw ((label_decides text).1 label) refl
 
 pub labels_stay : (format : Format) (given : HeadingView) → AreLabels given → captions_in format given ≡ given
 labels_stay Pbn given labels = rw (label_stays given.event labels.event, label_stays given.site labels.site) refl
-labels_stay Hands given labels = refl
-labels_stay Lin given labels = refl
-labels_stay Html given labels = refl
-labels_stay Sheet given labels = refl
-labels_stay Slips given labels = refl
-labels_stay Json given labels = refl
-labels_stay Numbers given labels = refl
+labels_stay _ given labels = refl

@@ -93,7 +93,7 @@ impl Progress {
     /// Tells the sink how far the run has come, each time that `BETWEEN_WATCHES` more verdicts were
     /// taken. At the last call `before` were.
     #[inline(always)]
-    fn tell<S: Sink>(&self, before: u64, sink: &mut S)
+    fn report_progress<S: Sink>(&self, before: u64, sink: &mut S)
         ensures bytes { S.bytes sink.new ≡ S.bytes sink.old }
         ensures faults { S.faults sink.new ≡ S.faults sink.old }
     {
@@ -219,7 +219,7 @@ impl Writer {
             }
             let slot = lane.take_slot();
             self.progress.write(&self.plan, notation, sink, &slot)?;
-            self.progress.tell(before, sink);
+            self.progress.report_progress(before, sink);
             if self.is_full() {
                 return Ok(());
             }

@@ -12,7 +12,7 @@ const ONE_OF: u32 = 16;
 /// since that was last found out. A test that is not worth its time is not asked again.
 #[derive(Clone, Copy, Drop)]
 pub(crate) struct Profit {
-    is_worth: bool,
+    pays: bool,
     asked: u32,
     given_up: u32,
     ghost few: { asked < 1024 },
@@ -21,9 +21,9 @@ pub(crate) struct Profit {
 
 impl Profit {
     /// Nothing was asked yet.
-    pub(crate) fn new(is_worth: bool) -> Profit {
+    pub(crate) fn new(pays: bool) -> Profit {
         Profit {
-            is_worth,
+            pays,
             asked: 0,
             given_up: 0,
         }
@@ -31,8 +31,8 @@ impl Profit {
 
     /// Whether to ask.
     #[inline(always)]
-    pub(crate) fn is_worth(&self) -> bool {
-        self.is_worth
+    pub(crate) fn pays(&self) -> bool {
+        self.pays
     }
 
     /// Counts an answer.

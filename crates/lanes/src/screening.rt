@@ -59,7 +59,7 @@ impl Screening {
     /// Whether any test is asked.
     #[inline(always)]
     pub(crate) fn is_on(&self) -> bool {
-        self.west.is_worth() || self.south.is_worth()
+        self.west.pays() || self.south.pays()
     }
 
     /// Whether West's hand alone tells that the candidate is rejected. `false` says nothing.
@@ -74,7 +74,7 @@ impl Screening {
             → IsCompletion fixed west.now deal
             → holds form deal ≡ false }
     {
-        if !self.west.is_worth() {
+        if !self.west.pays() {
             return false;
         }
         let Some(screen) = &self.screen else {
@@ -98,7 +98,7 @@ impl Screening {
             → hand_of deal South ≡ south.now
             → holds form deal ≡ false }
     {
-        if !self.south.is_worth() {
+        if !self.south.pays() {
             return false;
         }
         let Some(screen) = &self.screen else {

@@ -41,9 +41,7 @@ dashed (x ∷ xs) plain = plain
 
 signed : (suit : Suit) → columns (sign_and_space suit) ≡ 2
 signed Spades = refl
-signed Hearts = refl
-signed Diamonds = refl
-signed Clubs = refl
+signed _ = refl
 
 -- a suit takes two columns less than bytes
 pub columns-suit_text : (hand : List Bool) (suit : Suit) → columns (suit_text hand suit) ≡ 2 + length (or_dash (codes "-") (suit_letters hand suit))

@@ -22,13 +22,7 @@ header_by Pbn South show heading = refl
 header_by Pbn West show heading = refl
 header_by Pbn NorthSouth show heading = refl
 header_by Pbn EastWest show heading = refl
-header_by Hands seats show heading = refl
-header_by Lin seats show heading = refl
-header_by Html seats show heading = refl
-header_by Sheet seats show heading = refl
-header_by Slips seats show heading = refl
-header_by Json seats show heading = refl
-header_by Numbers seats show heading = refl
+header_by _ seats show heading = refl
 
 board_by : (format : Format) (seats : Seats) (show : Show) (heading : HeadingView) (board : Board)
     → show.seats ≡ seats → (layout_by format seats show heading).board board ≡ board_text format show heading nothing_known board
@@ -40,13 +34,7 @@ board_by Pbn South show heading board is = refl
 board_by Pbn West show heading board is = refl
 board_by Pbn NorthSouth show heading board is = refl
 board_by Pbn EastWest show heading board is = refl
-board_by Hands seats show heading board is = refl
-board_by Lin seats show heading board is = refl
-board_by Html seats show heading board is = refl
-board_by Sheet seats show heading board is = refl
-board_by Slips seats show heading board is = refl
-board_by Json seats show heading board is = refl
-board_by Numbers seats show heading board is = refl
+board_by _ seats show heading board is = refl
 
 footer_by : (format : Format) (seats : Seats) (show : Show) (heading : HeadingView)
     → (layout_by format seats show heading).footer ≡ ends_with (footer_of format)
@@ -58,13 +46,7 @@ footer_by Pbn South show heading = refl
 footer_by Pbn West show heading = refl
 footer_by Pbn NorthSouth show heading = refl
 footer_by Pbn EastWest show heading = refl
-footer_by Hands seats show heading = refl
-footer_by Lin seats show heading = refl
-footer_by Html seats show heading = refl
-footer_by Sheet seats show heading = refl
-footer_by Slips seats show heading = refl
-footer_by Json seats show heading = refl
-footer_by Numbers seats show heading = refl
+footer_by _ seats show heading = refl
 
 pub showing_header : (format : Format) (show : Show) (heading : HeadingView)
     → (layout_showing format show heading).header ≡ header_of format heading

@@ -15,13 +15,7 @@ use Rattle.notations.proofs.LayoutLemmas.{showing_board, showing_footer, showing
 
 pub beside_none : (seats : Seats) → beside_seats seats nothing_known ≡ nothing_known
 beside_none All = refl
-beside_none Dealer = refl
-beside_none North = refl
-beside_none East = refl
-beside_none South = refl
-beside_none West = refl
-beside_none NorthSouth = refl
-beside_none EastWest = refl
+beside_none _ = refl
 
 pub plain_header : (format : Format) (show : Show) (heading : HeadingView)
     → (layout_solved format show heading false).header ≡ (layout_showing format show heading).header

@@ -1,14 +1,11 @@
 -- A hand of a Deal tag's value, byte by byte.
-use Rattle.std.proofs.Common.{◌≡◌, ◌∙◌, ◌<◌, ◌≤◌, ℕ, ◌+◌, ◌*◌, ◌/◌, ◌%◌, ◌^◌, ◌==◌, Bool, true, false, List, [], ◌∷◌, length, get_or, set, ◌-◌, ◌++◌, add-one, drop, drop-cons, cond, ap, arith, refl, sym, bit_and, max, min}
+use Rattle.std.proofs.Common.{◌≡◌, ◌∙◌, ◌<◌, ◌≤◌, ℕ, ◌+◌, ◌*◌, ◌/◌, ◌%◌, ◌^◌, ◌==◌, Bool, true, false, List, [], ◌∷◌, length, get_or, set, ◌-◌, ◌++◌, add-one, drop, drop-cons, ap, arith, refl, sym, bit_and, max, min}
 use Rattle.std.specs.Prelude.{nat_lt, Option, None, Some, if◌then◌else◌}
-use mir.Val.{bool_byte}
 use Rattle.std.specs.Int.{bit_at, w64}
-use Rattle.std.specs.Int.Bits.{or_zero_r}
 use Rattle.std.specs.Int.RustNames.{bit_or}
 use Rattle.std.proofs.lemmas.Bool.{and_right, eqb-false, eqb-true, lt-ltb, ne_eqb}
 use Rattle.std.proofs.lemmas.Bool.Decides.{nat_tests}
-use Rattle.std.proofs.Math.Pow.{pow-lt}
-use Rattle.std.proofs.lemmas.Nat.{one_shl, or_lt}
+use Rattle.std.proofs.lemmas.Nat.{one_shl}
 use Rattle.std.proofs.lemmas.Nat.Bits.{bit_at-lt, bit_at-zero, bit_at_and, bit_at_or, bit_at-pow_same, bit_at_set_other, bit_at_set_same}
 use Rattle.std.proofs.lemmas.List.{drop_all, ext_get_or, get_or-set_other, get_or-set_same, length-set}
 use Rattle.std.proofs.Common.{eq-eqb, take}
@@ -88,45 +85,6 @@ letter_step suit cards b few rank apart first p seats rest whole low count free 
       still_free cards c below apart seats free,
       rw (and_right (nat_lt (p + suit) 15) _ (not_separator b (p + suit) rank), lt-ltb (rank_in b) 13 rank, this_suit, this_hand, none, more) refl,
     )
-
--- ---- a byte
-
-pub dots_of : (b : Bool) → bool_byte b ≡ cond b 1 0
-dots_of true = refl
-dots_of false = refl
-
-pub few_dots : (b : Bool) (dots : ℕ) → dots ≡ bool_byte b → dots ≤ 1
-few_dots true dots e = rw e (omega arith)
-few_dots false dots e = rw e (omega arith)
-
-pub byte_step : (suit cards byte dots rank : ℕ) → suit ≤ 3 → rank ≡ rank_in byte → dots ≡ cond (byte == 46) 1 0 → rank ≤ 12 + dots → suit + dots ≤ 3
-    → bit_and cards ((1 - dots) * 2 ^ (13 * suit + rank) % 2 ^ 64) ≡ 0 → Steps suit cards (byte ∷ []) (suit + dots) (bit_or cards ((1 - dots) * 2 ^ (13 * suit + rank) % 2 ^ 64))
-byte_step suit cards byte dots rank few is dot fits later apart = by_test (byte == 46) refl
-  where
-    by_test : (b : Bool) → (byte == 46) ≡ b → Steps suit cards (byte ∷ []) (suit + dots) (bit_or cards ((1 - dots) * 2 ^ (13 * suit + rank) % 2 ^ 64))
-    by_test true e =
-        let one : dots ≡ 1 = dot ∙ ap (λ b. cond b 1 0) e in
-        let nothing : (1 - 1) * 2 ^ (13 * suit + rank) % 2 ^ 64 ≡ 0 = omega arith in
-        rw (one, nothing, or_zero_r cards, eqb-true byte 46 e) (dot_step suit cards (omega (arith, later, one)))
-    by_test false e =
-        let none : dots ≡ 0 = dot ∙ ap (λ b. cond b 1 0) e in
-        let same : suit + 0 ≡ suit = omega arith in
-        let single : 1 - 0 ≡ 1 = refl in
-        let free : bit_and cards (card_bit (13 * suit + rank_in byte)) ≡ 0 = ap (λ r. bit_and cards (card_bit (13 * suit + r))) (sym is) ∙ ap (λ d. bit_and cards ((1 - d) * 2 ^ (13 * suit + rank) % 2 ^ 64)) (sym none) ∙ apart in
-        rw (none, same, is) (letter_step suit cards byte few (omega (arith, fits, none, is)) free)
-
-pub byte_below : (suit cards dots rank : ℕ) → cards < 2 ^ 52 → dots ≤ 1 → rank ≤ 12 + dots → suit + dots ≤ 3 → bit_or cards ((1 - dots) * 2 ^ (13 * suit + rank) % 2 ^ 64) < 2 ^ 52
-byte_below suit cards dots rank small few fits later = or_lt 52 cards _ small (by_test (dots == 0) refl)
-  where
-    by_test : (b : Bool) → (dots == 0) ≡ b → (1 - dots) * 2 ^ (13 * suit + rank) % 2 ^ 64 < 2 ^ 52
-    by_test true e =
-        let none : dots ≡ 0 = eqb-true dots 0 e in
-        let less : 13 * suit + rank < 52 = omega (arith, fits, later, none) in
-        rw none (rw (one_shl (13 * suit + rank) 64 (omega (arith, less))) (pow-lt less))
-    by_test false e =
-        let ne = eqb-false dots 0 e in
-        let one : dots ≡ 1 = omega (arith, ne, few) in
-        rw one (omega arith)
 
 -- ---- bytes
 

@@ -14,5 +14,7 @@ pub mod Dealt
 pub mod Made
 pub mod MadeGames
 pub mod HandTexts
+pub mod HandBytes
+pub mod HandSums
 pub mod PlainBytes
 pub mod NameBytes

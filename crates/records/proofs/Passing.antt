@@ -1,11 +1,12 @@
 -- Bytes that were read, one after another.
-use Rattle.std.proofs.Common.{◌≡◌, ◌∙◌, ◌<◌, ℕ, ◌+◌, ◌-◌, add-one, take, List, [], ◌∷◌, ◌++◌, length, drop, drop-cons, get_or, Option, None, Result, Ok, Err, IfOk, append_assoc, length-append, ap, arith, refl, sym}
+use Rattle.std.proofs.Common.{Bool, ◌≡◌, ◌∙◌, ◌<◌, ℕ, ◌+◌, ◌-◌, add-one, take, List, [], ◌∷◌, ◌++◌, length, drop, drop-cons, get_or, Option, None, Result, Ok, Err, IfOk, append_assoc, length-append, ap, arith, refl, sym}
 use Rattle.records.specs.declared.game.Told.{Told}
 use Rattle.std.specs.Prelude.{OnOk}
 use Rattle.records.specs.Scans.{IsWithin, spells_from}
 use Rattle.records.specs.Texts.{after, list_of, refused_with}
 use Rattle.records.specs.declared.fault.RefusedRecord.{RefusedRecord}
 use Rattle.records.specs.declared.scanner.Scanner.{Scanner}
+use Rattle.records.specs.internal.Endings.{told_if}
 use Rattle.records.specs.internal.TagTexts.{Reads, tag_text}
 use Rattle.records.proofs.Rooms.{roomier}
 use Rattle.records.proofs.Tags.{tag_length}
@@ -54,11 +55,24 @@ pub reads_refused : (s t : Scanner) (bytes : List ℕ) (n : ℕ) (e : RefusedRec
     → (rest : List ℕ) → spells_from s (bytes ++ rest) ≡ refused_with e
 reads_refused s t bytes n e p refused rest = p.spells rest ∙ (rw (take_rest bytes n) at refused rest)
 
-pub first_read : (s t : Scanner) (b : ℕ) (bytes : List ℕ) (r : Result (Option Told) RefusedRecord) → 0 < length bytes → b ≡ get_or bytes 0 0
-    → IfOk r (λ told. (rest : List ℕ) → spells_from s (b ∷ rest) ≡ after (list_of told) (spells_from t rest)) → ((n : ℕ) → IsWithin s n → OnOk r (IsWithin t (n + 1)))
-    → IfOk r (λ told. Reads s t bytes 1 told)
-first_read s t b bytes (Err e) some is reads room = tt
-first_read s t b bytes (Ok told) some is reads room = reads_byte s t b bytes told some is reads room
+pub first_read : (s t : Scanner) (told : Told) (b : ℕ) (bytes : List ℕ) (r : Result Bool RefusedRecord) → 0 < length bytes → b ≡ get_or bytes 0 0
+    → IfOk r (λ ended. (rest : List ℕ) → spells_from s (b ∷ rest) ≡ after (list_of (told_if ended told)) (spells_from t rest)) → ((n : ℕ) → IsWithin s n → OnOk r (IsWithin t (n + 1)))
+    → IfOk r (λ ended. Reads s t bytes 1 (told_if ended told))
+first_read s t told b bytes (Err e) some is reads room = tt
+first_read s t told b bytes (Ok ended) some is reads room = reads_byte s t b bytes (told_if ended told) some is reads room
+
+pub reads_line : (s t : Scanner) (name value after_it later : List ℕ) → after_it ≡ 10 ∷ later → ((rest : List ℕ) → spells_from s (tag_text name value ++ 10 ∷ rest) ≡ spells_from t rest)
+    → ((n : ℕ) → IsWithin s n → IsWithin t (n + 1)) → Reads s t (tag_text name value ++ after_it) (length name + length value + 5 + 1) None
+reads_line s t name value after_it later is reads room =
+    let count : length (tag_text name value) ≡ length name + length value + 5 = tag_length name value in
+    let signs : length (tag_text name value ++ 10 ∷ []) ≡ length name + length value + 5 + 1 = length-append (tag_text name value) (10 ∷ []) ∙ ap (λ n. n + 1) count in
+    let whole : tag_text name value ++ after_it ≡ (tag_text name value ++ 10 ∷ []) ++ later = ap (λ l. tag_text name value ++ l) is ∙ sym (append_assoc (tag_text name value) (10 ∷ []) later) in
+    let left : drop (length name + length value + 5 + 1) (tag_text name value ++ after_it) ≡ later = rw (← signs, whole) (drop-append_seam (tag_text name value ++ 10 ∷ []) later) in
+    record {
+      within = rw (is, length-append, count) (omega arith);
+      spells = λ rest. rw left (ap (λ l. spells_from s (l ++ rest)) (ap (λ l. tag_text name value ++ l) is) ∙ ap (spells_from s) (append_assoc (tag_text name value) (10 ∷ later) rest) ∙ reads (later ++ rest));
+      room = λ n h. roomier t.reading (n + 1 + (n + 1)) (n + (length name + length value + 5 + 1) + (n + (length name + length value + 5 + 1))) (omega arith) (room n h);
+    }
 
 pub reads_tag : (s t : Scanner) (name value after_it bytes : List ℕ) (board : Option Told) → bytes ≡ tag_text name value ++ after_it
     → ((rest : List ℕ) → spells_from s (tag_text name value ++ rest) ≡ after (list_of board) (spells_from t rest)) → ((n : ℕ) → IsWithin s n → IsWithin t (n + 1))

@@ -1,8 +1,9 @@
 -- What a byte does to what a text spells.
-use Rattle.std.proofs.Common.{◌≡◌, ◌∙◌, ℕ, ◌==◌, Bool, true, false, List, [], ◌∷◌, Result, Ok, Err, IfOk, IfErr, Option, None, refl}
+use Rattle.std.proofs.Common.{◌≡◌, ◌∙◌, ℕ, ◌==◌, Bool, true, false, List, [], ◌∷◌, Result, Ok, Err, IfOk, IfErr, None, refl}
 use Rattle.records.specs.declared.game.Told.{Told}
 use Rattle.picking.specs.NumberTexts.{starts_with_lf}
 use Rattle.records.specs.Scans.{spells_from}
+use Rattle.records.specs.internal.Endings.{told_if}
 use Rattle.records.specs.Texts.{Spelled, after, begin_text, ends_game, ends_line, list_of, nothing_more, reads_byte, refused_with, spelled}
 use Rattle.records.specs.declared.fault.RefusedRecord.{RefusedRecord}
 use Rattle.records.specs.declared.reading.Reading.{Reading}
@@ -43,38 +44,38 @@ at_end s e = rw e refl
 
 -- ---- what calls return
 
-pub line_ended : (s : Scanner) (t : Reading) (r : Result (Option Told) RefusedRecord)
-    → IfOk r (λ board. (next : Reading → Spelled) → ends_line s.reading next ≡ after (list_of board) (next t))
-    → IfOk r (λ board. (rest : List ℕ) → spells_from s (10 ∷ rest) ≡ after (list_of board) (spells_from (plainly t) rest))
-line_ended s t (Err e) ends = tt
-line_ended s t (Ok board) ends = λ rest. at_lf s rest ∙ ends (λ t. spells_from (plainly t) rest)
+pub line_ended : (s : Scanner) (t : Reading) (told : Told) (r : Result Bool RefusedRecord)
+    → IfOk r (λ ended. (next : Reading → Spelled) → ends_line s.reading next ≡ after (list_of (told_if ended told)) (next t))
+    → IfOk r (λ ended. (rest : List ℕ) → spells_from s (10 ∷ rest) ≡ after (list_of (told_if ended told)) (spells_from (plainly t) rest))
+line_ended s t told (Err e) ends = tt
+line_ended s t told (Ok ended) ends = λ rest. at_lf s rest ∙ ends (λ t. spells_from (plainly t) rest)
 
-pub line_refused : (s : Scanner) (r : Result (Option Told) RefusedRecord)
+pub line_refused : (s : Scanner) (r : Result Bool RefusedRecord)
     → IfErr r (λ e. (next : Reading → Spelled) → ends_line s.reading next ≡ refused_with e)
     → IfErr r (λ e. (rest : List ℕ) → spells_from s (10 ∷ rest) ≡ refused_with e)
-line_refused s (Ok board) ends = tt
+line_refused s (Ok ended) ends = tt
 line_refused s (Err e) ends = λ rest. at_lf s rest ∙ ends (λ t. spells_from (plainly t) rest)
 
-pub byte_read : (s : Scanner) (t : Reading) (cr : Bool) (b : ℕ) (r : Result (Option Told) RefusedRecord) → s.after_cr ≡ false → cr ≡ false → (b == 10) ≡ false → (b == 13) ≡ false
-    → IfOk r (λ board. (next : Reading → Spelled) → reads_byte s.reading b next ≡ after (list_of board) (next t))
-    → IfOk r (λ board. (rest : List ℕ) → spells_from s (b ∷ rest) ≡ after (list_of board) (spells_from (record { reading = t; after_cr = cr }) rest))
-byte_read s t cr b (Err e) plain same ten thirteen reads = tt
-byte_read s t cr b (Ok board) plain same ten thirteen reads =
+pub byte_read : (s : Scanner) (t : Reading) (told : Told) (cr : Bool) (b : ℕ) (r : Result Bool RefusedRecord) → s.after_cr ≡ false → cr ≡ false → (b == 10) ≡ false → (b == 13) ≡ false
+    → IfOk r (λ ended. (next : Reading → Spelled) → reads_byte s.reading b next ≡ after (list_of (told_if ended told)) (next t))
+    → IfOk r (λ ended. (rest : List ℕ) → spells_from s (b ∷ rest) ≡ after (list_of (told_if ended told)) (spells_from (record { reading = t; after_cr = cr }) rest))
+byte_read s t told cr b (Err e) plain same ten thirteen reads = tt
+byte_read s t told cr b (Ok ended) plain same ten thirteen reads =
     λ rest. rw same (at_byte s b rest plain ten thirteen ∙ reads (λ t. spells_from (plainly t) rest))
 
-pub byte_refused : (s : Scanner) (b : ℕ) (r : Result (Option Told) RefusedRecord) → s.after_cr ≡ false → (b == 10) ≡ false → (b == 13) ≡ false
+pub byte_refused : (s : Scanner) (b : ℕ) (r : Result Bool RefusedRecord) → s.after_cr ≡ false → (b == 10) ≡ false → (b == 13) ≡ false
     → IfErr r (λ e. (next : Reading → Spelled) → reads_byte s.reading b next ≡ refused_with e)
     → IfErr r (λ e. (rest : List ℕ) → spells_from s (b ∷ rest) ≡ refused_with e)
-byte_refused s b (Ok board) plain ten thirteen reads = tt
+byte_refused s b (Ok ended) plain ten thirteen reads = tt
 byte_refused s b (Err e) plain ten thirteen reads = λ rest. at_byte s b rest plain ten thirteen ∙ reads (λ t. spells_from (plainly t) rest)
 
-pub text_ended : (s t : Scanner) (r : Result (Option Told) RefusedRecord) → spells_from s [] ≡ spells_from t [] → t.after_cr ≡ false
-    → IfOk r (λ board. ends_line t.reading (λ u. ends_game u nothing_more) ≡ record { boards = list_of board; refused = None })
-    → IfOk r (λ board. spells_from s [] ≡ record { boards = list_of board; refused = None })
-text_ended s t (Err e) same plain ends = tt
-text_ended s t (Ok board) same plain ends = same ∙ at_end t plain ∙ ends
+pub text_ended : (s t : Scanner) (told : Told) (r : Result Bool RefusedRecord) → spells_from s [] ≡ spells_from t [] → t.after_cr ≡ false
+    → IfOk r (λ ended. ends_line t.reading (λ u. ends_game u nothing_more) ≡ record { boards = list_of (told_if ended told); refused = None })
+    → IfOk r (λ ended. spells_from s [] ≡ record { boards = list_of (told_if ended told); refused = None })
+text_ended s t told (Err e) same plain ends = tt
+text_ended s t told (Ok ended) same plain ends = same ∙ at_end t plain ∙ ends
 
-pub text_refused : (s t : Scanner) (r : Result (Option Told) RefusedRecord) → spells_from s [] ≡ spells_from t [] → t.after_cr ≡ false
+pub text_refused : (s t : Scanner) (r : Result Bool RefusedRecord) → spells_from s [] ≡ spells_from t [] → t.after_cr ≡ false
     → IfErr r (λ e. ends_line t.reading (λ u. ends_game u nothing_more) ≡ refused_with e) → IfErr r (λ e. spells_from s [] ≡ refused_with e)
-text_refused s t (Ok board) same plain ends = tt
+text_refused s t (Ok ended) same plain ends = tt
 text_refused s t (Err e) same plain ends = same ∙ at_end t plain ∙ ends

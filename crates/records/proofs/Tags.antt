@@ -1,5 +1,5 @@
 -- What a tag at the beginning of a line does to what a text spells.
-use Rattle.std.proofs.Common.{◌≡◌, ◌∙◌, ◌<◌, ◌≤◌, ℕ, ◌+◌, ◌==◌, Bool, true, false, List, [], ◌∷◌, ◌++◌, length, ap, append_assoc, length-append, drop, take, Some, arith, refl, sym}
+use Rattle.std.proofs.Common.{◌≡◌, ◌∙◌, ◌<◌, ◌≤◌, ℕ, ◌+◌, ◌==◌, Bool, true, false, List, [], ◌∷◌, ◌++◌, length, ap, append_assoc, length-append, drop, take, Option, Some, arith, refl, sym}
 use Rattle.std.specs.List.{list_all}
 use Rattle.std.specs.Prelude.{nat_eq}
 use Rattle.std.specs.Borrow.{Bor}
@@ -12,7 +12,8 @@ use Rattle.std.proofs.lemmas.List.{append-nil}
 use Rattle.records.specs.Kinds.{kind_of}
 use Rattle.records.specs.Places.{is_name_byte}
 use Rattle.records.specs.Scans.{spells_from}
-use Rattle.records.specs.Texts.{Spelled, takes_tag}
+use Rattle.records.specs.Texts.{Spelled, ends_line, takes_tag}
+use Rattle.records.specs.declared.kind.Kind.{Kind}
 use Rattle.records.specs.declared.scanner.Scanner.{Scanner}
 use Rattle.records.specs.declared.line.Part.{Part}
 use Rattle.records.specs.declared.line.Part.TheVariants.{Open, Bracket, Name, Gap, Value, Close}
@@ -156,6 +157,20 @@ pub tag_passed : (s : Scanner) (t : Reading) (name value : List ℕ) → IsStart
     → (rest : List ℕ) → spells_from s (tag_text name value ++ rest) ≡ spells_from (record { reading = t; after_cr = s.after_cr }) rest
 tag_passed s t name value start plain tag takes rest =
     rw plain (tag_read s.reading name value rest start tag ∙ takes (λ u. spells_from (plainly u) rest))
+
+-- the end of the line comes next
+then_lf : (kind : Option Kind) (s : Reading) (rest : List ℕ)
+    → takes_tag kind s (λ t. spells_from (plainly t) (10 ∷ rest)) ≡ takes_tag kind s (λ t. ends_line t (λ u. spells_from (plainly u) rest))
+unfolding spells_from
+then_lf kind s rest = refl
+
+pub line_passed : (s : Scanner) (t : Reading) (name value : List ℕ) → IsStart s.reading.line → s.after_cr ≡ false → IsTag name value
+    → ((next : Reading → Spelled) → takes_tag (kind_of name) (with_place (after_tag name value) s.reading) (λ u. ends_line u next) ≡ next t)
+    → (rest : List ℕ) → spells_from s (tag_text name value ++ 10 ∷ rest) ≡ spells_from (record { reading = t; after_cr = s.after_cr }) rest
+line_passed s t name value start plain tag takes rest =
+    rw plain (tag_read s.reading name value (10 ∷ rest) start tag
+    ∙ then_lf (kind_of name) (with_place (after_tag name value) s.reading) rest
+    ∙ takes (λ u. spells_from (plainly u) rest))
 
 -- ---- what a text begins with
 

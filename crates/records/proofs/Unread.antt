@@ -1,5 +1,5 @@
 -- The bytes of a piece that weren't read.
-use Rattle.std.proofs.Common.{◌≡◌, ◌∙◌, ◌≤◌, ◌+◌, ◌-◌, ℕ, List, [], ◌++◌, length, take, drop, Option, Result, Ok, Err, IfOk, IfErr, sym, ap, arith, length-take, refl, subst}
+use Rattle.std.proofs.Common.{Bool, ◌≡◌, ◌∙◌, ◌≤◌, ◌+◌, ◌-◌, ℕ, List, [], ◌++◌, length, take, drop, Option, Result, Ok, Err, IfOk, IfErr, sym, ap, arith, length-take, refl, subst}
 use Rattle.std.proofs.lemmas.List.{drop-drop, drop-take, drop_all, length-drop}
 use Rattle.records.specs.declared.game.Told.{Told}
 use Rattle.records.specs.Readers.{IsReady, unread, unread_spells}
@@ -8,6 +8,7 @@ use Rattle.records.specs.Texts.{after, list_of, refused_with}
 use Rattle.records.specs.declared.fault.RefusedRecord.{RefusedRecord}
 use Rattle.records.specs.declared.reader.BoardReader.{BoardReader}
 use Rattle.records.specs.declared.scanner.Scanner.{Scanner}
+use Rattle.records.specs.internal.Endings.{told_if}
 use Rattle.records.specs.internal.TagTexts.{Reads}
 
 -- ---- a part of a piece
@@ -17,12 +18,12 @@ same_part piece from to within =
     let is : to ≡ from + (to - from) = omega (arith, within) in
     ap (λ n. drop from (take n piece)) is ∙ drop-take from (to - from) piece
 
-pub part_read : (s t : Scanner) (piece : List ℕ) (from to : ℕ) (r : Result (ℕ × Option Told) RefusedRecord) → from ≤ to
-    → IfOk r (λ q. Reads s t (take (to - from) (drop from piece)) q.0 q.1) → IfOk r (λ q. Reads s t (drop from (take to piece)) q.0 q.1)
-part_read s t piece from to (Err e) within reads = tt
-part_read s t piece from to (Ok q) within reads = subst (λ l. Reads s t l q.0 q.1) (sym (same_part piece from to within)) reads
+pub part_read : (s t : Scanner) (told : Told) (piece : List ℕ) (from to : ℕ) (r : Result (ℕ × Bool) RefusedRecord) → from ≤ to
+    → IfOk r (λ q. Reads s t (take (to - from) (drop from piece)) q.0 (told_if q.1 told)) → IfOk r (λ q. Reads s t (drop from (take to piece)) q.0 (told_if q.1 told))
+part_read s t told piece from to (Err e) within reads = tt
+part_read s t told piece from to (Ok q) within reads = subst (λ l. Reads s t l q.0 (told_if q.1 told)) (sym (same_part piece from to within)) reads
 
-pub part_refused : (s : Scanner) (piece : List ℕ) (from to : ℕ) (r : Result (ℕ × Option Told) RefusedRecord) → from ≤ to
+pub part_refused : (s : Scanner) (piece : List ℕ) (from to : ℕ) (r : Result (ℕ × Bool) RefusedRecord) → from ≤ to
     → IfErr r (λ e. (rest : List ℕ) → spells_from s (take (to - from) (drop from piece) ++ rest) ≡ refused_with e)
     → IfErr r (λ e. (rest : List ℕ) → spells_from s (drop from (take to piece) ++ rest) ≡ refused_with e)
 part_refused s piece from to (Ok q) within reads = tt

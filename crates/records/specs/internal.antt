@@ -2,3 +2,4 @@
 pub mod Showing
 pub mod TagTexts
 pub mod Hands
+pub mod Endings

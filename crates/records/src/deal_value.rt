@@ -1,6 +1,7 @@
 //! The deal that a Deal tag tells.
 
-ghost use Rattle.std.specs.Prelude.{◌≡◌, ◌*◌, ◌+◌, ◌≤◌, ◌++◌, ℕ, IfSome, List, Some, true};
+ghost use Rattle.std.specs.Prelude.{◌≡◌, ◌*◌, ◌+◌, ◌≤◌, ◌^◌, ◌++◌, ℕ, IfSome, List, Some, length};
+ghost use Rattle.std.specs.Prelude.{true};
 ghost use Rattle.records.specs.DealValues.{deal_in, gives};
 ghost use Rattle.records.specs.DealValues.{none_given, rank_in, seat_in, separator, whole};
 
@@ -62,7 +63,8 @@ fn given_by_bytes(first: Seat, hands: &[u8]) -> Option<Given>
 
 /// Gives the seat of this hand the cards that the text tells. Returns whether it could.
 fn give_hand(given: &mut Given, first: Seat, hand: usize, text: &[u8]) -> bool
-    requires { hand ≤ 3 }
+    requires hand { hand ≤ 3 }
+    requires few { length text.now ≤ 2 ^ 50 }
     ensures { result ≡ true → (rest : List ℕ)
         → gives first (4 * hand) given.old (text.now ++ rest)
         ≡ gives first (4 * hand + 3) given.new rest }

@@ -1,10 +1,13 @@
 //! A game: what its tags say of a board.
 
-ghost use Rattle.std.specs.Prelude.{◌≡◌, ◌+◌, ◌-◌, ◌<◌, ◌≤◌, ◌^◌, [], ℕ, IfOk, IfSome, unwrap_or};
+ghost use Rattle.std.specs.Prelude.{◌≡◌, ◌+◌, ◌-◌, ◌<◌, ◌≤◌, ◌^◌, [], ℕ, IfErr, IfOk, None, Ok};
+ghost use Rattle.std.specs.Prelude.{Err, true, unwrap_or};
 ghost use Rattle.records.specs.Games.{board_of, first_fault, game_says, has, heading_of};
 ghost use Rattle.records.specs.Games.{no_game, number_of, tricks_of};
 ghost use Rattle.records.specs.Games.{with_deal, with_dealer, with_number, with_tag};
 ghost use Rattle.records.specs.Games.{with_vulnerable};
+ghost use Rattle.boards.specs.Headings.{no_heading};
+ghost use Rattle.records.specs.internal.Endings.{told_if};
 
 use crate::deal_value::deal_in;
 use crate::fault::{RecordFault, RefusedRecord};
@@ -14,7 +17,7 @@ use crate::values::{
 };
 use boards::{Board, Date, Tricks, Vul, dealer, vulnerable};
 use captions::{Caption, Captions};
-use cards::{Deal, Seat};
+use cards::{Deal, DealsByNumber, Fixed, Seat};
 
 /// No candidate has this number.
 const NO_CANDIDATE: u64 = 1 << 40;
@@ -25,6 +28,21 @@ pub struct Told {
     pub board: Board,
     pub heading: Captions,
     pub tricks: Tricks,
+}
+
+impl Told {
+    /// Any board, to be written over.
+    pub(crate) fn any() -> Told {
+        Told {
+            board: Board::by_law(
+                1,
+                NO_CANDIDATE,
+                DealsByNumber::new(0, &Fixed::none()).deal(0),
+            ),
+            heading: Captions::none(),
+            tricks: Tricks::tagged(&[], &[], &[]),
+        }
+    }
 }
 
 /// What the tags of a game say, each if the game has it: its labels, or `None` if they are none;
@@ -56,6 +74,22 @@ fn bytes_of(value: &Option<Short>) -> &[u8]
     }
 }
 
+/// Forgets a label, if there is one: it is much to write.
+fn forget(label: &mut Option<Option<Caption>>)
+    ensures { label.new ≡ None }
+{
+    if label.is_some() {
+        *label = None;
+    }
+}
+
+/// Whether there are no labels.
+fn is_blank(heading: &Captions) -> bool
+    ensures { result ≡ true → heading.now ≡ no_heading }
+{
+    heading.event().is_none() && heading.site().is_none() && heading.date().is_none()
+}
+
 impl Game {
     /// The game that has no tag.
     pub(crate) fn none() -> Game
@@ -74,6 +108,23 @@ impl Game {
             contract: None,
             fault: None,
         }
+    }
+
+    /// Begins the next game, which has no tag yet.
+    pub(crate) fn clear(&mut self)
+        ensures { self.new ≡ no_game }
+    {
+        forget(&mut self.event);
+        forget(&mut self.site);
+        self.date = None;
+        self.number = None;
+        self.dealer = None;
+        self.vulnerable = None;
+        self.deal = None;
+        self.tricks = None;
+        self.score = None;
+        self.contract = None;
+        self.fault = None;
     }
 
     /// Whether the game has a tag of this kind.
@@ -204,6 +255,24 @@ impl Game {
         )
     }
 
+    /// Whether the game has no labels.
+    fn is_unlabelled(&self) -> bool
+        ensures { result ≡ true → heading_of self.now ≡ no_heading }
+    {
+        self.event.is_none() && self.site.is_none() && self.date.is_none()
+    }
+
+    /// Puts the labels of the game in the place of others. They are much to write, and most games
+    /// have none.
+    fn put_heading(&self, heading: &mut Captions)
+        ensures { heading.new ≡ heading_of self.now }
+    {
+        if self.is_unlabelled() && is_blank(heading) {
+            return;
+        }
+        *heading = self.heading();
+    }
+
     /// What the tags tell of the board's tricks.
     fn tricks(&self) -> Tricks
         ensures { result ≡ tricks_of self.now }
@@ -215,30 +284,48 @@ impl Game {
         )
     }
 
-    /// What the game says as it ends, after the board of number `last`.
+    /// Tells the board of this deal, after the one of number `last`.
+    fn tell(&self, last: u64, deal: Deal, told: &mut Told)
+        requires { last < 2 ^ 64 - 1 }
+        ensures told { told.new ≡ record {
+          board = board_of last self.now deal;
+          heading = heading_of self.now;
+          tricks = tricks_of self.now;
+        } }
+        ensures most { (n : ℕ) → last + 1 ≤ n → unwrap_or self.now.number 0 ≤ n
+            → told.new.board.number ≤ n }
+    {
+        told.board = self.board(last, deal);
+        self.put_heading(&mut told.heading);
+        told.tricks = self.tricks();
+    }
+
+    /// What the game says as it ends, after the board of number `last`. Returns whether that is a
+    /// board, which is then told.
     ///
     /// # Errors
     /// The first fault of its tags, if it has a deal.
     #[tactic(auto, unfolding(crate::specs::Games::game_says))]
-    pub(crate) fn says(&self, last: u64) -> Result<Option<Told>, RefusedRecord>
+    pub(crate) fn says(&self, last: u64, told: &mut Told) -> Result<bool, RefusedRecord>
         requires { last < 2 ^ 64 - 1 }
-        ensures value { result ≡ game_says last self.now }
-        ensures most { IfOk result (λ told. IfSome told (λ t. (n : ℕ) → last + 1 ≤ n
-            → unwrap_or self.now.number 0 ≤ n → t.board.number ≤ n)) }
+        ensures says { IfOk result (λ ended. game_says last self.now
+            ≡ Ok (told_if ended told.new)) }
+        ensures refused { IfErr result (λ fault. game_says last self.now ≡ Err fault) }
+        ensures most { IfOk result (λ ended. ended ≡ true → (n : ℕ) → last + 1 ≤ n
+            → unwrap_or self.now.number 0 ≤ n → told.new.board.number ≤ n) }
     {
         let Some(deal) = self.deal else {
-            return Ok(None);
+            return Ok(false);
         };
         if let Some(fault) = self.fault {
             return Err(fault);
         }
         match deal {
-            None => Ok(None),
-            Some(deal) => Ok(Some(Told {
-                board: self.board(last, deal),
-                heading: self.heading(),
-                tricks: self.tricks(),
-            })),
+            None => Ok(false),
+            Some(deal) => {
+                self.tell(last, deal, told);
+                Ok(true)
+            }
         }
     }
 }

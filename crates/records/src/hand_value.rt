@@ -1,8 +1,8 @@
 //! A hand of a Deal tag's value.
 
-ghost use Rattle.std.specs.Prelude.{◌≡◌, ◌<◌, ◌≤◌, ◌^◌, ◌∷◌, List, IfSome, length, ℕ, [], ◌++◌, ◌+◌};
+ghost use Rattle.std.specs.Prelude.{◌≡◌, ◌<◌, ◌≤◌, ◌^◌, IfSome, length};
 ghost use Rattle.records.specs.DealValues.{rank_in};
-ghost use Rattle.records.specs.internal.Hands.{IsHand, Steps};
+ghost use Rattle.records.specs.internal.Hands.{IsHand, bit_in, move_after};
 
 /// How many ranks there are.
 pub(crate) const RANKS: usize = 13;
@@ -30,40 +30,73 @@ pub(crate) fn rank_in(byte: u8) -> usize
     usize::from(RANK_OF[usize::from(byte)])
 }
 
-/// Takes a byte of a hand, in this suit and after these cards: the suit and the cards after it, or
-/// `None` unless it is a dot before a suit or the letter of a card that comes first.
-///
-/// A dot is taken as a letter is, with no card, so that nothing depends on where the dots are.
-#[inline(always)]
-fn step(suit: usize, cards: u64, byte: u8) -> Option<(usize, u64)>
-    requires suit { suit ≤ 3 }
-    requires cards { cards < 2 ^ 52 }
-    ensures suit { IfSome result (λ r. r.0 ≤ 3) }
-    ensures cards { IfSome result (λ r. r.1 < 2 ^ 52) }
-    ensures steps { IfSome result (λ r. Steps suit cards (byte ∷ []) r.0 r.1) }
+/// The bits of all bytes: bit r for the letter of rank r, none where a byte stands for no card.
+const BIT_OF: [u16; 256] = [
+    0, 0, 0, 0, 0, 0, 0, 0, 0, 0, 0, 0, 0, 0, 0, 0, 0, 0, 0, 0, 0, 0, 0, 0, 0, 0, 0, 0, 0, 0, 0, 0,
+    0, 0, 0, 0, 0, 0, 0, 0, 0, 0, 0, 0, 0, 0, 0, 0, 0, 0, 4096, 2048, 1024, 512, 256, 128, 64, 32,
+    0, 0, 0, 0, 0, 0, 0, 1, 0, 0, 0, 0, 0, 0, 0, 0, 8, 2, 0, 0, 0, 0, 0, 4, 0, 0, 16, 0, 0, 0, 0,
+    0, 0, 0, 0, 0, 0, 0, 0, 0, 0, 0, 0, 0, 0, 0, 0, 0, 0, 0, 0, 0, 0, 0, 0, 0, 0, 0, 0, 0, 0, 0, 0,
+    0, 0, 0, 0, 0, 0, 0, 0, 0, 0, 0, 0, 0, 0, 0, 0, 0, 0, 0, 0, 0, 0, 0, 0, 0, 0, 0, 0, 0, 0, 0, 0,
+    0, 0, 0, 0, 0, 0, 0, 0, 0, 0, 0, 0, 0, 0, 0, 0, 0, 0, 0, 0, 0, 0, 0, 0, 0, 0, 0, 0, 0, 0, 0, 0,
+    0, 0, 0, 0, 0, 0, 0, 0, 0, 0, 0, 0, 0, 0, 0, 0, 0, 0, 0, 0, 0, 0, 0, 0, 0, 0, 0, 0, 0, 0, 0, 0,
+    0, 0, 0, 0, 0, 0, 0, 0, 0, 0, 0, 0, 0, 0, 0, 0, 0, 0, 0, 0, 0, 0, 0, 0, 0, 0, 0, 0, 0, 0, 0, 0,
+    0, 0, 0, 0, 0, 0, 0,
+];
+
+/// How far the cards after each byte move: not at all after a letter, by a suit after a dot. Any
+/// other byte moves them too far for a hand.
+const MOVE_AFTER: [u8; 256] = [
+    64, 64, 64, 64, 64, 64, 64, 64, 64, 64, 64, 64, 64, 64, 64, 64, 64, 64, 64, 64, 64, 64, 64, 64,
+    64, 64, 64, 64, 64, 64, 64, 64, 64, 64, 64, 64, 64, 64, 64, 64, 64, 64, 64, 64, 64, 64, 13, 64,
+    64, 64, 0, 0, 0, 0, 0, 0, 0, 0, 64, 64, 64, 64, 64, 64, 64, 0, 64, 64, 64, 64, 64, 64, 64, 64,
+    0, 0, 64, 64, 64, 64, 64, 0, 64, 64, 0, 64, 64, 64, 64, 64, 64, 64, 64, 64, 64, 64, 64, 64, 64,
+    64, 64, 64, 64, 64, 64, 64, 64, 64, 64, 64, 64, 64, 64, 64, 64, 64, 64, 64, 64, 64, 64, 64, 64,
+    64, 64, 64, 64, 64, 64, 64, 64, 64, 64, 64, 64, 64, 64, 64, 64, 64, 64, 64, 64, 64, 64, 64, 64,
+    64, 64, 64, 64, 64, 64, 64, 64, 64, 64, 64, 64, 64, 64, 64, 64, 64, 64, 64, 64, 64, 64, 64, 64,
+    64, 64, 64, 64, 64, 64, 64, 64, 64, 64, 64, 64, 64, 64, 64, 64, 64, 64, 64, 64, 64, 64, 64, 64,
+    64, 64, 64, 64, 64, 64, 64, 64, 64, 64, 64, 64, 64, 64, 64, 64, 64, 64, 64, 64, 64, 64, 64, 64,
+    64, 64, 64, 64, 64, 64, 64, 64, 64, 64, 64, 64, 64, 64, 64, 64, 64, 64, 64, 64, 64, 64, 64, 64,
+    64, 64, 64, 64, 64, 64, 64, 64, 64, 64, 64, 64, 64,
+];
+
+/// The bit of a letter, as that of a card of the first suit; 0 where there is none.
+fn bit_in(byte: u8) -> u64
+    ensures { result ≡ bit_in byte }
 {
-    let rank = rank_in(byte);
-    let dots = usize::from(byte == b'.');
-    if rank > RANKS - 1 + dots || suit + dots > 3 {
-        return None;
-    }
-    let card = (1 - dots as u64) << (13 * suit + rank);
-    if cards & card != 0 {
-        return None;
-    }
-    Some((suit + dots, cards | card))
+    u64::from(BIT_OF[usize::from(byte)])
+}
+
+/// How far the cards after this byte move.
+fn move_after(byte: u8) -> usize
+    ensures value { result ≡ move_after byte }
+    ensures range { result ≤ 64 }
+{
+    usize::from(MOVE_AFTER[usize::from(byte)])
 }
 
 /// The cards of a hand, bit c for card c, or `None` unless the text is the letters of four suits
 /// with dots between them, each card once.
+///
+/// A dot is taken as a letter is, with no card, so that nothing depends on where the dots are.
 pub(crate) fn cards_in(text: &[u8]) -> Option<u64>
+    requires { length text.now ≤ 2 ^ 50 }
     ensures cards { IfSome result (λ cards. cards < 2 ^ 52) }
     ensures hand { IfSome result (λ cards. IsHand cards text.now) }
 {
-    let mut suit = 0;
+    let mut place = 0;
     let mut cards = 0;
     for byte in text {
-        (suit, cards) = step(suit, cards, *byte)?;
+        // The places of a hand are below 64; the remainder costs nothing.
+        let card = bit_in(*byte) << (place % 64);
+        if cards & card != 0 {
+            return None;
+        }
+        cards |= card;
+        place += move_after(*byte);
     }
-    if suit == 3 { Some(cards) } else { None }
+    if place == 3 * RANKS {
+        Some(cards)
+    } else {
+        None
+    }
 }

@@ -1,6 +1,6 @@
 //! A line that is read byte by byte, up to the tags in it.
 
-ghost use Rattle.std.specs.Prelude.{◌≡◌, ◌≢◌, ◌+◌, ◌<◌, ◌≤◌, ℕ, length, true};
+ghost use Rattle.std.specs.Prelude.{◌≡◌, ◌≢◌, ◌+◌, ◌<◌, ◌≤◌, ℕ, false, length, true};
 ghost use Rattle.records.specs.Places.{begin, is_blank, is_empty, is_in_tag, is_name_byte};
 ghost use Rattle.records.specs.Places.{moved, new_line, opened, place_after, step_at};
 ghost use Rattle.records.specs.internal.TagTexts.{IsStart, after_tag};
@@ -204,6 +204,13 @@ impl Line {
         let _fits = self.name.try_extend_from_slice(name);
         self.value.clear();
         let _fits = self.value.try_extend_from_slice(value);
+    }
+
+    /// Skips no more, as a tag begins.
+    pub(crate) fn stop_skipping(&mut self)
+        ensures { self.new ≡ record self.old { skips = false } }
+    {
+        self.skips = false;
     }
 
     /// Takes a byte where a tag or a comment may begin.

@@ -1,13 +1,14 @@
 //! Boards that are read from an input.
 
 ghost use Rattle.std.specs.Prelude.{◌≡◌, ◌-◌, ◌+◌, ◌<◌, ◌≤◌, ◌^◌, [], ℕ, List, IfErr, IfOk};
-ghost use Rattle.std.specs.Prelude.{◌++◌, IfSome, MatchResult, OnOk, None, drop, false, length};
+ghost use Rattle.std.specs.Prelude.{◌++◌, MatchResult, OnOk, drop, false, length};
 ghost use Rattle.std.specs.Prelude.{take, true};
 ghost use Rattle.std.specs.Io.KnownBytes.{IsAtEnd, Keeps};
 ghost use Rattle.records.specs.Readers.{Fills, InputFaults, IsFed, IsReady, ReadsNext};
 ghost use Rattle.records.specs.Readers.{OnBoard, TellsEnd, left, unread_spells};
 ghost use Rattle.records.specs.Scans.{IsWithin, spells_from};
 ghost use Rattle.records.specs.Texts.{after, list_of, refused_with, spelled};
+ghost use Rattle.records.specs.internal.Endings.{next_found, told_if};
 ghost use Rattle.records.specs.internal.TagTexts.{Reads};
 
 use crate::fault::RefusedRecord;
@@ -32,6 +33,17 @@ pub enum Next {
     End,
 }
 
+/// What was found next in an input: what `Next` has, but that the board is told elsewhere.
+#[derive(Clone, Copy)]
+pub(crate) enum Found {
+    /// The board of a game that ended.
+    Board,
+    /// The board of the last game, after which the input ended.
+    Last,
+    /// The input ended.
+    End,
+}
+
 /// Why no more boards were read.
 #[derive(Clone, Copy, Debug, PartialEq, Eq)]
 pub enum ReadFault {
@@ -52,25 +64,26 @@ pub struct BoardReader {
     taken: u64,
 }
 
-/// Reads on in this part of a piece, up to a board or its end. Returns how many bytes were read,
-/// and the board.
+/// Reads on in this part of a piece, up to a board, which is then told, or its end. Returns how
+/// many bytes were read, and whether there is a board.
 fn read_part(
     scanner: &mut Scanner,
     piece: &[u8; PIECE],
     from: usize,
     to: usize,
-) -> Result<(usize, Option<Told>), RefusedRecord>
+    told: &mut Told,
+) -> Result<(usize, bool), RefusedRecord>
     requires within { from ≤ to }
     requires piece { to ≤ length piece.now }
     requires room { IsWithin scanner.old (2 ^ 57) }
     ensures reads { IfOk result (λ r.
-        Reads scanner.old scanner.new (drop from (take to piece.now)) r.0 r.1) }
-    ensures more { IfOk result (λ r. IfSome r.1 (λ _. 0 < r.0)) }
-    ensures all { IfOk result (λ r. r.1 ≡ None → r.0 ≡ to - from) }
+        Reads scanner.old scanner.new (drop from (take to piece.now)) r.0 (told_if r.1 told.new)) }
+    ensures more { IfOk result (λ r. r.1 ≡ true → 0 < r.0) }
+    ensures all { IfOk result (λ r. r.1 ≡ false → r.0 ≡ to - from) }
     ensures refused { IfErr result (λ e. (rest : List ℕ)
         → spells_from scanner.old (drop from (take to piece.now) ++ rest) ≡ refused_with e) }
 {
-    scanner.read(&piece[from..to])
+    scanner.read(&piece[from..to], told)
 }
 
 impl BoardReader {
@@ -89,24 +102,26 @@ impl BoardReader {
         }
     }
 
-    /// Reads on in the piece, up to a board or the end of the piece.
-    pub(crate) fn take_piece(&mut self) -> Result<Option<Told>, RefusedRecord>
+    /// Reads on in the piece, up to a board, which is then told, or the end of the piece. Returns
+    /// whether there is a board.
+    pub(crate) fn take_piece(&mut self, told: &mut Told) -> Result<bool, RefusedRecord>
         requires { IsReady self.old }
-        ensures goes_on { IfOk result (λ board. (rest : List ℕ)
-            → unread_spells self.old rest ≡ after (list_of board) (unread_spells self.new rest)) }
+        ensures goes_on { IfOk result (λ ended. (rest : List ℕ)
+            → unread_spells self.old rest
+            ≡ after (list_of (told_if ended told.new)) (unread_spells self.new rest)) }
         ensures refused { IfErr result (λ e. (rest : List ℕ)
             → unread_spells self.old rest ≡ refused_with e) }
         ensures ready { OnOk result (IsReady self.new) }
         ensures left { OnOk result (left self.new ≡ left self.old) }
-        ensures more { IfOk result (λ board. IfSome board (λ _. self.old.taken < self.new.taken)) }
-        ensures all { IfOk result (λ board. board ≡ None → self.new.from ≡ self.new.to) }
+        ensures more { IfOk result (λ ended. ended ≡ true → self.old.taken < self.new.taken) }
+        ensures all { IfOk result (λ ended. ended ≡ false → self.new.from ≡ self.new.to) }
         ensures taken { self.old.taken ≤ self.new.taken }
     {
-        match read_part(&mut self.scanner, &self.piece, self.from, self.to) {
-            Ok((count, board)) => {
+        match read_part(&mut self.scanner, &self.piece, self.from, self.to, told) {
+            Ok((count, ended)) => {
                 self.from += count;
                 self.taken += count as u64;
-                Ok(board)
+                Ok(ended)
             }
             Err(line) => Err(line),
         }
@@ -137,17 +152,52 @@ impl BoardReader {
         Ok(count > 0)
     }
 
-    /// Takes the end of the input.
-    fn finish(&mut self) -> Result<Next, ReadFault>
+    /// Takes the end of the input. The last board is told, if there is one.
+    fn finish(&mut self, told: &mut Told) -> Result<Found, ReadFault>
         requires ready { IsReady self.old }
         requires empty { self.old.from ≡ self.old.to }
-        ensures { TellsEnd self.old result }
+        ensures { TellsEnd self.old (next_found result told.new) }
     {
-        match self.scanner.finish() {
-            Ok(Some(board)) => Ok(Next::Last(board)),
-            Ok(None) => Ok(Next::End),
+        match self.scanner.finish(told) {
+            Ok(true) => Ok(Found::Last),
+            Ok(false) => Ok(Found::End),
             Err(line) => Err(ReadFault::Refused(line)),
         }
+    }
+
+    /// Reads on to the next board of an input, which is then told, from which all was read that was
+    /// read before.
+    ///
+    /// # Errors
+    /// As `next`.
+    pub(crate) fn find<I: Source>(
+        &mut self,
+        input: &mut I,
+        told: &mut Told,
+    ) -> Result<Found, ReadFault>
+        requires ready { IsReady self.old }
+        requires fed { IsFed self.old (I.given input.old) }
+        requires faults { I.faults input.old < 2 ^ 64 - 1 }
+        ensures reads { ReadsNext self.old self.new (next_found result told.new)
+            (I.rest input.old) (I.rest input.new) }
+        ensures ready { OnBoard (next_found result told.new) (IsReady self.new) }
+        ensures fed { OnBoard (next_found result told.new) (IsFed self.new (I.given input.new)) }
+        ensures more { OnBoard (next_found result told.new) (self.old.taken < self.new.taken) }
+        ensures faults { InputFaults result (I.faults input.old) (I.faults input.new) }
+    {
+        for turn in 0..MOST_READS {
+            match self.take_piece(told) {
+                Ok(false) => {}
+                Ok(true) => return Ok(Found::Board),
+                Err(line) => return Err(ReadFault::Refused(line)),
+            }
+            match self.fill(input) {
+                Ok(true) => {}
+                Ok(false) => return self.finish(told),
+                Err(_) => return Err(ReadFault::Input),
+            }
+        }
+        unreachable!()
     }
 
     /// Reads on to the next board of an input, from which all was read that was read before.
@@ -165,18 +215,12 @@ impl BoardReader {
         ensures more { OnBoard result (self.old.taken < self.new.taken) }
         ensures faults { InputFaults result (I.faults input.old) (I.faults input.new) }
     {
-        for turn in 0..MOST_READS {
-            match self.take_piece() {
-                Ok(None) => {}
-                Ok(Some(board)) => return Ok(Next::Board(board)),
-                Err(line) => return Err(ReadFault::Refused(line)),
-            }
-            match self.fill(input) {
-                Ok(true) => {}
-                Ok(false) => return self.finish(),
-                Err(_) => return Err(ReadFault::Input),
-            }
+        let mut told = Told::any();
+        match self.find(input, &mut told) {
+            Ok(Found::Board) => Ok(Next::Board(told)),
+            Ok(Found::Last) => Ok(Next::Last(told)),
+            Ok(Found::End) => Ok(Next::End),
+            Err(fault) => Err(fault),
         }
-        unreachable!()
     }
 }

@@ -1,11 +1,12 @@
 //! What was read of a text, up to a byte within a line or the end of one.
 
-ghost use Rattle.std.specs.Prelude.{◌≡◌, ◌≢◌, ◌+◌, ◌-◌, ◌<◌, ◌≤◌, ◌^◌, ℕ, IfErr, IfOk, None, OnOk};
-ghost use Rattle.std.specs.Prelude.{false, length, true, unwrap_or};
+ghost use Rattle.std.specs.Prelude.{◌≡◌, ◌≢◌, ◌+◌, ◌-◌, ◌<◌, ◌≤◌, ◌^◌, ℕ, IfErr, IfOk};
+ghost use Rattle.std.specs.Prelude.{List, OnOk, false, length, true, unwrap_or};
 ghost use Rattle.records.specs.Texts.{InRoom, Spelled, after, begin_text, after_line, ends_game};
 ghost use Rattle.records.specs.Texts.{ends_line, list_of, reads_byte, refused_with, takes_tag};
 ghost use Rattle.records.specs.Texts.{nothing_more, with_last_tag};
 ghost use Rattle.records.specs.Kinds.{kind_of};
+ghost use Rattle.records.specs.internal.Endings.{told_if};
 ghost use Rattle.records.specs.internal.TagTexts.{IsStart, after_tag, with_place};
 
 use crate::fault::{RecordFault, RefusedRecord};
@@ -48,22 +49,22 @@ impl Reading {
         }
     }
 
-    /// Ends the game, and returns its board, if it has one.
-    fn end_game(&mut self) -> Result<Option<Told>, RefusedRecord>
+    /// Ends the game. Returns whether it has a board, which is then told.
+    fn end_game(&mut self, told: &mut Told) -> Result<bool, RefusedRecord>
         requires { InRoom self.old (2 ^ 62) }
-        ensures ends { IfOk result (λ board. (next : Reading → Spelled)
-            → ends_game self.old next ≡ after (list_of board) (next self.new)) }
+        ensures ends { IfOk result (λ ended. (next : Reading → Spelled)
+            → ends_game self.old next ≡ after (list_of (told_if ended told.new)) (next self.new)) }
         ensures refused { IfErr result (λ e. (next : Reading → Spelled)
             → ends_game self.old next ≡ refused_with e) }
         ensures lines { OnOk result (self.new.lines ≡ self.old.lines) }
         ensures room { (n : ℕ) → InRoom self.old n → OnOk result (InRoom self.new (n + 1)) }
     {
-        let board = self.game.says(self.last)?;
-        self.game = Game::none();
-        if let Some(board) = &board {
-            self.last = board.board.number;
+        let ended = self.game.says(self.last, told)?;
+        self.game.clear();
+        if ended {
+            self.last = told.board.number;
         }
-        Ok(board)
+        Ok(ended)
     }
 
     /// Adds the last tag to the game.
@@ -85,27 +86,39 @@ impl Reading {
         self.lines += 1;
     }
 
-    /// Takes the end of a tag, before which a game ends that has such a tag. Returns its board.
-    fn take_tag(&mut self) -> Result<Option<Told>, RefusedRecord>
+    /// Goes from the beginning of a line that is a tag to the next line.
+    fn leave_tag(&mut self)
+        requires lines { self.old.lines < 2 ^ 64 - 1 }
+        requires start { IsStart self.old.line }
+        ensures { (name value : List ℕ)
+            → self.new ≡ after_line (with_place (after_tag name value) self.old) }
+    {
+        self.line.stop_skipping();
+        self.leave_line();
+    }
+
+    /// Takes the end of a tag, before which a game ends that has such a tag. Returns whether it
+    /// had a board, which is then told.
+    fn take_tag(&mut self, told: &mut Told) -> Result<bool, RefusedRecord>
         requires { InRoom self.old (2 ^ 62) }
-        ensures takes { IfOk result (λ board. (next : Reading → Spelled)
+        ensures takes { IfOk result (λ ended. (next : Reading → Spelled)
             → takes_tag (kind_of self.old.line.name) self.old next
-            ≡ after (list_of board) (next self.new)) }
+            ≡ after (list_of (told_if ended told.new)) (next self.new)) }
         ensures refused { IfErr result (λ e. (next : Reading → Spelled)
             → takes_tag (kind_of self.old.line.name) self.old next ≡ refused_with e) }
         ensures room { (n : ℕ) → InRoom self.old n → OnOk result (InRoom self.new (n + 1)) }
     {
         let Some(kind) = kind_of(self.line.name()) else {
-            return Ok(None);
+            return Ok(false);
         };
         if !self.game.has(kind) {
             self.add_tag(kind);
-            return Ok(None);
+            return Ok(false);
         }
-        match self.end_game() {
-            Ok(board) => {
+        match self.end_game(told) {
+            Ok(ended) => {
                 self.add_tag(kind);
-                Ok(board)
+                Ok(ended)
             }
             Err(line) => Err(line),
         }
@@ -132,6 +145,30 @@ impl Reading {
         }
         self.line.take_tag(name, value);
         self.add_tag(kind);
+        true
+    }
+
+    /// Takes a whole line that is a tag, unless the game ends before it. Returns whether it did.
+    ///
+    /// Nothing is kept of the line, since it ends.
+    pub(crate) fn pass_line(&mut self, name: &[u8], value: &[u8]) -> bool
+        requires room { InRoom self.old (2 ^ 62) }
+        requires start { IsStart self.old.line }
+        ensures passed { result ≡ true → (next : Reading → Spelled)
+            → takes_tag (kind_of name.now) (with_place (after_tag name.now value.now) self.old)
+            (λ t. ends_line t next) ≡ next self.new }
+        ensures kept { result ≡ false → self.new ≡ self.old }
+        ensures room { (n : ℕ) → InRoom self.old n → InRoom self.new (n + 1) }
+    {
+        let Some(kind) = kind_of(name) else {
+            self.leave_tag();
+            return true;
+        };
+        if self.game.has(kind) {
+            return false;
+        }
+        self.game.add_tag(kind, value, self.lines + 1);
+        self.leave_tag();
         true
     }
 
@@ -164,37 +201,39 @@ impl Reading {
         true
     }
 
-    /// Takes the next byte of a line, and returns the board of the game that it ends.
+    /// Takes the next byte of a line. Returns whether it ends a game with a board, which is then
+    /// told.
     ///
     /// # Errors
     /// The line, if it is refused, whatever comes after.
-    pub(crate) fn take(&mut self, byte: u8) -> Result<Option<Told>, RefusedRecord>
+    pub(crate) fn take(&mut self, byte: u8, told: &mut Told) -> Result<bool, RefusedRecord>
         requires { InRoom self.old (2 ^ 62) }
-        ensures reads { IfOk result (λ board. (next : Reading → Spelled)
-            → reads_byte self.old byte next ≡ after (list_of board) (next self.new)) }
+        ensures reads { IfOk result (λ ended. (next : Reading → Spelled)
+            → reads_byte self.old byte next
+            ≡ after (list_of (told_if ended told.new)) (next self.new)) }
         ensures refused { IfErr result (λ e. (next : Reading → Spelled)
             → reads_byte self.old byte next ≡ refused_with e) }
-        ensures tag { IfOk result (λ board. byte ≢ 93 → board ≡ None) }
+        ensures tag { IfOk result (λ ended. byte ≢ 93 → ended ≡ false) }
         ensures room { (n : ℕ) → InRoom self.old n → OnOk result (InRoom self.new (n + 1)) }
     {
         if self.line.column() == MOST_BYTES {
             return Err(self.refused(RecordFault::TooLong));
         }
         match self.line.take(byte) {
-            Step::On => Ok(None),
-            Step::Whole => self.take_tag(),
+            Step::On => Ok(false),
+            Step::Whole => self.take_tag(told),
             Step::Wrong => Err(self.refused(RecordFault::NotATag)),
         }
     }
 
-    /// Takes the end of a line, and returns the board of the game that it ends.
+    /// Takes the end of a line. Returns whether it ends a game with a board, which is then told.
     ///
     /// # Errors
     /// The line, if it is refused, whatever comes after.
-    pub(crate) fn end_line(&mut self) -> Result<Option<Told>, RefusedRecord>
+    pub(crate) fn end_line(&mut self, told: &mut Told) -> Result<bool, RefusedRecord>
         requires { InRoom self.old (2 ^ 62) }
-        ensures ends { IfOk result (λ board. (next : Reading → Spelled)
-            → ends_line self.old next ≡ after (list_of board) (next self.new)) }
+        ensures ends { IfOk result (λ ended. (next : Reading → Spelled)
+            → ends_line self.old next ≡ after (list_of (told_if ended told.new)) (next self.new)) }
         ensures refused { IfErr result (λ e. (next : Reading → Spelled)
             → ends_line self.old next ≡ refused_with e) }
         ensures room { (n : ℕ) → InRoom self.old n → OnOk result (InRoom self.new (n + 1)) }
@@ -204,32 +243,32 @@ impl Reading {
         }
         if !self.line.is_empty() {
             self.leave_line();
-            return Ok(None);
+            return Ok(false);
         }
-        match self.end_game() {
-            Ok(board) => {
+        match self.end_game(told) {
+            Ok(ended) => {
                 self.leave_line();
-                Ok(board)
+                Ok(ended)
             }
             Err(line) => Err(line),
         }
     }
 
-    /// Takes the end of the text, and returns the board of the last game.
+    /// Takes the end of the text. Returns whether the last game has a board, which is then told.
     ///
     /// # Errors
     /// The last line, if it is refused, or one of the last game.
-    pub(crate) fn finish(&mut self) -> Result<Option<Told>, RefusedRecord>
+    pub(crate) fn finish(&mut self, told: &mut Told) -> Result<bool, RefusedRecord>
         requires { InRoom self.old (2 ^ 62) }
-        ensures ends { IfOk result (λ board.
+        ensures ends { IfOk result (λ ended.
             ends_line self.old (λ t. ends_game t nothing_more)
-            ≡ record { boards = list_of board; refused = None }) }
+            ≡ record { boards = list_of (told_if ended told.new); refused = None }) }
         ensures refused { IfErr result (λ e.
             ends_line self.old (λ t. ends_game t nothing_more) ≡ refused_with e) }
     {
         if self.line.is_in_tag() {
             return Err(self.refused(RecordFault::NotATag));
         }
-        self.end_game()
+        self.end_game(told)
     }
 }

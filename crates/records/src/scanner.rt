@@ -6,6 +6,7 @@ ghost use Rattle.picking.specs.NumberTexts.{starts_with_lf};
 ghost use Rattle.records.specs.Scans.{IsWithin, spells_from};
 ghost use Rattle.records.specs.Texts.{InRoom};
 ghost use Rattle.records.specs.Texts.{after, list_of, refused_with, spelled};
+ghost use Rattle.records.specs.internal.Endings.{told_if};
 ghost use Rattle.records.specs.internal.TagTexts.{IsStart, IsTag, Reads, tag_text};
 
 use crate::fault::RefusedRecord;
@@ -32,22 +33,22 @@ impl Scanner {
         }
     }
 
-    /// Takes the end of a line.
-    fn end_line(&mut self) -> Result<Option<Told>, RefusedRecord>
+    /// Takes the end of a line. Returns whether it ends a game with a board, which is then told.
+    fn end_line(&mut self, told: &mut Told) -> Result<bool, RefusedRecord>
         requires { IsWithin self.old (2 ^ 60) }
-        ensures goes_on { IfOk result (λ board. (rest : List ℕ)
+        ensures goes_on { IfOk result (λ ended. (rest : List ℕ)
             → spells_from self.old (10 ∷ rest)
-            ≡ after (list_of board) (spells_from self.new rest)) }
+            ≡ after (list_of (told_if ended told.new)) (spells_from self.new rest)) }
         ensures refused { IfErr result (λ e. (rest : List ℕ)
             → spells_from self.old (10 ∷ rest) ≡ refused_with e) }
         ensures room { (n : ℕ) → IsWithin self.old n → OnOk result (IsWithin self.new (n + 1)) }
     {
         self.after_cr = false;
-        self.reading.end_line()
+        self.reading.end_line(told)
     }
 
     /// Takes a CR into the line that isn't at its end, if one came last.
-    fn take_cr(&mut self) -> Result<(), RefusedRecord>
+    fn take_cr(&mut self, told: &mut Told) -> Result<(), RefusedRecord>
         requires { InRoom self.old.reading (2 ^ 61) }
         ensures goes_on { IfOk result (λ _. (rest : List ℕ) → starts_with_lf rest ≡ false
             → spells_from self.old rest ≡ spells_from self.new rest) }
@@ -60,7 +61,7 @@ impl Scanner {
         if !self.after_cr {
             return Ok(());
         }
-        match self.reading.take(b'\r') {
+        match self.reading.take(b'\r', told) {
             Ok(_) => {
                 self.after_cr = false;
                 Ok(())
@@ -69,14 +70,15 @@ impl Scanner {
         }
     }
 
-    /// Takes a byte after another than a CR.
-    fn go_on(&mut self, byte: u8) -> Result<Option<Told>, RefusedRecord>
+    /// Takes a byte after another than a CR. Returns whether it ends a game with a board, which is
+    /// then told.
+    fn go_on(&mut self, byte: u8, told: &mut Told) -> Result<bool, RefusedRecord>
         requires room { InRoom self.old.reading (2 ^ 62) }
         requires within { byte ≢ 10 }
         requires plain { self.old.after_cr ≡ false }
-        ensures goes_on { IfOk result (λ board. (rest : List ℕ)
+        ensures goes_on { IfOk result (λ ended. (rest : List ℕ)
             → spells_from self.old (byte ∷ rest)
-            ≡ after (list_of board) (spells_from self.new rest)) }
+            ≡ after (list_of (told_if ended told.new)) (spells_from self.new rest)) }
         ensures refused { IfErr result (λ e. (rest : List ℕ)
             → spells_from self.old (byte ∷ rest) ≡ refused_with e) }
         ensures room { (n : ℕ) → InRoom self.old.reading n
@@ -84,9 +86,9 @@ impl Scanner {
     {
         if byte == b'\r' {
             self.after_cr = true;
-            return Ok(None);
+            return Ok(false);
         }
-        self.reading.take(byte)
+        self.reading.take(byte, told)
     }
 
     /// Whether a line begins here, outside a comment.
@@ -111,8 +113,47 @@ impl Scanner {
         self.reading.pass_tag(name, value)
     }
 
+    /// Takes a line that is a tag, unless a game ends before it. Returns whether it did.
+    fn pass_line(&mut self, name: &[u8], value: &[u8]) -> bool
+        requires room { IsWithin self.old (2 ^ 60) }
+        requires start { IsStart self.old.reading.line × (self.old.after_cr ≡ false) }
+        requires tag { IsTag name.now value.now }
+        ensures passed { result ≡ true → (rest : List ℕ)
+            → spells_from self.old (tag_text name.now value.now ++ (10 ∷ rest))
+            ≡ spells_from self.new rest }
+        ensures kept { result ≡ false → self.new ≡ self.old }
+        ensures room { (n : ℕ) → IsWithin self.old n → IsWithin self.new (n + 1) }
+    {
+        self.reading.pass_line(name, value)
+    }
+
+    /// Takes a tag, with which a line begins here, and the end of the line if it comes next, unless
+    /// a game ends before it. `rest` is what comes after the tag. Returns how many bytes were
+    /// taken.
+    fn pass_this(&mut self, name: &[u8], value: &[u8], rest: &[u8]) -> usize
+        requires room { IsWithin self.old (2 ^ 60) }
+        requires start { IsStart self.old.reading.line × (self.old.after_cr ≡ false) }
+        requires tag { IsTag name.now value.now }
+        ensures { Reads self.old self.new (tag_text name.now value.now ++ rest.now) result None }
+    {
+        let count = name.len() + value.len() + SIGNS;
+        match rest.strip_prefix(b"\n") {
+            Some(_) => {
+                if self.pass_line(name, value) {
+                    return count + 1;
+                }
+            }
+            None => {
+                if self.pass_tag(name, value) {
+                    return count;
+                }
+            }
+        }
+        0
+    }
+
     /// Takes the tag that a line begins with here, if no game ends before it. Returns how many
-    /// bytes it has; none were taken if that is 0.
+    /// bytes were taken.
     fn pass_tag_at(&mut self, bytes: &[u8]) -> usize
         requires { IsWithin self.old (2 ^ 60) }
         ensures { Reads self.old self.new bytes.now result None }
@@ -121,10 +162,8 @@ impl Scanner {
             return 0;
         }
         match tag_at(bytes) {
-            Some(tag) if self.pass_tag(tag.name, tag.value) => {
-                tag.name.len() + tag.value.len() + SIGNS
-            }
-            _ => 0,
+            Some(tag) => self.pass_this(tag.name, tag.value, tag.rest),
+            None => 0,
         }
     }
 
@@ -149,24 +188,25 @@ impl Scanner {
         self.reading.pass(byte)
     }
 
-    /// Takes the next byte of the text, and returns the board of the game that it ends.
+    /// Takes the next byte of the text. Returns whether it ends a game with a board, which is then
+    /// told.
     ///
     /// # Errors
     /// The line that is refused, whatever comes after.
-    pub fn take(&mut self, byte: u8) -> Result<Option<Told>, RefusedRecord>
+    pub(crate) fn take(&mut self, byte: u8, told: &mut Told) -> Result<bool, RefusedRecord>
         requires { IsWithin self.old (2 ^ 60) }
-        ensures goes_on { IfOk result (λ board. (rest : List ℕ)
+        ensures goes_on { IfOk result (λ ended. (rest : List ℕ)
             → spells_from self.old (byte ∷ rest)
-            ≡ after (list_of board) (spells_from self.new rest)) }
+            ≡ after (list_of (told_if ended told.new)) (spells_from self.new rest)) }
         ensures refused { IfErr result (λ e. (rest : List ℕ)
             → spells_from self.old (byte ∷ rest) ≡ refused_with e) }
         ensures room { (n : ℕ) → IsWithin self.old n → OnOk result (IsWithin self.new (n + 1)) }
     {
         if byte == b'\n' {
-            return self.end_line();
+            return self.end_line(told);
         }
-        match self.take_cr() {
-            Ok(()) => self.go_on(byte),
+        match self.take_cr(told) {
+            Ok(()) => self.go_on(byte, told),
             Err(line) => Err(line),
         }
     }
@@ -185,15 +225,16 @@ impl Scanner {
         bytes.len()
     }
 
-    /// Takes the first byte, and returns the board of the game that it ends.
-    fn take_first(&mut self, bytes: &[u8]) -> Result<Option<Told>, RefusedRecord>
+    /// Takes the first byte. Returns whether it ends a game with a board, which is then told.
+    fn take_first(&mut self, bytes: &[u8], told: &mut Told) -> Result<bool, RefusedRecord>
         requires room { IsWithin self.old (2 ^ 60) }
         requires some { 0 < length bytes.now }
-        ensures reads { IfOk result (λ told. Reads self.old self.new bytes.now 1 told) }
+        ensures reads { IfOk result (λ ended.
+            Reads self.old self.new bytes.now 1 (told_if ended told.new)) }
         ensures refused { IfErr result (λ e. (rest : List ℕ)
             → spells_from self.old (bytes.now ++ rest) ≡ refused_with e) }
     {
-        self.take(bytes[0])
+        self.take(bytes[0], told)
     }
 
     /// Takes bytes and tags before which no game ends, as far as there are any. Returns how many
@@ -215,17 +256,22 @@ impl Scanner {
         from
     }
 
-    /// Reads on in the bytes, up to a board or their end. Returns how many were read, and the
-    /// board.
+    /// Reads on in the bytes, up to a board, which is then told, or their end. Returns how many
+    /// were read, and whether there is a board.
     ///
     /// # Errors
     /// The line that is refused, whatever comes after.
-    pub(crate) fn read(&mut self, bytes: &[u8]) -> Result<(usize, Option<Told>), RefusedRecord>
+    pub(crate) fn read(
+        &mut self,
+        bytes: &[u8],
+        told: &mut Told,
+    ) -> Result<(usize, bool), RefusedRecord>
         requires room { IsWithin self.old (2 ^ 57) }
         requires few { length bytes.now ≤ 2 ^ 50 }
-        ensures reads { IfOk result (λ r. Reads self.old self.new bytes.now r.0 r.1) }
-        ensures more { IfOk result (λ r. IfSome r.1 (λ _. 0 < r.0)) }
-        ensures all { IfOk result (λ r. r.1 ≡ None → r.0 ≡ length bytes.now) }
+        ensures reads { IfOk result (λ r.
+            Reads self.old self.new bytes.now r.0 (told_if r.1 told.new)) }
+        ensures more { IfOk result (λ r. r.1 ≡ true → 0 < r.0) }
+        ensures all { IfOk result (λ r. r.1 ≡ false → r.0 ≡ length bytes.now) }
         ensures refused { IfErr result (λ e. (rest : List ℕ)
             → spells_from self.old (bytes.now ++ rest) ≡ refused_with e) }
     {
@@ -233,29 +279,29 @@ impl Scanner {
         while from < bytes.len() {
             from += self.pass_on(&bytes[from..]);
             if from == bytes.len() {
-                return Ok((from, None));
+                return Ok((from, false));
             }
-            let told = self.take_first(&bytes[from..])?;
+            let ended = self.take_first(&bytes[from..], told)?;
             from += 1;
-            if told.is_some() {
-                return Ok((from, told));
+            if ended {
+                return Ok((from, true));
             }
         }
-        Ok((from, None))
+        Ok((from, false))
     }
 
-    /// Takes the end of the text, and returns the board of the last game, if it has one.
+    /// Takes the end of the text. Returns whether the last game has a board, which is then told.
     ///
     /// # Errors
     /// The line that is refused.
-    pub fn finish(&mut self) -> Result<Option<Told>, RefusedRecord>
+    pub(crate) fn finish(&mut self, told: &mut Told) -> Result<bool, RefusedRecord>
         requires { IsWithin self.old (2 ^ 60) }
-        ensures says { IfOk result (λ board. spells_from self.old []
-            ≡ record { boards = list_of board; refused = None }) }
+        ensures says { IfOk result (λ ended. spells_from self.old []
+            ≡ record { boards = list_of (told_if ended told.new); refused = None }) }
         ensures refused { IfErr result (λ e. spells_from self.old [] ≡ refused_with e) }
     {
-        match self.take_cr() {
-            Ok(()) => self.reading.finish(),
+        match self.take_cr(told) {
+            Ok(()) => self.reading.finish(told),
             Err(line) => Err(line),
         }
     }

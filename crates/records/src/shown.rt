@@ -12,7 +12,7 @@ ghost use Rattle.sinks.specs.Sinks.{AppendsOrBreaksOff, CountsFault};
 
 use crate::fault::RefusedRecord;
 use crate::game::Told;
-use crate::reader::{BoardReader, Next, ReadFault};
+use crate::reader::{BoardReader, Found, Next, ReadFault};
 use crate::watched::next_watched;
 use boards::SolvedNotation;
 use picking::{MOST_BYTES, Source};
@@ -110,14 +110,15 @@ fn show_rest<N: SolvedNotation, I: Source, S: Sink>(
     ensures input { InputFaultsOf result (I.faults input.old) (I.faults input.new) }
 {
     let mut boards = written;
+    let mut told = Told::any();
     for turn in 0..MOST_GAMES {
-        let told = match next_watched(reader, boards, input, sink) {
-            Ok(Next::Board(told)) => told,
-            Ok(Next::Last(told)) => return put_last(&told, boards, notation, sink),
-            Ok(Next::End) => return put_end(boards, notation, sink),
+        match next_watched(reader, boards, input, sink, &mut told) {
+            Ok(Found::Board) => {}
+            Ok(Found::Last) => return put_last(&told, boards, notation, sink),
+            Ok(Found::End) => return put_end(boards, notation, sink),
             Err(ReadFault::Refused(line)) => return Err(ShowFault::Refused(line)),
             Err(ReadFault::Input) => return Err(ShowFault::Input),
-        };
+        }
         match put(&told, notation, sink) {
             Ok(()) => boards += 1,
             Err(_) => return Err(ShowFault::Output),

@@ -2,13 +2,15 @@
 
 ghost use Rattle.std.specs.Prelude.{◌≡◌, ◌-◌, ◌<◌, ◌^◌};
 ghost use Rattle.records.specs.Readers.{InputFaults, IsFed, IsReady, OnBoard, ReadsNext};
+ghost use Rattle.records.specs.internal.Endings.{next_found};
 
-use crate::reader::{BoardReader, Next, ReadFault};
+use crate::game::Told;
+use crate::reader::{BoardReader, Found, ReadFault};
 use picking::Source;
 use sinks::Sink;
 
-/// Reads on to the next board of an input, of which `boards` were read before. The sink hears of
-/// these before the input is asked for more.
+/// Reads on to the next board of an input, which is then told, and of which `boards` were read
+/// before. The sink hears of these before the input is asked for more.
 ///
 /// # Errors
 /// `Refused`: the first line that is refused. `Input`: the input couldn't be read.
@@ -17,23 +19,25 @@ pub(crate) fn next_watched<I: Source, S: Sink>(
     boards: u64,
     input: &mut I,
     sink: &mut S,
-) -> Result<Next, ReadFault>
+    told: &mut Told,
+) -> Result<Found, ReadFault>
     requires ready { IsReady reader.old }
     requires fed { IsFed reader.old (I.given input.old) }
     requires faults { I.faults input.old < 2 ^ 64 - 1 }
-    ensures reads { ReadsNext reader.old reader.new result (I.rest input.old) (I.rest input.new) }
-    ensures ready { OnBoard result (IsReady reader.new) }
-    ensures fed { OnBoard result (IsFed reader.new (I.given input.new)) }
-    ensures more { OnBoard result (reader.old.taken < reader.new.taken) }
+    ensures reads { ReadsNext reader.old reader.new (next_found result told.new)
+        (I.rest input.old) (I.rest input.new) }
+    ensures ready { OnBoard (next_found result told.new) (IsReady reader.new) }
+    ensures fed { OnBoard (next_found result told.new) (IsFed reader.new (I.given input.new)) }
+    ensures more { OnBoard (next_found result told.new) (reader.old.taken < reader.new.taken) }
     ensures input { InputFaults result (I.faults input.old) (I.faults input.new) }
     ensures bytes { S.bytes sink.new ≡ S.bytes sink.old }
     ensures faults { S.faults sink.new ≡ S.faults sink.old }
 {
-    match reader.take_piece() {
-        Ok(Some(told)) => return Ok(Next::Board(told)),
-        Ok(None) => {}
+    match reader.take_piece(told) {
+        Ok(true) => return Ok(Found::Board),
+        Ok(false) => {}
         Err(line) => return Err(ReadFault::Refused(line)),
     }
     sink.watch(boards, boards);
-    reader.next(input)
+    reader.find(input, told)
 }

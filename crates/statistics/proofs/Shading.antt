@@ -37,13 +37,11 @@ is_line two Html n low le lt = record { within = low; up_to = λ m ge below. cel
 
 pub are_totals : (two : KeptTwo) (style : LineStyle) → IsLine two (totals_of style)
 are_totals two Table = tt
-are_totals two Csv = tt
-are_totals two Html = tt
+are_totals two _ = tt
 
 pub are_means : (two : KeptTwo) (style : LineStyle) → IsLine two (means_of style)
 are_means two Table = tt
-are_means two Csv = tt
-are_means two Html = tt
+are_means two _ = tt
 
 on_page : (two : KeptTwo) (line : PageLine) (m : ℕ) → IsPageLine two line → (columns_of_two two).first ≤ m → m < (columns_of_two two).end → IsShaded two line m
 on_page two Heads m h ge below = tt

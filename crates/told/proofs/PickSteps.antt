@@ -197,9 +197,7 @@ pub too_long : (plan : Planned) (count : ℕ) (line : List ℕ) (end : LineEnd) 
 too_long plan count line TooLong r then_it now read is e =
     let refused = long_refused plan count line read.reads.0 read.reads.2 read.start in
     let bad = sym is ∙ refused.1 in cc
-too_long plan count line Feed r then_it now read is e = cc
-too_long plan count line Last r then_it now read is e = cc
-too_long plan count line Nothing r then_it now read is e = cc
+too_long plan count line _ r then_it now read is e = cc
 
 -- the input fails within a line
 pub line_failed : (w : Written) (plan : Planned) (lines count : ℕ) (before then_it now base old : Option (List ℕ)) → FailsWithinText then_it now → PickedFrom w plan lines count before then_it base old
@@ -229,9 +227,7 @@ picked_ends {T} w plan before now base old new result h ends =
 -- behind a line without LF
 pub stepped_last : (w : Written) (plan : Planned) (lines count : ℕ) (end : LineEnd) (before now base new : Option (List ℕ)) → (end ≡ Feed → ⊥) → Stepped w plan lines end count before now base new → PickedLast w plan before now base new
 stepped_last w plan lines count Feed before now base new other h = absurd (other refl)
-stepped_last w plan lines count Last before now base new other h = h
-stepped_last w plan lines count Nothing before now base new other h = h
-stepped_last w plan lines count TooLong before now base new other h = h
+stepped_last w plan lines count _ before now base new other h = h
 
 -- ---- odds and ends
 
@@ -241,6 +237,4 @@ on_err (Err e) P p = p
 
 pub text_clean : (end : LineEnd) (line : List ℕ) → has_lf line ≡ false → has_lf (text_of end line) ≡ false
 text_clean Feed line clean = no_lf_cr line clean
-text_clean Last line clean = clean
-text_clean TooLong line clean = clean
-text_clean Nothing line clean = clean
+text_clean _ line clean = clean

@@ -9,7 +9,7 @@ returns-in-Ok-Last-clause-shows g c before base start =
     let now = g.I.Source.rest c.loop-turn.input in
     let p = subst (ShownFrom layout c.loop-turn.reader c.loop-turn.boards before now base) (sym c.next_watched.ensures.bytes) (c.loop-turn.invariant.shown before base start) in
     shows_last layout (g.N.SolvedNotation.layout c.loop-turn.notation) c.loop-turn.reader c.next_watched.new.reader c.loop-turn.boards before now (g.I.Source.rest c.next_watched.new.input) base (g.S.Sink.bytes c.next_watched.new.sink) (g.S.Sink.bytes c.put_last.new.sink)
-    c.in-Ok-Last.told c.put_last.result c.loop-turn.invariant.layout (rw c.in-Ok-Last.field-0-is at c.in-Ok-Last.ensures.reads) c.put_last.ensures.bytes p
+    c.next_watched.new.told c.put_last.result c.loop-turn.invariant.layout (rw c.in-Ok-Last.field-0-is at c.in-Ok-Last.ensures.reads) c.put_last.ensures.bytes p
 
 pub returns-in-Ok-Last-clause-input : goal.returns-in-Ok-Last-clause-input
 returns-in-Ok-Last-clause-input g c = input_kept c.put_last.result _ _ c.put_last.ensures.fault (search rules)
@@ -30,8 +30,8 @@ returns-in-Err-Refused-clause-shows g c before base start =
     let layout = g.N.SolvedNotation.layout c.args.notation.now in
     let now = g.I.Source.rest c.loop-turn.input in
     let p = subst (ShownFrom layout c.loop-turn.reader c.loop-turn.boards before now base) (sym c.next_watched.ensures.bytes) (c.loop-turn.invariant.shown before base start) in
-    shows_refused layout c.loop-turn.reader c.next_watched.new.reader c.loop-turn.boards before now (g.I.Source.rest c.next_watched.new.input) base (g.S.Sink.bytes c.next_watched.new.sink)
-    c.in-Err-Refused.line (rw c.in-Err-Refused.field-0-is at c.in-Err-Refused.ensures.reads) p
+    rw c.in-Err-Refused.field-0-is (shows_refused layout c.loop-turn.reader c.next_watched.new.reader c.loop-turn.boards before now (g.I.Source.rest c.next_watched.new.input) base (g.S.Sink.bytes c.next_watched.new.sink)
+    c.in-Err-Refused.line (rw c.in-Err-Refused.field-0-is at c.in-Err-Refused.ensures.reads) p)
 
 pub returns-in-Err-Input-clause-shows : goal.returns-in-Err-Input-clause-shows
 returns-in-Err-Input-clause-shows g c before base start =
@@ -47,7 +47,7 @@ returns-in-Err-clause-shows g c before base start =
     let now = g.I.Source.rest c.loop-turn.input in
     let p = subst (ShownFrom layout c.loop-turn.reader c.loop-turn.boards before now base) (sym c.next_watched.ensures.bytes) (c.loop-turn.invariant.shown before base start) in
     breaks_board layout (g.N.SolvedNotation.layout c.loop-turn.notation) c.loop-turn.reader c.next_watched.new.reader c.loop-turn.boards before now (g.I.Source.rest c.next_watched.new.input) base (g.S.Sink.bytes c.next_watched.new.sink) (g.S.Sink.bytes c.put.new.sink)
-    c.in-Ok-Board.told c.loop-turn.invariant.layout (rw c.in-Ok-Board.field-0-is at c.in-Ok-Board.ensures.reads) c.in-Err.ensures.bytes p
+    c.next_watched.new.told c.loop-turn.invariant.layout (rw c.in-Ok-Board.field-0-is at c.in-Ok-Board.ensures.reads) c.in-Err.ensures.bytes p
 
 pub loop-turn-preserved : goal.loop-turn-preserved
 loop-turn-preserved g c =
@@ -61,7 +61,7 @@ loop-turn-preserved g c =
       shown = λ before base start.
           let p = subst (ShownFrom layout c.loop-turn.reader c.loop-turn.boards before now base) (sym c.next_watched.ensures.bytes) (c.loop-turn.invariant.shown before base start) in
           shows_board layout (g.N.SolvedNotation.layout c.loop-turn.notation) c.loop-turn.reader c.next_watched.new.reader c.loop-turn.boards before now (g.I.Source.rest c.next_watched.new.input) base (g.S.Sink.bytes c.next_watched.new.sink) (g.S.Sink.bytes c.put.new.sink)
-          c.in-Ok-Board.told c.loop-turn.invariant.layout (rw c.in-Ok-Board.field-0-is at c.in-Ok-Board.ensures.reads) c.in-Ok.ensures.bytes p;
+          c.next_watched.new.told c.loop-turn.invariant.layout (rw c.in-Ok-Board.field-0-is at c.in-Ok-Board.ensures.reads) c.in-Ok.ensures.bytes p;
       ready = ready;
       fed = fed;
       faults = search rules;

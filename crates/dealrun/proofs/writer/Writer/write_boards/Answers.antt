@@ -108,8 +108,8 @@ returns-then-is_full-2-clause-wrote g c base h =
     (i.wrote base h) (λ boards. c.pass_rejected.ensures.wrote layout base bytes boards i.is_open) in
     let place : c.lane.result ≡ w.progress.taken % w.plan.workers = c.lane.ensures.lane ∙ ap (λ n. n % w.progress.turns.workers) w.progress.turn ∙ ap (λ k. w.progress.taken % k) w.workers in
     let less : w.plan.limit ≢ Some w.progress.boards = λ is. i.is_open (ap (λ q. q.limit) (sym c.pass_rejected.ensures.plan) ∙ is ∙ ap (λ n. Some n) c.pass_rejected.ensures.boards) in
-    on_to layout (g.N.Notation.layout c.loop-turn.notation) (g.N.Notation.has_printed c.loop-turn.notation) (g.N.Notation.has_printed c.write.new.notation) w.plan w.lanes.items w.progress.taken w.progress.boards base bytes (verdict_in c.take_slot-slot.result) c.index_mut-lane.result.now c.take_slot-slot.new.self c.lane.result c.write.new.self.taken c.write.new.self.boards (g.S.Sink.bytes c.tell.new.sink)
-    (omega (arith, c.lane.ensures.below, w.workers)) passed less place c.index_mut-lane.ensures.value (c.take_slot-slot.ensures.taken ∙ ap (λ vs. vs ++ (verdict_in c.take_slot-slot.result) ∷ []) c.if-not-wait_for_verdict.ensures.taken) c.in_ok-write.ensures.taken.0 c.in_ok-write.ensures.boards i.layout (c.tell.ensures.bytes ∙ c.in_ok-write.ensures.bytes) c.in_ok-write.ensures.printed
+    on_to layout (g.N.Notation.layout c.loop-turn.notation) (g.N.Notation.has_printed c.loop-turn.notation) (g.N.Notation.has_printed c.write.new.notation) w.plan w.lanes.items w.progress.taken w.progress.boards base bytes (verdict_in c.take_slot-slot.result) c.index_mut-lane.result.now c.take_slot-slot.new.self c.lane.result c.write.new.self.taken c.write.new.self.boards (g.S.Sink.bytes c.report_progress.new.sink)
+    (omega (arith, c.lane.ensures.below, w.workers)) passed less place c.index_mut-lane.ensures.value (c.take_slot-slot.ensures.taken ∙ ap (λ vs. vs ++ (verdict_in c.take_slot-slot.result) ∷ []) c.if-not-wait_for_verdict.ensures.taken) c.in_ok-write.ensures.taken.0 c.in_ok-write.ensures.boards i.layout (c.report_progress.ensures.bytes ∙ c.in_ok-write.ensures.bytes) c.in_ok-write.ensures.printed
 
 pub loop-turn-preserved : goal.loop-turn-preserved
 loop-turn-preserved g c =
@@ -124,7 +124,7 @@ loop-turn-preserved g c =
     let place : c.lane.result ≡ w.progress.taken % w.plan.workers = c.lane.ensures.lane ∙ ap (λ n. n % w.progress.turns.workers) w.progress.turn ∙ ap (λ k. w.progress.taken % k) w.workers in
     let less : w.plan.limit ≢ Some w.progress.boards = λ is. i.is_open (ap (λ q. q.limit) (sym c.pass_rejected.ensures.plan) ∙ is ∙ ap (λ n. Some n) c.pass_rejected.ensures.boards) in
     record {
-      faults = c.tell.ensures.faults ∙ c.in_ok-write.ensures.faults ∙ i.faults;
+      faults = c.report_progress.ensures.faults ∙ c.in_ok-write.ensures.faults ∙ i.faults;
       layout = c.in_ok-write.ensures.layout ∙ i.layout;
       plan = c.pass_rejected.ensures.plan ∙ i.plan;
       taken = omega (arith, c.in_ok-write.ensures.taken.0, c.pass_rejected.ensures.taken, i.taken);
@@ -134,6 +134,6 @@ loop-turn-preserved g c =
           let passed =
           with_notation layout (g.N.Notation.has_printed c.loop-turn.notation) l.plan w.plan l.lanes.items w.lanes.items l.progress.taken w.progress.taken l.progress.boards w.progress.boards base bytes
           (i.wrote base h) (λ boards. c.pass_rejected.ensures.wrote layout base bytes boards i.is_open) in
-          on_to layout (g.N.Notation.layout c.loop-turn.notation) (g.N.Notation.has_printed c.loop-turn.notation) (g.N.Notation.has_printed c.write.new.notation) w.plan w.lanes.items w.progress.taken w.progress.boards base bytes (verdict_in c.take_slot-slot.result) c.index_mut-lane.result.now c.take_slot-slot.new.self c.lane.result c.write.new.self.taken c.write.new.self.boards (g.S.Sink.bytes c.tell.new.sink)
-          (omega (arith, c.lane.ensures.below, w.workers)) passed less place c.index_mut-lane.ensures.value (t.taken ∙ ap (λ vs. vs ++ (verdict_in c.take_slot-slot.result) ∷ []) e.taken) c.in_ok-write.ensures.taken.0 c.in_ok-write.ensures.boards i.layout (c.tell.ensures.bytes ∙ c.in_ok-write.ensures.bytes) c.in_ok-write.ensures.printed;
+          on_to layout (g.N.Notation.layout c.loop-turn.notation) (g.N.Notation.has_printed c.loop-turn.notation) (g.N.Notation.has_printed c.write.new.notation) w.plan w.lanes.items w.progress.taken w.progress.boards base bytes (verdict_in c.take_slot-slot.result) c.index_mut-lane.result.now c.take_slot-slot.new.self c.lane.result c.write.new.self.taken c.write.new.self.boards (g.S.Sink.bytes c.report_progress.new.sink)
+          (omega (arith, c.lane.ensures.below, w.workers)) passed less place c.index_mut-lane.ensures.value (t.taken ∙ ap (λ vs. vs ++ (verdict_in c.take_slot-slot.result) ∷ []) e.taken) c.in_ok-write.ensures.taken.0 c.in_ok-write.ensures.boards i.layout (c.report_progress.ensures.bytes ∙ c.in_ok-write.ensures.bytes) c.in_ok-write.ensures.printed;
     }

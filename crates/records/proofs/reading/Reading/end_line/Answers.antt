@@ -1,6 +1,7 @@
 use Rattle.std.proofs.Common.{◌≡◌, ◌∙◌, ap, arith, false, rules, sym, true}
 use Rattle.records.specs.Places.{is_empty, is_in_tag}
 use Rattle.records.specs.Texts.{after, after_line, list_of}
+use Rattle.records.specs.internal.Endings.{told_if}
 use Rattle.records.proofs.Steps.{at_empty_line}
 use Rattle.records.proofs.reading.Reading.end_line.Goals as goal
 
@@ -9,7 +10,7 @@ returns-in-Ok-clause-ends c next =
     let s = c.args.self.now in
     let off : is_in_tag s.line.part ≡ false = search rules in
     let empty : is_empty s.line ≡ true = search rules in
-    at_empty_line s next _ off empty (c.in-Ok.ensures.ends (λ t. next (after_line t)) ∙ ap (λ t. after (list_of c.in-Ok.board) (next t)) (sym c.leave_line-in-Ok.ensures))
+    at_empty_line s next _ off empty (c.in-Ok.ensures.ends (λ t. next (after_line t)) ∙ ap (λ t. after (list_of (told_if c.in-Ok.ended c.end_game.new.told)) (next t)) (sym c.leave_line-in-Ok.ensures))
 
 pub returns-in-Ok-clause-room : goal.returns-in-Ok-clause-room
 returns-in-Ok-clause-room c n before =

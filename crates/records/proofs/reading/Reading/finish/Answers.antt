@@ -7,7 +7,7 @@ pub returns-clause-ends : goal.returns-clause-ends
 returns-clause-ends c =
     let s = c.args.self.now in
     let off : is_in_tag s.line.part ≡ false = search rules in
-    after_all s c.end_game.new.self c.end_game.result off c.end_game.ensures.ends
+    after_all s c.end_game.new.self c.end_game.new.told c.end_game.result off c.end_game.ensures.ends
 
 pub returns-clause-refused : goal.returns-clause-refused
 returns-clause-refused c =

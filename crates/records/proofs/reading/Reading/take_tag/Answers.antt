@@ -2,6 +2,7 @@ use Rattle.std.proofs.Common.{◌≡◌, ◌∙◌, ◌+◌, Some, ap, rules, sy
 use Rattle.records.specs.Games.{has}
 use Rattle.records.specs.Kinds.{kind_of}
 use Rattle.records.specs.Texts.{after, list_of, with_last_tag}
+use Rattle.records.specs.internal.Endings.{told_if}
 use Rattle.records.proofs.Rooms.{added}
 use Rattle.records.proofs.Steps.{at_such_tag}
 use Rattle.records.proofs.reading.Reading.take_tag.Goals as goal
@@ -12,7 +13,7 @@ returns-in-Ok-clause-takes c next =
     let kind = c.in-Some.kind in
     let is : kind_of s.line.name ≡ Some kind = search rules in
     let such : has kind s.game ≡ true = search rules in
-    at_such_tag kind s next _ is such (c.in-Ok.ensures.ends (λ t. next (with_last_tag kind t)) ∙ ap (λ t. after (list_of c.in-Ok.board) (next t)) (sym c.add_tag-in-Ok.ensures.value))
+    at_such_tag kind s next _ is such (c.in-Ok.ensures.ends (λ t. next (with_last_tag kind t)) ∙ ap (λ t. after (list_of (told_if c.in-Ok.ended c.end_game.new.told)) (next t)) (sym c.add_tag-in-Ok.ensures.value))
 
 pub returns-in-Err-clause-refused : goal.returns-in-Err-clause-refused
 returns-in-Err-clause-refused c next =

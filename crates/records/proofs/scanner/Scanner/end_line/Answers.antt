@@ -4,7 +4,7 @@ use Rattle.records.proofs.Scanning.{line_ended, line_refused}
 use Rattle.records.proofs.scanner.Scanner.end_line.Goals as goal
 
 pub returns-clause-goes_on : goal.returns-clause-goes_on
-returns-clause-goes_on c = line_ended c.args.self.now c.end_line.new.self c.end_line.result c.end_line.ensures.ends
+returns-clause-goes_on c = line_ended c.args.self.now c.end_line.new.self c.end_line.new.told c.end_line.result c.end_line.ensures.ends
 
 pub returns-clause-refused : goal.returns-clause-refused
 returns-clause-refused c = line_refused c.args.self.now c.end_line.result c.end_line.ensures.refused

@@ -5,7 +5,7 @@ use Rattle.records.proofs.scanner.Scanner.finish.Goals as goal
 
 pub returns-in-Ok-clause-says : goal.returns-in-Ok-clause-says
 returns-in-Ok-clause-says c =
-    text_ended c.args.self.now c.take_cr.new.self c.finish.result (c.in-Ok.ensures.goes_on [] refl) c.in-Ok.ensures.taken c.finish.ensures.ends
+    text_ended c.args.self.now c.take_cr.new.self c.finish.new.told c.finish.result (c.in-Ok.ensures.goes_on [] refl) c.in-Ok.ensures.taken c.finish.ensures.ends
 
 pub returns-in-Ok-clause-refused : goal.returns-in-Ok-clause-refused
 returns-in-Ok-clause-refused c =

@@ -12,7 +12,7 @@ returns-clause-goes_on c =
     let plain : c.args.self.now.after_cr ≡ false = search rules in
     let ten : (c.args.byte == 10) ≡ false = search rules in
     let thirteen : (c.args.byte == 13) ≡ false = search rules in
-    byte_read c.args.self.now c.take.new.self c.args.self.now.after_cr c.args.byte c.take.result plain plain ten thirteen c.take.ensures.reads
+    byte_read c.args.self.now c.take.new.self c.take.new.told c.args.self.now.after_cr c.args.byte c.take.result plain plain ten thirteen c.take.ensures.reads
 
 pub returns-clause-refused : goal.returns-clause-refused
 returns-clause-refused c =

@@ -1,4 +1,4 @@
-use Rattle.std.proofs.Common.{◌≡◌, ◌+◌, ◌^◌, None, arith, rules}
+use Rattle.std.proofs.Common.{◌+◌, ◌^◌, None, arith}
 use Rattle.records.proofs.Passing.{reads_on}
 use Rattle.records.proofs.Rooms.{roomier}
 use Rattle.records.proofs.scanner.Scanner.read.Goals as goal
@@ -18,13 +18,12 @@ take_first-requires-clause-room c =
     let all = reads_on c.args.self.now c.loop-from.self c.pass_on-from.new.self c.args.bytes.now c.loop-from.from c.pass_on-from.result None c.loop-from.invariant c.pass_on-from.ensures in
     roomier c.pass_on-from.new.self.reading (2 ^ 57 + n + (2 ^ 57 + n)) (2 ^ 60 + 2 ^ 60) (omega (arith, all.within, c.requires.few)) (all.room (2 ^ 57) c.requires.room)
 
-pub returns-then-is_some-clause-reads : goal.returns-then-is_some-clause-reads
-returns-then-is_some-clause-reads c =
+pub returns-then-ended-clause-reads : goal.returns-then-ended-clause-reads
+returns-then-ended-clause-reads c =
     let all = reads_on c.args.self.now c.loop-from.self c.pass_on-from.new.self c.args.bytes.now c.loop-from.from c.pass_on-from.result None c.loop-from.invariant c.pass_on-from.ensures in
-    reads_on c.args.self.now c.pass_on-from.new.self c.take_first.new.self c.args.bytes.now (c.loop-from.from + c.pass_on-from.result) 1 _ all c.in_ok-told.ensures.reads
+    reads_on c.args.self.now c.pass_on-from.new.self c.take_first.new.self c.args.bytes.now (c.loop-from.from + c.pass_on-from.result) 1 _ all (rw c.if-ended.true at c.in_ok-ended.ensures.reads)
 
 pub loop-from-preserved : goal.loop-from-preserved
 loop-from-preserved c =
     let all = reads_on c.args.self.now c.loop-from.self c.pass_on-from.new.self c.args.bytes.now c.loop-from.from c.pass_on-from.result None c.loop-from.invariant c.pass_on-from.ensures in
-    let told : c.in_ok-told.told ≡ None = search rules in
-    reads_on c.args.self.now c.pass_on-from.new.self c.take_first.new.self c.args.bytes.now (c.loop-from.from + c.pass_on-from.result) 1 None all (rw told at c.in_ok-told.ensures.reads)
+    reads_on c.args.self.now c.pass_on-from.new.self c.take_first.new.self c.args.bytes.now (c.loop-from.from + c.pass_on-from.result) 1 None all (rw c.if-ended.false at c.in_ok-ended.ensures.reads)

@@ -1,6 +1,6 @@
 use Rattle.std.proofs.Common.{◌≡◌, ◌≤◌}
 use Rattle.records.specs.Readers.{Fills, IsFed, IsReady, left}
-use Rattle.records.proofs.reader.BoardReader.next.Given as goal
+use Rattle.records.proofs.reader.BoardReader.find.Given as goal
 
 abbrev pub invariant-loop-turn : goal.invariant-loop-turn
 invariant-loop-turn g l = record {
