@@ -19,6 +19,9 @@ use crate::masks::{honours_of_mask, suit_mask, weight_of_mask};
 use crate::{Honours, Suit};
 use std::marker::Model;
 
+/// What an ace, a king, a queen and a jack count in high card points.
+const POINTS: [u8; 4] = [4, 3, 2, 1];
+
 /// A seat's cards, which contracts see as a list of 52 truth values, one a card.
 #[tactic(auto, using(crate::specs::internal::MaskBits::mask_of_cards))]
 #[derive(Clone, Copy, PartialEq, Eq, Debug)]
@@ -65,7 +68,7 @@ impl Hand {
         ensures value { result ≡ points_of self.now }
         ensures most { result ≤ 40 }
     {
-        self.total(Measure::Hcp)
+        weight_of_mask(POINTS, self.cards)
     }
 
     /// The high card points of the suit's cards alone. At most 10.
@@ -73,7 +76,7 @@ impl Hand {
         ensures value { result ≡ points_in self.now suit }
         ensures most { result ≤ 10 }
     {
-        self.total_in(Measure::Hcp, suit)
+        self.weight_in(POINTS, suit)
     }
 
     /// What the measure counts in the hand. At most 40.
@@ -82,6 +85,10 @@ impl Hand {
         ensures value { result ≡ total_of measure self.now }
         ensures most { result ≤ 40 }
     {
+        // Points are asked for most: apart they are built with their weights, and multiply nothing.
+        if let Measure::Hcp = measure {
+            return self.points();
+        }
         match measure.weights() {
             Some(weights) => weight_of_mask(weights, self.cards),
             None => self.losers(),
@@ -94,6 +101,9 @@ impl Hand {
         ensures value { result ≡ total_in measure self.now suit }
         ensures most { result ≤ 10 }
     {
+        if let Measure::Hcp = measure {
+            return self.points_in(suit);
+        }
         match measure.weights() {
             Some(weights) => self.weight_in(weights, suit),
             None => self.losers_in(suit),
@@ -292,7 +302,7 @@ impl Measure {
         ensures light { IfSome result (λ w. sum w ≤ 10) }
     {
         match self {
-            Measure::Hcp => Some([4, 3, 2, 1]),
+            Measure::Hcp => Some(POINTS),
             Measure::Controls => Some([2, 1, 0, 0]),
             Measure::Losers => None,
         }

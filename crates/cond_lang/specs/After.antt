@@ -1,6 +1,6 @@
 -- Texts that are definitions alone, and texts that are read after one: as if the definitions, a
 -- new line and the text were one text.
-use Rattle.std.specs.Prelude.{◌≡◌, ℕ, ◌+◌, ◌-◌, ◌<◌, List, [], ◌∷◌, ◌++◌, length}
+use Rattle.std.specs.Prelude.{◌≡◌, ℕ, ◌+◌, ◌-◌, ◌<◌, ◌≤◌, List, [], ◌∷◌, ◌++◌, length}
 use Rattle.cond_lang.specs.declared.scanner.Placed.{Placed}
 use Rattle.cond_lang.specs.declared.scanner.Token.{Token}
 use Rattle.conditions.specs.declared.error.CondError.{CondError}
@@ -56,6 +56,14 @@ counted_from start (Number at) = Number (at - start)
 counted_from start (Syntax at) = Syntax (at - start)
 counted_from start TooManyParts = TooManyParts
 counted_from start Memory = Memory
+
+-- a fault's offset, where it has one, is not before the start
+abbrev pub IsFrom : ℕ → CondError → Type 0
+IsFrom start (Byte at) = start ≤ at
+IsFrom start (Word at) = start ≤ at
+IsFrom start (Number at) = start ≤ at
+IsFrom start (Syntax at) = start ≤ at
+IsFrom start _ = Unit {0}
 
 -- a text after definitions is refused only when that is due: the text itself is too long, or the
 -- definitions, a new line and the text are refused by the rules S

@@ -51,8 +51,8 @@ pub fn check_definitions(alloc: Global, text: &[u8]) -> Result<(), CondError>
 ///
 /// # Errors
 /// Those of `parse`, of the definitions, a new line and the text. Only the text's own bytes count
-/// for `TooLong`, and an offset is that in the text, or 0 for a fault of the definitions, which
-/// `check_definitions` refuses.
+/// for `TooLong`, and an offset is that in the text. Definitions that `check_definitions` accepts
+/// have no fault (`laws::no_fault_in_definitions`); one of others is at 0.
 #[inline(never)]
 pub fn parse_after(alloc: Global, definitions: &[u8], text: &[u8]) -> Result<Cond, CondError>
     requires { length definitions.now ≤ 4096 }

@@ -8,7 +8,7 @@ use crate::words::MEASURE_LINES;
 pub const LANGUAGE: [&str; 3] = [BEFORE_MEASURES, MEASURE_LINES, BEHIND_MEASURES];
 
 const BEFORE_MEASURES: &str = "\
-A condition says which deals you want. It is one text, behind --where.
+A condition says which deals you want. It is one text, after --where.
 
 What you can ask of a hand:
 ";

@@ -32,8 +32,6 @@ few_in Losers = omega arith
 
 -- no count is above 40
 pub few_count : (c : Count) → greatest_count c ≤ 40
-few_count (counts.Points q) = omega arith
-few_count (counts.SuitPoints q s) = omega arith
 few_count (counts.Total m q) = few_of m
 few_count (counts.SuitTotal m q s) = few_in m
 few_count (counts.Cards q h) = omega (arith, min-le_right (4 * rank_count h) 13)

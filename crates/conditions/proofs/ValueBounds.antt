@@ -1,7 +1,6 @@
 -- The least and the greatest that a value of a deal is.
 use Rattle.std.proofs.Common.{◌≤◌, List, arith}
 use Rattle.std.proofs.Math.Nat.{mul-le-mul_left}
-use Rattle.cards.specs.declared.hand.Measure.TheVariants.{Hcp}
 use Rattle.cards.specs.declared.seat.Seat.{Seat}
 use Rattle.cards.specs.declared.suit.Suit.TheVariants.{Spades, Hearts, Diamonds, Clubs}
 use Rattle.cards.specs.Deals.{IsPartition}
@@ -17,8 +16,6 @@ use Rattle.conditions.proofs.HandBounds.{lengths_add, longest_least, longest_mos
 use Rattle.conditions.proofs.Measured.{cards_most, cards_thirteen, measure_most, suit_cards_most, suit_measure_most}
 
 pub count_at_least : (deal : List Seat) → IsPartition deal → (c : Count) → least_count c ≤ count_in deal c
-count_at_least deal ok (counts.Points q) = omega arith
-count_at_least deal ok (counts.SuitPoints q s) = omega arith
 count_at_least deal ok (counts.Total m q) = omega arith
 count_at_least deal ok (counts.SuitTotal m q s) = omega arith
 count_at_least deal ok (counts.Cards q h) = omega arith
@@ -35,8 +32,6 @@ at_least deal ok (counted c) = count_at_least deal ok c
 at_least deal ok (times n c) = mul-le-mul_left n (count_at_least deal ok c)
 
 pub count_at_most : (deal : List Seat) → IsPartition deal → (c : Count) → count_in deal c ≤ greatest_count c
-count_at_most deal ok (counts.Points q) = measure_most Hcp deal q ok
-count_at_most deal ok (counts.SuitPoints q s) = suit_measure_most Hcp (hand_of deal q) s
 count_at_most deal ok (counts.Total m q) = measure_most m deal q ok
 count_at_most deal ok (counts.SuitTotal m q s) = suit_measure_most m (hand_of deal q) s
 count_at_most deal ok (counts.Cards q h) = omega (arith, cards_most h (hand_of deal q), cards_thirteen h deal q ok)

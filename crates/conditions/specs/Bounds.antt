@@ -33,8 +33,6 @@ least_count (counts.Longest q) = 4
 least_count _ = 0
 
 abbrev pub greatest_count : Count → ℕ
-greatest_count (counts.Points q) = 37
-greatest_count (counts.SuitPoints q s) = 10
 greatest_count (counts.Total m q) = most_of m
 greatest_count (counts.SuitTotal m q s) = most_in m
 greatest_count (counts.Cards q h) = min (4 * rank_count h) 13

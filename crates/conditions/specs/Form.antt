@@ -18,11 +18,17 @@ use Rattle.conditions.specs.declared.tree.Tree.{Tree}
 use Rattle.conditions.specs.declared.tree.Tree.TheVariants.{AnyOf', AllOf', Negation', Compare, Within, Balanced, Shape, Pattern, LooseShape, LoosePattern, Stops}
 
 -- what is counted in a hand
+abbrev pub measured : Measure → Seat → Count
+measured m q = counts.Total m q
+
+abbrev pub suit_measured : Measure → Seat → Suit → Count
+suit_measured m q s = counts.SuitTotal m q s
+
 abbrev pub points : Seat → Count
-points q = counts.Points q
+points q = counts.Total Hcp q
 
 abbrev pub suit_points : Seat → Suit → Count
-suit_points q s = counts.SuitPoints q s
+suit_points q s = counts.SuitTotal Hcp q s
 
 abbrev pub cards_held : Seat → Honours → Count
 cards_held q h = counts.Cards q h
@@ -41,16 +47,6 @@ second q = counts.Second q
 
 abbrev pub shortest : Seat → Count
 shortest q = counts.Shortest q
-
--- the measure of a hand, and of its cards of one suit: the high card points have counts of their
--- own, and no form has those of another measure for them
-abbrev pub measured : Measure → Seat → Count
-measured Hcp q = counts.Points q
-measured m q = counts.Total m q
-
-abbrev pub suit_measured : Measure → Seat → Suit → Count
-suit_measured Hcp q s = counts.SuitPoints q s
-suit_measured m q s = counts.SuitTotal m q s
 
 -- a value: a sum, a number, what is counted, or that many times what is counted
 pub data Amount : Type 0 where

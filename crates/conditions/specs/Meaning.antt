@@ -2,7 +2,7 @@
 use Rattle.std.specs.Prelude.{ℕ, ◌+◌, ◌*◌, Bool, true, false, not, ◌&&◌, ◌||◌, ◌==◌, nat_lt, nat_le, List, [], ◌∷◌}
 use Rattle.std.specs.List.{list_any}
 use Rattle.cards.specs.declared.seat.Seat.{Seat}
-use Rattle.cards.specs.Hands.{hand_of, points_of, points_in, length_of, shape_of, is_balanced, is_same, is_rearrangement, orders_of}
+use Rattle.cards.specs.Hands.{hand_of, length_of, shape_of, is_balanced, is_same, is_rearrangement, orders_of}
 use Rattle.cards.specs.Counts.{total_of, total_in, honours_of, honours_in, longest_of, second_of, shortest_of, stops_in}
 use Rattle.conditions.specs.declared.tree.Count.{Count}
 use Rattle.conditions.specs.declared.tree.Count.TheVariants as counts
@@ -14,8 +14,6 @@ use Rattle.conditions.specs.Form.{Amount, sum, number, counted, times, Form, any
 
 -- how much is counted
 abbrev pub count_in : List Seat → Count → ℕ
-count_in deal (counts.Points q) = points_of (hand_of deal q)
-count_in deal (counts.SuitPoints q s) = points_in (hand_of deal q) s
 count_in deal (counts.Total m q) = total_of m (hand_of deal q)
 count_in deal (counts.SuitTotal m q s) = total_in m (hand_of deal q) s
 count_in deal (counts.Cards q h) = honours_of h (hand_of deal q)

@@ -58,8 +58,6 @@ impl Count {
         ensures few { result ≤ 40 }
     {
         match self {
-            Count::Points(_) => 37,
-            Count::SuitPoints(..) => 10,
             Count::Total(measure, _) => most_of(measure),
             Count::SuitTotal(measure, _, _) => most_in(measure),
             Count::Cards(_, ranks) => (4 * rank_count(ranks)).min(13),

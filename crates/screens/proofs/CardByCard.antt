@@ -6,7 +6,6 @@ use Rattle.std.proofs.lemmas.List.{get_or-map}
 use Rattle.std.proofs.lemmas.List.Elements.{All-from_get_or, All-head, All-tail}
 use Rattle.std.proofs.lemmas.List.FromFn.{get_or-range_with_len, length-range_with_len}
 use Rattle.std.proofs.lemmas.List.Sums.{sum_by-cons}
-use Rattle.cards.specs.declared.hand.Measure.TheVariants.{Hcp}
 use Rattle.cards.specs.declared.seat.Seat.{Seat}
 use Rattle.cards.specs.declared.seat.Seat.TheVariants.{North}
 use Rattle.cards.specs.declared.suit.Suit.{Suit}
@@ -105,8 +104,6 @@ abbrev cards_count : List Seat → Count → ℕ
 cards_count deal k = sum_by (λ c. card_weight k c (holder deal c)) pack
 
 cards_least : (deal : List Seat) → IsPartition deal → (k : Count) → least_count k + cards_count deal k ≤ count_in deal k
-cards_least deal ok (counts.Points q) = omega (arith, measured_least (weights_of Hcp) deal q ok)
-cards_least deal ok (counts.SuitPoints q s) = omega (arith, suit_measured_least (weights_of Hcp) deal q s ok)
 cards_least deal ok (counts.Total m q) = omega (arith, measured_least (weights_of m) deal q ok)
 cards_least deal ok (counts.SuitTotal m q s) = omega (arith, suit_measured_least (weights_of m) deal q s ok)
 cards_least deal ok (counts.Cards q h) = omega (arith, by_card deal q (λ c. 1) (λ c b. has_honour h (rank_of c) && b) ok)
@@ -117,8 +114,6 @@ cards_least deal ok (counts.Second q) = omega (arith, nothing pack, count_at_lea
 cards_least deal ok (counts.Shortest q) = omega (arith, nothing pack, count_at_least deal ok (counts.Shortest q))
 
 cards_most : (deal : List Seat) → IsPartition deal → (k : Count) → count_in deal k ≤ count_beside k + cards_count deal k
-cards_most deal ok (counts.Points q) = omega (arith, measured_most (weights_of Hcp) deal q ok)
-cards_most deal ok (counts.SuitPoints q s) = omega (arith, suit_measured_most (weights_of Hcp) deal q s ok)
 cards_most deal ok (counts.Total m q) = omega (arith, measured_most (weights_of m) deal q ok)
 cards_most deal ok (counts.SuitTotal m q s) = omega (arith, suit_measured_most (weights_of m) deal q s ok)
 cards_most deal ok (counts.Cards q h) = omega (arith, by_card deal q (λ c. 1) (λ c b. has_honour h (rank_of c) && b) ok)

@@ -9,8 +9,10 @@ mod estimate;
 mod exclusion;
 mod gap;
 pub mod laws;
+mod parts;
 mod screen;
 mod shares;
 mod stage;
 
+pub use parts::room_after;
 pub use screen::Screen;

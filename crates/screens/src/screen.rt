@@ -8,11 +8,15 @@ ghost use Rattle.screens.specs.Completions.{IsCompletion};
 ghost use Rattle.conditions.specs.Meaning.{holds};
 
 use crate::exclusion::Test;
+use crate::parts::room_after;
 use crate::stage::Stage;
 use cards::{Fixed, Hand};
 use conditions::Cond;
 use std::alloc::Global;
 use std::marker::Model;
+
+/// The most parts that a condition with a screen has: to weigh each part takes some microseconds.
+const MOST_WEIGHED: u32 = 1024;
 
 /// Which candidates around fixed cards can be given up once West's hand is known, or West's and
 /// South's: those of which no deal can come that meets the condition. Contracts see the condition's
@@ -56,11 +60,15 @@ impl Drop for Screen {
 impl Screen {
     /// The screen of the condition, for candidates around these fixed cards.
     ///
-    /// Returns `None` if an allocation failed. All goes on without a screen, if not as fast.
+    /// Returns `None` if an allocation failed, or if the condition has more than 1,024 parts. All
+    /// goes on without a screen, if not as fast.
     pub fn new(condition: &Cond, fixed: &Fixed) -> Option<Screen>
         ensures form { IfSome result (λ screen. screen.form ≡ condition.now) }
         ensures fixed { IfSome result (λ screen. screen.fixed ≡ fixed.now) }
     {
+        if room_after(condition.tree(), MOST_WEIGHED + 1) == 0 {
+            return None;
+        }
         let alloc = condition.allocator();
         let by_west = Test::of(alloc, condition.tree(), true, Stage::OneHand, fixed).ok()?;
         let by_both = Test::of(alloc, condition.tree(), true, Stage::TwoHands, fixed).ok()?;

@@ -48,11 +48,6 @@ fn card_weight(count: Count, card: usize, seat: Seat) -> u32
     ensures most { result ≤ 255 }
 {
     match count {
-        Count::Points(holder) => counted(is_at(holder, seat), rank_weight(Measure::Hcp, card)),
-        Count::SuitPoints(holder, suit) => counted(
-            is_in_suit(suit, card) && is_at(holder, seat),
-            rank_weight(Measure::Hcp, card),
-        ),
         Count::Total(measure, holder) => counted(is_at(holder, seat), rank_weight(measure, card)),
         Count::SuitTotal(measure, holder, suit) => counted(
             is_in_suit(suit, card) && is_at(holder, seat),

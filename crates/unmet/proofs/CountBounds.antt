@@ -3,13 +3,12 @@ use Rattle.std.proofs.Common.{◌≡◌, ◌≤◌, ◌+◌, ◌&&◌, ◌==◌,
 use Rattle.std.specs.List.{sum_by}
 use Rattle.std.proofs.lemmas.Bool.{true≢false}
 use Rattle.cards.specs.declared.hand.Measure.{Measure}
-use Rattle.cards.specs.declared.hand.Measure.TheVariants.{Hcp, Controls, Losers}
 use Rattle.cards.specs.declared.seat.Seat.{Seat}
 use Rattle.cards.specs.declared.suit.Suit.{Suit}
 use Rattle.cards.specs.declared.suit.Suit.TheVariants.{Spades, Hearts, Diamonds, Clubs}
 use Rattle.std.proofs.lemmas.List.{get_or_past}
 use Rattle.std.proofs.lemmas.List.Sums.{sum_by-cons}
-use Rattle.cards.specs.Counts.{greatest_of_two, losers_in, losers_of, total_in, total_of}
+use Rattle.cards.specs.Counts.{greatest_of_two, losers_in, losers_of, total_of}
 use Rattle.cards.specs.Deals.{IsPartition}
 use Rattle.cards.specs.Hands.{hand_of, holds_card, weight_in, weight_of}
 use Rattle.cards.specs.Measures.{weights_of}
@@ -18,7 +17,6 @@ use Rattle.cards.specs.Shuffle.{pack}
 use Rattle.conditions.specs.declared.tree.Count.{Count}
 use Rattle.conditions.specs.declared.tree.Count.TheVariants as counts
 use Rattle.conditions.specs.Bounds.{greatest_count}
-use Rattle.conditions.specs.Form.{suit_measured}
 use Rattle.conditions.specs.Meaning.{count_in}
 use Rattle.conditions.proofs.HandBounds.{both, long}
 use Rattle.conditions.proofs.ValueBounds.{count_at_least, count_at_most}
@@ -126,18 +124,12 @@ measures_add : (o : Option (List ℕ)) (deal : List Seat) (q : Seat) → IsParti
 measures_add (Some w) deal q ok = weights_add w deal q ok
 measures_add None deal q ok = refl
 
-suit_count : (deal : List Seat) (m : Measure) (q : Seat) (s : Suit) → count_in deal (suit_measured m q s) ≡ total_in m (hand_of deal q) s
-suit_count deal Hcp q s = refl
-suit_count deal Controls q s = refl
-suit_count deal Losers q s = refl
-
 -- what a hand counts is what its suits do
 pub suits_add : (deal : List Seat) (m : Measure) (q : Seat) → IsPartition deal
-    → count_in deal (suit_measured m q Spades) + count_in deal (suit_measured m q Hearts) + count_in deal (suit_measured m q Diamonds)
-    + count_in deal (suit_measured m q Clubs)
+    → count_in deal (counts.SuitTotal m q Spades) + count_in deal (counts.SuitTotal m q Hearts) + count_in deal (counts.SuitTotal m q Diamonds)
+    + count_in deal (counts.SuitTotal m q Clubs)
     ≡ total_of m (hand_of deal q)
-suits_add deal m q ok =
-    omega (arith, suit_count deal m q Spades, suit_count deal m q Hearts, suit_count deal m q Diamonds, suit_count deal m q Clubs, measures_add (weights_of m) deal q ok)
+suits_add deal m q ok = measures_add (weights_of m) deal q ok
 
 -- ---- of four numbers
 
@@ -179,10 +171,10 @@ module _ (deal : List Seat) (k : Facts) (ok : IsPartition deal) (are : AreTrueOf
   low_total m q =
       omega (
         arith,
-        low (suit_measured m q Spades),
-        low (suit_measured m q Hearts),
-        low (suit_measured m q Diamonds),
-        low (suit_measured m q Clubs),
+        low (counts.SuitTotal m q Spades),
+        low (counts.SuitTotal m q Hearts),
+        low (counts.SuitTotal m q Diamonds),
+        low (counts.SuitTotal m q Clubs),
         suits_add deal m q ok,
       )
 
@@ -190,10 +182,10 @@ module _ (deal : List Seat) (k : Facts) (ok : IsPartition deal) (are : AreTrueOf
   high_total m q =
       omega (
         arith,
-        high (suit_measured m q Spades),
-        high (suit_measured m q Hearts),
-        high (suit_measured m q Diamonds),
-        high (suit_measured m q Clubs),
+        high (counts.SuitTotal m q Spades),
+        high (counts.SuitTotal m q Hearts),
+        high (counts.SuitTotal m q Diamonds),
+        high (counts.SuitTotal m q Clubs),
         suits_add deal m q ok,
       )
 
@@ -204,9 +196,7 @@ module _ (deal : List Seat) (k : Facts) (ok : IsPartition deal) (are : AreTrueOf
       second_le _ _ _ _ _ _ _ _ (low (counts.Length q Spades)) (low (counts.Length q Hearts)) (low (counts.Length q Diamonds)) (low (counts.Length q Clubs))
   low_made (counts.Shortest q) =
       shortest_le _ _ _ _ _ _ _ _ (low (counts.Length q Spades)) (low (counts.Length q Hearts)) (low (counts.Length q Diamonds)) (low (counts.Length q Clubs))
-  low_made (counts.Points q) = low_total Hcp q
   low_made (counts.Total m q) = low_total m q
-  low_made (counts.SuitPoints q s) = omega arith
   low_made (counts.SuitTotal m q s) = omega arith
   low_made (counts.Cards q h) = omega arith
   low_made (counts.SuitCards q s h) = omega arith
@@ -219,9 +209,7 @@ module _ (deal : List Seat) (k : Facts) (ok : IsPartition deal) (are : AreTrueOf
       second_le _ _ _ _ _ _ _ _ (high (counts.Length q Spades)) (high (counts.Length q Hearts)) (high (counts.Length q Diamonds)) (high (counts.Length q Clubs))
   high_made (counts.Shortest q) =
       shortest_le _ _ _ _ _ _ _ _ (high (counts.Length q Spades)) (high (counts.Length q Hearts)) (high (counts.Length q Diamonds)) (high (counts.Length q Clubs))
-  high_made (counts.Points q) = high_total Hcp q
   high_made (counts.Total m q) = high_total m q
-  high_made (counts.SuitPoints q s) = count_at_most deal ok (counts.SuitPoints q s)
   high_made (counts.SuitTotal m q s) = count_at_most deal ok (counts.SuitTotal m q s)
   high_made (counts.Cards q h) = count_at_most deal ok (counts.Cards q h)
   high_made (counts.SuitCards q s h) = count_at_most deal ok (counts.SuitCards q s h)

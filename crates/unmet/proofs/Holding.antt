@@ -9,7 +9,6 @@ use Rattle.std.proofs.lemmas.Option.{get_or_from_slice_get, slice_get-get_or}
 use Rattle.std.specs.Prelude.{slice_get}
 use Rattle.cards.specs.declared.seat.Seat.{Seat}
 use Rattle.cards.specs.declared.seat.Seat.TheVariants.{North}
-use Rattle.cards.specs.declared.hand.Measure.TheVariants.{Hcp}
 use Rattle.cards.specs.Counts.{has_honour}
 use Rattle.cards.specs.Deals.{IsPartition}
 use Rattle.cards.specs.Hands.{hand_of, holds_card}
@@ -51,8 +50,6 @@ and_again false false false = refl
 
 -- the card counts at the seat whose hand is counted, and at no other
 pub weight_at_seat : (k : Count) (c : ℕ) (q : Seat) → card_weight k c q ≡ cond (is_at (whose k) q) (counts_for k c) 0
-weight_at_seat (counts.Points p) c q = refl
-weight_at_seat (counts.SuitPoints p s) c q = and_cond (is_in_suit s c) (is_at p q) _
 weight_at_seat (counts.Total m p) c q = refl
 weight_at_seat (counts.SuitTotal m p s) c q = and_cond (is_in_suit s c) (is_at p q) _
 weight_at_seat (counts.Cards p h) c q = and_cond (has_honour h (rank_of c)) (is_at p q) 1
@@ -113,9 +110,6 @@ measure_heaviest (Some w) n four = rank_heaviest w n four
 measure_heaviest None n four = omega arith
 
 card_heaviest : (k : Count) (c : ℕ) → counts_for k c ≤ heaviest k
-card_heaviest (counts.Points q) c = measure_heaviest (weights_of Hcp) (rank_of c) (four_weights Hcp)
-card_heaviest (counts.SuitPoints q s) c =
-    omega (arith, cond_le (is_in_suit s c) (rank_weight Hcp c), measure_heaviest (weights_of Hcp) (rank_of c) (four_weights Hcp))
 card_heaviest (counts.Total m q) c = measure_heaviest (weights_of m) (rank_of c) (four_weights m)
 card_heaviest (counts.SuitTotal m q s) c =
     omega (arith, cond_le (is_in_suit s c) (rank_weight m c), measure_heaviest (weights_of m) (rank_of c) (four_weights m))

@@ -77,24 +77,19 @@ honours_back h = bits h.ace h.king h.queen h.jack h.ten
 -- the count of four numbers
 abbrev count_by : ℕ → ℕ → ℕ → ℕ → Count
 count_by n q s m =
-    if n == 1 then counts.Points (seat_of_number q)
-    else (if n == 2 then counts.SuitPoints (seat_of_number q) (suit_at s)
-    else (if n == 3 then counts.Total (measure_of_number m) (seat_of_number q)
-    else (if n == 4 then counts.SuitTotal (measure_of_number m) (seat_of_number q) (suit_at s)
-    else (if n == 5 then counts.Length (seat_of_number q) (suit_at s)
-    else (if n == 6 then counts.Longest (seat_of_number q)
-    else (if n == 7 then counts.Shortest (seat_of_number q)
-    else (if n == 8 then counts.Cards (seat_of_number q) (honours_by m)
-    else (if n == 9 then counts.SuitCards (seat_of_number q) (suit_at s) (honours_by m)
-    else counts.Second (seat_of_number q)))))))))
+    if n == 1 then counts.Total (measure_of_number m) (seat_of_number q)
+    else (if n == 2 then counts.SuitTotal (measure_of_number m) (seat_of_number q) (suit_at s)
+    else (if n == 3 then counts.Length (seat_of_number q) (suit_at s)
+    else (if n == 4 then counts.Longest (seat_of_number q)
+    else (if n == 5 then counts.Shortest (seat_of_number q)
+    else (if n == 6 then counts.Cards (seat_of_number q) (honours_by m)
+    else (if n == 7 then counts.SuitCards (seat_of_number q) (suit_at s) (honours_by m)
+    else counts.Second (seat_of_number q)))))))
 
 abbrev count_at : List ℕ → Count
 count_at code = count_by (get_or code 0 0) (get_or code 1 0) (get_or code 2 0) (get_or code 3 0)
 
 count_back : (c : Count) → count_at (count_code c) ≡ c
-count_back (counts.Points q) = ap (λ p. counts.Points p) (seat_back q)
-count_back (counts.SuitPoints q s) =
-    ap (λ p. counts.SuitPoints p (suit_at (suit_number s))) (seat_back q) ∙ ap (λ t. counts.SuitPoints q t) (suit_back s)
 count_back (counts.Total m q) =
     ap (λ p. counts.Total (measure_of_number (measure_number m)) p) (seat_back q) ∙ ap (λ k. counts.Total k q) (measure_back m)
 count_back (counts.SuitTotal m q s) =

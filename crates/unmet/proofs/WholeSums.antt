@@ -24,7 +24,7 @@ use Rattle.conditions.proofs.ValueBounds.{count_at_most}
 use Rattle.screens.specs.internal.Shares.{card_weight, count_beside, is_at}
 use Rattle.screens.proofs.CardByCard.{counted_least, counted_most, holder}
 use Rattle.unmet.specs.Held.{counts_for, rank_weight, whose}
-use Rattle.unmet.specs.Wholes.{IsWholeOf, hand_measure, hand_shape, pack_measure, pack_ranks, suit_lengths, suit_measure, suit_ranks}
+use Rattle.unmet.specs.Wholes.{IsWholeOf, hand_measure, hand_shape, pack_measure, pack_ranks, suit_lengths, suit_measure, suit_ranks, total_weight}
 use Rattle.unmet.proofs.CountBounds.{suits_add}
 use Rattle.unmet.proofs.Holding.{weight_at_seat}
 
@@ -135,33 +135,34 @@ module _ (deal : List Seat) (ok : IsPartition deal) where
       (exact deal (k North) ok refl refl) (exact deal (k East) ok refl refl) (exact deal (k South) ok refl refl) (exact deal (k West) ok refl refl) in
       record { low = omega (arith, all); high = omega (arith, all) }
 
-  pub by_hcp : IsWholeOf deal (pack_measure Hcp)
-  by_hcp =
-      let k : Seat → Count = λ q. counts.Points q in
-      let all = over_seats (rank_weight Hcp) 40 (k North) (k East) (k South) (k West) hcp_total
-      (exact deal (k North) ok refl refl) (exact deal (k East) ok refl refl) (exact deal (k South) ok refl refl) (exact deal (k West) ok refl refl) in
+  -- a measure that counts ranks
+  by_measure : (m : Measure) → count_beside (counts.Total m North) ≡ 0
+      → sum_by (rank_weight m) pack ≡ 4 * total_weight m → IsWholeOf deal (pack_measure m)
+  by_measure m none whole =
+      let k : Seat → Count = λ q. counts.Total m q in
+      let all = over_seats (rank_weight m) (4 * total_weight m) (k North) (k East) (k South) (k West) whole
+      (exact deal (k North) ok refl none) (exact deal (k East) ok refl none) (exact deal (k South) ok refl none) (exact deal (k West) ok refl none) in
       record { low = omega (arith, all); high = omega (arith, all) }
+
+  by_suit_measure : (m : Measure) (s : Suit) → count_beside (counts.SuitTotal m North s) ≡ 0
+      → sum_by (λ c. cond (is_in_suit s c) (rank_weight m c) 0) pack ≡ total_weight m → IsWholeOf deal (suit_measure m s)
+  by_suit_measure m s none whole =
+      let k : Seat → Count = λ q. counts.SuitTotal m q s in
+      let all = over_seats (λ c. cond (is_in_suit s c) (rank_weight m c) 0) (total_weight m) (k North) (k East) (k South) (k West) whole
+      (exact deal (k North) ok refl none) (exact deal (k East) ok refl none) (exact deal (k South) ok refl none) (exact deal (k West) ok refl none) in
+      record { low = omega (arith, all); high = omega (arith, all) }
+
+  pub by_hcp : IsWholeOf deal (pack_measure Hcp)
+  by_hcp = by_measure Hcp refl hcp_total
 
   pub by_controls : IsWholeOf deal (pack_measure Controls)
-  by_controls =
-      let k : Seat → Count = λ q. counts.Total Controls q in
-      let all = over_seats (rank_weight Controls) 12 (k North) (k East) (k South) (k West) controls_total
-      (exact deal (k North) ok refl refl) (exact deal (k East) ok refl refl) (exact deal (k South) ok refl refl) (exact deal (k West) ok refl refl) in
-      record { low = omega (arith, all); high = omega (arith, all) }
+  by_controls = by_measure Controls refl controls_total
 
   pub by_suit_hcp : (s : Suit) → IsWholeOf deal (suit_measure Hcp s)
-  by_suit_hcp s =
-      let k : Seat → Count = λ q. counts.SuitPoints q s in
-      let all = over_seats (λ c. cond (is_in_suit s c) (rank_weight Hcp c) 0) 10 (k North) (k East) (k South) (k West) (suit_hcp_total s)
-      (exact deal (k North) ok refl refl) (exact deal (k East) ok refl refl) (exact deal (k South) ok refl refl) (exact deal (k West) ok refl refl) in
-      record { low = omega (arith, all); high = omega (arith, all) }
+  by_suit_hcp s = by_suit_measure Hcp s refl (suit_hcp_total s)
 
   pub by_suit_controls : (s : Suit) → IsWholeOf deal (suit_measure Controls s)
-  by_suit_controls s =
-      let k : Seat → Count = λ q. counts.SuitTotal Controls q s in
-      let all = over_seats (λ c. cond (is_in_suit s c) (rank_weight Controls c) 0) 3 (k North) (k East) (k South) (k West) (suit_controls_total s)
-      (exact deal (k North) ok refl refl) (exact deal (k East) ok refl refl) (exact deal (k South) ok refl refl) (exact deal (k West) ok refl refl) in
-      record { low = omega (arith, all); high = omega (arith, all) }
+  by_suit_controls s = by_suit_measure Controls s refl (suit_controls_total s)
 
   pub by_shape : (q : Seat) → IsWholeOf deal (hand_shape q)
   by_shape q = record { low = omega (arith, lengths_add deal q ok); high = omega (arith, lengths_add deal q ok) }

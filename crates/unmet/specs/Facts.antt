@@ -2,7 +2,6 @@
 use Rattle.std.specs.Prelude.{ℕ, ◌+◌, ◌≤◌, nat_le, max, min, Bool, cond, List, [], ◌∷◌}
 use Rattle.std.specs.Prelude.{if◌then◌else◌}
 use Rattle.cards.specs.declared.hand.Measure.{Measure}
-use Rattle.cards.specs.declared.hand.Measure.TheVariants.{Hcp}
 use Rattle.cards.specs.declared.honours.Honours.{Honours}
 use Rattle.cards.specs.declared.seat.Seat.{Seat}
 use Rattle.cards.specs.declared.suit.Suit.TheVariants.{Spades, Hearts, Diamonds, Clubs}
@@ -12,7 +11,6 @@ use Rattle.cards.specs.Pack.{seat_number, suit_number}
 use Rattle.conditions.specs.declared.tree.Count.{Count}
 use Rattle.conditions.specs.declared.tree.Count.TheVariants as counts
 use Rattle.conditions.specs.Bounds.{greatest_count, least_count}
-use Rattle.conditions.specs.Form.{suit_measured}
 use Rattle.conditions.specs.Meaning.{count_in}
 use Rattle.unmet.specs.declared.by_suit.BySuit.{BySuit}
 use Rattle.unmet.specs.declared.facts.Fact.{Fact}
@@ -39,16 +37,14 @@ honours_number h =
 
 -- what is counted, by numbers: what, whose, in which suit, and by which measure or of which ranks
 abbrev pub count_code : Count → List ℕ
-count_code (counts.Points q) = 1 ∷ seat_number q ∷ 0 ∷ 0 ∷ []
-count_code (counts.SuitPoints q s) = 2 ∷ seat_number q ∷ suit_number s ∷ 0 ∷ []
-count_code (counts.Total m q) = 3 ∷ seat_number q ∷ 0 ∷ measure_number m ∷ []
-count_code (counts.SuitTotal m q s) = 4 ∷ seat_number q ∷ suit_number s ∷ measure_number m ∷ []
-count_code (counts.Length q s) = 5 ∷ seat_number q ∷ suit_number s ∷ 0 ∷ []
-count_code (counts.Longest q) = 6 ∷ seat_number q ∷ 0 ∷ 0 ∷ []
-count_code (counts.Shortest q) = 7 ∷ seat_number q ∷ 0 ∷ 0 ∷ []
-count_code (counts.Cards q h) = 8 ∷ seat_number q ∷ 0 ∷ honours_number h ∷ []
-count_code (counts.SuitCards q s h) = 9 ∷ seat_number q ∷ suit_number s ∷ honours_number h ∷ []
-count_code (counts.Second q) = 10 ∷ seat_number q ∷ 0 ∷ 0 ∷ []
+count_code (counts.Total m q) = 1 ∷ seat_number q ∷ 0 ∷ measure_number m ∷ []
+count_code (counts.SuitTotal m q s) = 2 ∷ seat_number q ∷ suit_number s ∷ measure_number m ∷ []
+count_code (counts.Length q s) = 3 ∷ seat_number q ∷ suit_number s ∷ 0 ∷ []
+count_code (counts.Longest q) = 4 ∷ seat_number q ∷ 0 ∷ 0 ∷ []
+count_code (counts.Shortest q) = 5 ∷ seat_number q ∷ 0 ∷ 0 ∷ []
+count_code (counts.Cards q h) = 6 ∷ seat_number q ∷ 0 ∷ honours_number h ∷ []
+count_code (counts.SuitCards q s h) = 7 ∷ seat_number q ∷ suit_number s ∷ honours_number h ∷ []
+count_code (counts.Second q) = 8 ∷ seat_number q ∷ 0 ∷ 0 ∷ []
 
 unfoldable pub is_same_count : Count → Count → Bool
 is_same_count a b = is_same (count_code a) (count_code b)
@@ -92,18 +88,18 @@ greatest_lengths k q = record {
 
 abbrev pub least_totals : Facts → Measure → Seat → BySuit
 least_totals k m q = record {
-  spades = least_told k (suit_measured m q Spades);
-  hearts = least_told k (suit_measured m q Hearts);
-  diamonds = least_told k (suit_measured m q Diamonds);
-  clubs = least_told k (suit_measured m q Clubs);
+  spades = least_told k (counts.SuitTotal m q Spades);
+  hearts = least_told k (counts.SuitTotal m q Hearts);
+  diamonds = least_told k (counts.SuitTotal m q Diamonds);
+  clubs = least_told k (counts.SuitTotal m q Clubs);
 }
 
 abbrev pub greatest_totals : Facts → Measure → Seat → BySuit
 greatest_totals k m q = record {
-  spades = greatest_told k (suit_measured m q Spades);
-  hearts = greatest_told k (suit_measured m q Hearts);
-  diamonds = greatest_told k (suit_measured m q Diamonds);
-  clubs = greatest_told k (suit_measured m q Clubs);
+  spades = greatest_told k (counts.SuitTotal m q Spades);
+  hearts = greatest_told k (counts.SuitTotal m q Hearts);
+  diamonds = greatest_told k (counts.SuitTotal m q Diamonds);
+  clubs = greatest_told k (counts.SuitTotal m q Clubs);
 }
 
 -- by the counts of the suits that make it
@@ -111,7 +107,6 @@ abbrev pub least_made : Facts → Count → ℕ
 least_made k (counts.Longest q) = longest_in (least_lengths k q)
 least_made k (counts.Second q) = second_in (least_lengths k q)
 least_made k (counts.Shortest q) = shortest_in (least_lengths k q)
-least_made k (counts.Points q) = total_in (least_totals k Hcp q)
 least_made k (counts.Total m q) = total_in (least_totals k m q)
 least_made k _ = 0
 
@@ -119,7 +114,6 @@ abbrev pub greatest_made : Facts → Count → ℕ
 greatest_made k (counts.Longest q) = longest_in (greatest_lengths k q)
 greatest_made k (counts.Second q) = second_in (greatest_lengths k q)
 greatest_made k (counts.Shortest q) = shortest_in (greatest_lengths k q)
-greatest_made k (counts.Points q) = total_in (greatest_totals k Hcp q)
 greatest_made k (counts.Total m q) = total_in (greatest_totals k m q)
 greatest_made k c = greatest_count c
 

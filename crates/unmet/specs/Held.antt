@@ -3,7 +3,6 @@ use Rattle.std.specs.Prelude.{ℕ, ◌+◌, ◌*◌, ◌==◌, max, min, Bool, t
 use Rattle.std.specs.Prelude.{None, Option, Some, option_map, slice_index_or, unwrap_or}
 use Rattle.std.specs.List.{sum_by}
 use Rattle.cards.specs.declared.hand.Measure.{Measure}
-use Rattle.cards.specs.declared.hand.Measure.TheVariants.{Hcp}
 use Rattle.cards.specs.declared.seat.Seat.{Seat}
 use Rattle.cards.specs.Counts.{has_honour}
 use Rattle.cards.specs.Fixed.{room}
@@ -16,8 +15,6 @@ use Rattle.unmet.specs.declared.facts.Fact.{Fact}
 
 -- the seat whose hand is counted
 abbrev pub whose : Count → Seat
-whose (counts.Points q) = q
-whose (counts.SuitPoints q s) = q
 whose (counts.Total m q) = q
 whose (counts.SuitTotal m q s) = q
 whose (counts.Cards q h) = q
@@ -33,8 +30,6 @@ rank_weight m c = unwrap_or (option_map (λ w. slice_index_or w (rank_of c) 0) (
 
 -- what the card counts if the seat has it
 abbrev pub counts_for : Count → ℕ → ℕ
-counts_for (counts.Points q) c = rank_weight Hcp c
-counts_for (counts.SuitPoints q s) c = cond (is_in_suit s c) (rank_weight Hcp c) 0
 counts_for (counts.Total m q) c = rank_weight m c
 counts_for (counts.SuitTotal m q s) c = cond (is_in_suit s c) (rank_weight m c) 0
 counts_for (counts.Cards q h) c = cond (has_honour h (rank_of c)) 1 0
@@ -74,8 +69,6 @@ abbrev pub heaviest_rank : Measure → ℕ
 heaviest_rank m = unwrap_or (option_map heaviest_of (weights_of m)) 0
 
 abbrev pub heaviest : Count → ℕ
-heaviest (counts.Points q) = heaviest_rank Hcp
-heaviest (counts.SuitPoints q s) = heaviest_rank Hcp
 heaviest (counts.Total m q) = heaviest_rank m
 heaviest (counts.SuitTotal m q s) = heaviest_rank m
 heaviest (counts.Cards q h) = 1

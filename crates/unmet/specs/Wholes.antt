@@ -10,7 +10,6 @@ use Rattle.cards.specs.declared.suit.Suit.TheVariants.{Spades, Hearts, Diamonds,
 use Rattle.cards.specs.Measures.{weights_of}
 use Rattle.conditions.specs.declared.tree.Count.TheVariants as counts
 use Rattle.conditions.specs.Bounds.{rank_count}
-use Rattle.conditions.specs.Form.{measured, suit_measured}
 use Rattle.conditions.specs.Meaning.{count_in}
 use Rattle.unmet.specs.declared.facts.Facts.{Facts}
 use Rattle.unmet.specs.declared.wholes.Whole.{Whole}
@@ -49,10 +48,10 @@ hand_shape q = record {
 
 abbrev pub hand_measure : Measure → Seat → Whole
 hand_measure m q = record {
-  first = suit_measured m q Spades;
-  second = suit_measured m q Hearts;
-  third = suit_measured m q Diamonds;
-  fourth = suit_measured m q Clubs;
+  first = counts.SuitTotal m q Spades;
+  second = counts.SuitTotal m q Hearts;
+  third = counts.SuitTotal m q Diamonds;
+  fourth = counts.SuitTotal m q Clubs;
   least = 0;
   most = 40;
 }
@@ -75,20 +74,20 @@ total_weight m = unwrap_or (option_map sum (weights_of m)) 0
 
 abbrev pub pack_measure : Measure → Whole
 pack_measure m = record {
-  first = measured m North;
-  second = measured m East;
-  third = measured m South;
-  fourth = measured m West;
+  first = counts.Total m North;
+  second = counts.Total m East;
+  third = counts.Total m South;
+  fourth = counts.Total m West;
   least = 4 * total_weight m;
   most = 4 * total_weight m;
 }
 
 abbrev pub suit_measure : Measure → Suit → Whole
 suit_measure m s = record {
-  first = suit_measured m North s;
-  second = suit_measured m East s;
-  third = suit_measured m South s;
-  fourth = suit_measured m West s;
+  first = counts.SuitTotal m North s;
+  second = counts.SuitTotal m East s;
+  third = counts.SuitTotal m South s;
+  fourth = counts.SuitTotal m West s;
   least = total_weight m;
   most = total_weight m;
 }

@@ -30,18 +30,16 @@ fn count_code(count: Count) -> [u8; 4]
     ensures { result ≡ count_code count }
 {
     match count {
-        Count::Points(seat) => [1, seat as u8, 0, 0],
-        Count::SuitPoints(seat, suit) => [2, seat as u8, suit as u8, 0],
-        Count::Total(measure, seat) => [3, seat as u8, 0, measure as u8],
-        Count::SuitTotal(measure, seat, suit) => [4, seat as u8, suit as u8, measure as u8],
-        Count::Length(seat, suit) => [5, seat as u8, suit as u8, 0],
-        Count::Longest(seat) => [6, seat as u8, 0, 0],
-        Count::Shortest(seat) => [7, seat as u8, 0, 0],
-        Count::Cards(seat, ranks) => [8, seat as u8, 0, honours_number(ranks)],
+        Count::Total(measure, seat) => [1, seat as u8, 0, measure as u8],
+        Count::SuitTotal(measure, seat, suit) => [2, seat as u8, suit as u8, measure as u8],
+        Count::Length(seat, suit) => [3, seat as u8, suit as u8, 0],
+        Count::Longest(seat) => [4, seat as u8, 0, 0],
+        Count::Shortest(seat) => [5, seat as u8, 0, 0],
+        Count::Cards(seat, ranks) => [6, seat as u8, 0, honours_number(ranks)],
         Count::SuitCards(seat, suit, ranks) => {
-            [9, seat as u8, suit as u8, honours_number(ranks)]
+            [7, seat as u8, suit as u8, honours_number(ranks)]
         }
-        Count::Second(seat) => [10, seat as u8, 0, 0],
+        Count::Second(seat) => [8, seat as u8, 0, 0],
     }
 }
 

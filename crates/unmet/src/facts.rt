@@ -115,7 +115,6 @@ impl Facts {
             Count::Longest(seat) => self.least_lengths(seat).longest(),
             Count::Second(seat) => self.least_lengths(seat).second(),
             Count::Shortest(seat) => self.least_lengths(seat).shortest(),
-            Count::Points(seat) => self.least_totals(Measure::Hcp, seat).total(),
             Count::Total(measure, seat) => self.least_totals(measure, seat).total(),
             _ => 0,
         }
@@ -129,7 +128,6 @@ impl Facts {
             Count::Longest(seat) => self.greatest_lengths(seat).longest(),
             Count::Second(seat) => self.greatest_lengths(seat).second(),
             Count::Shortest(seat) => self.greatest_lengths(seat).shortest(),
-            Count::Points(seat) => self.greatest_totals(Measure::Hcp, seat).total(),
             Count::Total(measure, seat) => self.greatest_totals(measure, seat).total(),
             _ => u64::from(count.greatest()),
         }
@@ -167,10 +165,10 @@ impl Facts {
         ensures few { HasUpTo 65535 result }
     {
         BySuit {
-            spades: self.least_told(Count::suit_measured(measure, seat, Suit::Spades)),
-            hearts: self.least_told(Count::suit_measured(measure, seat, Suit::Hearts)),
-            diamonds: self.least_told(Count::suit_measured(measure, seat, Suit::Diamonds)),
-            clubs: self.least_told(Count::suit_measured(measure, seat, Suit::Clubs)),
+            spades: self.least_told(Count::SuitTotal(measure, seat, Suit::Spades)),
+            hearts: self.least_told(Count::SuitTotal(measure, seat, Suit::Hearts)),
+            diamonds: self.least_told(Count::SuitTotal(measure, seat, Suit::Diamonds)),
+            clubs: self.least_told(Count::SuitTotal(measure, seat, Suit::Clubs)),
         }
     }
 
@@ -180,10 +178,10 @@ impl Facts {
         ensures few { HasUpTo 40 result }
     {
         BySuit {
-            spades: self.greatest_told(Count::suit_measured(measure, seat, Suit::Spades)),
-            hearts: self.greatest_told(Count::suit_measured(measure, seat, Suit::Hearts)),
-            diamonds: self.greatest_told(Count::suit_measured(measure, seat, Suit::Diamonds)),
-            clubs: self.greatest_told(Count::suit_measured(measure, seat, Suit::Clubs)),
+            spades: self.greatest_told(Count::SuitTotal(measure, seat, Suit::Spades)),
+            hearts: self.greatest_told(Count::SuitTotal(measure, seat, Suit::Hearts)),
+            diamonds: self.greatest_told(Count::SuitTotal(measure, seat, Suit::Diamonds)),
+            clubs: self.greatest_told(Count::SuitTotal(measure, seat, Suit::Clubs)),
         }
     }
 }

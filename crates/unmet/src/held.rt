@@ -60,7 +60,6 @@ fn heaviest(count: Count) -> u16
     ensures few { result ≤ 255 }
 {
     match count {
-        Count::Points(_) | Count::SuitPoints(..) => heaviest_rank(Measure::Hcp),
         Count::Total(measure, _) | Count::SuitTotal(measure, _, _) => heaviest_rank(measure),
         Count::Cards(..) | Count::SuitCards(..) | Count::Length(..) => 1,
         Count::Longest(_) | Count::Second(_) | Count::Shortest(_) => 0,
@@ -98,7 +97,6 @@ fn whose(count: Count) -> Seat
     ensures { result ≡ whose count }
 {
     match count {
-        Count::Points(seat) | Count::SuitPoints(seat, _) => seat,
         Count::Total(_, seat) | Count::SuitTotal(_, seat, _) => seat,
         Count::Cards(seat, _) | Count::SuitCards(seat, _, _) => seat,
         Count::Length(seat, _) => seat,
@@ -112,8 +110,6 @@ fn counts_for(count: Count, card: usize) -> u16
     ensures few { result ≤ 255 }
 {
     match count {
-        Count::Points(_) => rank_weight(Measure::Hcp, card),
-        Count::SuitPoints(_, suit) => of_suit(suit, card, rank_weight(Measure::Hcp, card)),
         Count::Total(measure, _) => rank_weight(measure, card),
         Count::SuitTotal(measure, _, suit) => of_suit(suit, card, rank_weight(measure, card)),
         Count::Cards(_, ranks) => u16::from(has_honour(ranks, card)),

@@ -1,16 +1,17 @@
 //! Whether no deal meets a condition.
 
-ghost use Rattle.std.specs.Prelude.{◌≡◌, ◌-◌, false, IsTrue, List};
+ghost use Rattle.std.specs.Prelude.{◌≡◌, false, IsTrue, List};
 ghost use Rattle.cards.specs.declared.seat.Seat.{Seat as ASeat};
 ghost use Rattle.conditions.specs.declared.limits.TheConstants.{MOST_PARTS};
-ghost use Rattle.conditions.specs.Form.{amount_of, form_of};
-ghost use Rattle.conditions.specs.Limits.{HasAtMostAtoms, atoms_of, parts_of};
+ghost use Rattle.conditions.specs.Form.{form_of};
+ghost use Rattle.conditions.specs.Limits.{HasAtMostAtoms};
 ghost use Rattle.conditions.specs.Meaning.{holds};
 ghost use Rattle.unmet.specs.Never.{Keeps, is_never, is_never_part};
 
 use crate::torn::is_torn;
 use cards::Fixed;
-use conditions::{Cond, Tree, Value};
+use conditions::{Cond, Tree};
+use screens::room_after;
 
 /// The most parts that a condition is looked through for: each takes some nanoseconds for each way
 /// to split a whole.
@@ -55,30 +56,5 @@ fn is_never_part(tree: &Tree, fixed: &Fixed, is_new: bool) -> bool
                 || (is_never_part(left, fixed, false) || is_never_part(right, fixed, false))
         }
         _ => is_new && is_torn(tree, fixed),
-    }
-}
-
-/// What is left of the room after a place for each part of the tree.
-fn room_after(tree: &Tree, room: u32) -> u32
-    ensures { result ≡ room - parts_of (form_of tree.now) }
-{
-    match tree {
-        Tree::AnyOf(left, right) | Tree::AllOf(left, right) => {
-            room_after(right, room_after(left, room))
-        }
-        Tree::Negation(inner) => room_after(inner, room),
-        Tree::Compare { left, right, .. } => room_after_value(right, room_after_value(left, room)),
-        Tree::Within(value, _, _) => room_after_value(value, room),
-        _ => room.saturating_sub(1),
-    }
-}
-
-/// The same after a value.
-fn room_after_value(value: &Value, room: u32) -> u32
-    ensures { result ≡ room - atoms_of (amount_of value.now) }
-{
-    match value {
-        Value::Sum(left, right) => room_after_value(right, room_after_value(left, room)),
-        _ => room.saturating_sub(1),
     }
 }

@@ -55,10 +55,10 @@ impl Whole {
         ensures few { result.most ≤ 52 }
     {
         Whole {
-            first: Count::suit_measured(measure, seat, Suit::Spades),
-            second: Count::suit_measured(measure, seat, Suit::Hearts),
-            third: Count::suit_measured(measure, seat, Suit::Diamonds),
-            fourth: Count::suit_measured(measure, seat, Suit::Clubs),
+            first: Count::SuitTotal(measure, seat, Suit::Spades),
+            second: Count::SuitTotal(measure, seat, Suit::Hearts),
+            third: Count::SuitTotal(measure, seat, Suit::Diamonds),
+            fourth: Count::SuitTotal(measure, seat, Suit::Clubs),
             least: 0,
             most: 40,
         }
@@ -86,10 +86,10 @@ impl Whole {
     {
         let total = 4 * total_weight(measure);
         Whole {
-            first: Count::measured(measure, Seat::North),
-            second: Count::measured(measure, Seat::East),
-            third: Count::measured(measure, Seat::South),
-            fourth: Count::measured(measure, Seat::West),
+            first: Count::Total(measure, Seat::North),
+            second: Count::Total(measure, Seat::East),
+            third: Count::Total(measure, Seat::South),
+            fourth: Count::Total(measure, Seat::West),
             least: total,
             most: total,
         }
@@ -102,10 +102,10 @@ impl Whole {
     {
         let total = total_weight(measure);
         Whole {
-            first: Count::suit_measured(measure, Seat::North, suit),
-            second: Count::suit_measured(measure, Seat::East, suit),
-            third: Count::suit_measured(measure, Seat::South, suit),
-            fourth: Count::suit_measured(measure, Seat::West, suit),
+            first: Count::SuitTotal(measure, Seat::North, suit),
+            second: Count::SuitTotal(measure, Seat::East, suit),
+            third: Count::SuitTotal(measure, Seat::South, suit),
+            fourth: Count::SuitTotal(measure, Seat::West, suit),
             least: total,
             most: total,
         }

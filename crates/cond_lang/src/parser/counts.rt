@@ -106,10 +106,10 @@ impl<'a> Parser<'a> {
             self.advance();
             let suit = self.suit(bound)?;
             self.close()?;
-            return Ok(Count::suit_measured(measure, seat, suit));
+            return Ok(Count::SuitTotal(measure, seat, suit));
         }
         self.close()?;
-        Ok(Count::measured(measure, seat))
+        Ok(Count::Total(measure, seat))
     }
 
     /// `ranks )` or `suit , ranks )` after `cards ( seat ,`

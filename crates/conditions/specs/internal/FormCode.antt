@@ -168,42 +168,33 @@ honours_back h =
 -- each kind of count is its number and then its parts: a new kind has a line in each of the next
 -- three
 abbrev count_stored : Count → Gv
-count_stored (counts.Points q) = gcons (gnum 0) (seat_stored q)
-count_stored (counts.SuitPoints q s) = gcons (gnum 1) (gcons (seat_stored q) (suit_stored s))
-count_stored (counts.Length q s) = gcons (gnum 2) (gcons (seat_stored q) (suit_stored s))
-count_stored (counts.Total m q) = gcons (gnum 3) (gcons (measure_stored m) (seat_stored q))
+count_stored (counts.Total m q) = gcons (gnum 0) (gcons (measure_stored m) (seat_stored q))
 count_stored (counts.SuitTotal m q s) =
-    gcons (gnum 4) (gcons (measure_stored m) (gcons (seat_stored q) (suit_stored s)))
-count_stored (counts.Cards q h) = gcons (gnum 5) (gcons (seat_stored q) (honours_stored h))
+    gcons (gnum 1) (gcons (measure_stored m) (gcons (seat_stored q) (suit_stored s)))
+count_stored (counts.Length q s) = gcons (gnum 2) (gcons (seat_stored q) (suit_stored s))
+count_stored (counts.Cards q h) = gcons (gnum 3) (gcons (seat_stored q) (honours_stored h))
 count_stored (counts.SuitCards q s h) =
-    gcons (gnum 6) (gcons (seat_stored q) (gcons (suit_stored s) (honours_stored h)))
-count_stored (counts.Longest q) = gcons (gnum 7) (seat_stored q)
-count_stored (counts.Shortest q) = gcons (gnum 8) (seat_stored q)
-count_stored (counts.Second q) = gcons (gnum 9) (seat_stored q)
+    gcons (gnum 4) (gcons (seat_stored q) (gcons (suit_stored s) (honours_stored h)))
+count_stored (counts.Longest q) = gcons (gnum 5) (seat_stored q)
+count_stored (counts.Shortest q) = gcons (gnum 6) (seat_stored q)
+count_stored (counts.Second q) = gcons (gnum 7) (seat_stored q)
 
 abbrev count_from : Gv → Count
-count_from (gcons (gnum zero) q) = counts.Points (seat_from q)
-count_from (gcons (gnum (suc zero)) (gcons q s)) = counts.SuitPoints (seat_from q) (suit_from s)
-count_from (gcons (gnum (suc (suc zero))) (gcons q s)) = counts.Length (seat_from q) (suit_from s)
-count_from (gcons (gnum (suc (suc (suc zero)))) (gcons m q)) =
-    counts.Total (measure_from m) (seat_from q)
-count_from (gcons (gnum (suc (suc (suc (suc zero))))) (gcons m (gcons q s))) =
+count_from (gcons (gnum zero) (gcons m q)) = counts.Total (measure_from m) (seat_from q)
+count_from (gcons (gnum (suc zero)) (gcons m (gcons q s))) =
     counts.SuitTotal (measure_from m) (seat_from q) (suit_from s)
-count_from (gcons (gnum (suc (suc (suc (suc (suc zero)))))) (gcons q h)) =
+count_from (gcons (gnum (suc (suc zero))) (gcons q s)) = counts.Length (seat_from q) (suit_from s)
+count_from (gcons (gnum (suc (suc (suc zero)))) (gcons q h)) =
     counts.Cards (seat_from q) (honours_from h)
-count_from (gcons (gnum (suc (suc (suc (suc (suc (suc zero))))))) (gcons q (gcons s h))) =
+count_from (gcons (gnum (suc (suc (suc (suc zero))))) (gcons q (gcons s h))) =
     counts.SuitCards (seat_from q) (suit_from s) (honours_from h)
-count_from (gcons (gnum (suc (suc (suc (suc (suc (suc (suc zero)))))))) q) =
-    counts.Longest (seat_from q)
-count_from (gcons (gnum (suc (suc (suc (suc (suc (suc (suc (suc zero))))))))) q) =
-    counts.Shortest (seat_from q)
-count_from (gcons (gnum (suc (suc (suc (suc (suc (suc (suc (suc (suc k)))))))))) q) =
+count_from (gcons (gnum (suc (suc (suc (suc (suc zero)))))) q) = counts.Longest (seat_from q)
+count_from (gcons (gnum (suc (suc (suc (suc (suc (suc zero))))))) q) = counts.Shortest (seat_from q)
+count_from (gcons (gnum (suc (suc (suc (suc (suc (suc (suc k)))))))) q) =
     counts.Second (seat_from q)
-count_from _ = counts.Points North
+count_from _ = counts.Longest North
 
 count_back : (c : Count) → count_from (count_stored c) ≡ c
-count_back (counts.Points q) = ap counts.Points (seat_back q)
-count_back (counts.SuitPoints q s) = rw (seat_back q, suit_back s) refl
 count_back (counts.Length q s) = rw (seat_back q, suit_back s) refl
 count_back (counts.Total m q) = rw (measure_back m, seat_back q) refl
 count_back (counts.SuitTotal m q s) = rw (measure_back m, seat_back q, suit_back s) refl

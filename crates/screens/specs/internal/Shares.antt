@@ -1,7 +1,6 @@
 -- A value card by card: what a card counts in it at each seat, and what the value can be beside.
 use Rattle.std.specs.Prelude.{ℕ, ◌+◌, ◌*◌, ◌==◌, ◌&&◌, nat_le, Bool, cond, min, max, Option, Some, None, option_map, slice_index_or, unwrap_or}
 use Rattle.cards.specs.declared.hand.Measure.{Measure}
-use Rattle.cards.specs.declared.hand.Measure.TheVariants.{Hcp}
 use Rattle.cards.specs.declared.seat.Seat.{Seat}
 use Rattle.cards.specs.declared.seat.Seat.TheVariants.{North, East, South}
 use Rattle.cards.specs.Counts.{has_honour}
@@ -25,9 +24,6 @@ rank_weight m c = unwrap_or (option_map (λ w. slice_index_or w (rank_of c) 0) (
 
 -- what the card counts if the seat `q` has it
 abbrev pub card_weight : Count → ℕ → Seat → ℕ
-card_weight (counts.Points p) c q = cond (is_at p q) (rank_weight Hcp c) 0
-card_weight (counts.SuitPoints p s) c q =
-    cond (is_in_suit s c && is_at p q) (rank_weight Hcp c) 0
 card_weight (counts.Total m p) c q = cond (is_at p q) (rank_weight m c) 0
 card_weight (counts.SuitTotal m p s) c q = cond (is_in_suit s c && is_at p q) (rank_weight m c) 0
 card_weight (counts.Cards p h) c q = cond (has_honour h (rank_of c) && is_at p q) 1 0

@@ -44,10 +44,6 @@ pub fn tree_text(alloc: Global, tree: &Tree) -> Result<String, AllocError> {
 
 fn count_text(alloc: Global, count: &Count) -> Result<String, AllocError> {
     match count {
-        Count::Points(seat) => call(alloc, "Points", &[seat_text(*seat)]),
-        Count::SuitPoints(seat, suit) => {
-            call(alloc, "SuitPoints", &[seat_text(*seat), suit_text(*suit)])
-        }
         Count::Total(measure, seat) => {
             call(alloc, "Total", &[measure_text(*measure), seat_text(*seat)])
         }

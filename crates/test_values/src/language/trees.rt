@@ -7,7 +7,7 @@ use super::*;
 const TREES: [(&str, &str); 49] = [
     (
         "2*hcp(north)>=60",
-        "Compare { left: Times(2, Points(North)), op: AtLeast, right: Number(60) }",
+        "Compare { left: Times(2, Total(Hcp, North)), op: AtLeast, right: Number(60) }",
     ),
     (
         "1+0*cards(east,clubs,a)+3 in 4-5",
@@ -19,7 +19,7 @@ const TREES: [(&str, &str); 49] = [
     ),
     (
         "15<=hcp(north)",
-        "Compare { left: Number(15), op: AtMost, right: Points(North) }",
+        "Compare { left: Number(15), op: AtMost, right: Total(Hcp, North) }",
     ),
     (
         "0==0 or 1==1 and 2==2",
@@ -69,8 +69,8 @@ const TREES: [(&str, &str); 49] = [
     ),
     (
         "hcp(north,spades)!=hcp(east,hearts)",
-        "Compare { left: SuitPoints(North, Spades), op: NotEqual, \
-        right: SuitPoints(East, Hearts) }",
+        "Compare { left: SuitTotal(Hcp, North, Spades), op: NotEqual, \
+        right: SuitTotal(Hcp, East, Hearts) }",
     ),
     (
         "len(south,diamonds)<0015",
@@ -88,7 +88,7 @@ const TREES: [(&str, &str); 49] = [
     ),
     (
         "controls(north)+hcp(north)>=4",
-        "Compare { left: Sum(Total(Controls, North), Points(North)), op: AtLeast, \
+        "Compare { left: Sum(Total(Controls, North), Total(Hcp, North)), op: AtLeast, \
         right: Number(4) }",
     ),
     (
@@ -134,7 +134,7 @@ const TREES: [(&str, &str); 49] = [
     ),
     (
         "not (hcp(north)+len(south,clubs)+3>=15 or shape(east,4-4-3-2)) and pattern(west,4-3-3-3)",
-        "AllOf(Negation(AnyOf(Compare { left: Sum(Sum(Points(North), Length(South, Clubs)), \
+        "AllOf(Negation(AnyOf(Compare { left: Sum(Sum(Total(Hcp, North), Length(South, Clubs)), \
         Number(3)), op: AtLeast, right: Number(15) }, Shape(East, [4, 4, 3, 2]))), \
         Pattern(West, [4, 3, 3, 3]))",
     ),
@@ -187,11 +187,11 @@ const TREES: [(&str, &str); 49] = [
     ),
     (
         "hcp(north)\r\n==\r\n10",
-        "Compare { left: Points(North), op: Equal, right: Number(10) }",
+        "Compare { left: Total(Hcp, North), op: Equal, right: Number(10) }",
     ),
     (
         "\r10\r==\rhcp(north)\r",
-        "Compare { left: Number(10), op: Equal, right: Points(North) }",
+        "Compare { left: Number(10), op: Equal, right: Total(Hcp, North) }",
     ),
 ];
 

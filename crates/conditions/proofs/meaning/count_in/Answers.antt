@@ -5,7 +5,7 @@ use Rattle.conditions.proofs.meaning.count_in.Goals as goal
 
 pub returns-in-Total-clause-value : goal.returns-in-Total-clause-value
 returns-in-Total-clause-value c =
-    c.from-in-Total.ensures ∙ c.total.ensures.value ∙ ap (total_of c.in-Total.measure) c.hand-in-Total.ensures.value
+    c.from.ensures ∙ c.total.ensures.value ∙ ap (total_of c.in-Total.measure) c.hand.ensures.value
     ∙ ap (λ v. count_in c.args.deal.now v) (sym c.in-Total.is)
 
 pub returns-in-SuitTotal-clause-value : goal.returns-in-SuitTotal-clause-value
