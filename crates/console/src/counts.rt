@@ -84,7 +84,7 @@ impl<E: Write, R: Remark> Counts<E, R> {
     pub(crate) fn is_due(&self, now: u64) -> bool {
         match self.style {
             Style::Never => false,
-            Style::Redrawn if self.shows && !self.drawn.stands() => true,
+            Style::Redrawn if self.shows && !self.drawn.is_drawn() => true,
             Style::Redrawn | Style::Lines => now >= self.due,
         }
     }
@@ -141,7 +141,7 @@ const WIPE: &[u8] = b"\r\x1b[K";
 /// Whether a line of counts is on the terminal. Its clones tell the same.
 #[derive(Drop)]
 pub struct Drawn {
-    stands: Arc<AtomicBool, Global>,
+    is_drawn: Arc<AtomicBool, Global>,
 }
 
 impl Drawn {
@@ -152,7 +152,7 @@ impl Drawn {
     /// Only if memory ran out.
     pub fn new(alloc: Global) -> Result<Drawn, AllocError> {
         Ok(Drawn {
-            stands: Arc::new(alloc, AtomicBool::new(false))?,
+            is_drawn: Arc::new(alloc, AtomicBool::new(false))?,
         })
     }
 
@@ -163,23 +163,23 @@ impl Drawn {
     /// Only if it has too many owners already.
     pub fn try_clone(&self) -> Result<Drawn, AllocError> {
         Ok(Drawn {
-            stands: Arc::try_clone(&self.stands)?,
+            is_drawn: Arc::try_clone(&self.is_drawn)?,
         })
     }
 
     /// Whether a line is drawn.
-    pub(crate) fn stands(&self) -> bool {
-        self.stands.load(Ordering::SeqCst)
+    pub(crate) fn is_drawn(&self) -> bool {
+        self.is_drawn.load(Ordering::SeqCst)
     }
 
     /// Notes that a line is drawn.
     pub(crate) fn note(&self) {
-        self.stands.store(true, Ordering::SeqCst);
+        self.is_drawn.store(true, Ordering::SeqCst);
     }
 
     /// Wipes the line, if one is drawn, on the output that it was drawn on.
     pub(crate) fn wipe<E: Write>(&self, err: &mut E) {
-        if self.stands.swap(false, Ordering::SeqCst) {
+        if self.is_drawn.swap(false, Ordering::SeqCst) {
             let _ = err.write_all(WIPE);
         }
     }

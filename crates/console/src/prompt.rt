@@ -108,7 +108,7 @@ impl<W: Write + Drop, C: Clock, E: Write, R: Remark> Prompt<W, C, E, R> {
     }
 
     /// Whether what was gathered is due to be passed on.
-    fn is_ripe(&self, now: u64) -> bool {
+    fn is_due(&self, now: u64) -> bool {
         now.saturating_sub(self.passed_on) >= self.gathered_millis
     }
 
@@ -212,7 +212,7 @@ impl<W: Write + Drop, C: Clock, E: Write, R: Remark> Sink for Prompt<W, C, E, R>
         let Some(now) = millis(&self.clock) else {
             return;
         };
-        if self.is_ripe(now) || self.counts.is_due(now) {
+        if self.is_due(now) || self.counts.is_due(now) {
             self.pass_on(now);
         }
         // What was passed on may have wiped the line.

@@ -4,11 +4,11 @@ ghost use Rattle.std.specs.Prelude.{◌≡◌, IfSome};
 ghost use Rattle.jobs.specs.Failures.{status_in};
 
 use crate::streams::Said;
+use advice::without_far_tips;
 use deals_cli::{Failure, Report};
 use sinks::put_all;
 use std::io;
 use std::io::ErrorKind;
-use word_hints::without_far_tips;
 
 /// The status of an output that failed.
 const OUTPUT_FAILED: u8 = 4;

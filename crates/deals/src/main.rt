@@ -18,7 +18,7 @@ ghost use Rattle.command_line.specs.Reading.{AreRead};
 
 use crate::endings::{cut_off, for_person, say_more};
 use crate::help::help;
-use crate::notes::{put_note, put_notes, without_board};
+use crate::notes::{as_asked, note_after, put_note, put_notes, with_count};
 use crate::seen::Seen;
 use crate::streams::{Given, Output, Said, hints_of, is_time, open};
 use advice::Reasons;
@@ -49,7 +49,7 @@ fn not_begun(rt: &HostRuntime, error: &io::Error) -> ExitCode {
     ExitCode::from(5)
 }
 
-/// The task that the words ask for, with notes on it for a person if hints are said.
+/// The task that the words ask for, if hints are said with notes on it for a person, and a count.
 fn noted(
     rt: &HostRuntime,
     words: &[String],
@@ -59,10 +59,11 @@ fn noted(
     requires { AreRead (map string_bytes words.now) read.now }
 {
     let task = prepare(rt.alloc(), words, read)?;
-    if hints {
-        put_notes(rt, words, read, &task);
+    if !hints {
+        return Ok(task);
     }
-    Ok(task)
+    put_notes(rt, words, read, &task);
+    Ok(with_count(task))
 }
 
 /// Says how it ended to a person, and what helps with a failure. Returns the status.
@@ -117,8 +118,8 @@ fn answer<R: Threads + Wait + Clone + Send + 'static>(
         output: out.reason(),
         input: reason.get(),
     };
-    let note = without_board(rt.alloc(), read, &ended, seen.get());
-    let status = tell(rt, words, read, ended, reasons, err);
+    let note = note_after(rt.alloc(), read, &ended, seen.get());
+    let status = tell(rt, words, read, as_asked(read, ended), reasons, err);
     say_more(note, err);
     status
 }

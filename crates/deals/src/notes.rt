@@ -1,7 +1,8 @@
-//! What is noted for a person before a run begins.
+//! What is noted for a person before a run begins, and once it has ended.
 
 use crate::seen::Seen;
-use advice::{dealt_again, no_board};
+use advice::{dealt_again, fewer_boards, no_board, one_line};
+use cards::MAX_CANDIDATES;
 use clap::Error;
 use deals_cli::{Failure, Job, Report, Request, Task};
 use hint_rules::slip;
@@ -26,7 +27,7 @@ pub fn put_notes(
 /// slip, or that boards with later numbers are the first deals again. None if memory runs out.
 fn note(alloc: Global, words: &[String], request: &Request<'_>, job: &Job) -> Option<String> {
     let (condition, plan) = match job {
-        Job::Boards(job) | Job::WithTricks(job) => (&job.condition, &job.plan),
+        Job::Boards(job) => (&job.condition, &job.plan),
         Job::Count(job) => (&job.condition, &job.plan),
         _ => return None,
     };
@@ -71,7 +72,7 @@ pub fn put_note(rt: &HostRuntime, text: Option<String>) {
 /// Where the tricks or the boards are read from, if that is the keyboard.
 fn typed(rt: &HostRuntime, job: &Job) -> Option<String> {
     let text = match job {
-        Job::WithTricks(_) => {
+        Job::Boards(job) if job.tricks => {
             "note: the tricks are read from the keyboard: for a file write --tricks < FILE\n"
         }
         Job::Show(_) => {
@@ -85,14 +86,50 @@ fn typed(rt: &HostRuntime, job: &Job) -> Option<String> {
     String::from_str(rt.alloc(), text).ok()
 }
 
-/// What there is to note where boards were to be shown and the input had none.
-pub fn without_board(
+/// The task, whose boards are counted, so that it can be noted if fewer come than were asked for.
+pub fn with_count(task: Task) -> Task {
+    match task {
+        Task::Do(Job::Boards(mut job)) => {
+            job.report = true;
+            Task::Do(Job::Boards(job))
+        }
+        task => task,
+    }
+}
+
+/// Whether the words ask for a report, which tells that itself.
+fn asks_report(read: &Result<Request<'_>, Error>) -> bool {
+    match read {
+        Ok(Request::Make { notices, .. } | Request::Find { notices, .. }) => notices.report,
+        _ => false,
+    }
+}
+
+/// How a run of such a task ended: with its report if that was asked for.
+pub fn as_asked(
+    read: &Result<Request<'_>, Error>,
+    ended: Result<Option<Report>, Failure>,
+) -> Result<Option<Report>, Failure> {
+    match ended {
+        Ok(_) if !asks_report(read) => Ok(None),
+        ended => ended,
+    }
+}
+
+/// What there is to note of a run that ended well: that fewer boards came than were asked for,
+/// unless all deals were tried, or where boards were to be shown that the input had none, or one
+/// line alone.
+pub fn note_after(
     alloc: Global,
     read: &Result<Request<'_>, Error>,
     ended: &Result<Option<Report>, Failure>,
     seen: Seen,
 ) -> Option<String> {
     match (read, ended) {
+        (_, Ok(Some(report))) if !asks_report(read) && report.candidates < MAX_CANDIDATES => {
+            fewer_boards(alloc, report.boards, u64::from(report.plan.limit()?))
+        }
+        (Ok(Request::Show { .. }), Ok(_)) if seen.ends_in_cr() => one_line(alloc),
         (Ok(Request::Show { .. }), Ok(_)) => no_board(alloc, seen.first(), seen.has_deal()),
         _ => None,
     }

@@ -6,12 +6,26 @@ const DEAL: &[u8] = b"[Deal";
 /// How many bytes of the beginning are kept.
 const FIRST: usize = 4;
 
-/// The first bytes of an input, and how much of the beginning of a Deal tag came last, or one more
-/// once that and the end of its name came.
+/// How the first line ends.
+#[derive(Clone, Copy, PartialEq, Eq)]
+enum End {
+    /// It hasn't ended.
+    Open,
+    /// A CR came, with or without an LF after it.
+    Cr,
+    /// An LF ends it, or a CR and an LF.
+    Lf,
+    /// A CR that no LF comes after, which ends no line.
+    CrAlone,
+}
+
+/// The first bytes of an input, how its first line ends, and how much of the beginning of a Deal
+/// tag came last, or one more once that and the end of its name came.
 #[derive(Clone, Copy)]
 pub struct Seen {
     first: [u8; FIRST],
     length: usize,
+    end: End,
     matched: usize,
 }
 
@@ -21,6 +35,7 @@ impl Seen {
         Seen {
             first: [0; FIRST],
             length: 0,
+            end: End::Open,
             matched: 0,
         }
     }
@@ -28,6 +43,11 @@ impl Seen {
     /// Whether a Deal tag began.
     pub fn has_deal(&self) -> bool {
         self.matched > DEAL.len()
+    }
+
+    /// Whether the first line would end in a CR alone.
+    pub fn ends_in_cr(&self) -> bool {
+        self.end == End::CrAlone
     }
 
     /// The first bytes.
@@ -53,6 +73,7 @@ impl Seen {
             seen.first[seen.length] = byte;
             seen.length += 1;
         }
+        seen.end = end_after(seen.end, byte);
         let is_next = match DEAL.get(seen.matched) {
             Some(next) => *next == byte,
             // The name has ended, and isn't Dealer.
@@ -64,5 +85,15 @@ impl Seen {
             usize::from(byte == b'[')
         };
         seen
+    }
+}
+
+/// How the first line ends with this byte more.
+fn end_after(end: End, byte: u8) -> End {
+    match (end, byte) {
+        (End::Open | End::Cr, b'\n') => End::Lf,
+        (End::Open, b'\r') => End::Cr,
+        (End::Cr, _) => End::CrAlone,
+        _ => end,
     }
 }

@@ -13,14 +13,13 @@ use Rattle.jobs.specs.FirstRefusal.{IsDueFor}
 use Rattle.deals_cli.specs.Interruptions.{LeavesFrom}
 use Rattle.jobs.specs.Jobs.{IsReady, IsRefused, ReadsInput}
 use Rattle.deals_cli.specs.Served.{Serves}
-use Rattle.request_types.specs.Requests.{Wish, conditions, count, draw, lessons, make, make_with_tricks, pick, show, stream}
+use Rattle.request_types.specs.Requests.{Wish, conditions, count, draw, lessons, make, pick, show, stream}
 use Rattle.jobs.specs.Statuses.{HasInput, IsStatusOf}
 use Rattle.deals_cli.specs.Wishes.{AppendsFrom}
 use Rattle.jobs.specs.declared.failure.Failure.{Failure}
-use Rattle.jobs.specs.declared.failure.Failure.TheVariants.{CommandLine, Plan, Label, Hand, Definitions, Condition, Question, Cells, Interrupted, Line, Record, Input, EndOfInput}
+use Rattle.jobs.specs.declared.failure.Failure.TheVariants.{CommandLine, Plan, Label, Hand, Definitions, Condition, Question, Cells, Interrupted}
 use Rattle.jobs.specs.declared.job.Job.{Job}
-use Rattle.jobs.specs.declared.job.Job.TheVariants.{Boards, Conditions, Count, Lessons, Pick, Seed, Stream, WithTricks}
-use Rattle.jobs.specs.declared.job.Job.TheVariants as a_job
+use Rattle.jobs.specs.declared.job.Job.TheVariants.{Boards, Conditions, Count, Lessons, Stream}
 use Rattle.plans.specs.declared.report.Report.{Report}
 use Rattle.jobs.proofs.FirstDue.{output_due}
 use Rattle.jobs.proofs.Statuses.{no_memory, served}
@@ -92,21 +91,7 @@ mistaken words e (Interrupted cause.Memory) read because = record {
   status = record { wished = λ w is. no_memory w 5 refl; unasked = λ none. none_no_memory words 5 refl };
   due = λ w is. inl refl;
 }
-mistaken words e (Plan error) read because = absurd because
-mistaken words e (Label label) read because = absurd because
-mistaken words e (Hand seat) read because = absurd because
-mistaken words e (Definitions error) read because = absurd because
-mistaken words e (Condition error) read because = absurd because
-mistaken words e (Question name error) read because = absurd because
-mistaken words e (Cells name) read because = absurd because
-mistaken words e (Interrupted cause.Output) read because = absurd because
-mistaken words e (Interrupted cause.Spawn) read because = absurd because
-mistaken words e (Interrupted (cause.Stopped worker)) read because = absurd because
-mistaken words e (Interrupted (cause.Unclosed worker)) read because = absurd because
-mistaken words e (Line line) read because = absurd because
-mistaken words e (Record line) read because = absurd because
-mistaken words e Input read because = absurd because
-mistaken words e EndOfInput read because = absurd because
+mistaken words e _ read because = absurd because
 
 -- what is left of it: nothing was written
 leaves_nothing : (w : Wish) (f : Failure) (before old : Option (List ℕ)) → is_refusal f ≡ true → LeavesFrom w f before before old old
@@ -119,14 +104,7 @@ leaves_nothing w (Condition error) before old is = refl
 leaves_nothing w (Question name error) before old is = refl
 leaves_nothing w (Cells name) before old is = refl
 leaves_nothing w (Interrupted cause.Memory) before old is = refl
-leaves_nothing w (Interrupted cause.Output) before old is = absurd cc
-leaves_nothing w (Interrupted cause.Spawn) before old is = absurd cc
-leaves_nothing w (Interrupted (cause.Stopped worker)) before old is = absurd cc
-leaves_nothing w (Interrupted (cause.Unclosed worker)) before old is = absurd cc
-leaves_nothing w (Line line) before old is = absurd cc
-leaves_nothing w (Record line) before old is = absurd cc
-leaves_nothing w Input before old is = absurd cc
-leaves_nothing w EndOfInput before old is = absurd cc
+leaves_nothing w _ before old is = absurd cc
 
 pub answers_refused : (words : List Text) (f : Failure) (before old : Option (List ℕ)) → AreRefused words f → Answers words (Err f) before before old old
 answers_refused words f before old r = record {
@@ -196,55 +174,15 @@ breaks_text words before after old new (none, may) = record {
 
 -- a job that reads the input is one of a wish that has one
 input_read : (w : Wish) (job : Job) → IsReady w job → ReadsInput job → HasInput w
+input_read (make s l tricks notices) (Boards job) ready reads = sym ready.tricks_are ∙ reads
 input_read (pick seed hands l tricks hints) job ready reads = tt
 input_read (show l hints) job ready reads = tt
-input_read (make_with_tricks s l notices) job ready reads = tt
 input_read draw job ready reads = tt
-input_read (make s l notices) (Pick job) ready reads = ready
-input_read (make s l notices) (a_job.Show job) ready reads = ready
-input_read (make s l notices) (WithTricks job) ready reads = ready
-input_read (make s l notices) Seed ready reads = ready
-input_read (make s l notices) (Boards job) ready reads = reads
-input_read (make s l notices) Conditions ready reads = reads
-input_read (make s l notices) (Lessons text) ready reads = reads
-input_read (make s l notices) (Count job) ready reads = reads
-input_read (make s l notices) (Stream job) ready reads = reads
-input_read conditions (Pick job) ready reads = ready
-input_read conditions (a_job.Show job) ready reads = ready
-input_read conditions (WithTricks job) ready reads = ready
-input_read conditions Seed ready reads = ready
-input_read conditions (Boards job) ready reads = reads
-input_read conditions Conditions ready reads = reads
-input_read conditions (Lessons text) ready reads = reads
-input_read conditions (Count job) ready reads = reads
-input_read conditions (Stream job) ready reads = reads
-input_read (lessons lesson) (Pick job) ready reads = ready
-input_read (lessons lesson) (a_job.Show job) ready reads = ready
-input_read (lessons lesson) (WithTricks job) ready reads = ready
-input_read (lessons lesson) Seed ready reads = ready
-input_read (lessons lesson) (Boards job) ready reads = reads
-input_read (lessons lesson) Conditions ready reads = reads
-input_read (lessons lesson) (Lessons text) ready reads = reads
-input_read (lessons lesson) (Count job) ready reads = reads
-input_read (lessons lesson) (Stream job) ready reads = reads
-input_read (count s q style notices) (Pick job) ready reads = ready
-input_read (count s q style notices) (a_job.Show job) ready reads = ready
-input_read (count s q style notices) (WithTricks job) ready reads = ready
-input_read (count s q style notices) Seed ready reads = ready
-input_read (count s q style notices) (Boards job) ready reads = reads
-input_read (count s q style notices) Conditions ready reads = reads
-input_read (count s q style notices) (Lessons text) ready reads = reads
-input_read (count s q style notices) (Count job) ready reads = reads
-input_read (count s q style notices) (Stream job) ready reads = reads
-input_read (stream seed n) (Pick job) ready reads = ready
-input_read (stream seed n) (a_job.Show job) ready reads = ready
-input_read (stream seed n) (WithTricks job) ready reads = ready
-input_read (stream seed n) Seed ready reads = ready
-input_read (stream seed n) (Boards job) ready reads = reads
-input_read (stream seed n) Conditions ready reads = reads
-input_read (stream seed n) (Lessons text) ready reads = reads
-input_read (stream seed n) (Count job) ready reads = reads
-input_read (stream seed n) (Stream job) ready reads = reads
+input_read conditions Conditions ready reads = absurd reads
+input_read (lessons lesson) (Lessons text) ready reads = absurd reads
+input_read (count s q style notices) (Count job) ready reads = absurd reads
+input_read (stream seed n) (Stream job) ready reads = absurd reads
+input_read _ _ ready reads = absurd ready
 
 pub reads_as_asked : (words : List Text) (task : Task) → IsTaskFor words task → ReadsTask task → WantsInput words
 reads_as_asked words (Show text) is reads = absurd reads

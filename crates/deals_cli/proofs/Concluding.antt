@@ -9,33 +9,19 @@ use Rattle.jobs.specs.Statuses.{IsStatusWithInput}
 use Rattle.jobs.specs.declared.failure.Failure.{Failure}
 use Rattle.jobs.specs.declared.failure.Failure.TheVariants.{CommandLine, Plan, Label, Hand, Definitions, Condition, Question, Cells, Interrupted, Line, Record, Input, EndOfInput}
 use Rattle.jobs.proofs.Refusals.{status_of-status}
-use Rattle.request_types.specs.Requests.{Wish, make, make_with_tricks}
+use Rattle.request_types.specs.Requests.{Wish, make}
 use Rattle.command_line.specs.CommandLine.{asked}
 use Rattle.deals_cli.specs.Program.{Answers, HasReport, TellsWhyFrom}
 use Rattle.deals_cli.specs.Reported.{Says}
 use Rattle.deals_cli.specs.Wishes.{AppendsFrom}
-use Rattle.deals_cli.proofs.Reports.{none_made, said, said_with_tricks, some_made, some_made_with_tricks}
+use Rattle.deals_cli.proofs.Reports.{none_made, said, some_made}
 
 -- ---- by the failure
 
 no_zero : {X : Type 0} (f : Failure) → status_of f ≡ 0 → X
-no_zero (CommandLine text) is = cc
-no_zero (Plan error) is = cc
-no_zero (Label label) is = cc
-no_zero (Hand seat) is = cc
-no_zero (Definitions error) is = cc
-no_zero (Condition error) is = cc
-no_zero (Question name error) is = cc
-no_zero (Cells name) is = cc
 no_zero (Interrupted cause.Output) is = cc
-no_zero (Interrupted cause.Memory) is = cc
-no_zero (Interrupted cause.Spawn) is = cc
-no_zero (Interrupted (cause.Stopped worker)) is = cc
-no_zero (Interrupted (cause.Unclosed worker)) is = cc
-no_zero (Line line) is = cc
-no_zero (Record line) is = cc
-no_zero Input is = cc
-no_zero EndOfInput is = cc
+no_zero (Interrupted _) is = cc
+no_zero _ is = cc
 
 -- a status that leaves the output untouched
 abbrev Untouches : ℕ → Type 0
@@ -62,23 +48,9 @@ untouched_by EndOfInput h = refl
 
 faults_by_status : (r : Result (Option Report) Failure) → faults_in r ≡ (if status_in r == 4 then 1 else 0)
 faults_by_status (Ok report) = refl
-faults_by_status (Err (CommandLine text)) = refl
-faults_by_status (Err (Plan error)) = refl
-faults_by_status (Err (Label label)) = refl
-faults_by_status (Err (Hand seat)) = refl
-faults_by_status (Err (Definitions error)) = refl
-faults_by_status (Err (Condition error)) = refl
-faults_by_status (Err (Question name error)) = refl
-faults_by_status (Err (Cells name)) = refl
 faults_by_status (Err (Interrupted cause.Output)) = refl
-faults_by_status (Err (Interrupted cause.Memory)) = refl
-faults_by_status (Err (Interrupted cause.Spawn)) = refl
-faults_by_status (Err (Interrupted (cause.Stopped worker))) = refl
-faults_by_status (Err (Interrupted (cause.Unclosed worker))) = refl
-faults_by_status (Err (Line line)) = refl
-faults_by_status (Err (Record line)) = refl
-faults_by_status (Err Input) = refl
-faults_by_status (Err EndOfInput) = refl
+faults_by_status (Err (Interrupted _)) = refl
+faults_by_status (Err _) = refl
 
 -- ---- the clauses
 
@@ -137,12 +109,10 @@ pub has_report : (words : List Text) (r : Result (Option Report) Failure) (s : �
     → Answers words r before after old new → s ≡ status_in r → Says r took_all err_old err_new → s ≡ 0 → HasReport words took_all err_old err_new
 has_report words (Err f) s before after old new took_all err_old err_new a is says zero = no_zero f (sym is ∙ zero)
 has_report words (Ok None) s before after old new took_all err_old err_new a is says zero = record {
-  reported = λ search look notices asks wants took. absurd (some_made search look notices (a.report (make search look notices) asks) wants);
-  with_tricks = λ search look notices asks wants took. absurd (some_made_with_tricks search look notices (a.report (make_with_tricks search look notices) asks) wants);
+  reported = λ search look tricks notices asks wants took. absurd (some_made search look tricks notices (a.report (make search look tricks notices) asks) wants);
   quiet = λ quiet. says;
 }
 has_report words (Ok (Some report)) s before after old new took_all err_old err_new a is says zero = record {
-  reported = λ search look notices asks wants took. said search look notices report err_old err_new (a.report (make search look notices) asks) (says took);
-  with_tricks = λ search look notices asks wants took. said_with_tricks search look notices report err_old err_new (a.report (make_with_tricks search look notices) asks) (says took);
+  reported = λ search look tricks notices asks wants took. said search look tricks notices report err_old err_new (a.report (make search look tricks notices) asks) (says took);
   quiet = λ quiet. absurd (none_made (asked words) report a.report a.no_report quiet);
 }

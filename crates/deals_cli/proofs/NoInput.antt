@@ -11,7 +11,7 @@ use Rattle.deals_cli.specs.Interruptions.{EndsAtRecord, EndsFor}
 use Rattle.records.specs.Games.{game_says}
 use Rattle.records.specs.Texts.{spelled}
 use Rattle.records.specs.declared.fault.RefusedRecord.{RefusedRecord}
-use Rattle.request_types.specs.Requests.{Wish, conditions, count, draw, lessons, make, make_with_tricks, no_search, pick, show, stream}
+use Rattle.request_types.specs.Requests.{Wish, conditions, count, draw, lessons, make, no_search, pick, show, stream}
 use Rattle.jobs.specs.declared.failure.Failure.{Failure}
 use Rattle.jobs.specs.declared.failure.Failure.TheVariants.{CommandLine, Plan, Label, Hand, Definitions, Condition, Question, Cells, Interrupted, Line, Record, Input, EndOfInput}
 use Rattle.jobs.specs.Makings.{plan_of}
@@ -36,14 +36,9 @@ no_line_ended (pick seed hands l true hints) line old new other e =
 no_line_ended (pick seed hands l false hints) line old new other e =
     let none : e.given ≡ [] = sym (e.consumed ∙ append-nil e.given) in
     nothing_refused line (subst (λ (t : List ℕ). (said t).refused ≡ Some line) none e.written.0)
-no_line_ended (make s l notices) line old new other e = e
-no_line_ended (make_with_tricks s l notices) line old new other e = other tt
+no_line_ended (make s l true notices) line old new other e = other refl
 no_line_ended draw line old new other e = other tt
-no_line_ended conditions line old new other e = e
-no_line_ended (lessons lesson) line old new other e = e
-no_line_ended (count s q style notices) line old new other e = e
-no_line_ended (stream seed n) line old new other e = e
-no_line_ended (show l hints) line old new other e = e
+no_line_ended _ line old new other e = e
 
 no_record : (line : RefusedRecord) → (spelled []).refused ≡ Some line → ⊥
 unfolding spelled game_says
@@ -54,21 +49,14 @@ no_record_ended (show l hints) line old new e =
     let s = e.shows in
     let none : s.given ≡ [] = sym (s.consumed ∙ append-nil s.given) in
     no_record line (subst (λ (t : List ℕ). (spelled t).refused ≡ Some line) none s.written.0)
-no_record_ended (pick seed hands l tricks hints) line old new e = e
-no_record_ended (make s l notices) line old new e = e
-no_record_ended (make_with_tricks s l notices) line old new e = e
-no_record_ended draw line old new e = e
-no_record_ended conditions line old new e = e
-no_record_ended (lessons lesson) line old new e = e
-no_record_ended (count s q style notices) line old new e = e
-no_record_ended (stream seed n) line old new e = e
+no_record_ended _ line old new e = e
 
 -- nor does it end before what such words ask for
 no_end : (w : Wish) → (NeedsBytes w → ⊥) → MayFail w EndOfInput → ⊥
 no_end w other (inl memory) = cc
 no_end (pick seed hands l tricks hints) other (inr due) = due
-no_end (make s l notices) other (inr due) = due
-no_end (make_with_tricks s l notices) other (inr due) = other tt
+no_end (make s l false notices) other (inr due) = due
+no_end (make s l true notices) other (inr due) = other refl
 no_end draw other (inr due) = other tt
 no_end conditions other (inr due) = cc
 no_end (lessons lesson) other (inr (inl due)) = cc

@@ -1,13 +1,13 @@
 -- From how boards of the input were shown to what is promised of a `show`.
 use Rattle.std.proofs.Common.{◌≡◌, ◌∙◌, ℕ, List, Option, None, Result, Ok, Err, refl, inl, inr}
-use Rattle.plans.specs.declared.cause.Cause.TheVariants.{Memory, Spawn, Output, Stopped, Unclosed}
+use Rattle.plans.specs.declared.cause.Cause.TheVariants.{Memory, Output}
 use Rattle.jobs.specs.Jobs.{IsReady}
 use Rattle.jobs.specs.declared.failure.Failure.{Failure}
-use Rattle.jobs.specs.declared.failure.Failure.TheVariants.{CommandLine, Plan, Label, Hand, Definitions, Condition, Question, Cells, Interrupted, Line, Record, Input, EndOfInput}
+use Rattle.jobs.specs.declared.failure.Failure.TheVariants.{Interrupted, Record, Input}
 use Rattle.jobs.specs.declared.job.ShowJob.{ShowJob}
 use Rattle.jobs.specs.declared.job.Job.TheVariants as a_job
 use Rattle.jobs.proofs.Statuses.{failed_input, no_memory, served}
-use Rattle.request_types.specs.Requests.{Wish, conditions, count, draw, lessons, make, make_with_tricks, pick, show, stream}
+use Rattle.request_types.specs.Requests.{Wish, show}
 use Rattle.deals_cli.specs.Served.{Serves}
 use Rattle.records.specs.Readers.{InputFaults}
 use Rattle.records.specs.Shown.{MoreFaults}
@@ -66,14 +66,7 @@ shown (show l hints) job value before after old new (labels, format_is, show_is,
   stands = tt;
   due = tt;
 }
-shown (make s l notices) job value before after old new ready ends = absurd ready
-shown (pick seed hands l tricks hints) job value before after old new ready ends = absurd ready
-shown conditions job value before after old new ready ends = absurd ready
-shown (lessons lesson) job value before after old new ready ends = absurd ready
-shown (make_with_tricks s l notices) job value before after old new ready ends = absurd ready
-shown draw job value before after old new ready ends = absurd ready
-shown (count s q style notices) job value before after old new ready ends = absurd ready
-shown (stream seed n) job value before after old new ready ends = absurd ready
+shown _ job value before after old new ready ends = absurd ready
 
 pub show_fails : (T : Type 0) (w : Wish) (job : ShowJob) (f : Failure) (before after old new : Option (List ℕ)) → IsReady w (a_job.Show job) → EndsShowing {T = T} job (Err f) before after old new
     → Serves w (Err f) before after old new
@@ -109,24 +102,5 @@ show_fails T (show l hints) job Input before after old new (labels, format_is, s
   stands = rw (format_is, show_is, heading_is) at ends;
   due = labels;
 }
-show_fails T (show l hints) job EndOfInput before after old new ready ends = absurd ends
-show_fails T (show l hints) job (Line line) before after old new ready ends = absurd ends
-show_fails T (show l hints) job (CommandLine text) before after old new ready ends = absurd ends
-show_fails T (show l hints) job (Plan error) before after old new ready ends = absurd ends
-show_fails T (show l hints) job (Label name) before after old new ready ends = absurd ends
-show_fails T (show l hints) job (Hand seat) before after old new ready ends = absurd ends
-show_fails T (show l hints) job (Definitions error) before after old new ready ends = absurd ends
-show_fails T (show l hints) job (Condition error) before after old new ready ends = absurd ends
-show_fails T (show l hints) job (Question name error) before after old new ready ends = absurd ends
-show_fails T (show l hints) job (Cells name) before after old new ready ends = absurd ends
-show_fails T (show l hints) job (Interrupted Spawn) before after old new ready ends = absurd ends
-show_fails T (show l hints) job (Interrupted (Stopped worker)) before after old new ready ends = absurd ends
-show_fails T (show l hints) job (Interrupted (Unclosed worker)) before after old new ready ends = absurd ends
-show_fails T (make s l notices) job f before after old new ready ends = absurd ready
-show_fails T (pick seed hands l tricks hints) job f before after old new ready ends = absurd ready
-show_fails T conditions job f before after old new ready ends = absurd ready
-show_fails T (lessons lesson) job f before after old new ready ends = absurd ready
-show_fails T (make_with_tricks s l notices) job f before after old new ready ends = absurd ready
-show_fails T draw job f before after old new ready ends = absurd ready
-show_fails T (count s q style notices) job f before after old new ready ends = absurd ready
-show_fails T (stream seed n) job f before after old new ready ends = absurd ready
+show_fails T (show l hints) job _ before after old new ready ends = absurd ends
+show_fails T _ job f before after old new ready ends = absurd ready

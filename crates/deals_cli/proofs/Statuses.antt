@@ -2,7 +2,7 @@
 use Rattle.std.proofs.Common.{◌≡◌, ◌⊎◌, ℕ, true, false, List, refl, inl, inr, arith}
 use Rattle.clap.specs.Walk.{Text}
 use Rattle.clap.specs.declared.error.kind.ErrorKind.{ErrorKind}
-use Rattle.clap.specs.declared.error.kind.ErrorKind.TheVariants.{InvalidValue, UnknownArgument, InvalidSubcommand, NoEquals, ValueValidation, TooManyValues, TooFewValues, WrongNumberOfValues, ArgumentConflict, MissingRequiredArgument, MissingSubcommand, DisplayHelp, DisplayHelpOnMissingArgumentOrSubcommand, DisplayVersion, Io, Format, OutOfMemory}
+use Rattle.clap.specs.declared.error.kind.ErrorKind.TheVariants.{InvalidValue, UnknownArgument, InvalidSubcommand, NoEquals, ValueValidation, TooManyValues, TooFewValues, WrongNumberOfValues, ArgumentConflict, MissingRequiredArgument, MissingSubcommand, DisplayHelp, DisplayHelpOnMissingArgumentOrSubcommand, DisplayVersion}
 use Rattle.deals_cli.specs.Program.{IsStatusOfNone, MayRefuse, MayShow, is_shown}
 
 -- ---- of an error of clap
@@ -22,9 +22,7 @@ mistake MissingSubcommand h v = refl
 mistake DisplayHelp h v = absurd (h refl)
 mistake DisplayHelpOnMissingArgumentOrSubcommand h v = refl
 mistake DisplayVersion h v = absurd (v refl)
-mistake Io h v = refl
-mistake Format h v = refl
-mistake OutOfMemory h v = refl
+mistake _ h v = refl
 
 pub no_mistake : (k : ErrorKind) → ((k ≡ DisplayHelp → ⊥) × (k ≡ DisplayVersion → ⊥) → ⊥) → is_shown k ≡ true
 no_mistake InvalidValue h = absurd (h ((λ e. cc), (λ e. cc)))
@@ -41,9 +39,7 @@ no_mistake MissingSubcommand h = absurd (h ((λ e. cc), (λ e. cc)))
 no_mistake DisplayHelp h = refl
 no_mistake DisplayHelpOnMissingArgumentOrSubcommand h = absurd (h ((λ e. cc), (λ e. cc)))
 no_mistake DisplayVersion h = refl
-no_mistake Io h = absurd (h ((λ e. cc), (λ e. cc)))
-no_mistake Format h = absurd (h ((λ e. cc), (λ e. cc)))
-no_mistake OutOfMemory h = absurd (h ((λ e. cc), (λ e. cc)))
+no_mistake _ h = absurd (h ((λ e. cc), (λ e. cc)))
 
 -- what clap shows, and what it refuses
 pub ruleset kinds = (mistake, no_mistake)

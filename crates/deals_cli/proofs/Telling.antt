@@ -1,5 +1,5 @@
 -- From how boards with tricks were found and told to what is said of that.
-use Rattle.std.proofs.Common.{◌≡◌, ◌∙◌, ◌≤◌, ◌^◌, ℕ, ◌+◌, List, [], length, Option, None, Some, Result, Ok, Err, refl, ap, subst, inl, inr}
+use Rattle.std.proofs.Common.{◌≡◌, ◌∙◌, ◌≤◌, ◌^◌, ℕ, ◌+◌, Bool, List, [], length, Option, None, Some, Result, Ok, Err, refl, ap, subst, inl, inr}
 use Rattle.captions.specs.Captions.{captions_in}
 use Rattle.cond_lang.specs.Form.{Form}
 use Rattle.notations.specs.Numbers.{numbers}
@@ -58,15 +58,15 @@ finding_broken plan run form asked (Unclosed w) found n are is h = (found, (n, a
 -- ---- of a job
 
 module _ (job : BoardsJob) (w : Written) (found : List ℕ) (before after old new : Option (List ℕ)) (w_is : w ≡ record { format = job.format; show = job.show; heading = captions_in job.format job.heading }) (found_is : found ≡ accepted job.plan job.condition) where
-  tells_for : {T : Type 0} (s : Search) (l : Look) (notices : Notices) (result : Result T PickFault) → IsReadyRun s l notices job → Tells w job.plan found result before after old new
+  tells_for : {T : Type 0} (s : Search) (l : Look) (tricks : Bool) (notices : Notices) (result : Result T PickFault) → IsReadyRun s l tricks notices job → Tells w job.plan found result before after old new
       → TellsBoards s l job.condition result before after old new
-  tells_for s l notices result ready h = rw (ready.plan_is, ready.heading_is, ready.format_is, ready.show_is) at (rw (w_is, found_is) at h)
+  tells_for s l tricks notices result ready h = rw (ready.plan_is, ready.heading_is, ready.format_is, ready.show_is) at (rw (w_is, found_is) at h)
 
   pub ends_told : (report : Report) (value : Unit {0}) → Tells w job.plan found (Ok value) before after old new → report.format ≡ job.format → report.plan ≡ job.plan
       → report.candidates ≡ end_of job.plan job.condition → report.boards ≡ length (accepted job.plan job.condition) → EndsReady job (Ok report) before after old new
   ends_told report value h format_is plan_is candidates boards = record {
-    ends = λ s l notices ready. (
-      tells_for s l notices (Ok value) ready h,
+    ends = λ s l tricks notices ready. (
+      tells_for s l tricks notices (Ok value) ready h,
       record {
         format_is = format_is ∙ ready.format_is;
         plan_is = plan_is ∙ ready.plan_is;
@@ -77,29 +77,27 @@ module _ (job : BoardsJob) (w : Written) (found : List ℕ) (before after old ne
   }
 
   pub ends_output : Tells {T = Unit {0}} w job.plan found (Err picks.Output) before after old new → EndsReady job (Err (Interrupted Output)) before after old new
-  ends_output h = record { ends = λ s l notices ready. inl (tells_for s l notices (Err picks.Output) ready h, λ bad. absurd cc) }
+  ends_output h = record { ends = λ s l tricks notices ready. inl (tells_for s l tricks notices (Err picks.Output) ready h, λ bad. absurd cc) }
 
   pub ends_line : (line : RefusedLine) → Tells {T = Unit {0}} w job.plan found (Err (picks.Refused line)) before after old new → EndsReady job (Err (Line line)) before after old new
-  ends_line line h = record { ends = λ s l notices ready. tells_for s l notices (Err (picks.Refused line)) ready h }
+  ends_line line h = record { ends = λ s l tricks notices ready. tells_for s l tricks notices (Err (picks.Refused line)) ready h }
 
   pub ends_input : Tells {T = Unit {0}} w job.plan found (Err picks.Input) before after old new → EndsReady job (Err Input) before after old new
-  ends_input h = record { ends = λ s l notices ready. tells_for s l notices (Err picks.Input) ready h }
+  ends_input h = record { ends = λ s l tricks notices ready. tells_for s l tricks notices (Err picks.Input) ready h }
 
   -- where what stands before a fault of the input couldn't be passed on
   pub line_unflushed : (line : RefusedLine) → Tells {T = Unit {0}} w job.plan found (Err (picks.Refused line)) before after old new → EndsReady job (Err (Interrupted Output)) before after old new
-  line_unflushed line h = record { ends = λ s l notices ready. inr (refl, inl (line, tells_for s l notices (Err (picks.Refused line)) ready h)) }
+  line_unflushed line h = record { ends = λ s l tricks notices ready. inr (refl, inl (line, tells_for s l tricks notices (Err (picks.Refused line)) ready h)) }
 
   pub input_unflushed : Tells {T = Unit {0}} w job.plan found (Err picks.Input) before after old new → EndsReady job (Err (Interrupted Output)) before after old new
-  input_unflushed h = record { ends = λ s l notices ready. inr (refl, inr (tells_for s l notices (Err picks.Input) ready h)) }
+  input_unflushed h = record { ends = λ s l tricks notices ready. inr (refl, inr (tells_for s l tricks notices (Err picks.Input) ready h)) }
 
 -- the run was interrupted
 pub ends_finding : (job : BoardsJob) (cause : Cause) (at out : Option (List ℕ)) → EndsFinding job.plan job.workers job.condition (Err cause)
     → EndsReady job (Err (Interrupted cause)) at at out out
-ends_finding job Memory at out h = record { ends = λ s l notices ready. refl }
+ends_finding job Memory at out h = record { ends = λ s l tricks notices ready. refl }
 ends_finding job Output at out h = absurd h
-ends_finding job Spawn at out h = record { ends = λ s l notices ready. let run = rw (ready.plan_is, ready.workers_are) at h.1 in inl ((refl, refl, record { found = h.0; workers = run.0; are_workers = run.1; run = run.2 }), λ e. refl) }
-ends_finding job (Stopped n) at out h = record { ends = λ s l notices ready. let run = rw (ready.plan_is, ready.workers_are) at h.1 in inl ((refl, refl, record { found = h.0; workers = run.0; are_workers = run.1; run = run.2 }), λ e. refl) }
-ends_finding job (Unclosed n) at out h = record { ends = λ s l notices ready. let run = rw (ready.plan_is, ready.workers_are) at h.1 in inl ((refl, refl, record { found = h.0; workers = run.0; are_workers = run.1; run = run.2 }), λ e. refl) }
+ends_finding job _ at out h = record { ends = λ s l tricks notices ready. let run = rw (ready.plan_is, ready.workers_are) at h.1 in inl ((refl, refl, record { found = h.0; workers = run.0; are_workers = run.1; run = run.2 }), λ e. refl) }
 
 pub ends_memory : (job : BoardsJob) (at out : Option (List ℕ)) → EndsReady job (Err (Interrupted Memory)) at at out out
-ends_memory job at out = record { ends = λ s l notices ready. refl }
+ends_memory job at out = record { ends = λ s l tricks notices ready. refl }

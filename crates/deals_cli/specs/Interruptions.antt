@@ -1,5 +1,5 @@
 -- What is on the output of a wish that wasn't done to its end.
-use Rattle.std.specs.Prelude.{◌≡◌, ◌⊎◌, ℕ, Bool, List, [], Err, Option, Some}
+use Rattle.std.specs.Prelude.{◌≡◌, ◌⊎◌, ℕ, Bool, List, [], Err, Option, Some, false, true}
 use Rattle.cond_lang.specs.Form.{Form}
 use Rattle.plans.specs.declared.cause.Cause.{Cause}
 use Rattle.plans.specs.declared.cause.Cause.TheVariants.{Memory}
@@ -18,7 +18,7 @@ use Rattle.deals_cli.specs.Shown.{ShowsUnder}
 use Rattle.jobs.specs.Makings.{AreWorkers, Means, heading_of, plan_of, title_of}
 use Rattle.request_types.specs.Requests.{Look, Questions, Search, Wish, conditions, count, draw, make}
 use Rattle.lessons.specs.Lessons.{lessons_text}
-use Rattle.request_types.specs.Requests.{lessons, make_with_tricks, no_search, numbers_look}
+use Rattle.request_types.specs.Requests.{lessons, no_search, numbers_look}
 use Rattle.request_types.specs.Requests.{pick, show, stream}
 pub use Rattle.deals_cli.specs.Runs.{InterruptsRun}
 use Rattle.deals_cli.specs.WithTricks.{BreaksTold, FailsTold, StopsAtLine}
@@ -79,8 +79,8 @@ abbrev pub BreaksOff : Wish → Cause → (before after old new : Option (List �
 BreaksOff (stream seed n) cause before after old new = AppendsPart old new (lines seed n)
 BreaksOff conditions cause before after old new = AppendsPart old new language_page
 BreaksOff (lessons l) cause before after old new = AppendsPart old new (lessons_text l)
-BreaksOff (make s l notices) cause before after old new = InterruptsMake s l cause old new
-BreaksOff (make_with_tricks s l notices) cause before after old new =
+BreaksOff (make s l false notices) cause before after old new = InterruptsMake s l cause old new
+BreaksOff (make s l true notices) cause before after old new =
     ((form : Form) × Means s form × BreaksTold s l form cause before after old new)
     ⊎ ((fault : PickFault) × EndsTold s l fault before after old new)
 BreaksOff draw cause before after old new =
@@ -98,7 +98,7 @@ BreaksOff (show l hints) cause before after old new =
 abbrev pub EndsFor : Wish → PickFault → (before after old new : Option (List ℕ)) → Type 0
 EndsFor (pick seed hands l tricks hints) fault before after old new =
     EndsPick (no_search seed hands) l tricks fault before after old new
-EndsFor (make_with_tricks s l notices) fault before after old new =
+EndsFor (make s l true notices) fault before after old new =
     EndsTold s l fault before after old new
 EndsFor (show l hints) picks.Input before after old new =
     (new ≡ old) ⊎ EndsShow l shown.Input before after old new

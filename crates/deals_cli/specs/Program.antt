@@ -14,7 +14,7 @@ use Rattle.deals_cli.specs.Interruptions.{LeavesFrom}
 use Rattle.jobs.specs.Lines.{line_of}
 use Rattle.deals_cli.specs.Reported.{Reports, ReportsFor, wants_report}
 use Rattle.jobs.specs.Jobs.{IsReady, ReadsInput}
-use Rattle.request_types.specs.Requests.{Look, Search, Wish, draw, make, make_with_tricks}
+use Rattle.request_types.specs.Requests.{Look, Search, Wish, draw, make}
 use Rattle.jobs.specs.Statuses.{HasInput}
 use Rattle.plans.specs.declared.report.Report.{Report}
 use Rattle.request_types.specs.declared.request.Notices.{Notices}
@@ -88,7 +88,7 @@ WantsInput words = (w : Wish) × (asked words ≡ Some w) × HasInput w
 
 -- the words ask for what can't be done without bytes of the input: a seed, or boards with tricks
 abbrev pub NeedsBytes : Wish → Type 0
-NeedsBytes (make_with_tricks s l notices) = Unit {0}
+NeedsBytes (make s l tricks notices) = tricks ≡ true
 NeedsBytes draw = Unit {0}
 NeedsBytes _ = ⊥
 
@@ -122,11 +122,8 @@ pub record Answers (words : List Text) (r : Result (Option Report) Failure)
 -- all, and nothing if they ask for none
 pub record HasReport (words : List Text) (took_all : Type 0)
     (old new : Option (List ℕ)) : Type 0 where
-  pub reported : (s : Search) (l : Look) (notices : Notices)
-      → asked words ≡ Some (make s l notices) → notices.report ≡ true → took_all
-      → Reports s l old new
-  pub with_tricks : (s : Search) (l : Look) (notices : Notices)
-      → asked words ≡ Some (make_with_tricks s l notices) → notices.report ≡ true → took_all
+  pub reported : (s : Search) (l : Look) (tricks : Bool) (notices : Notices)
+      → asked words ≡ Some (make s l tricks notices) → notices.report ≡ true → took_all
       → Reports s l old new
   pub quiet : wants_report (asked words) ≡ false → new ≡ old
 

@@ -10,8 +10,7 @@ use Rattle.jobs.specs.Lines.{line_of}
 use Rattle.jobs.specs.declared.failure.Failure.{Failure}
 use Rattle.sinks.specs.Appended.{AppendsAll}
 use Rattle.boards.specs.declared.format.Format.{Format}
-use Rattle.request_types.specs.Requests.{Look, Search, Wish, conditions, count, draw, make}
-use Rattle.request_types.specs.Requests.{lessons, make_with_tricks, pick, show, stream}
+use Rattle.request_types.specs.Requests.{Look, Search, Wish, make}
 use Rattle.request_types.specs.declared.request.Notices.{Notices}
 use Rattle.plans.specs.declared.report.Report.{Report}
 
@@ -32,19 +31,11 @@ ReportsOf s l notices (Some report) =
     × ((form : Form) × Means s form × Counts l.format (plan_of s l) form report)
 
 abbrev pub ReportsFor : Wish → Option Report → Type 0
-ReportsFor (stream seed n) report = report ≡ None
-ReportsFor conditions report = report ≡ None
-ReportsFor (lessons l) report = report ≡ None
-ReportsFor (make s l notices) report = ReportsOf s l notices report
-ReportsFor (make_with_tricks s l notices) report = ReportsOf s l notices report
-ReportsFor draw report = report ≡ None
-ReportsFor (count s questions style notices) report = report ≡ None
-ReportsFor (pick seed hands l tricks hints) report = report ≡ None
-ReportsFor (show l hints) report = report ≡ None
+ReportsFor (make s l tricks notices) report = ReportsOf s l notices report
+ReportsFor _ report = report ≡ None
 
 abbrev pub wants_report : Option Wish → Bool
-wants_report (Some (make s l notices)) = notices.report
-wants_report (Some (make_with_tricks s l notices)) = notices.report
+wants_report (Some (make s l tricks notices)) = notices.report
 wants_report _ = false
 
 -- the report of a run was appended

@@ -1,6 +1,6 @@
 -- What a wish asks for.
 use Rattle.std.specs.Prelude.{◌≡◌, ℕ, List, [], ◌∷◌, ◌++◌, Ok, Option, Some}
-use Rattle.std.specs.Prelude.{decimal, length}
+use Rattle.std.specs.Prelude.{decimal, false, length, true}
 use Rattle.std.specs.Int.{from_le_bytes}
 use Rattle.std.specs.Int.{w32}
 use Rattle.std.specs.Io.KnownBytes.{Consumes}
@@ -14,7 +14,7 @@ use Rattle.deals_cli.specs.Formats.{text_showing}
 use Rattle.deals_cli.specs.Picked.{PicksAs}
 use Rattle.deals_cli.specs.Shown.{ShowsUnder}
 use Rattle.jobs.specs.Makings.{Means, heading_of, plan_of, title_of}
-use Rattle.request_types.specs.Requests.{Wish, conditions, count, draw, make, make_with_tricks}
+use Rattle.request_types.specs.Requests.{Wish, conditions, count, draw, make}
 use Rattle.lessons.specs.Lessons.{lessons_text}
 use Rattle.request_types.specs.Requests.{lessons, no_search, numbers_look, pick, show, stream}
 use Rattle.deals_cli.specs.WithTricks.{WritesTold}
@@ -39,10 +39,10 @@ abbrev pub AppendsFrom : Wish → (before after old new : Option (List ℕ)) →
 AppendsFrom (stream seed n) before after old new = AppendsAll old new (lines seed n)
 AppendsFrom conditions before after old new = AppendsAll old new language_page
 AppendsFrom (lessons l) before after old new = AppendsAll old new (lessons_text l)
-AppendsFrom (make s l notices) before after old new =
+AppendsFrom (make s l false notices) before after old new =
     (form : Form) × Means s form
     × AppendsAll old new (text_showing l.format l.show (title_of l) (plan_of s l) form)
-AppendsFrom (make_with_tricks s l notices) before after old new =
+AppendsFrom (make s l true notices) before after old new =
     (form : Form) × Means s form × WritesTold s l form before after old new
 AppendsFrom draw before after old new =
     (bytes : List ℕ) × IsDrawn bytes before after × AppendsAll old new (seed_text bytes)

@@ -133,20 +133,20 @@ pub fn serve<R: Threads + Wait + Clone + Send + 'static, I: Source, O: Sink>(
     ensures flushed { IfErr result (λ e. status_of e ≡ 7 → O.is_flushed out.new) }
 {
     match job {
+        Job::Boards(job) if job.tricks => {
+            let wants_report = job.report;
+            match write_with_tricks(rt, alloc, job, input, out) {
+                Ok(report) if wants_report => Ok(Some(report)),
+                Ok(_) => Ok(None),
+                Err(failure) => Err(failure),
+            }
+        }
         Job::Boards(job) => {
             let is_reported = job.report;
             match write_boards(rt, alloc, job, out) {
                 Ok(report) if is_reported => Ok(Some(report)),
                 Ok(_) => Ok(None),
                 Err(cause) => Err(Failure::Interrupted(cause)),
-            }
-        }
-        Job::WithTricks(job) => {
-            let wants_report = job.report;
-            match write_with_tricks(rt, alloc, job, input, out) {
-                Ok(report) if wants_report => Ok(Some(report)),
-                Ok(_) => Ok(None),
-                Err(failure) => Err(failure),
             }
         }
         Job::Count(job) => match write_table(rt, alloc, job, out) {

@@ -34,7 +34,7 @@ use itoa::Buffer;
 use std::alloc::{AllocError, Global};
 
 /// What comes after a word and a seat, where it isn't a suit or the bracket.
-static BEHIND_SEATS: &[(&str, &str)] = &[
+static AFTER_SEATS: &[(&str, &str)] = &[
     ("cards", ",akq)"),
     ("shape", ",5-3-3-2)"),
     ("pattern", ",5-3-3-2)"),
@@ -105,7 +105,7 @@ fn is_sound(alloc: Global, parts: &Parts, hint: &[u8]) -> Result<bool, AllocErro
 /// The hint, and in brackets what it suggests where the text would tear that.
 fn in_place(alloc: Global, parts: &Parts, hint: Vec<u8>) -> Said {
     match suggested(hint.as_slice()) {
-        Some(condition) if is_torn(parts, condition) => {
+        Some(condition) if splits_condition(parts, condition) => {
             let (before, _) = hint
                 .as_slice()
                 .split_at(hint.len().saturating_sub(condition.len()));
@@ -132,7 +132,7 @@ pub(crate) fn put_all(out: &mut Vec<u8>, texts: &[&[u8]]) -> Result<(), AllocErr
 
 /// Whether other words of the text may bind tighter than what joins the condition's tests: `not`
 /// binds tighter than `and`, and `and` tighter than `or`.
-fn is_torn(parts: &Parts, condition: &[u8]) -> bool {
+fn splits_condition(parts: &Parts, condition: &[u8]) -> bool {
     if is_joined(condition, b" or ") {
         parts.has("and not")
     } else {
@@ -202,8 +202,8 @@ fn put(out: &mut Vec<u8>, parts: &Parts, kind: u8, n: usize) -> Result<bool, All
         return put_value(out, parts, back);
     }
     let done = match kind {
-        b'e' if n == 0 => put_behind_seat(out, parts, parts.call()),
-        b'e' => put_behind_seat(out, parts, parts.at(back)),
+        b'e' if n == 0 => put_after_seat(out, parts, parts.call()),
+        b'e' => put_after_seat(out, parts, parts.at(back)),
         b'x' if is_one_of(parts.at(next), ENDS) => {
             out.extend_from_slice(sample(parts.call(), true, false).as_bytes())
         }
@@ -243,9 +243,9 @@ fn text_of<'t>(parts: &'t Parts, kind: u8, back: usize, next: usize) -> &'t [u8]
 }
 
 /// Appends what comes after the word and a seat. A suit is that of the brackets of any or every.
-fn put_behind_seat(out: &mut Vec<u8>, parts: &Parts, word: &[u8]) -> Result<(), AllocError> {
+fn put_after_seat(out: &mut Vec<u8>, parts: &Parts, word: &[u8]) -> Result<(), AllocError> {
     if !is_one_of(word, "len stops") {
-        return out.extend_from_slice(behind_seat(word).as_bytes());
+        return out.extend_from_slice(after_seat(word).as_bytes());
     }
     let class = parts.class();
     let suit = if class.is_empty() { b"spades" } else { class };
@@ -253,8 +253,8 @@ fn put_behind_seat(out: &mut Vec<u8>, parts: &Parts, word: &[u8]) -> Result<(), 
 }
 
 /// What comes after the word and a seat, where no suit does.
-fn behind_seat(word: &[u8]) -> &'static str {
-    for (asked, after) in BEHIND_SEATS {
+fn after_seat(word: &[u8]) -> &'static str {
+    for (asked, after) in AFTER_SEATS {
         if is(word, asked) {
             return after;
         }

@@ -49,6 +49,7 @@ enum Source {
     Whole,
     Outside,
     Bounds,
+    NameLikeness,
     Likeness,
 }
 
@@ -71,7 +72,8 @@ static EITHER: [Source; 14] = [
 ];
 
 /// What is asked of a piece after `EITHER`.
-static PIECE: [Source; 15] = [
+static PIECE: [Source; 16] = [
+    Source::NameLikeness,
     Source::Lessons,
     Source::OrMore,
     Source::Limits,
@@ -146,6 +148,7 @@ fn hint_of(alloc: Global, parts: &Parts, source: Source) -> Said {
     match source {
         Source::Outside => outside::hint(alloc, parts),
         Source::Bounds => bounds::hint(alloc, parts),
+        Source::NameLikeness => likeness::name_hint(alloc, parts),
         Source::Likeness => likeness::hint(alloc, parts),
         _ => first_in(alloc, parts, rules_of(source)),
     }
@@ -183,6 +186,6 @@ fn rules_of(source: Source) -> &'static str {
         Source::Suits => suits::RULES,
         Source::Texts => texts::RULES,
         Source::Whole => whole::RULES,
-        Source::Outside | Source::Bounds | Source::Likeness => "",
+        Source::Outside | Source::Bounds | Source::NameLikeness | Source::Likeness => "",
     }
 }

@@ -1,4 +1,4 @@
-//! Words that are like one of the language.
+//! Words that are like one of the language, or like a name that the text gives.
 
 use crate::filling::joined;
 use crate::hint::Said;
@@ -16,16 +16,57 @@ const ALIKE: f64 = 0.8;
 
 /// The word that is most like the one at fault, of those that may come there.
 pub(crate) fn hint(alloc: Global, parts: &Parts) -> Said {
-    let Ok(text) = str::from_utf8(parts.word.as_slice()) else {
-        return Ok(None);
-    };
-    if text.len() < 2 || !text.as_bytes()[0].is_ascii_lowercase() {
-        return Ok(None);
+    match fault_of(parts) {
+        Some(text) => asked(alloc, nearest(alloc, parts, text)?),
+        None => Ok(None),
     }
-    let Some(name) = nearest(alloc, parts, text)? else {
-        return Ok(None);
-    };
-    joined(alloc, &[b"did you mean \"", name.as_bytes(), b"\"?"])
+}
+
+/// The name that is most like the word at fault, of those that are given before it.
+pub(crate) fn name_hint(alloc: Global, parts: &Parts) -> Said {
+    match fault_of(parts) {
+        Some(text) if !is_call(parts.call()) => asked(alloc, nearest_name(alloc, parts, text)?),
+        _ => Ok(None),
+    }
+}
+
+/// The word at fault in small letters, if it has several.
+fn fault_of<'p>(parts: &'p Parts) -> Option<&'p str> {
+    let text = str::from_utf8(parts.word.as_slice()).ok()?;
+    let is_word = text.len() > 1 && text.as_bytes()[0].is_ascii_lowercase();
+    is_word.then_some(text)
+}
+
+/// Asks whether the word was meant, if there is one.
+fn asked(alloc: Global, word: Option<&str>) -> Said {
+    match word {
+        Some(word) => joined(alloc, &[b"did you mean \"", word.as_bytes(), b"\"?"]),
+        None => Ok(None),
+    }
+}
+
+/// The first of the given names that are most like the text, if they are alike at all.
+fn nearest_name<'t>(
+    alloc: Global,
+    parts: &Parts<'t>,
+    text: &str,
+) -> Result<Option<&'t str>, AllocError> {
+    let mut found = None;
+    let mut most = ALIKE;
+    for i in 1..parts.fault {
+        let Ok(name) = str::from_utf8(parts.at(i)) else {
+            continue;
+        };
+        if !is(parts.at(i - 1), "let") {
+            continue;
+        }
+        let score = jaro(alloc, text, name)?;
+        if score > most {
+            most = score;
+            found = Some(name);
+        }
+    }
+    Ok(found)
 }
 
 /// The first of the words that are most like the text, if they are alike at all.

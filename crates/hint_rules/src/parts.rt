@@ -172,7 +172,7 @@ impl<'t> Parts<'t> {
         0
     }
 
-    /// Whether the part stands in the brackets that say what its name, given before, stands for.
+    /// Whether the part is in the brackets that say what its name, given before, stands for.
     pub(crate) fn is_in_own_brackets(&self, i: usize) -> bool {
         let given = self.given_at(self.at(i));
         let mut is_after_is = false;
@@ -191,6 +191,54 @@ impl<'t> Parts<'t> {
             }
         }
         given > 0 && depth > 0
+    }
+
+    /// Whether the part is the bracket that ends what a name stands for.
+    pub(crate) fn ends_definition(&self, last: usize) -> bool {
+        let mut depth: usize = 0;
+        for back in 0..last.saturating_add(1) {
+            let part = self.at(last - back);
+            if is(part, ")") {
+                depth = depth.saturating_add(1);
+            } else if is(part, "(") {
+                depth = depth.saturating_sub(1);
+            }
+            if depth == 0 {
+                return back > 0 && is(self.at((last - back).saturating_sub(1)), "is");
+            }
+        }
+        false
+    }
+
+    /// Whether the fault is in what a name without brackets stands for.
+    pub(crate) fn is_in_plain_body(&self) -> bool {
+        for open in 4..self.fault {
+            if is(self.at(open), "(")
+                && is(self.at(open - 1), "is")
+                && is(self.at(open - 3), "let")
+                && self.is_open_at_fault(open)
+            {
+                return true;
+            }
+        }
+        false
+    }
+
+    /// Whether this bracket isn't closed before the fault.
+    fn is_open_at_fault(&self, open: usize) -> bool {
+        let mut depth: usize = 0;
+        for i in open..self.fault {
+            let part = self.at(i);
+            if is(part, "(") {
+                depth = depth.saturating_add(1);
+            } else if is(part, ")") {
+                depth = depth.saturating_sub(1);
+            }
+            if depth == 0 {
+                return false;
+            }
+        }
+        true
     }
 
     /// What comes after a use of the name, for a seat and a suit.
@@ -239,7 +287,7 @@ impl<'t> Parts<'t> {
         from == self.range(i.saturating_sub(1)).1 && to != self.range(i.saturating_add(1)).0
     }
 
-    /// Where the value begins that ends with this part. Behind the part, if none does.
+    /// Where the value begins that ends with this part. After the part, if none does.
     pub(crate) fn value_start(&self, last: usize) -> usize {
         let mut depth: usize = 0;
         for back in 0..last.saturating_add(1) {

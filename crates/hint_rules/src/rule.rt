@@ -23,7 +23,9 @@
 //! | `Known`, `Name` | a word of the language; one that is neither that nor ranks |
 //! | `InName` | the fault is in the brackets of such a word |
 //! | `Later` | a word that the text gives as a name further on |
-//! | `Own` | a name that stands in the brackets of its own definition |
+//! | `Own` | a name that is in the brackets of its own definition |
+//! | `Defined` | the bracket that ends what a name stands for |
+//! | `InPlainBody` | the fault is in what a name without brackets stands for |
 //! | `Ranks` | ranks, whether or not one occurs twice |
 //! | `Capital` | a word that has letters that aren't small |
 //! | `CapitalWord`, `CapitalRanks` | one that is known, or ranks, once they are |
@@ -75,6 +77,8 @@ enum Want {
     InName,
     Later,
     Own,
+    Defined,
+    InPlainBody,
     Ranks,
     Capital,
     CapitalWord,
@@ -90,7 +94,7 @@ enum Want {
     Counted,
 }
 
-static WANTS: [(&str, Want); 40] = [
+static WANTS: [(&str, Want); 42] = [
     ("Can", Want::Can),
     ("Cannot", Want::Cannot),
     ("In", Want::In),
@@ -118,6 +122,8 @@ static WANTS: [(&str, Want); 40] = [
     ("InName", Want::InName),
     ("Later", Want::Later),
     ("Own", Want::Own),
+    ("Defined", Want::Defined),
+    ("InPlainBody", Want::InPlainBody),
     ("Ranks", Want::Ranks),
     ("Capital", Want::Capital),
     ("CapitalWord", Want::CapitalWord),
@@ -244,6 +250,8 @@ fn is_met(parts: &Parts, i: usize, want: Want, texts: &str) -> bool {
         Want::InName => is_name(parts.call()),
         Want::Later => is_name(part) && parts.given_at(part) > i,
         Want::Own => is_name(part) && parts.is_in_own_brackets(i),
+        Want::Defined => parts.ends_definition(i),
+        Want::InPlainBody => parts.is_in_plain_body(),
         Want::Ranks => is_word(part) && are_ranks(part),
         Want::Measure => is_measure(part),
         Want::NoValue => !is_number(part) && !is_measure(part),

@@ -43,7 +43,9 @@ pub fn rare_tests(
         }
     }
     if rare == 0 {
-        out.push_str("each test by itself holds of 1,000 or more")?;
+        out.push_str(
+            "each test by itself holds of 1,000 or more: perhaps none meets them together",
+        )?;
     }
     out.push_str("\n")?;
     Ok(Some(out))

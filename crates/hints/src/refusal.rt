@@ -225,7 +225,7 @@ fn sound(alloc: Global, hint: Vec<u8>) -> Result<Vec<u8>, AllocError> {
     let Some(condition) = suggested(hint.as_slice()) else {
         return Ok(hint);
     };
-    if !is_in_vain(alloc, condition)? {
+    if !is_never_met(alloc, condition)? {
         return Ok(hint);
     }
     let mut told = Vec::new(alloc);
@@ -235,16 +235,16 @@ fn sound(alloc: Global, hint: Vec<u8>) -> Result<Vec<u8>, AllocError> {
 }
 
 /// Whether no deal meets the condition, by its numbers alone.
-fn is_in_vain(alloc: Global, condition: &[u8]) -> Result<bool, AllocError> {
+fn is_never_met(alloc: Global, condition: &[u8]) -> Result<bool, AllocError> {
     match parse(alloc, condition) {
         Ok(condition) => Ok(is_never(&condition, &Fixed::none())),
         Err(CondError::Memory) => Err(AllocError),
-        Err(_) => is_in_vain_within(alloc, condition),
+        Err(_) => is_never_met_within(alloc, condition),
     }
 }
 
 /// Whether no deal meets the test in the brackets of a class of suits.
-fn is_in_vain_within(alloc: Global, test: &[u8]) -> Result<bool, AllocError> {
+fn is_never_met_within(alloc: Global, test: &[u8]) -> Result<bool, AllocError> {
     for class in ["suit", "major", "minor"] {
         let mut text = Vec::new(alloc);
         text.extend_from_slice(b"any ")?;

@@ -233,5 +233,5 @@ EndsDraw (Err failure) before after old new = ⊥
 -- a run over boards with tricks ended so, whatever the wish that the job is ready for
 pub record EndsReady (job : BoardsJob) (r : Result Report Failure)
     (before after old new : Option (List ℕ)) : Type 0 where
-  pub ends : (s : Search) (l : Look) (notices : Notices) → IsReadyRun s l notices job
-      → EndsTricks s l job.condition r before after old new
+  pub ends : (s : Search) (l : Look) (tricks : Bool) (notices : Notices)
+      → IsReadyRun s l tricks notices job → EndsTricks s l job.condition r before after old new

@@ -15,7 +15,7 @@ pub(crate) const RULES: &str = "
     Can:Ranks ^ => the ranks are a, k, q, j and t, as in cards(north,akq)
     Can:Suit NotIn:len ^ Seat => \
         for both together write \"%w0(%b2)+%w0(%n0)\", for each a test of its own
-    Can:Suit NotIn:len Seat , ^ Amount => behind the bracket write: %w0(%b2)%a0
+    Can:Suit NotIn:len Seat , ^ Amount => after the bracket write: %w0(%b2)%a0
     Can:Suit ^ => the suits are spades, hearts, diamonds and clubs
 
     Can:Comma Cannot:Close Suit ^ ) => \

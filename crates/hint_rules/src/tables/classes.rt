@@ -20,10 +20,10 @@ pub(crate) const RULES: &str = "
         for east and west write \"%b1 ew\", as in %b1 ew (hcp(ew)>=12)
     any|every ^ Seat => a seat alone is named in a test, as in hcp(%n0)>=12
     any|every ^ seat|ns|ew => \
-        %n0 stands for a seat here already: begin this test behind the bracket
+        %n0 stands for a seat here already: begin this test after the bracket
     any|every ^ Suit => a suit alone is named in a test, as in len(north,%n0)>=5
     any|every ^ suit|major|minor|other => \
-        %n0 stands for a suit here already: begin this test behind the bracket
+        %n0 stands for a suit here already: begin this test after the bracket
     Can:SuitClass any|every ^ Except:suits|majors|minors|seats => \
         say of what, as in %b1 suit (len(north,suit)>=5)
     Can:Open Cannot:Not any|every other ^ suit|suits|major|minor => \
@@ -54,7 +54,7 @@ pub(crate) const RULES: &str = "
     NotInCall ^ all|each|everysuit suit|suits|major|majors|minor|minors => \
         for each suit write \"every suit\", as in every suit (stops(north,suit))
     ^ seat|seats|ns|ew => \
-        a class stands in the brackets of any or every, as in any seat (hcp(seat)>=20)
+        a class goes in the brackets of any or every, as in any seat (hcp(seat)>=20)
     ^ suit|suits|major|majors|minor|minors|other|others|it => \
-        a class stands in the brackets of any or every, as in any suit (len(north,suit)>=5)
+        a class goes in the brackets of any or every, as in any suit (len(north,suit)>=5)
 ";

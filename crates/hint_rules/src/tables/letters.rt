@@ -13,7 +13,7 @@ pub(crate) const RULES: &str = "
     ^ CapitalWord => in small letters write \"%m0\"
     In:shape|pattern Except:( ^ Named:order|orders => \
         for any order write \"pattern\", as in pattern(north,5-3-3-2)
-    In:shape|pattern Except:( ^ Begins:x|X => part the lengths with \"-\", as in 5-x-x-x
+    In:shape|pattern Except:( ^ Begins:x|X => put \"-\" between the lengths, as in 5-x-x-x
     In:shape|pattern Except:( ^ Word => for any length write \"x\"
     In:cards Except:( ^ Ranks => name each rank once, as in akq
 ";

@@ -28,5 +28,5 @@ pub(crate) const RULES: &str = "
     In:shape|pattern Number ^ + => \
         a length of %b1 or more is asked by itself, as in len(north,spades)>=%b1
     In:shape|pattern Length ^ |)|- => name four lengths, as in 5-3-3-2
-    In:shape|pattern Length ^ => part the lengths with \"-\", as in 5-3-3-2
+    In:shape|pattern Length ^ => put \"-\" between the lengths, as in 5-3-3-2
 ";

@@ -56,6 +56,6 @@ pub(crate) const RULES: &str = "
         for the seat across from north write partner(north), as in %w0(partner(north)%e0
     NotInCall ^ partner|left|right => begin with what you ask of the seat, as in hcp(%n0(north))
     InCall ( ^ seat => \
-        seat stands in the brackets of any or every, as in any seat (hcp(seat)>=20)
+        seat goes in the brackets of any or every, as in any seat (hcp(seat)>=20)
     InCall ( ^ Named:PLAYERS => name the seat: north, east, south or west
 ";

@@ -6,7 +6,7 @@ pub(crate) const RULES: &str = "
     ^ = <|> => write \"%n1=\" without a space
     ^ ! = => write \"!=\" without a space
 
-    In:shape|pattern ^ =|.|/|: => part the lengths with \"-\", as in 5-3-3-2
+    In:shape|pattern ^ =|.|/|: => put \"-\" between the lengths, as in 5-3-3-2
     In:shape|pattern ^ ?|_ => for any length write \"x\"
 
     ^ =|=== => for \"%n0\" write \"==\"

@@ -57,5 +57,5 @@ pub(crate) const RULES: &str = "
     Can:Suit InMeasure Seat , ^ other|others => \
         other comes in the brackets of any other, as in any other (len(%b2,other)>=4)
     InCall ^ suit|suits|major|majors|minor|minors|other|others => \
-        a class stands in the brackets of any or every, as in any suit (len(north,suit)>=5)
+        a class goes in the brackets of any or every, as in any suit (len(north,suit)>=5)
 ";

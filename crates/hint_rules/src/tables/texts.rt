@@ -4,12 +4,12 @@ pub(crate) const RULES: &str = "
     Nothing ^ Nothing => \
         there is no condition here (is a file missing?); for 15 points or more with North write: \
         hcp(north)>=15
-    Nothing ^ @ => the condition itself stands here; from a file: --where \"$(cat FILE)\"
-    Nothing ^ /|.|~ .|/ => the condition itself stands here; from a file: --where \"$(cat FILE)\"
-    Nothing ^ /|\\ Word => the condition itself stands here; from a file: --where \"$(cat FILE)\"
-    Nothing ^ Word .|/|\\ => the condition itself stands here; from a file: --where \"$(cat FILE)\"
-    Nothing ^ $ ( => the shell reads a file in double quotes alone: --where \"$(cat FILE)\"
-    ^ Begins:\u{FEFF} => a byte order mark stands here: leave it out
+    Nothing ^ @ => the text itself goes here; from a file: \"$(cat FILE)\"
+    Nothing ^ /|.|~ .|/ => the text itself goes here; from a file: \"$(cat FILE)\"
+    Nothing ^ /|\\ Word => the text itself goes here; from a file: \"$(cat FILE)\"
+    Nothing ^ Word .|/|\\ => the text itself goes here; from a file: \"$(cat FILE)\"
+    Nothing ^ $ ( => the shell reads a file in double quotes alone: \"$(cat FILE)\"
+    ^ Begins:\u{FEFF} => a byte order mark is here: leave it out
     Nothing ^ help|usage => all that a condition can say: deals conditions
     Nothing x ^ =|: => \
         give a test a name before the condition, as in let strong is (hcp(north)>=15)

@@ -3,20 +3,20 @@ use Rattle.jobs.specs.Jobs.{IsReady}
 use Rattle.deals_cli.proofs.Serving.{tricks_fail, tricks_reported, tricks_unreported}
 use Rattle.deals_cli.proofs.service.serve.Goals as goal
 
-pub returns-in-Ok-write_with_tricks-clause-serves : goal.returns-in-Ok-write_with_tricks-clause-serves
-returns-in-Ok-write_with_tricks-clause-serves g c w ready =
-    let here = subst (λ job. IsReady w job) c.in-WithTricks.is ready in
-    tricks_reported w c.in-WithTricks.job c.in-Ok-write_with_tricks.report (g.I.Source.rest c.args.input.now) (g.I.Source.rest c.write_with_tricks.new.input) (g.O.Sink.bytes c.args.out.now) (g.O.Sink.bytes c.write_with_tricks.new.out)
-    here c.in-Ok-write_with_tricks.ensures.ends c.if-wants_report.true
+pub returns-in-Ok-clause-serves : goal.returns-in-Ok-clause-serves
+returns-in-Ok-clause-serves g c w ready =
+    let here = subst (λ job. IsReady w job) c.in-Boards.is ready in
+    tricks_reported w c.in-Boards.job c.in-Ok.report (g.I.Source.rest c.args.input.now) (g.I.Source.rest c.write_with_tricks.new.input) (g.O.Sink.bytes c.args.out.now) (g.O.Sink.bytes c.write_with_tricks.new.out)
+    here c.if-job.true c.in-Ok.ensures.ends c.if-wants_report.true
 
-pub returns-in-Ok-2-write_with_tricks-clause-serves : goal.returns-in-Ok-2-write_with_tricks-clause-serves
-returns-in-Ok-2-write_with_tricks-clause-serves g c w ready =
-    let here = subst (λ job. IsReady w job) c.in-WithTricks.is ready in
-    tricks_unreported w c.in-WithTricks.job c.in-Ok-2-write_with_tricks.field-0 (g.I.Source.rest c.args.input.now) (g.I.Source.rest c.write_with_tricks.new.input) (g.O.Sink.bytes c.args.out.now) (g.O.Sink.bytes c.write_with_tricks.new.out)
-    here c.in-Ok-2-write_with_tricks.ensures.ends c.if-wants_report.false
+pub returns-in-Ok-2-clause-serves : goal.returns-in-Ok-2-clause-serves
+returns-in-Ok-2-clause-serves g c w ready =
+    let here = subst (λ job. IsReady w job) c.in-Boards.is ready in
+    tricks_unreported w c.in-Boards.job c.in-Ok-2.field-0 (g.I.Source.rest c.args.input.now) (g.I.Source.rest c.write_with_tricks.new.input) (g.O.Sink.bytes c.args.out.now) (g.O.Sink.bytes c.write_with_tricks.new.out)
+    here c.if-job.true c.in-Ok-2.ensures.ends c.if-wants_report.false
 
-pub returns-in-WithTricks-clause-serves : goal.returns-in-WithTricks-clause-serves
-returns-in-WithTricks-clause-serves g c w ready =
-    let here = subst (λ job. IsReady w job) c.in-WithTricks.is ready in
-    tricks_fail w c.in-WithTricks.job c.in-Err-write_with_tricks.failure (g.I.Source.rest c.args.input.now) (g.I.Source.rest c.write_with_tricks.new.input) (g.O.Sink.bytes c.args.out.now) (g.O.Sink.bytes c.write_with_tricks.new.out)
-    here c.in-Err-write_with_tricks.ensures.ends
+pub returns-in-Boards-clause-serves : goal.returns-in-Boards-clause-serves
+returns-in-Boards-clause-serves g c w ready =
+    let here = subst (λ job. IsReady w job) c.in-Boards.is ready in
+    tricks_fail w c.in-Boards.job c.in-Err.failure (g.I.Source.rest c.args.input.now) (g.I.Source.rest c.write_with_tricks.new.input) (g.O.Sink.bytes c.args.out.now) (g.O.Sink.bytes c.write_with_tricks.new.out)
+    here c.if-job.true c.in-Err.ensures.ends
