@@ -1,7 +1,7 @@
 //! What helps a person with a failure, below the line that names it.
 
 use crate::advice::advise;
-use crate::rewritten;
+use crate::{rewritten, words};
 use jobs::Failure;
 use plans::{Cause, LineFault, RefusedLine};
 use records::{RecordFault, RefusedRecord};
@@ -37,7 +37,7 @@ pub fn help(
     reasons: Reasons<'_>,
 ) -> Option<String> {
     match failure {
-        Failure::CommandLine(text) => word_hints::hint(alloc, words, text.as_str()),
+        Failure::CommandLine(text) => words::hint(alloc, words, text.as_str()),
         Failure::Plan(_) | Failure::Label(_) | Failure::Hand(_) => plan_help(
             alloc, request, failure,
         ),

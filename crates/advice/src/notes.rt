@@ -1,5 +1,5 @@
-//! What is noted for a person before boards with later numbers are written: that they are the
-//! first deals again.
+//! What is noted for a person: that boards with later numbers are the first deals again, that fewer
+//! boards came than were asked for, and that an input has no boards.
 
 use request_types::{Request, Search};
 use std::alloc::Global;
@@ -40,6 +40,24 @@ fn boards_from(alloc: Global, board: u64, search: &Search<'_>) -> Option<String>
     format!(in alloc; "{board} to {last}").ok()
 }
 
+/// Returns the note on fewer boards than were asked for, as a line; none if as many came, or if
+/// memory runs out.
+pub fn fewer_boards(alloc: Global, boards: u64, asked: u64) -> Option<String> {
+    if boards >= asked {
+        return None;
+    }
+    if boards == 0 {
+        return format!(in alloc;
+            "note: none of the {asked} boards asked for: none of the deals that were tried match\n"
+        ).ok();
+    }
+    format!(in alloc;
+        "note: {boards} of the {asked} boards asked for: \
+no more of the deals that were tried match\n"
+    )
+    .ok()
+}
+
 /// The mark that some editors put before a text in UTF-8.
 const MARK: &[u8] = b"\xEF\xBB\xBF";
 
@@ -70,6 +88,14 @@ pub fn no_board(alloc: Global, first: &[u8], has_deal: bool) -> Option<String> {
     let (_, why) = BEGINNINGS.iter().find(|row| first.starts_with(row.0))?;
     format!(in alloc; "note: the input has no board: deals show reads PBN, and {why}\n").ok()
 }
+
+/// Returns the note on an input whose lines end in CR alone, as a line; none if memory runs out.
+pub fn one_line(alloc: Global) -> Option<String> {
+    String::from_str(alloc, ENDED_BY_CR).ok()
+}
+
+const ENDED_BY_CR: &str = "note: the lines of the input end in CR alone, so that all is one line: \
+write tr '\\r' '\\n' < FILE | deals show\n";
 
 const MARKED: &str =
     "note: the first line isn't read, since a byte order mark comes before it: leave it out\n";

@@ -50,7 +50,7 @@ fn place_of(alloc: Global, line: usize, before: &[u8]) -> Option<String> {
     if shown.is_empty() {
         return format!(in alloc; "at the start of line {line}").ok();
     }
-    format!(in alloc; "in line {line} behind \"{shown}\"").ok()
+    format!(in alloc; "in line {line} after \"{shown}\"").ok()
 }
 
 /// The number of the last line, and where it begins.

@@ -22,8 +22,7 @@ goes_on value = true
 
 plain_goes_on : (c : List Rule) (waiting : Waiting) (word : Text) (h : Held) → goes_on (plain_word c waiting word h).1 ≡ true
 plain_goes_on c idle word h = refl
-plain_goes_on c (option id) word h = refl
-plain_goes_on c positional word h = refl
+plain_goes_on c _ word h = refl
 
 flag_goes_on : (c : List Rule) (waiting : Waiting) (word : Text) (h : Held) (o : Outcome) → goes_on (after_flag c waiting word h o).1 ≡ true
 flag_goes_on c waiting word h done = refl

@@ -120,14 +120,7 @@ without_passing c id (r ∷ rows) h = go (bytes_eq r.id id) refl (without_passin
 
 no_request : (x : ArgAction) (again : Bool) (a : Rule) (vs : List Text) (rows : List Row) → is_request x ≡ true → action_fault x again a vs rows ≡ [] → ⊥
 no_request Set again a vs rows h f = cc
-no_request Append again a vs rows h f = cc
-no_request SetTrue again a vs rows h f = cc
-no_request SetFalse again a vs rows h f = cc
-no_request Count again a vs rows h f = cc
-no_request Help again a vs rows h f = cc
-no_request HelpShort again a vs rows h f = cc
-no_request HelpLong again a vs rows h f = cc
-no_request Version again a vs rows h f = cc
+no_request _ again a vs rows h f = cc
 
 set_passing : (c : List Rule) (a : Rule) (again : Bool) (vs : List Text) (rows : List Row) → arg_by_id c a.id ≡ Some a
     → nat_lt 0 (unwrap_or_range a.range).start_inclusive ≡ true → action_of a ≡ Set → use_fault again a vs rows ≡ []

@@ -9,7 +9,7 @@ use Rattle.clap.specs.Words.{Kinds, Row, Text, all_of, fault_of, first_of, one_o
 use Rattle.clap.specs.Kinds.{or_else}
 use Rattle.clap.specs.declared.error.kind.ErrorKind.TheVariants.{ArgumentConflict, InvalidValue, ValueValidation}
 use Rattle.clap.specs.declared.error.kind.ErrorKind.TheVariants.{MissingRequiredArgument}
-use Rattle.command_line.specs.Commands.{deals, finders}
+use Rattle.command_line.specs.Commands.{deals}
 use Rattle.boards.specs.declared.setting.Vul.{Vul}
 use Rattle.boards.specs.declared.setting.Vul.TheVariants.{Neither, NorthSouth, EastWest, Both}
 use Rattle.cards.specs.declared.seat.Seat.{Seat}
@@ -18,7 +18,7 @@ use Rattle.request_types.specs.Defaults.{with_long_lanes}
 use Rattle.request_types.specs.PredealtHands.{GivenHands}
 use Rattle.request_types.specs.Requests.{Look, Questions, Search, Wish, conditions, count, draw}
 use Rattle.lessons.specs.Lessons.{Lesson, lesson_named}
-use Rattle.request_types.specs.Requests.{lessons, look_as, make, make_with_tricks, each_question, no_question, one_question, pick, plain_look, show, stream, two_questions}
+use Rattle.request_types.specs.Requests.{lessons, make, each_question, no_question, numbers_look, one_question, pick, plain_look, show, stream, two_questions}
 use Rattle.request_types.specs.declared.request.Notices.{Notices}
 use Rattle.boards.specs.Formats.{formats}
 use Rattle.boards.specs.declared.format.Format.{Format}
@@ -230,14 +230,8 @@ questions_in rows = questions_from (of_texts rows) (first_of (codes "by") rows)
 abbrev pub style_in : List Row → Style
 style_in rows = unwrap_or (choice_in styles (codes "format") rows) Table
 
--- `find` has one look; the boards of `make` have their tricks if the flag is given
-abbrev pub boards_made_by : Option Format → Search → List Row → Wish
-boards_made_by (Some format) s rows = make s (look_as format) (notices_in rows)
-boards_made_by None s rows =
-    if is_set (codes "tricks") rows then make_with_tricks s (look_in rows) (notices_in rows)
-    else make s (look_in rows) (notices_in rows)
-
--- `pick` deals the candidates whose numbers it reads; the others search, and `count` has a table
+-- `pick` deals the candidates whose numbers it reads; the others search, and `count` has a table,
+-- `find` numbers alone
 abbrev pub made_by : Text → Search → List Row → Wish
 made_by name s rows =
     if bytes_eq name (codes "pick")
@@ -245,7 +239,9 @@ made_by name s rows =
     (when_in (codes "hints") rows)
     else if bytes_eq name (codes "count")
     then count (with_long_lanes s) (questions_in rows) (style_in rows) (notices_in rows)
-    else boards_made_by (meant_by finders name) s rows
+    else if bytes_eq name (codes "find")
+    then make s numbers_look false (notices_in rows)
+    else make s (look_in rows) (is_set (codes "tricks") rows) (notices_in rows)
 
 -- by the subcommand's name and what its options were given
 abbrev pub wish_by : Text × List Row → Wish

@@ -5,8 +5,6 @@ use Rattle.clap.specs.declared.builder.action.ArgAction.TheVariants.{Append, Hel
 use Rattle.clap.specs.Simple.{on_top}
 use Rattle.clap.specs.declared.builder.value_parser.ValueParser.{ValueParser}
 use Rattle.clap.specs.declared.builder.value_parser.ValueParser.TheVariants as parsed
-use Rattle.boards.specs.declared.format.Format.{Format}
-use Rattle.boards.specs.declared.format.Format.TheVariants.{Numbers}
 
 -- an option `--id VALUE`
 abbrev pub option_rule : Text → ValueParser → Rule
@@ -179,7 +177,3 @@ subcommands =
 
 abbrev pub deals : App
 deals = fold with_subcommand deals_top (map (λ a. a.top) subcommands)
-
--- those that search and write one format alone
-abbrev pub finders : List (Text × Format)
-finders = (codes "find", Numbers) ∷ []

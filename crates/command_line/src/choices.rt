@@ -119,6 +119,20 @@ pub static HINTS: Choice<When> = Choice {
     table: TIMES,
 };
 
+/// Whether the option of this id has one of a few words.
+pub(crate) fn is_choice(id: &str) -> bool {
+    let ids = [
+        FORMAT.id,
+        SHOW.id,
+        POINTS.id,
+        DEALER.id,
+        VULNERABLE.id,
+        PROGRESS.id,
+        HINTS.id,
+    ];
+    ids.iter().any(|known| *known == id)
+}
+
 /// What a word means in such a table.
 pub(crate) fn look_up<T: Copy>(mut table: &[(&str, T)], word: &str) -> Option<T>
     ensures { result ≡ meant_by (map (λ p. (p.0.now, p.1)) table.entry.now) word.now }

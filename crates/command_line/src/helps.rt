@@ -1,5 +1,5 @@
-//! What help says of each command and option, as texts. A line of them has at most 80 columns, with
-//! what help puts before it.
+//! What help says of each command and option, as texts, and samples of values. A line of help has
+//! at most 80 columns, with what help puts before it.
 //!
 //! The entries of a text are separated by empty lines. Each begins with the name of what it is
 //! about, and a colon.
@@ -224,6 +224,61 @@ const OF_OTHERS: &[Section] = &[(OPTIONS, "help: Print help")];
 
 const OF_FIND: &[Section] = &[(WHICH, LESSON_ALONE)];
 
+/// A value of each option that takes one, as a person types it.
+const SAMPLES: &str = "seed: 7
+
+lesson: stayman
+
+where: 'hcp(north)>=15'
+
+let: 'let fit is (len(north,spades)+len(south,spades))'
+
+boards: 36
+
+candidates: 100000
+
+first: 36
+
+north: AKQ32.K..A
+
+east: AKQ32.K..A
+
+south: AKQ32.K..A
+
+west: AKQ32.K..A
+
+of: 'hcp(south)'
+
+by: 'longest(south)'
+
+format: html
+
+show: north
+
+points: hide
+
+dealer: N
+
+vulnerable: NS
+
+first-board: 28
+
+event: 'Club night'
+
+site: 'Bridge club'
+
+date: 2024.05.01
+
+workers: 3
+
+lane: 4096
+
+progress: always
+
+hints: always
+
+count: 3";
+
 /// What a subcommand has of its own.
 fn own_sections(name: &str) -> &'static [Section] {
     match name {
@@ -276,6 +331,11 @@ pub(crate) fn examples_of(name: &str) -> &'static str {
         "stream" => STREAM_EXAMPLES,
         _ => "",
     }
+}
+
+/// A value of the option; empty if it takes none.
+pub(crate) fn sample_of(id: &str) -> &'static str {
+    entry_in(SAMPLES, id).unwrap_or("")
 }
 
 /// What help says of an option of a subcommand.

@@ -9,7 +9,7 @@ ghost use Rattle.clap.specs.declared.error.kind.ErrorKind.TheVariants.{UnknownAr
 ghost use Rattle.clap.specs.declared.error.kind.ErrorKind.TheVariants.{ValueValidation};
 ghost use Rattle.command_line.specs.CommandLine.{asked, kinds_for};
 ghost use Rattle.request_types.specs.PredealtHands.{none_given};
-ghost use Rattle.request_types.specs.Requests.{conditions, count, draw, make, make_with_tricks};
+ghost use Rattle.request_types.specs.Requests.{conditions, count, draw, make};
 ghost use Rattle.request_types.specs.Requests.{lessons, numbers_look, pick, show};
 ghost use Rattle.request_types.specs.Requests.{plain_look, plain_notices, plain_search, stream};
 ghost use Rattle.request_types.specs.Requests.{two_questions};
@@ -40,7 +40,7 @@ pub fn example_of_make()
           candidates = Some 200;
           where_text = Some (codes "hcp(north)>=15");
           boards = Some 5;
-        }) plain_look plain_notices) }
+        }) plain_look false plain_notices) }
 {}
 
 /// `deals make --seed 0 --boards 12 --format hands --dealer S --vulnerable NS --rotate` asks for
@@ -57,7 +57,7 @@ pub fn example_of_formats()
           dealer = Some South;
           vulnerable = Some NorthSouth;
           rotate = true;
-        }) plain_notices) }
+        }) false plain_notices) }
     ensures refused { kinds_for
         (codes "deals" ∷ codes "make" ∷ codes "--seed" ∷ codes "0"
         ∷ codes "--boards" ∷ codes "12" ∷ codes "--format" ∷ codes "PBN" ∷ [])
@@ -72,9 +72,8 @@ pub fn example_of_tricks()
         (codes "deals" ∷ codes "make" ∷ codes "--seed" ∷ codes "0"
         ∷ codes "--boards" ∷ codes "12" ∷ codes "--show" ∷ codes "dealer"
         ∷ codes "--tricks" ∷ codes "--workers" ∷ codes "auto" ∷ [])
-        ≡ Some (make_with_tricks
-        (record (plain_search 0) { boards = Some 12; workers = workers.Auto })
-        (record plain_look { show = record all_shown { seats = Dealer } }) plain_notices) }
+        ≡ Some (make (record (plain_search 0) { boards = Some 12; workers = workers.Auto })
+        (record plain_look { show = record all_shown { seats = Dealer } }) true plain_notices) }
     ensures refused { kinds_for
         (codes "deals" ∷ codes "make" ∷ codes "--seed" ∷ codes "0"
         ∷ codes "--boards" ∷ codes "12" ∷ codes "--workers" ∷ codes "many" ∷ [])
@@ -143,7 +142,7 @@ pub fn example_of_find()
           candidates = Some 1000;
           first = 5;
           where_text = Some (codes "hcp(north)>=15");
-        }) numbers_look (record plain_notices { progress = Never; hints = Always })) }
+        }) numbers_look false (record plain_notices { progress = Never; hints = Always })) }
     ensures refused { kinds_for
         (codes "deals" ∷ codes "find" ∷ codes "--seed" ∷ codes "7"
         ∷ codes "--candidates" ∷ codes "1000" ∷ codes "--first-board" ∷ codes "5" ∷ [])
@@ -182,7 +181,7 @@ pub fn example_of_letters()
         ≡ Some (make (record (plain_search 7) {
           boards = Some 12;
           where_text = Some (codes "hcp(north)>=15");
-        }) (record plain_look { format = Hands }) plain_notices) }
+        }) (record plain_look { format = Hands }) false plain_notices) }
 {}
 
 /// `deals seed` asks for a seed that is drawn.

@@ -2,11 +2,13 @@
 //!
 //! `options.rt` has the subcommands and their options as tables, `helps.rt` and `texts.rt` what is
 //! said of them, `choices.rt` the words that an option may have, `lesson_names.rt` the names of
-//! lessons, and `words.rt` reads words as a request. `shown.rt` shows what clap says of them.
+//! lessons, and `words.rt` reads words as a request. `shown.rt` shows what clap says of them, and
+//! `known.rt` tells what is known of an option.
 #![tactic(auto)]
 
 mod choices;
 mod helps;
+mod known;
 pub mod laws;
 mod lesson_names;
 mod options;
@@ -16,5 +18,6 @@ mod texts;
 mod words;
 mod workers;
 
+pub use known::{KnownOption, Taken, known_option, takes_option};
 pub use shown::shown_text;
 pub use words::read_words;

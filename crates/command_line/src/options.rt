@@ -10,13 +10,13 @@ ghost use Rattle.command_line.specs.internal.Rows.{app_for, rule_for, taking, to
 use self::Takes::{Count, Help, Nothing, Text, Texts, U32, U64, Value};
 use crate::helps::{about_of, examples_of, help_of};
 use crate::texts::{ABOUT, PROGRAM_EXAMPLES};
-use boards::Format;
+use cards::MAX_CANDIDATES;
 use clap::builder::ValueParser;
 use clap::{Arg, ArgAction, Command, value_parser};
 use std::alloc::{AllocError, Global};
 
 /// The most values that `stream` prints: the same as the most candidates of a seed.
-const MAX_VALUES: i64 = 1099511627776;
+const MAX_VALUES: i64 = MAX_CANDIDATES as i64;
 
 /// What an option takes, with the name that the help gives to its value.
 pub(crate) enum Takes {
@@ -284,9 +284,6 @@ pub(crate) const NAMED: &[Row] = &[NAME, HELP];
 
 pub(crate) const STREAM: &[Row] = &[SEED, VALUES, HELP];
 
-/// The subcommands that search and write one format alone.
-pub(crate) const FINDERS: &[(&str, Format)] = &[("find", Format::Numbers)];
-
 /// A subcommand. What help says of it is in `helps`.
 pub(crate) struct Subcommand {
     pub(crate) name: &'static str,
@@ -345,7 +342,7 @@ static SUBCOMMANDS: [Subcommand; 9] = [
 ];
 
 /// The subcommands: the table stands in one function alone, since a proof reads all of it.
-fn subcommands() -> &'static [Subcommand; 9]
+pub(crate) fn subcommands() -> &'static [Subcommand; 9]
     ensures { map top_for result.now ≡ map (λ a. a.top) subcommands }
 {
     &SUBCOMMANDS

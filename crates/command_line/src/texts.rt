@@ -26,7 +26,7 @@ pub(crate) const FIND_EXAMPLES: &str = "Examples:
     deals pick --seed 2024 --format hands < numbers
 
 Parts of a search, as of --first 0 and of --first 500000000, can run on several
-machines: their lines, one part behind the other, are those of one search.";
+machines: their lines, one part after the other, are those of one search.";
 
 pub(crate) const COUNT_EXAMPLES: &str = "Examples:
   How often has partner four spades or more opposite 1NT?
@@ -64,7 +64,7 @@ vulnerabilities, tricks and par stay.";
 pub(crate) const CONDITIONS_EXAMPLES: &str = "Examples:
   Page by page:
     deals conditions | less
-  A condition at work, in quotes behind --where:
+  A condition at work, in quotes after --where:
     deals make --seed 7 --boards 12 \\
       --where 'hcp(north) in 15-17 and balanced(north)'";
 

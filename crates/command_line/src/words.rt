@@ -21,10 +21,10 @@ ghost use Rattle.request_types.specs.PredealtHands.{given_by};
 ghost use Rattle.request_types.specs.Requests.{look_of, questions_of, search_of, wish_of};
 
 use crate::choices::{
-    DEALER, FORMAT, HINTS, POINTS, PROGRESS, SHOW, STYLE, VULNERABLE, look_up, unknown_in,
+    DEALER, FORMAT, HINTS, POINTS, PROGRESS, SHOW, STYLE, VULNERABLE, unknown_in,
 };
 use crate::lesson_names::{lesson_in, no_lesson_in};
-use crate::options::{FINDERS, command};
+use crate::options::command;
 use crate::refusals::{
     COLUMNS_OF_SEVERAL, NO_END, NO_QUESTION, TOO_MANY, conflicting_option, invalid_name,
     invalid_number, invalid_value, missing_option,
@@ -298,12 +298,8 @@ fn request_by<'a>(name: &str, search: Search<'a>, matches: &ArgMatches<'a>) -> R
             notices,
         };
     }
-    if let Some(format) = look_up(FINDERS, name) {
-        return Request::Find {
-            search,
-            format,
-            notices,
-        };
+    if name == "find" {
+        return Request::Find { search, notices };
     }
     Request::Make {
         search,

@@ -15,7 +15,7 @@ use Rattle.jobs.specs.Failures.{definitions_failure, failure_of, is_refusal, sta
 use Rattle.jobs.specs.FirstRefusal.{AreDue, AreRefused, HasCondition, IsCountDue, IsDueFor, IsDueRead, IsFirstHand, IsFirstOf, IsMakeDue, IsPickDue, IsPlanDue, IsShowDue, IsTextDue, IsTricksDue, Meets, of_labels, of_numbers}
 use Rattle.request_types.specs.Defaults.{candidates_of, workers_in}
 use Rattle.jobs.specs.Makings.{HasLabels, HasNumbers, IsPlanned, Means}
-use Rattle.request_types.specs.Requests.{Look, Questions, Search, Wish, conditions, count, draw, lessons, make, make_with_tricks, no_search, numbers_look, pick, plain_search, show, stream}
+use Rattle.request_types.specs.Requests.{Look, Questions, Search, Wish, conditions, count, draw, lessons, make, no_search, numbers_look, pick, plain_search, show, stream}
 use Rattle.jobs.specs.Jobs.{IsRefused}
 use Rattle.jobs.specs.Statuses.{HasMeaning, HasPlan, IsStatusOf}
 use Rattle.jobs.proofs.Statuses.{no_memory as out_of_memory, refused_meaning, refused_plan}
@@ -104,15 +104,7 @@ hands_due s l (CommandLine text) n t h = absurd h
 hands_due s l (Plan error) n t h = absurd h
 hands_due s l (Label name) n t h = absurd h
 hands_due s l (Hand seat) n t h = (n, t, h)
-hands_due s l (Definitions error) n t h = absurd h
-hands_due s l (Condition error) n t h = absurd h
-hands_due s l (Question name error) n t h = absurd h
-hands_due s l (Cells name) n t h = absurd h
-hands_due s l (Interrupted cause) n t h = absurd h
-hands_due s l (Line line) n t h = absurd h
-hands_due s l (Record line) n t h = absurd h
-hands_due s l Input n t h = absurd h
-hands_due s l EndOfInput n t h = absurd h
+hands_due s l _ n t h = absurd h
 
 -- each way to refuse a plan
 pub ruleset plans = (numbers_due, labels_due, hands_due)
@@ -176,18 +168,15 @@ condition_refusal s f (inr (given, inr (error, is, due))) = rw is refl
 
 pub run_due : (s : Search) (l : Look) (c : Cause) → IsPlanned s l → (form : Form) → Means s form → IsMakeDue s l (Interrupted c)
 run_due s l cause.Memory plan form means = plan
-run_due s l cause.Output plan form means = (plan, (form, means))
-run_due s l cause.Spawn plan form means = (plan, (form, means))
-run_due s l (cause.Stopped worker) plan form means = (plan, (form, means))
-run_due s l (cause.Unclosed worker) plan form means = (plan, (form, means))
+run_due s l _ plan form means = (plan, (form, means))
 
 -- the output fails after all was done
 pub output_due : (w : Wish) → IsStatusOf w 0 → IsDueFor w (Interrupted cause.Output)
 output_due (stream seed n) status = refl
 output_due conditions status = refl
 output_due (lessons l) status = inl refl
-output_due (make s l notices) status = status.accepted (inl refl)
-output_due (make_with_tricks s l notices) status = status.accepted (inl refl)
+output_due (make s l false notices) status = status.accepted (inl refl)
+output_due (make s l true notices) status = status.accepted (inl refl)
 output_due draw status = tt
 output_due (count s questions style notices) status = let all = status.accepted (inl refl) in (all.0, all.1.0, all.1.1)
 output_due (pick seed hands l tricks hints) status = (status.accepted (inl refl)).0
@@ -199,65 +188,27 @@ make_plan_due s l (CommandLine text) h = h
 make_plan_due s l (Plan error) h = h
 make_plan_due s l (Label name) h = h
 make_plan_due s l (Hand seat) h = h
-make_plan_due s l (Definitions error) h = absurd h
-make_plan_due s l (Condition error) h = absurd h
-make_plan_due s l (Question name error) h = absurd h
-make_plan_due s l (Cells name) h = absurd h
-make_plan_due s l (Interrupted c) h = absurd h
-make_plan_due s l (Line line) h = absurd h
-make_plan_due s l (Record line) h = absurd h
-make_plan_due s l Input h = absurd h
-make_plan_due s l EndOfInput h = absurd h
+make_plan_due s l _ h = absurd h
 
 -- what is due before the input is read is due with tricks too
-pub tricks_due : (s : Search) (l : Look) (f : Failure) → is_refusal f ≡ true → IsMakeDue s l f → IsTricksDue s l f
-tricks_due s l (CommandLine text) before h = h
-tricks_due s l (Plan error) before h = h
-tricks_due s l (Label name) before h = h
-tricks_due s l (Hand seat) before h = h
-tricks_due s l (Definitions error) before h = h
-tricks_due s l (Condition error) before h = h
-tricks_due s l (Question name error) before h = h
-tricks_due s l (Cells name) before h = h
-tricks_due s l (Interrupted cause.Memory) before h = h
-tricks_due s l (Interrupted cause.Output) before h = h
-tricks_due s l (Interrupted cause.Spawn) before h = h
-tricks_due s l (Interrupted (cause.Stopped worker)) before h = h
-tricks_due s l (Interrupted (cause.Unclosed worker)) before h = h
+tricks_due : (s : Search) (l : Look) (f : Failure) → is_refusal f ≡ true → IsMakeDue s l f → IsTricksDue s l f
 tricks_due s l (Line line) before h = absurd cc
-tricks_due s l (Record line) before h = absurd cc
 tricks_due s l Input before h = absurd cc
-tricks_due s l EndOfInput before h = absurd cc
+tricks_due s l _ before h = h
 
 pub pick_plan_due : (s : Search) (l : Look) (f : Failure) → IsPlanDue s l f → IsPickDue s l f
 pick_plan_due s l (CommandLine text) h = h
 pick_plan_due s l (Plan error) h = h
 pick_plan_due s l (Label name) h = h
 pick_plan_due s l (Hand seat) h = h
-pick_plan_due s l (Definitions error) h = absurd h
-pick_plan_due s l (Condition error) h = absurd h
-pick_plan_due s l (Question name error) h = absurd h
-pick_plan_due s l (Cells name) h = absurd h
-pick_plan_due s l (Interrupted c) h = absurd h
-pick_plan_due s l (Line line) h = absurd h
-pick_plan_due s l (Record line) h = absurd h
-pick_plan_due s l Input h = absurd h
-pick_plan_due s l EndOfInput h = absurd h
+pick_plan_due s l _ h = absurd h
 
 pub count_plan_due : (s : Search) (q : Questions) (f : Failure) → IsPlanDue s numbers_look f → IsCountDue s q f
 count_plan_due s q (CommandLine text) h = h
 count_plan_due s q (Plan error) h = h
 count_plan_due s q (Label name) h = h
 count_plan_due s q (Hand seat) h = h
-count_plan_due s q (Definitions error) h = absurd h
-count_plan_due s q (Condition error) h = absurd h
-count_plan_due s q (Question name error) h = absurd h
-count_plan_due s q (Cells name) h = absurd h
-count_plan_due s q (Interrupted c) h = absurd h
-count_plan_due s q (Line line) h = absurd h
-count_plan_due s q (Record line) h = absurd h
-count_plan_due s q Input h = absurd h
-count_plan_due s q EndOfInput h = absurd h
+count_plan_due s q _ h = absurd h
 
 -- a condition or a question that is refused is due for a `count`
 count_condition_due : (s : Search) (q : Questions) (f : Failure) → IsPlanned s numbers_look → IsConditionFailure s f → IsCountDue s q f
@@ -276,11 +227,7 @@ questions_due s q (Condition error) plan condition h = absurd h
 questions_due s q (Question Of error) plan condition h = (plan, condition, h)
 questions_due s q (Question By error) plan condition h = (plan, condition, h)
 questions_due s q (Cells name) plan condition h = (plan, condition, h)
-questions_due s q (Interrupted c) plan condition h = absurd h
-questions_due s q (Line line) plan condition h = absurd h
-questions_due s q (Record line) plan condition h = absurd h
-questions_due s q Input plan condition h = absurd h
-questions_due s q EndOfInput plan condition h = absurd h
+questions_due s q _ plan condition h = absurd h
 
 questions_refusal : (D : Option (List ℕ)) (q : Questions) (f : Failure) → AreRefused D q f → is_refusal f ≡ true
 questions_refusal D q (CommandLine text) h = absurd h
@@ -292,19 +239,12 @@ questions_refusal D q (Condition error) h = absurd h
 questions_refusal D q (Question Of error) h = refl
 questions_refusal D q (Question By error) h = refl
 questions_refusal D q (Cells name) h = refl
-questions_refusal D q (Interrupted c) h = absurd h
-questions_refusal D q (Line line) h = absurd h
-questions_refusal D q (Record line) h = absurd h
-questions_refusal D q Input h = absurd h
-questions_refusal D q EndOfInput h = absurd h
+questions_refusal D q _ h = absurd h
 
 -- a `count` that was interrupted
 pub count_run_due : (s : Search) (q : Questions) (c : Cause) → IsPlanned s numbers_look → HasCondition s → (subject : Subject) → IsAsked s.let_text q subject → IsCountDue s q (Interrupted c)
 count_run_due s q cause.Memory plan condition subject asked = plan
-count_run_due s q cause.Output plan condition subject asked = (plan, condition, (subject, asked))
-count_run_due s q cause.Spawn plan condition subject asked = (plan, condition, (subject, asked))
-count_run_due s q (cause.Stopped worker) plan condition subject asked = (plan, condition, (subject, asked))
-count_run_due s q (cause.Unclosed worker) plan condition subject asked = (plan, condition, (subject, asked))
+count_run_due s q _ plan condition subject asked = (plan, condition, (subject, asked))
 
 -- nothing was done before it
 pub plan_refusal : (s : Search) (l : Look) (f : Failure) → IsPlanDue s l f → is_refusal f ≡ true
@@ -316,20 +256,43 @@ plan_refusal s l (Definitions error) h = refl
 plan_refusal s l (Condition error) h = refl
 plan_refusal s l (Question name error) h = refl
 plan_refusal s l (Cells name) h = refl
-plan_refusal s l (Interrupted c) h = absurd h
-plan_refusal s l (Line line) h = absurd h
-plan_refusal s l (Record line) h = absurd h
-plan_refusal s l Input h = absurd h
-plan_refusal s l EndOfInput h = absurd h
+plan_refusal s l _ h = absurd h
 
 -- ---- before anything was done
 
-pub make_refused : (s : Search) (l : Look) (notices : Notices) (f : Failure) → (status_of f ≡ 2) × (IsPlanned s l → ⊥) → IsPlanDue s l f → IsRefused (make s l notices) f
-make_refused s l notices f refused due = record {
-  due = make_plan_due s l f due;
-  status = refused_plan (make s l notices) (status_of f) refused.0 refused.1;
-  nothing_done = plan_refusal s l f due;
+tricks_status : (s : Search) (l : Look) (notices : Notices) (n : ℕ) → IsStatusOf (make s l false notices) n → (n ≡ 7 → ⊥) → IsStatusOf (make s l true notices) n
+tricks_status s l notices n h other = record {
+  accepted = h.accepted;
+  unplanned = h.unplanned;
+  meaningless = h.meaningless;
+  threads = h.threads;
+  input = λ e. absurd (other e);
 }
+
+refusal_status : (f : Failure) → is_refusal f ≡ true → status_of f ≡ 7 → ⊥
+refusal_status (Line line) before h = cc
+refusal_status (Record line) before h = cc
+refusal_status Input before h = cc
+refusal_status EndOfInput before h = cc
+refusal_status (Interrupted cause.Memory) before h = omega (arith, h)
+refusal_status (Interrupted _) before h = cc
+refusal_status _ before h = omega (arith, h)
+
+-- what refuses a `make` refuses it with tricks too
+either_way : (s : Search) (l : Look) (tricks : Bool) (notices : Notices) (f : Failure) → IsRefused (make s l false notices) f → IsRefused (make s l tricks notices) f
+either_way s l false notices f h = h
+either_way s l true notices f h = record {
+  due = tricks_due s l f h.nothing_done h.due;
+  status = tricks_status s l notices (status_of f) h.status (refusal_status f h.nothing_done);
+  nothing_done = h.nothing_done;
+}
+
+pub make_refused : (s : Search) (l : Look) (tricks : Bool) (notices : Notices) (f : Failure) → (status_of f ≡ 2) × (IsPlanned s l → ⊥) → IsPlanDue s l f → IsRefused (make s l tricks notices) f
+make_refused s l tricks notices f refused due = either_way s l tricks notices f (record {
+  due = make_plan_due s l f due;
+  status = refused_plan (make s l false notices) (status_of f) refused.0 refused.1;
+  nothing_done = plan_refusal s l f due;
+})
 
 pub pick_refused : (seed : ℕ) (hands : GivenHands) (l : Look) (tricks : Bool) (hints : When) (f : Failure) → (status_of f ≡ 2) × (IsPlanned (no_search seed hands) l → ⊥) → IsPlanDue (no_search seed hands) l f
     → IsRefused (pick seed hands l tricks hints) f
@@ -391,55 +354,17 @@ questions_refused s q style notices f plan form means status memory due = record
     refusal (inl memory) = rw memory refl
     refusal (inr refused) = questions_refusal s.let_text q f refused
 
-pub meaning_refused : (s : Search) (l : Look) (notices : Notices) (f : Failure) → IsPlanned s l → (status_of f ≡ 5) ⊎ (status_of f ≡ 3) → ((form : Form) → Means s form → status_of f ≡ 5)
-    → IsConditionFailure s f → IsRefused (make s l notices) f
-meaning_refused s l notices f plan status memory due = record {
+pub meaning_refused : (s : Search) (l : Look) (tricks : Bool) (notices : Notices) (f : Failure) → IsPlanned s l → (status_of f ≡ 5) ⊎ (status_of f ≡ 3) → ((form : Form) → Means s form → status_of f ≡ 5)
+    → IsConditionFailure s f → IsRefused (make s l tricks notices) f
+meaning_refused s l tricks notices f plan status memory due = either_way s l tricks notices f (record {
   due = condition_due s l f plan due;
   status = by_status status;
   nothing_done = condition_refusal s f due;
-}
+})
   where
     no_meaning : status_of f ≡ 3 → ((form : Form) × Means s form) → ⊥
     no_meaning is means = let five : status_of f ≡ 5 = memory means.0 means.1 in omega (arith, is, five)
 
-    by_status : (status_of f ≡ 5) ⊎ (status_of f ≡ 3) → IsStatusOf (make s l notices) (status_of f)
-    by_status (inl is) = out_of_memory (make s l notices) (status_of f) is
-    by_status (inr is) = refused_meaning (make s l notices) (status_of f) is plan (no_meaning is)
-
--- ---- the same with tricks
-
-tricks_status : (s : Search) (l : Look) (notices : Notices) (n : ℕ) → IsStatusOf (make s l notices) n → (n ≡ 7 → ⊥) → IsStatusOf (make_with_tricks s l notices) n
-tricks_status s l notices n h other = record {
-  accepted = h.accepted;
-  unplanned = h.unplanned;
-  meaningless = h.meaningless;
-  threads = h.threads;
-  input = λ e. absurd (other e);
-}
-
-refusal_status : (f : Failure) → is_refusal f ≡ true → status_of f ≡ 7 → ⊥
-refusal_status (CommandLine text) before h = omega (arith, h)
-refusal_status (Plan error) before h = omega (arith, h)
-refusal_status (Label name) before h = omega (arith, h)
-refusal_status (Hand seat) before h = omega (arith, h)
-refusal_status (Definitions error) before h = omega (arith, h)
-refusal_status (Condition error) before h = omega (arith, h)
-refusal_status (Question name error) before h = omega (arith, h)
-refusal_status (Cells name) before h = omega (arith, h)
-refusal_status (Interrupted cause.Memory) before h = omega (arith, h)
-refusal_status (Interrupted cause.Output) before h = omega (arith, h)
-refusal_status (Interrupted cause.Spawn) before h = omega (arith, h)
-refusal_status (Interrupted (cause.Stopped worker)) before h = omega (arith, h)
-refusal_status (Interrupted (cause.Unclosed worker)) before h = omega (arith, h)
-refusal_status (Line line) before h = cc
-refusal_status (Record line) before h = cc
-refusal_status Input before h = cc
-refusal_status EndOfInput before h = cc
-
--- what refuses a `make` refuses it with tricks
-pub tricks_refused : (s : Search) (l : Look) (notices : Notices) (f : Failure) → IsRefused (make s l notices) f → IsRefused (make_with_tricks s l notices) f
-tricks_refused s l notices f h = record {
-  due = tricks_due s l f h.nothing_done h.due;
-  status = tricks_status s l notices (status_of f) h.status (refusal_status f h.nothing_done);
-  nothing_done = h.nothing_done;
-}
+    by_status : (status_of f ≡ 5) ⊎ (status_of f ≡ 3) → IsStatusOf (make s l false notices) (status_of f)
+    by_status (inl is) = out_of_memory (make s l false notices) (status_of f) is
+    by_status (inr is) = refused_meaning (make s l false notices) (status_of f) is plan (no_meaning is)

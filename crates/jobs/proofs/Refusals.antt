@@ -10,7 +10,7 @@ use Rattle.cond_lang.specs.After.{GivesNames}
 use Rattle.jobs.specs.Statuses.{IsStatusWithInput}
 use Rattle.jobs.specs.declared.failure.Failure.{Failure}
 use Rattle.plans.specs.declared.cause.Cause.TheVariants as cause
-use Rattle.jobs.specs.declared.failure.Failure.TheVariants.{CommandLine, Plan, Label, Hand, Definitions, Condition, Question, Cells, Interrupted, Line, Record, Input, EndOfInput}
+use Rattle.jobs.specs.declared.failure.Failure.TheVariants.{CommandLine, Plan, Label, Hand, Definitions, Condition, Question, Cells, Interrupted}
 
 pub refused_status : (e : CondError) → (status_of (failure_of e) ≡ 5) ⊎ (status_of (failure_of e) ≡ 3)
 refused_status TooLong = inr refl
@@ -59,7 +59,4 @@ status_of-status (Interrupted cause.Memory) = (4, omega arith, refl)
 status_of-status (Interrupted cause.Spawn) = (5, omega arith, refl)
 status_of-status (Interrupted (cause.Stopped worker)) = (5, omega arith, refl)
 status_of-status (Interrupted (cause.Unclosed worker)) = (5, omega arith, refl)
-status_of-status (Line line) = (6, omega arith, refl)
-status_of-status (Record line) = (6, omega arith, refl)
-status_of-status Input = (6, omega arith, refl)
-status_of-status EndOfInput = (6, omega arith, refl)
+status_of-status _ = (6, omega arith, refl)

@@ -4,7 +4,7 @@ use Rattle.std.specs.Prelude.{IfSome}
 use Rattle.boards.specs.Headings.{HeadingView}
 use Rattle.boards.specs.Labels.{IsLabel}
 use Rattle.boards.specs.declared.format.Format.{Format}
-use Rattle.boards.specs.declared.format.Format.TheVariants.{Pbn, Hands, Lin, Html, Sheet, Slips, Json, Numbers}
+use Rattle.boards.specs.declared.format.Format.TheVariants.{Pbn}
 use Rattle.captions.specs.Captions.{captions_in}
 use Rattle.captions.proofs.Tested.{labels_stay}
 use Rattle.jobs.specs.Makings.{CanLabel, HasLabels, heading_of, title_of}
@@ -16,13 +16,7 @@ if_given (Some text) can = can text refl
 
 stays : (format : Format) (given : HeadingView) → CanLabel format given.event → CanLabel format given.site → captions_in format given ≡ given
 stays Pbn given event site = labels_stay Pbn given record { event = if_given given.event event; site = if_given given.site site }
-stays Hands given event site = refl
-stays Lin given event site = refl
-stays Html given event site = refl
-stays Sheet given event site = refl
-stays Slips given event site = refl
-stays Json given event site = refl
-stays Numbers given event site = refl
+stays _ given event site = refl
 
 pub written : (l : Look) → HasLabels l → title_of l ≡ heading_of l
 written l labels = stays l.format (heading_of l) labels.event labels.site

@@ -1,6 +1,6 @@
 -- Which failure is told: the first that is due.
 use Rattle.std.specs.Prelude.{◌≡◌, ◌≢◌, ◌≤◌, ◌<◌, ◌^◌, ◌+◌, ◌⊎◌, ℕ, List, [], ◌∷◌, ◌++◌}
-use Rattle.std.specs.Prelude.{None, Option, Some}
+use Rattle.std.specs.Prelude.{None, Option, Some, false, true}
 use Rattle.cond_lang.specs.Asking.{IsDueQuestion}
 use Rattle.cond_lang.specs.After.{IsDueAlone, IsDueAfter, IsDueQuestionAfter}
 use Rattle.cond_lang.specs.Faults.{IsDue}
@@ -18,7 +18,7 @@ use Rattle.jobs.specs.Makings.{IsPlanned, MayBeGiven, Means, TextMeans}
 use Rattle.request_types.specs.Defaults.{lane_of, workers_in}
 use Rattle.request_types.specs.Requests.{Look, Questions, Search, Wish, conditions, count, draw}
 use Rattle.request_types.specs.Requests.{lessons}
-use Rattle.request_types.specs.Requests.{each_question, make, make_with_tricks, no_question, no_search, numbers_look, one_question}
+use Rattle.request_types.specs.Requests.{each_question, make, no_question, no_search, numbers_look, one_question}
 use Rattle.request_types.specs.Requests.{pick, plain_search, show, stream, two_questions}
 use Rattle.jobs.specs.declared.failure.Failure.{Failure}
 use Rattle.jobs.specs.declared.failure.Failure.TheVariants.{Plan, Label, Hand}
@@ -205,8 +205,8 @@ IsDueFor (stream seed n) failure = failure ≡ Interrupted Output
 IsDueFor conditions failure = failure ≡ Interrupted Output
 IsDueFor (lessons l) failure =
     (failure ≡ Interrupted Output) ⊎ (failure ≡ Interrupted Memory)
-IsDueFor (make s l notices) failure = IsMakeDue s l failure
-IsDueFor (make_with_tricks s l notices) failure = IsTricksDue s l failure
+IsDueFor (make s l false notices) failure = IsMakeDue s l failure
+IsDueFor (make s l true notices) failure = IsTricksDue s l failure
 IsDueFor draw failure = IsDrawDue failure
 IsDueFor (count s questions style notices) failure = IsCountDue s questions failure
 IsDueFor (pick seed hands l tricks hints) failure = IsPickDue (no_search seed hands) l failure

@@ -1,5 +1,5 @@
 -- What is ready to be done for a wish, and what refuses it.
-use Rattle.std.specs.Prelude.{◌≡◌, string_bytes, true}
+use Rattle.std.specs.Prelude.{◌≡◌, Bool, string_bytes, true}
 use Rattle.lessons.specs.Lessons.{lessons_text}
 use Rattle.jobs.specs.Counting.{IsAsked}
 use Rattle.jobs.specs.Failures.{is_refusal, status_of}
@@ -10,28 +10,29 @@ use Rattle.jobs.specs.declared.boards_job.BoardsJob.{BoardsJob}
 use Rattle.jobs.specs.declared.failure.Failure.{Failure}
 use Rattle.jobs.specs.declared.job.Job.{Job}
 use Rattle.jobs.specs.declared.job.Job.TheVariants.{Boards, Conditions, Count, Lessons, Pick, Seed}
-use Rattle.jobs.specs.declared.job.Job.TheVariants.{Show, Stream, WithTricks}
+use Rattle.jobs.specs.declared.job.Job.TheVariants.{Show, Stream}
 use Rattle.request_types.specs.Requests.{Look, Search, Wish, conditions, count, draw, make}
-use Rattle.request_types.specs.Requests.{lessons, make_with_tricks, no_search, numbers_look}
+use Rattle.request_types.specs.Requests.{lessons, no_search, numbers_look}
 use Rattle.request_types.specs.Requests.{pick, show, stream}
 use Rattle.request_types.specs.declared.request.Notices.{Notices}
 use Rattle.statistics.specs.Subjects.{subject_of}
 
 -- the job does what is wished for: its plan, its labels, its hands, its condition and its questions
 -- are accepted
-pub record IsReadyRun (s : Search) (l : Look) (notices : Notices) (job : BoardsJob) : Type 0 where
+pub record IsReadyRun (s : Search) (l : Look) (tricks : Bool) (notices : Notices) (job : BoardsJob)
+    : Type 0 where
   pub planned : IsPlanned s l
   pub plan_is : job.plan ≡ plan_of s l
   pub means : Means s job.condition
   pub heading_is : job.heading ≡ heading_of l
   pub format_is : job.format ≡ l.format
   pub show_is : job.show ≡ l.show
+  pub tricks_are : job.tricks ≡ tricks
   pub workers_are : job.workers ≡ s.workers
   pub report_is : job.report ≡ notices.report
 
 abbrev pub IsReady : Wish → Job → Type 0
-IsReady (make s l notices) (Boards job) = IsReadyRun s l notices job
-IsReady (make_with_tricks s l notices) (WithTricks job) = IsReadyRun s l notices job
+IsReady (make s l tricks notices) (Boards job) = IsReadyRun s l tricks notices job
 IsReady draw Seed = Unit {0}
 IsReady (count s questions style notices) (Count job) =
     IsPlanned s numbers_look × (job.plan ≡ plan_of s numbers_look)
@@ -50,8 +51,8 @@ IsReady _ _ = ⊥
 
 -- the job reads the input
 abbrev pub ReadsInput : Job → Type 0
+ReadsInput (Boards job) = job.tricks ≡ true
 ReadsInput (Pick job) = Unit {0}
-ReadsInput (WithTricks job) = Unit {0}
 ReadsInput (Show job) = Unit {0}
 ReadsInput Seed = Unit {0}
 ReadsInput _ = ⊥

@@ -1,61 +1,41 @@
 -- What has to be accepted of a wish, and what a status says of it.
-use Rattle.std.specs.Prelude.{◌≡◌, ◌⊎◌, ℕ, [], ◌∷◌, Contains}
+use Rattle.std.specs.Prelude.{◌≡◌, ◌⊎◌, ℕ, [], ◌∷◌, Contains, true}
 use Rattle.cond_lang.specs.Form.{Form}
 use Rattle.jobs.specs.Counting.{IsAsked}
 use Rattle.jobs.specs.Makings.{HasLabels, IsPlanned, Means}
-use Rattle.request_types.specs.Requests.{Wish, conditions, count, draw, make, make_with_tricks}
-use Rattle.request_types.specs.Requests.{lessons, no_search, numbers_look, pick, show, stream}
+use Rattle.request_types.specs.Requests.{Wish, count, draw, make, no_search, numbers_look, pick}
+use Rattle.request_types.specs.Requests.{show}
 use Rattle.statistics.specs.Counting.{Subject}
 
 -- the words of a wish have to be accepted, so far as they are neither a condition nor a question
 abbrev pub HasPlan : Wish → Type 0
-HasPlan (stream seed n) = Unit {0}
-HasPlan conditions = Unit {0}
-HasPlan (lessons l) = Unit {0}
-HasPlan (make s l notices) = IsPlanned s l
-HasPlan (make_with_tricks s l notices) = IsPlanned s l
-HasPlan draw = Unit {0}
+HasPlan (make s l tricks notices) = IsPlanned s l
 HasPlan (count s questions style notices) = IsPlanned s numbers_look
 HasPlan (pick seed hands l tricks hints) = IsPlanned (no_search seed hands) l
 HasPlan (show l hints) = HasLabels l
+HasPlan _ = Unit {0}
 
 -- the definitions, the condition and the questions of a wish have to be accepted
 abbrev pub HasMeaning : Wish → Type 0
-HasMeaning (stream seed n) = Unit {0}
-HasMeaning conditions = Unit {0}
-HasMeaning (lessons l) = Unit {0}
-HasMeaning (make s l notices) = (form : Form) × Means s form
-HasMeaning (make_with_tricks s l notices) = (form : Form) × Means s form
-HasMeaning draw = Unit {0}
+HasMeaning (make s l tricks notices) = (form : Form) × Means s form
 HasMeaning (count s questions style notices) =
     ((form : Form) × Means s form)
     × ((subject : Subject) × IsAsked s.let_text questions subject)
-HasMeaning (pick seed hands l tricks hints) = Unit {0}
-HasMeaning (show l hints) = Unit {0}
+HasMeaning _ = Unit {0}
 
 -- a wish that is served by threads
 abbrev pub HasRun : Wish → Type 0
-HasRun (stream seed n) = ⊥
-HasRun conditions = ⊥
-HasRun (lessons l) = ⊥
-HasRun (make s l notices) = Unit {0}
-HasRun (make_with_tricks s l notices) = Unit {0}
-HasRun draw = ⊥
+HasRun (make s l tricks notices) = Unit {0}
 HasRun (count s questions style notices) = Unit {0}
-HasRun (pick seed hands l tricks hints) = ⊥
-HasRun (show l hints) = ⊥
+HasRun _ = ⊥
 
 -- a wish that reads the input
 abbrev pub HasInput : Wish → Type 0
-HasInput (stream seed n) = ⊥
-HasInput conditions = ⊥
-HasInput (lessons l) = ⊥
-HasInput (make s l notices) = ⊥
-HasInput (make_with_tricks s l notices) = Unit {0}
-HasInput draw = Unit {0}
-HasInput (count s questions style notices) = ⊥
+HasInput (make s l tricks notices) = tricks ≡ true
 HasInput (pick seed hands l tricks hints) = Unit {0}
 HasInput (show l hints) = Unit {0}
+HasInput draw = Unit {0}
+HasInput _ = ⊥
 
 -- a status of the program, and of that with an input
 abbrev pub IsStatus : ℕ → Type 0

@@ -18,6 +18,8 @@ pub struct BoardsJob {
     pub heading: Captions,
     pub format: Format,
     pub show: Show,
+    /// Whether the input tells what can be made on each board.
+    pub tricks: bool,
     /// How many workers are asked for: with `Auto` the plan has one, until the job is done.
     pub workers: Workers,
     ghost workers_are: { plan.workers ≡ workers_in workers },

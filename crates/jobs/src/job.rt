@@ -2,7 +2,7 @@
 
 ghost use Rattle.std.specs.Prelude.{IfErr, IfOk};
 ghost use Rattle.jobs.specs.Jobs.{IsReady, IsReadyRun, IsRefused};
-ghost use Rattle.request_types.specs.Requests.{count, look_of, make, make_with_tricks};
+ghost use Rattle.request_types.specs.Requests.{count, look_of, make};
 ghost use Rattle.request_types.specs.Requests.{questions_of, search_of, wish_of};
 ghost use Rattle.request_types.specs.declared.request.Notices.{Notices as ANotices};
 
@@ -22,8 +22,6 @@ use std::alloc::Global;
 #[derive(Drop)]
 pub enum Job {
     Boards(BoardsJob),
-    /// Boards with their tricks, of which the input tells.
-    WithTricks(BoardsJob),
     Count(CountJob),
     Pick(PickJob),
     Show(ShowJob),
@@ -70,21 +68,10 @@ pub fn prepare(alloc: Global, request: &Request<'_>) -> Result<Job, Failure>
             look,
             tricks,
             notices,
-        } => {
-            let job = boards_job(alloc, search, look, notices)?;
-            if *tricks {
-                Ok(Job::WithTricks(job))
-            } else {
-                Ok(Job::Boards(job))
-            }
-        }
-        Request::Find {
-            search,
-            format,
-            notices,
-        } => {
-            let job = boards_job(alloc, search, &Look::plain(*format), notices)?;
-            Ok(Job::Boards(job))
+        } => { Ok(Job::Boards(boards_job(alloc, search, look, *tricks, notices)?)) }
+        Request::Find { search, notices } => {
+            let look = Look::plain(Format::Numbers);
+            Ok(Job::Boards(boards_job(alloc, search, &look, false, notices)?))
         }
         Request::Count {
             search,
@@ -130,14 +117,13 @@ fn boards_job(
     alloc: Global,
     search: &Search<'_>,
     look: &Look<'_>,
+    tricks: bool,
     notices: &Notices,
 ) -> Result<BoardsJob, Failure>
     ensures ready { IfOk result
-        (IsReadyRun (search_of search.now) (look_of look.now) notices.now) }
+        (IsReadyRun (search_of search.now) (look_of look.now) tricks notices.now) }
     ensures refused { IfErr result
-        (IsRefused (make (search_of search.now) (look_of look.now) notices.now)) }
-    ensures refused_with_tricks { IfErr result
-        (IsRefused (make_with_tricks (search_of search.now) (look_of look.now) notices.now)) }
+        (IsRefused (make (search_of search.now) (look_of look.now) tricks notices.now)) }
 {
     let (plan, heading) = planned(search, look)?;
     let condition = read_condition(alloc, search)?;
@@ -147,6 +133,7 @@ fn boards_job(
         heading,
         format: look.format,
         show: look.show,
+        tricks,
         workers: search.workers,
         report: notices.report,
     })

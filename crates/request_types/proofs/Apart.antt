@@ -97,9 +97,7 @@ seat_has West hands c e h = first_is West (has_given hands.north c) (has_given h
 
 own_seat : (seat : Seat) → is_fixed_at seat (Some seat) ≡ true
 own_seat North = refl
-own_seat East = refl
-own_seat South = refl
-own_seat West = refl
+own_seat _ = refl
 
 at_card : (f : ℕ → Option Seat) (c : ℕ) → c < 52 → get_or (map f pack) c None ≡ f c
 unfolding pack

@@ -39,6 +39,6 @@ rule_of LowerCase = codes "ranks are capital letters, A K Q J T 9 8 7 6 5 4 3 2"
 rule_of TenAsDigits = codes "a ten is written T"
 rule_of (Unknown i) = codes "write A K Q J T 9 8 7 6 5 4 3 2 and dots, and leave open cards out"
 rule_of Dots = codes "three dots part spades, hearts, diamonds and clubs, as AKQ32.K..A"
-rule_of (Twice c) = card_words c ++ codes " stands there twice"
+rule_of (Twice c) = card_words c ++ codes " is there twice"
 rule_of TooMany = codes "a hand has 13 cards at most"
 rule_of (Held c seat) = card_words c ++ holder_words seat

@@ -1,6 +1,6 @@
 -- What can be asked for.
 use Rattle.std.specs.Prelude.{ℕ, Bool, List, Option, None, Some, false, option_map}
-use Rattle.std.specs.Prelude.{[], ◌∷◌, if◌then◌else◌, map, option_to_list}
+use Rattle.std.specs.Prelude.{[], ◌∷◌, map, option_to_list}
 use Rattle.std.specs.List.{flat_map}
 use Rattle.boards.specs.declared.setting.Vul.{Vul}
 use Rattle.cards.specs.declared.seat.Seat.{Seat}
@@ -90,7 +90,7 @@ plain_notices = record { report = false; progress = Auto; hints = Auto }
 abbrev pub look_as : Format → Look
 look_as format = record plain_look { format = format }
 
--- the look of what `find` writes: the numbers of candidates
+-- the look of what `find` and `count` search for: the numbers of candidates
 abbrev pub numbers_look : Look
 numbers_look = look_as Numbers
 
@@ -111,10 +111,9 @@ pub data Questions : Type 0 where
   each_question : List (List ℕ) → Questions
 
 pub data Wish : Type 0 where
-  -- `make`, and `find` with the look of its format alone
-  make : Search → Look → Notices → Wish
-  -- the same with the boards' tricks, of which the input tells
-  make_with_tricks : Search → Look → Notices → Wish
+  -- `make`, with the boards' tricks, of which the input tells, or without; and `find`, with the
+  -- look of its format alone
+  make : Search → Look → (tricks : Bool) → Notices → Wish
   -- a table of what the accepted deals answer
   count : Search → Questions → Style → Notices → Wish
   -- the page of the language
@@ -178,9 +177,8 @@ questions_of (questions.Each texts) = each_question (texts_of texts)
 
 abbrev pub wish_of : Request → Wish
 wish_of (Make search look tricks notices) =
-    if tricks then make_with_tricks (search_of search) (look_of look) notices
-    else make (search_of search) (look_of look) notices
-wish_of (Find search format notices) = make (search_of search) (look_as format) notices
+    make (search_of search) (look_of look) tricks notices
+wish_of (Find search notices) = make (search_of search) numbers_look false notices
 wish_of (Count search asked style notices) =
     count (search_of search) (questions_of asked) style notices
 wish_of (Pick seed hands look tricks hints) =

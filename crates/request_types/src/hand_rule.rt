@@ -11,7 +11,7 @@ use std::alloc::AllocError;
 
 impl HandFault {
     /// Appends what a person should know to write the text right: `a ten is written T`, or
-    /// `the ace of spades stands there twice`.
+    /// `the ace of spades is there twice`.
     ///
     /// # Errors
     /// `AllocError` if an allocation failed.
@@ -29,7 +29,7 @@ impl HandFault {
             HandFault::Dots => {
                 line.push_str("three dots part spades, hearts, diamonds and clubs, as AKQ32.K..A")
             }
-            HandFault::Twice(card) => put_card(line, card, " stands there twice"),
+            HandFault::Twice(card) => put_card(line, card, " is there twice"),
             HandFault::TooMany => line.push_str("a hand has 13 cards at most"),
             HandFault::Held(card, seat) => put_card(line, card, of_holder(seat)),
         }

@@ -41,11 +41,9 @@ pub enum Request<'a> {
         tricks: bool,
         notices: Notices,
     },
-    /// What the format writes of the accepted candidates, where no option of the boards' look is
-    /// given: their numbers.
+    /// The numbers of the accepted candidates.
     Find {
         search: Search<'a>,
-        format: Format,
         notices: Notices,
     },
     /// A table of what the accepted deals answer.
@@ -85,8 +83,9 @@ impl<'a> Request<'a> {
     pub fn plans(&self) -> Option<(Search<'a>, Look<'a>)> {
         match self {
             Request::Make { search, look, .. } => Some((*search, *look)),
-            Request::Find { search, format, .. } => Some((*search, Look::plain(*format))),
-            Request::Count { search, .. } => Some((*search, Look::plain(Format::Numbers))),
+            Request::Find { search, .. } | Request::Count { search, .. } => {
+                Some((*search, Look::plain(Format::Numbers)))
+            }
             Request::Pick {
                 seed,
                 hands,

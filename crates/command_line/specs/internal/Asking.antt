@@ -26,8 +26,8 @@ pub record AsksShow (words : List Text) (rows : List Row) : Type 0 where
   pub unknown : has_unknown (codes "show") rows ≡ true → IsRefused words InvalidValue
 
 -- words that name `make` or one of its kind ask for it if each word is one of its option's values,
--- the lesson is one, the workers are a number or `auto`, no option is missing and no question is too
--- many, and else they are refused
+-- the lesson is one, the workers are a number or `auto`, no option is missing and no question is
+-- too many, and else they are refused
 pub record AsksMake (words : List Text) (name : Text) (rows : List Row) : Type 0 where
   pub ends : has_unknown name rows ≡ false → is_no_lesson (codes "lesson") rows ≡ false
       → has_bad_workers rows ≡ false → lacks_option name (search_in rows) rows ≡ false

@@ -2,7 +2,6 @@ use Rattle.std.proofs.Common.{◌≡◌, ◌+◌, ◌<◌, ◌++◌, ◌∷◌, 
 use Rattle.std.specs.Prelude.{option_to_list}
 use Rattle.std.proofs.lemmas.List.{append-nil}
 use Rattle.std.proofs.lemmas.Result.{err_from_is_err_and}
-use Rattle.statistics.specs.Counting.{Asked}
 use Rattle.request_types.specs.Requests.{each_question, places_of, texts_of}
 use Rattle.request_types.specs.declared.names.QuestionName.TheVariants.{Of}
 use Rattle.jobs.specs.Counting.{AskEach}

@@ -1,6 +1,7 @@
 //! Options without their two hyphens: a word processor makes a dash of them, a person writes one.
 
-use crate::{joined, options};
+use crate::words::joined;
+use command_line::known_option;
 use std::alloc::Global;
 
 /// The dashes that word processors write, and the minus sign.
@@ -25,10 +26,7 @@ fn of_hyphen(alloc: Global, name: &str) -> Option<String> {
     if name.starts_with('-') {
         return None;
     }
-    joined(
-        alloc,
-        &["write two hyphens: ", options::named(name)?.option],
-    )
+    joined(alloc, &["write two hyphens: --", known_option(name)?.id])
 }
 
 /// The name of an option at the start of a word, as far as letters go.

@@ -1,24 +1,16 @@
 //! Options, commands and words that people try first, and what to write in their place.
 
-use crate::table::{find, find_small};
+use crate::words::table::{find, find_small};
 use std::alloc::Global;
 
-const BY_WHERE: &str = "a condition comes after --where, in quotes: --where 'hcp(north)>=15'";
-
-pub(crate) const HOW_MANY: &str =
-    "--boards 36 says how many boards, --candidates 1000 how many deals are tried";
-
-const NUMBERS_OF_PICK: &str =
-    "numbers come from the input, one a line: printf '1\\n4\\n' | deals pick --seed 7";
-
-const BEHIND_OPTIONS: &str = "each value comes after its option, as --seed 7 --boards 36";
+const AFTER_OPTIONS: &str = "each value comes after its option, as --seed 7 --boards 36";
 
 /// Options, first words in place of a command, commands, and words that are no option.
 const ROWS: &str = "
     option --output --out --outfile --file --save -o => \
         boards go to standard output, and so into a file: deals make .. > boards.pbn
-    option --condition --conditions --filter --if --accept --constraint => \
-        a condition comes after --where, in quotes: --where 'hcp(north)>=15'
+    option --condition --conditions --filter --if --accept --constraint --hcp --balanced --len \
+        --length --shape => a condition comes after --where, in quotes: --where 'hcp(north)>=15'
     option --script --where-file => write --where \"$(cat FILE)\" for a condition in a file
     option --input --in --infile --in-file -i => \
         boards of a file come from standard input: deals show < boards.pbn
@@ -26,7 +18,7 @@ const ROWS: &str = "
         --boards 36 says how many boards, --candidates 1000 how many deals are tried
     option --average --mean --frequency --stats --statistics => \
         deals count tells how often each number comes, and the mean: --of 'hcp(north)'
-    option --pbn --html --lin --json --hands --pdf --type => \
+    option|word --pbn --html --lin --json --hands --pdf --type pbn hands lin html json pdf => \
         boards are PBN, or what --format says: --format hands, lin, html, sheet, slips or json
     option --title --name --tournament => write --event 'Club night' for the name of the event
     option --place --location --club => write --site 'Bridge club' for the club or the place
@@ -54,8 +46,6 @@ const ROWS: &str = "
         slips for hands to be cut out
     option --numbers => \
         numbers come from the input, one a line: printf '1\\n4\\n' | deals pick --seed 7
-    option --hcp --balanced --len --length --shape => \
-        a condition comes after --where, in quotes: --where 'hcp(north)>=15'
     option --sections --section --tables --rounds => \
         every section can play the same file of boards; for other boards draw a seed for each
     option --shuffle => every deal is shuffled: without --where all of them are kept
@@ -85,8 +75,6 @@ const ROWS: &str = "
     command usage man ? => write deals --help, or deals make --help
     command examples example => deals conditions has examples, and deals make --help commands
 
-    word pbn hands lin html json pdf => \
-        boards are PBN, or what --format says: --format hands, lin, html, sheet, slips or json
     word help => write deals --help, or deals make --help
 ";
 
@@ -97,17 +85,28 @@ pub(crate) fn of(alloc: Global, kind: &str, word: &str) -> Option<&'static str> 
 
 /// What to write in the place of a word that belongs to no option of this command.
 pub(crate) fn of_word(command: &str, word: &str) -> &'static str {
+    of_value(command, word)
+        .or(known_word(word))
+        .unwrap_or(AFTER_OPTIONS)
+}
+
+/// What to write in the place of a value without its option: what the table has for an option that
+/// people try with such a value.
+fn of_value(command: &str, word: &str) -> Option<&'static str> {
     if word.contains('(') || word.contains(">=") {
-        return BY_WHERE;
+        return of_option("--condition");
     }
-    if word.parse::<u64>().is_ok() {
-        return if command == "pick" {
-            NUMBERS_OF_PICK
-        } else {
-            HOW_MANY
-        };
-    }
-    known_word(word).unwrap_or(BEHIND_OPTIONS)
+    word.parse::<u64>().ok()?;
+    of_option(if command == "pick" {
+        "--numbers"
+    } else {
+        "--count"
+    })
+}
+
+/// What to write in the place of this option.
+pub(crate) fn of_option(option: &str) -> Option<&'static str> {
+    find(ROWS, "option", option)
 }
 
 /// What to write in the place of this word, if it is one that people try.

@@ -1,7 +1,8 @@
 //! Numbers that aren't written in digits alone, or are too large.
 
-use crate::missing::TO_DRAW;
-use crate::{joined, options, valued};
+use crate::words::missing::TO_DRAW;
+use crate::words::{joined, valued};
+use command_line::known_option;
 use std::alloc::Global;
 
 /// Numbers that people write as a word.
@@ -56,14 +57,14 @@ fn of_digits(alloc: Global, option: &str, word: &str, digits: &str) -> Option<St
 
 /// What helps with what is no number.
 fn whole(alloc: Global, option: &str) -> Option<String> {
-    let sample = options::named(option)?.sample;
+    let sample = known_option(option)?.sample;
     let draw = if option == "--seed" { TO_DRAW } else { "" };
     let before = "write a whole number in digits alone, as ";
     valued(alloc, before, option, sample, draw)
 }
 
 /// What is after the sign of a number, which is taken for an option with that.
-pub(crate) fn behind_sign(word: &str) -> Option<&str> {
+pub(crate) fn after_sign(word: &str) -> Option<&str> {
     let number = word.strip_prefix('-')?;
     matches!(number.as_bytes(), [b'0'..=b'9', ..]).then_some(number)
 }

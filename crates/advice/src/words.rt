@@ -1,25 +1,25 @@
 //! What helps a person with words that are refused, below what clap says of them.
 //!
 //! `refused` reads what is refused; each other file has the hints of one kind, as tables where it
-//! can. `elsewhere` has the options of other commands. `tips` takes clap's own tips away where they
-//! lead astray. Nothing is claimed of which hint a word gets.
-#![tactic(auto)]
+//! can. Which options there are `command_line` tells; `elsewhere` has those of other commands.
+//! `tips` takes clap's own tips away where they lead astray. Nothing is claimed of which hint a
+//! word gets.
 
 mod elsewhere;
 mod hyphens;
 mod instead;
 mod missing;
 mod numbers;
-mod options;
 mod quotes;
 mod refused;
 mod table;
 mod tips;
 mod values;
 
-use crate::refused::{Refused, What};
+use self::refused::{Refused, What};
+pub use self::tips::without_far_tips;
+use command_line::{Taken, known_option};
 use std::alloc::Global;
-pub use tips::without_far_tips;
 
 const COMMAND_FIRST: &str = "the command comes first: deals make --seed 7 --boards 36";
 
@@ -30,12 +30,12 @@ const HINT: &str = "  hint: ";
 
 /// Returns what helps with words that clap refuses with this text, if anything does, and `None` if
 /// memory runs out.
-pub fn hint(alloc: Global, words: &[String], refusal: &str) -> Option<String> {
+pub(crate) fn hint(alloc: Global, words: &[String], refusal: &str) -> Option<String> {
     let text = match hyphens::hint(alloc, words) {
         Some(text) => text,
         None => hint_for(alloc, words, refused::read(refusal)?)?,
     };
-    // Two hints stand as the lines that they are.
+    // Two hints are lines already.
     if text.as_str().starts_with(HINT) {
         return Some(text);
     }
@@ -89,7 +89,7 @@ fn of_argument(alloc: Global, words: &[String], command: &str, word: &str) -> Op
     if word.starts_with('-') {
         return of_option(alloc, command, word);
     }
-    if is_behind_tricks(words, word) {
+    if is_after_tricks(words, word) {
         return joined(alloc, &["the lines come from its input: --tricks < ", word]);
     }
     if command == "show" {
@@ -115,7 +115,7 @@ fn of_command(alloc: Global, word: &str) -> Option<String> {
 }
 
 /// Whether the word is after the flag `--tricks`, as if that took a file.
-fn is_behind_tricks(words: &[String], word: &str) -> bool {
+fn is_after_tricks(words: &[String], word: &str) -> bool {
     let mut follows = false;
     for given in words {
         if follows && given.as_str() == word {
@@ -128,12 +128,12 @@ fn is_behind_tricks(words: &[String], word: &str) -> bool {
 
 /// What helps with an option that isn't there.
 fn of_option(alloc: Global, command: &str, word: &str) -> Option<String> {
-    if let Some(digits) = numbers::behind_sign(word) {
+    if let Some(digits) = numbers::after_sign(word) {
         return joined(alloc, &["numbers have no sign: write ", digits]);
     }
-    let known = options::named(word);
+    let known = known_option(word);
     if let Some(known) = known
-        && let Some(text) = elsewhere::of_option(command, known.option)
+        && let Some(text) = elsewhere::hint(command, known)
     {
         return joined(alloc, &[text]);
     }
@@ -146,7 +146,7 @@ fn of_name(alloc: Global, name: &str, is_known: bool) -> Option<String> {
     if let Some(text) = instead::of(alloc, "option", name) {
         return joined(alloc, &[text]);
     }
-    if is_known || options::named(name).is_none() {
+    if is_known || known_option(name).is_none() {
         return None;
     }
     joined(alloc, &["write ", name, " in small letters"])
@@ -157,8 +157,8 @@ fn of_value(alloc: Global, command: &str, option: &str, word: &str) -> Option<St
     if let Some(text) = values::hint(alloc, command, option, word) {
         return Some(text);
     }
-    let known = options::named(option)?;
-    if let options::Takes::Number { most } = known.takes {
+    let known = known_option(option)?;
+    if let Taken::Number { most } = known.takes {
         return numbers::hint(alloc, option, most, word);
     }
     if !word.is_empty() {

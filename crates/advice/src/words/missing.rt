@@ -1,7 +1,7 @@
 //! Options that are missing, that have no value, and that occur twice.
 
-use crate::instead::HOW_MANY;
-use crate::{joined, options, valued};
+use crate::words::{instead, joined, valued};
+use command_line::known_option;
 use std::alloc::Global;
 
 /// How to come to a seed for new boards: two hints.
@@ -34,11 +34,10 @@ pub(crate) const NO_COMMAND: &str =
     "write deals make --seed 7 --boards 36 for boards, or deals --help";
 
 /// Options that may be missing, the command or all, and what helps there.
-static ROWS: [(&str, &str, &str); 6] = [
+static ROWS: [(&str, &str, &str); 5] = [
     ("--seed", "pick", SEED_OF_SEARCH),
     ("--seed", "", HOW_TO_SEED),
     ("--candidates", "count", HOW_MANY_TRIED),
-    ("--candidates", "", HOW_MANY),
     ("--of", "", FOR_ROWS),
     ("--count", "", HOW_MANY_NUMBERS),
 ];
@@ -50,6 +49,9 @@ pub(crate) fn of_options(command: &str, missing: &str) -> Option<&'static str> {
             return Some(*text);
         }
     }
+    if missing.contains("--candidates") {
+        return instead::of_option("--count");
+    }
     None
 }
 
@@ -58,7 +60,7 @@ pub(crate) fn of_value(alloc: Global, option: &str) -> Option<String> {
     if option == "--seed" {
         return joined(alloc, &[NO_SEED, TO_DRAW]);
     }
-    let sample = options::named(option)?.sample;
+    let sample = known_option(option)?.sample;
     valued(alloc, "write its value after it: ", option, sample, "")
 }
 

@@ -1,7 +1,7 @@
 //! Values of options in other spellings, and the word to write.
 
-use crate::table::find_small;
-use crate::{joined, valued};
+use crate::words::table::find_small;
+use crate::words::{joined, valued};
 use std::alloc::Global;
 
 /// Spellings of each option's values in small letters, and the value; `count` has its own formats.
@@ -45,7 +45,7 @@ const SPELLINGS: &str = "
     count json jsonl ndjson => json
 ";
 
-/// What a person wants of an option that has no value for it, and what to write then.
+/// What a person asks of an option that has no value for it, and what to write then.
 const WISHES: &str = "
     --dealer rotate rotates rotating auto board default standard => \
         without --dealer the dealer changes from board to board; --rotate gives north's hand to \

@@ -1,8 +1,8 @@
 //! clap's own tips, which are shown to a person only where the word that was tried is close to the
 //! one that there is: clap names the nearest of all, however far it is.
 
-use crate::refused::What;
-use crate::{joined, refused};
+use crate::words::refused::What;
+use crate::words::{joined, refused};
 use std::alloc::Global;
 use strsim::osa_distance;
 

@@ -1,7 +1,7 @@
 //! Texts whose quotes are missing, so that the shell made several words of them.
 
-use crate::options::Takes;
-use crate::{joined, options};
+use crate::words::joined;
+use command_line::{Taken, known_option};
 use std::alloc::{AllocError, Global};
 
 /// The longest text that is shown whole.
@@ -11,7 +11,7 @@ const LONGEST: usize = 60;
 pub(crate) fn hint(alloc: Global, words: &[String], word: &str) -> Option<String> {
     let (from, at) = place(words, word)?;
     let (option, first) = parts(words.get(from)?.as_str());
-    if !matches!(options::named(option)?.takes, Takes::Text) {
+    if !matches!(known_option(option)?.takes, Taken::Text) {
         return None;
     }
     let next = from.saturating_add(1);
