@@ -14,6 +14,7 @@ import serving
 WIDTHS = (360, 768, 1280)
 NARROWEST = 320
 SECONDS = 20
+RESTING = 0.1
 HERE = pathlib.Path(__file__).resolve().parent
 AUDIT = (HERE / "audit.js").read_text()
 NOTRUMP = "balanced(north) and hcp(north) in 15-17 and every major (len(north,major)<5)"
@@ -77,10 +78,18 @@ class Window:
         self.find(f"[name={name}]").find_element("xpath", f"option[.=\"{text}\"]").click()
 
     def press(self, text):
-        """Clicks a button, as a person can: it has to be in sight and nothing before it."""
+        """Clicks a button, as a person can: it has to be in sight, at rest, and nothing before it."""
         found = self.button(text)
         found.location_once_scrolled_into_view  # noqa: B018
+        self.until(lambda: self.is_at_rest(found), f"{text} at rest")
         found.click()
+
+    @staticmethod
+    def is_at_rest(found):
+        """Whether it stays in its place for a moment, which takes time while a page gets its parts."""
+        before = found.rect
+        time.sleep(RESTING)
+        return found.rect == before
 
     def until(self, is_so, what="it"):
         end = time.monotonic() + SECONDS

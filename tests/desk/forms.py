@@ -6,6 +6,7 @@ import board_formats
 import harness
 import packages
 import report
+import serving
 import tables
 from deals_desk import answers, fields, files, words
 
@@ -89,6 +90,7 @@ def listed():
 def typed():
     """The desk's types, by a checker."""
     packages.need("mypy", "/usr/bin/mypy")
+    serving.need()  # the types of its libraries
     folder = harness.TOP / "companion" / "desk"
     with harness.scratch() as cache:
         words = ["/usr/bin/mypy", "--strict", "--no-warn-unused-ignores", f"--cache-dir={cache}", "deals_desk"]

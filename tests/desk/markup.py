@@ -1,6 +1,8 @@
 """The pages' HTML in a checker, and what browsers are told of it."""
 
+import html
 import pathlib
+import re
 import subprocess
 
 import harness
@@ -41,6 +43,45 @@ def checked(desk):
     yield "tidy, a search that is stopped", tidied(desk.get(key).text) or None
 
 
+def empty(desk):
+    """A field that may not be empty is told by the desk's own words, and by no option; pages say it at the field."""
+    lesson, count, night = {"boards": "2", "seed": "7"}, {"candidates": "10", "seed": "7"}, {"boards": "2", "seed": "7", "first_board": "1"}
+    for ask, path, form, name, said in [
+        (desk.get, "/lesson", lesson, "seed", "write a number, 0 to 4294967295"),
+        (desk.get, "/lesson/pbn", lesson, "seed", "write a number, 0 to 4294967295"),
+        (desk.get, "/lesson/boards", lesson, "boards", "say how many boards, 1 to "),
+        (desk.get, "/count", count, "seed", "write a number, 0 to 4294967295"),
+        (desk.get, "/count/csv", count, "candidates", "say how many deals are tried"),
+        (desk.post, "/search", lesson, "seed", "write a number, 0 to 4294967295"),
+        (desk.post, "/tonight", night, "seed", "draw another seed"),
+        (desk.post, "/tonight/more", night, "seed", "draw another seed"),
+        (desk.post, "/tonight/sheet", night, "seed", "draw another seed"),
+    ]:
+        answer = ask(path, {**form, name: ""})
+        _, _, refusal = answer.text.partition(f'<div class="refusal" id="{name}-refusal" role="alert">')
+        told = refusal.partition("</div>")[0]
+        yield f"{path} without {name}", answer.status == 422 and said in told and "--" not in told
+        yield f"tidy, {path} without {name}", not tidied(answer.text)
+
+
+def contracts(desk):
+    """A contract that can't be read is told at its field, and boards with contracts say that sides turn with hands."""
+    form = {"boards": "1", "seed": "7", "where": "len(south,spades)>=6", "makes": "4S-NS"}
+    answer = desk.get("/lesson", {**form, "makes": "4s-ns"})
+    yield "a faulty contract", answer.status == 422 and 'id="makes-refusal"' in answer.text and "<iframe" not in answer.text
+    yield "tidy, a faulty contract", not tidied(answer.text)
+    yield "its file", desk.get("/lesson/pbn", {**form, "makes": "4s-ns"}).status == 422
+    for turn, is_told in (("turn", True), ("S", False)):
+        page = desk.get("/lesson", {**form, "turn": turn}).text
+        yield f"sides turn: {turn}", ("The sides turn with the hands" in page) == is_told and "<iframe" in page
+
+
+def rare(desk):
+    """A page of rare hands notes nothing of the one deal that is tried to check its words."""
+    page = desk.get("/lesson", {"boards": "1", "seed": "7", "where": "hcp(north)>=26"}).text
+    yield "nothing is noted", "<iframe" in page and 'class="note"' not in page and "asked for" not in page
+
+
 def secret(desk):
     """The seed of tonight is in no address and no cookie, and nothing with it is kept by browsers."""
     first = desk.get("/")
@@ -60,8 +101,49 @@ def secret(desk):
     yield "they go on, by another seed", 'value="28"' in next_page and f'value="{seed}"' not in next_page
 
 
+def values(page):
+    """What the form of tonight has on a page."""
+    return {name: html.unescape(value) for name, value in re.findall(r'name="(\w+)" value="([^"]*)" maxlength', page)}
+
+
+def parts(desk):
+    """Boards that are left for more boards stay on the page with their seeds, which are in no address, and come back."""
+    own = {"Cookie": desk.get("/").headers["Set-Cookie"].partition(";")[0]}
+    first = {**values(desk.get("/", headers=own).text), "event": "A & B", "boards": "24"}
+    yield "no other part", "Other boards" not in desk.get("/", headers=own).text
+    desk.post("/tonight/more", first, headers=own)
+    page = desk.get("/", headers=own).text
+    second = values(page)
+    yield "tidy, another part", not tidied(page)
+    yield "the part is there", page.count("Boards 1 to 24: ") == 1 and f"<p>Seed {first['seed']}</p>" in page
+    (name,) = re.findall(r'name="part" value="([^"]+)"', page)
+    back = desk.post("/tonight/back", {**second, "part": name}, headers=own)
+    page = desk.get("/", headers=own).text
+    is_secret = back.headers["Location"] == "/" and first["seed"] not in back.headers["Set-Cookie"] + name
+    yield "back to the part", back.status == 303 and is_secret and values(page) == first
+    yield "the other one stays", f"<p>Seed {second['seed']}</p>" in page and page.count("Boards 25 to 27: ") == 1
+    desk.post("/tonight/back", {**first, "part": name}, headers=own)
+    yield "no such part", values(desk.get("/", headers=own).text) == first
+    yield "a fault first", desk.post("/tonight/back", {**first, "boards": "x", "part": name}, headers=own).status == 422
+    yield "a faulty part is left out", "Boards x" not in desk.get("/", headers=own).text
+    for form in (first, second, first):
+        desk.post("/tonight", form, headers=own)
+    yield "another tab's stay", f"<p>Seed {second['seed']}</p>" in desk.get("/", headers=own).text
+    desk.post("/tonight/new", first, headers=own)
+    page = desk.get("/", headers=own).text
+    yield "the same boards aren't another part", f"Seed {first['seed']}<" not in page and f"Seed {second['seed']}<" in page
+    anew = desk.post("/tonight/more", first)
+    page = desk.get("/", headers={"Cookie": anew.headers["Set-Cookie"].partition(";")[0]}).text
+    yield "a night that was forgotten", f"<p>Seed {first['seed']}</p>" in page
+    yield "nobody else's", "Other boards" not in desk.get("/").text
+
+
 def pages():
     serving.need()
     with serving.desk() as desk:
         yield from checked(desk)
+        yield from report.judged(empty(desk))
+        yield from report.judged(contracts(desk))
+        yield from report.judged(rare(desk))
         yield from report.judged(secret(desk))
+        yield from report.judged(parts(desk))

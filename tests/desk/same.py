@@ -3,6 +3,8 @@
 import html
 import json
 import re
+import shlex
+import subprocess
 
 import report
 import serving
@@ -16,9 +18,13 @@ LESSONS = [
     {"boards": "3", "seed": "7", "turn": "turn", "where": WHERE, "show": "ns", "points": "hide"},
     {"boards": "3", "seed": "7", "turn": "E", "show": "dealer"},
     {"boards": "2", "seed": "7", "turn": "turn", "where": "len(south,spades)>=5", "makes": "4S-NS", "beaten": "3NT-NS"},
+    {"boards": "2", "seed": "9", "vulnerable": "All", "turn": "", "makes": "2H-E 1C-N", "event": "Contracts", "points": "hide"},
 ]
 # The options of the fields that change how a file looks.
 LOOKS = {"show": "--show=", "points": "--points="}
+# Those that a solver isn't given, since PBN may lack their letters.
+LABELS = {"event": "--event=", "site": "--site="}
+LETTERS = {"event": "Łódź", "site": "Zürich"}
 COUNTS = [
     {"candidates": "3000", "seed": "7", "where": WHERE, "of": "len(south,spades)"},
     {"candidates": "1000", "seed": "7", "of": "hcp(north)", "by": "len(north,spades)"},
@@ -32,22 +38,52 @@ def shown_lines(page):
     return [html.unescape(code) for code in re.findall(r"<pre><code>(.*?)</code></pre>", page, re.DOTALL)]
 
 
+def buttons(page):
+    """The files that the buttons of a lesson's page give."""
+    return re.findall(r'formaction="/lesson/(\w+)"', page.text)
+
+
+def options(form, table):
+    """The options of the fields that a table names."""
+    return [option + form[field] for field, option in table.items() if form.get(field)]
+
+
+def line_of(desk, form, file):
+    """The line that writes a file of a lesson, by the one that its page shows."""
+    unlabelled = {name: value for name, value in form.items() if name not in LABELS}
+    (line,) = shown_lines(desk.get("/lesson", unlabelled if file.tricks else form).text)
+    plain = re.sub(r" --(show|points)=\w+", "", line)
+    look = [*options(form, {field: LOOKS[field] for field in file.asks}), *file.look]
+    if not file.tricks:
+        return plain.replace("--format=html", " ".join(look))
+    shown = shlex.join(["deals", "show", *options(form, LABELS), *look])
+    return f"{plain.replace('--format=html', '--format=pbn')} | deals-tricks --add | {shown}"
+
+
 def lessons(desk):
+    """All buttons, those of a page on which nothing is dealt yet too, give what their lines write."""
+    first = buttons(desk.get("/lesson"))
+    yield "a button for each file", {*first, "boards"} == set(files.LESSON)
     for form in LESSONS:
-        page = desk.get("/lesson", form)
-        (line,) = shown_lines(page.text)
-        given = desk.get("/lesson/boards", form)
-        yield f"lesson, {form}", given.status == 200 and given.body == serving.typed(line) and b"Board 1" in given.body
-        for name in files.LESSON:
-            if "makes" in form and files.BY_NAME[name].tricks:
-                continue
-            options = [LOOKS[field] + form[field] for field in files.BY_NAME[name].asks if form.get(field)]
-            plain = re.sub(r" --(show|points)=\w+", "", line)
-            other = plain.replace("--format=html", " ".join([*options, *files.BY_NAME[name].look]))
-            if files.BY_NAME[name].tricks:
-                continue
-            given = desk.get(f"/lesson/{name}", form)
-            yield f"lesson, {name}", given.status == 200 and given.body == serving.typed(other) != b""
+        yield f"the same buttons after Deal, {form}", buttons(desk.get("/lesson", form)) == first
+        given = {name: desk.get(f"/lesson/{name}", form) for name in ("boards", *first)}
+        for name, answer in given.items():
+            is_same = answer.body == serving.typed(line_of(desk, form, files.BY_NAME[name])) != b""
+            yield f"lesson, {name}, {form}", answer.status == 200 and is_same
+        boards = given["tricks"].text.split('<section class="board')[1:]
+        yield "a sheet with tricks", len(boards) == int(form["boards"]) and all("Par " in board for board in boards)
+
+
+def contracts(desk):
+    """The contracts make on each board, and their sides turn with its hands, as the page says."""
+    yield "the sides turn", "the sides turn with the hands" in desk.get("/lesson").text
+    for form in LESSONS:
+        games = desk.get("/lesson/pbn", form).text.removeprefix("% PBN 2.1\n").split("\n\n")[:-1] if "makes" in form else []
+        for number, game in enumerate(games):
+            names = form["makes"].split()
+            turned = [name.replace("-NS", "-EW") for name in names] if form["turn"] == "turn" and number % 2 else names
+            kept = subprocess.run([serving.TRICKS, *(f"--makes={name}" for name in turned)], input=game, capture_output=True, text=True)
+            yield f"{turned} on board {number + 1}", kept.stdout == game != ""
 
 
 def counts(desk):
@@ -67,8 +103,26 @@ def nights(desk):
         yield f"tonight, {name}, not kept", given.headers["Cache-Control"] == "no-store"
 
 
+def letters(desk):
+    """Letters that PBN lacks are in pages and sheets; of the files PBN alone refuses them, and says that it does."""
+    night, lesson = {**TONIGHT, **LETTERS}, {**LESSONS[0], **LETTERS}
+    asked = [*((name, desk.post(f"/tonight/{name}", night)) for name in files.TONIGHT),
+             *((name, desk.get(f"/lesson/{name}", lesson)) for name in files.LESSON)]
+    for name, given in asked:
+        file = files.BY_NAME[name]
+        if file.type == files.PBN:
+            yield "PBN refuses letters", given.status == 422 and "PBN has ASCII letters alone" in given.text and "write Lodz" in given.text
+        else:
+            has_labels = file.type == files.HTML and name != "slips"
+            yield f"letters, {name}", given.status == 200 and (not has_labels or all(text in given.text for text in LETTERS.values()))
+    yield "letters, more boards", desk.post("/tonight/more", night).status == 303
+    yield "letters, kept", desk.post("/tonight", night).status == 303
+    yield "letters, Deal", desk.get("/lesson", lesson).status == 200
+    yield "too long a label", desk.post("/tonight/more", {**night, "event": 101 * "Ł"}).status == 422
+
+
 def bytes_of_lines():
     serving.need()
     with serving.desk() as desk:
-        for part in (lessons, counts, nights):
+        for part in (lessons, contracts, letters, counts, nights):
             yield from report.judged(part(desk))

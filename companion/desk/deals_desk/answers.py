@@ -21,6 +21,8 @@ MARK = re.compile(r"^ *(\^+)$", re.MULTILINE)
 EXPECTED = re.compile(r"^  expected (.*)$", re.MULTILINE)
 NOTE = re.compile(r"^note: (.*)$", re.MULTILINE)
 HINT = re.compile(r"^  hint: (.*)$", re.MULTILINE)
+# What PBN takes of a label that other files take.
+BY_PBN = 'PBN has ASCII letters alone there, without " and \\. Sheets, slips and pages have all letters.'
 # Lines that help only who types commands.
 OF_A_SHELL = ("Usage: ", "For more information, try ")
 # A hint that puts one word in the place of the marked one.
@@ -106,6 +108,14 @@ def mended(text: str, at: int, length: int, hints: tuple[str, ...]) -> tuple[str
 def note(said: str) -> str:
     """What is noted of a condition that is accepted; nothing if nothing is."""
     return "\n".join(NOTE.findall(said))
+
+
+def by_pbn(answer: Answer) -> Answer:
+    """The answer, where a label that other files take is refused by PBN."""
+    if answer.field not in fields.LABELS:
+        return answer
+    hints = "\n".join(f"  hint: {hint}" for hint in answer.hints)
+    return dataclasses.replace(answer, line=f"{answer.line}: {BY_PBN}", text=hints)
 
 
 def read(said: str, form: dict[str, str]) -> Answer:

@@ -27,7 +27,7 @@ def check(name: str) -> Response:
     if not text:
         return jsonify(None)
     asked = words.word(TRIED[name], text)
-    command = Command(((DEALS, "count", "--seed=1", "--candidates=1", asked, "--hints=always"),))
+    command = Command(((DEALS, "count", "--seed=1", "--candidates=1", asked),)).hinted()
     try:
         ended = checked(command, {name: text, fields.BY_NAME["of"].name: text} if name == "by" else {name: text})
     except Refused as refused:

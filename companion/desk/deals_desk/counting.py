@@ -3,7 +3,7 @@
 from flask import Blueprint, Response, abort, request
 
 from . import fields, words
-from .desk import Refused, checked, page, written
+from .desk import Refused, bounded, checked, page, written
 from .files import HTML, File
 from .lesson import address
 
@@ -26,6 +26,7 @@ def count() -> Response:
     is_asked = "candidates" in request.args
     if is_asked:
         try:
+            bounded(form, "count")
             checked(words.check_count(form), form)
         except Refused as refused:
             answer = refused.answer
@@ -41,6 +42,7 @@ def table(style: str) -> Response:
     if style not in STYLES:
         abort(404)
     try:
+        bounded(form, "count")
         ended = checked(words.count(form, style), form)
     except Refused as refused:
         return page("refused.html", 422, answer=refused.answer)

@@ -7,7 +7,7 @@ from typing import cast
 from flask import Response, current_app, render_template, request
 
 from . import answers, fields, words
-from .files import File
+from .files import BY_NAME, File
 from .nights import Nights
 from .runs import Ended, Runner
 from .searches import Searches
@@ -43,13 +43,14 @@ class Refused(Exception):
         self.answer = answer
 
 
-def bounded(form: words.Form) -> None:
-    """Refuses more boards than a page may have, which `deals` itself would write."""
+def bounded(form: words.Form, page: str) -> None:
+    """Refuses more boards than a page may have, which `deals` itself would write, and what is empty and may not be."""
     most = desk().runner.limits.boards
     if form.get("boards", "").isdigit() and int(form["boards"]) > most:
         raise Refused(answers.Answer("boards", f"at most {most} boards on a page", ""))
-    if "boards" in form and not form["boards"]:
-        raise Refused(answers.Answer("boards", f"say how many boards, 1 to {most}", ""))
+    for name, needed in fields.NEEDED[page].items():
+        if not form[name]:
+            raise Refused(answers.Answer(name, needed.format(most=most), ""))
 
 
 def checked(command: words.Command, form: dict[str, str]) -> Ended:
@@ -74,10 +75,24 @@ def written(output: bytes, file: File, name: str) -> Response:
     return response
 
 
+def offered(names: Iterable[str]) -> list[File]:
+    """The files of these names that can be had here."""
+    has_solver = desk().runner.has(words.TRICKS)
+    return [BY_NAME[name] for name in names if has_solver or not BY_NAME[name].tricks]
+
+
 def command_of(file: File, form: words.Form) -> words.Command:
     """The command that makes a file of the boards that a form asks for."""
     look = (*words.words_of(form, file.asks), *file.look)
     return words.with_tricks(form, look) if file.tricks else words.boards(form, look)
+
+
+def text_of(file: File, form: dict[str, str]) -> bytes:
+    """A file of a form that isn't refused for all files."""
+    try:
+        return checked(command_of(file, form).hinted(), form).output
+    except Refused as refused:
+        raise Refused(answers.by_pbn(refused.answer)) from None
 
 
 def lines(files: Iterable[File], form: words.Form) -> dict[str, str]:

@@ -97,6 +97,16 @@ DEFAULTS = {
     "search": {"boards": "4", "candidates": "1000000000"},
 }
 
+# What is said at a field that is empty, where a page can't do without it.
+SEED_NEEDED = "write a number, 0 to 4294967295: the same one gives the same boards again"
+BOARDS_NEEDED = "say how many boards, 1 to {most}"
+NEEDED = {
+    "tonight": {"seed": "draw another seed, or write the one whose boards you want again", "boards": BOARDS_NEEDED},
+    "lesson": {"seed": SEED_NEEDED, "boards": BOARDS_NEEDED},
+    "count": {"seed": SEED_NEEDED, "candidates": "say how many deals are tried, as 100000"},
+    "search": {"seed": SEED_NEEDED, "boards": BOARDS_NEEDED},
+}
+
 
 def begins_with(page: str, name: str) -> str:
     """What a field has at first."""

@@ -6,7 +6,8 @@ from flask import Blueprint, Response, abort, request
 
 from . import fields, files, starts, words
 from .answers import note
-from .desk import Refused, bounded, checked, command_of, desk, page, written
+from .desk import Refused, bounded, checked, command_of, desk, offered, page, text_of, written
+from .runs import Ended
 from .words import DEALS, TRICKS, Form
 
 pages = Blueprint("lesson", __name__)
@@ -16,15 +17,17 @@ def asked() -> dict[str, str]:
     return words.asked_for(fields.LESSON, request.args, "lesson")
 
 
-def offered(form: Form) -> list[files.File]:
-    """The files that can be had: with rules on contracts no tricks, since they are counted of other boards."""
-    has_tricks = desk().runner.has(TRICKS) and not words.rules(form)
-    return [files.BY_NAME[name] for name in files.LESSON if has_tricks or not files.BY_NAME[name].tricks]
-
-
 def address(form: Form) -> str:
     """The words of an address, without what is empty."""
     return urlencode({name: value for name, value in form.items() if value})
+
+
+def accepted(form: dict[str, str]) -> Ended:
+    """The run that tells that no field is refused."""
+    bounded(form, "lesson")
+    if words.rules(form):
+        checked(words.check_rules(form), form)
+    return checked(words.check(form), form)
 
 
 @pages.get("/lesson")
@@ -34,13 +37,12 @@ def lesson() -> Response:
     is_asked = bool(request.args.get("boards"))
     if is_asked:
         try:
-            bounded(form)
-            noted = note(checked(words.check(form), form).said)
+            noted = note(accepted(form).said)
         except Refused as refused:
             answer = refused.answer
     line = command_of(files.BY_NAME["boards"], form).line()
     return page(
-        "lesson.html", 422 if answer else 200, form=form, answer=answer, noted=noted, files=offered(form), address=address(form),
+        "lesson.html", 422 if answer else 200, form=form, answer=answer, noted=noted, files=offered(files.LESSON), address=address(form),
         is_dealt=is_asked and not answer, line=line, groups=starts.groups(desk().runner.programs.get(DEALS, "")), has_solver=desk().runner.has(TRICKS),
     )
 
@@ -51,12 +53,9 @@ def file(name: str) -> Response:
     if name not in files.LESSON:
         abort(404)
     wanted = files.BY_NAME[name]
-    if wanted.tricks and words.rules(form):
-        abort(404)
     try:
-        bounded(form)
-        checked(words.check(form), form)
-        ended = checked(command_of(wanted, form), form)
+        accepted(form)
+        text = text_of(wanted, form)
     except Refused as refused:
         return page("refused.html", 422, answer=refused.answer)
-    return written(ended.output, wanted, "lesson")
+    return written(text, wanted, "lesson")

@@ -1,6 +1,7 @@
 """The boards of tonight: what each browser's night asks for. The seed is kept here alone, in memory: in no address, no
 cookie, no log and no file."""
 
+import dataclasses
 import secrets
 import threading
 import time
@@ -11,32 +12,76 @@ COOKIE = "night"
 # Nights are forgotten after this many seconds, the oldest also where there are too many.
 LASTS = 24 * 3600.0
 MOST = 1000
+# So many other parts of a night are kept.
+MOST_PARTS = 12
 
 Night = dict[str, str]
+
+
+@dataclasses.dataclass(frozen=True)
+class Kept:
+    """What a browser has: since when, the boards on its page, and the other parts of its night by their names."""
+
+    since: float
+    night: Night
+    parts: dict[str, Night]
 
 
 class Nights:
     """Nights by the secret names that browsers have for them."""
 
     def __init__(self) -> None:
-        self.all: dict[str, tuple[float, Night]] = {}
+        self.all: dict[str, Kept] = {}
         self.lock = threading.Lock()
 
-    def get(self, key: str | None) -> Night | None:
-        now = time.monotonic()
-        with self.lock:
-            kept = self.all.get(key or "")
-            return dict(kept[1]) if kept and now - kept[0] < LASTS else None
+    def found(self, key: str | None) -> Kept | None:
+        kept = self.all.get(key or "")
+        return kept if kept and time.monotonic() - kept.since < LASTS else None
 
-    def put(self, key: str | None, night: Night) -> str:
-        """Keeps a night, by a new name where there is none, and tells the name."""
+    def get(self, key: str | None) -> Night | None:
         with self.lock:
+            kept = self.found(key)
+            return dict(kept.night) if kept else None
+
+    def parts(self, key: str | None) -> dict[str, Night]:
+        """The other parts of a night, in the order of their boards."""
+        with self.lock:
+            kept = self.found(key)
+            return dict(kept.parts) if kept else {}
+
+    def put(self, key: str | None, night: Night, left: Night | None = None) -> str:
+        """Keeps a night, by a new name where there is none, and tells the name. What its page leaves is another part."""
+        with self.lock:
+            old = self.found(key) or Kept(0, night, {})
             name = key if key and key in self.all else secrets.token_urlsafe(16)
             self.all.pop(name, None)
-            self.all[name] = (time.monotonic(), night)
+            self.all[name] = Kept(time.monotonic(), night, others(old, night, left))
             while len(self.all) > MOST:
                 self.all.pop(next(iter(self.all)))
         return name
+
+
+def others(old: Kept, night: Night, left: Night | None) -> dict[str, Night]:
+    """The other parts of a night, one of each seed: those that there were, and what is left. That may be the page of
+    another tab too."""
+    is_part = any(part["seed"] == night["seed"] for part in old.parts.values())
+    gone = [part for part in (old.night, left) if part and (left or is_part) and is_whole(part)]
+    named = [*old.parts.items(), *((secrets.token_urlsafe(6), part) for part in gone)]
+    once = {part["seed"]: (name, part) for name, part in named if part["seed"] != night["seed"]}
+    return dict(sorted(once.values(), key=lambda pair: first_board(pair[1]))[-MOST_PARTS:])
+
+
+def is_whole(part: Night) -> bool:
+    """Whether it has all numbers: what was refused may have none."""
+    return all(number.isdecimal() for number in (part["seed"], part["boards"], part["first_board"] or "1"))
+
+
+def first_board(part: Night) -> int:
+    return int(part["first_board"] or 1)
+
+
+def last_board(part: Night) -> int:
+    return first_board(part) + int(part["boards"]) - 1
 
 
 def first(seed: str) -> Night:
@@ -47,5 +92,4 @@ def first(seed: str) -> Night:
 def more(night: Night, seed: str) -> Night:
     """The boards after those of a night, of a seed of their own: a machine can find the seed of boards that are on the
     table."""
-    after = int(night["first_board"] or 1) + int(night["boards"])
-    return {**night, "seed": seed, "first_board": str(after), "boards": "3"}
+    return {**night, "seed": seed, "first_board": str(last_board(night) + 1), "boards": "3"}

@@ -29,7 +29,7 @@ def search() -> Response:
 def start() -> AnyResponse:
     form = asked(request.form)
     try:
-        bounded(form)
+        bounded(form, "search")
         checked(words.check(form), form)
     except Refused as refused:
         return shown(form, refused)

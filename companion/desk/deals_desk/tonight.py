@@ -6,7 +6,7 @@ from flask import Blueprint, Response, abort, jsonify, redirect, request
 from werkzeug.wrappers import Response as AnyResponse
 
 from . import fields, files, nights, words
-from .desk import Refused, bounded, checked, command_of, desk, lines, page, written
+from .desk import Refused, bounded, checked, desk, lines, offered, page, text_of, written
 from .nights import COOKIE, Night
 from .words import DEALS, TRICKS, Command
 
@@ -18,23 +18,18 @@ def drawn() -> str:
     return checked(Command(((DEALS, "seed"),)), {}).output.decode().strip()
 
 
-def offered() -> list[files.File]:
-    """The files that can be had here."""
-    has_solver = desk().runner.has(TRICKS)
-    return [files.BY_NAME[name] for name in files.TONIGHT if has_solver or not files.BY_NAME[name].tricks]
-
-
 def shown(night: Night, refused: Refused | None = None) -> Response:
     answer = refused.answer if refused else None
+    parts = desk().nights.parts(request.cookies.get(COOKIE))
     return page(
-        "tonight.html", 422 if refused else 200, form=night, answer=answer, files=offered(),
-        lines=lines(offered(), night), has_solver=desk().runner.has(TRICKS),
+        "tonight.html", 422 if refused else 200, form=night, answer=answer, files=offered(files.TONIGHT),
+        lines=lines(offered(files.TONIGHT), night), has_solver=desk().runner.has(TRICKS), parts=parts, last_board=nights.last_board,
     )
 
 
-def kept(response: AnyResponse, night: Night) -> AnyResponse:
-    """The response, once the night is kept for this browser."""
-    name = desk().nights.put(request.cookies.get(COOKIE), night)
+def kept(response: AnyResponse, night: Night, left: Night | None = None) -> AnyResponse:
+    """The response, once the night is kept for this browser, and the part that is left."""
+    name = desk().nights.put(request.cookies.get(COOKIE), night, left)
     response.set_cookie(COOKIE, name, httponly=True, samesite="Strict", max_age=int(nights.LASTS))
     return response
 
@@ -52,15 +47,16 @@ def tonight() -> AnyResponse:
     return kept(shown(night), night)
 
 
-def answered(act: Callable[[Night], tuple[AnyResponse, Night]]) -> AnyResponse:
-    """What an act makes of the form's night, and the night after it; the page with the fault, if words are refused."""
+def answered(act: Callable[[Night], tuple[AnyResponse, Night]], is_left: bool = False) -> AnyResponse:
+    """What an act makes of the form's night, and the night after it; the page with the fault, if words are refused. A
+    night that is left stays as another part."""
     night = posted()
     try:
-        bounded(night)
+        bounded(night, "tonight")
         response, after = act(night)
     except Refused as refused:
         return kept(shown(night, refused), night)
-    return kept(response, after)
+    return kept(response, after, night if is_left else None)
 
 
 @pages.post("/tonight")
@@ -88,13 +84,25 @@ def more() -> AnyResponse:
         checked(words.check(night), night)
         return redirect("/", 303), nights.more(night, drawn())
 
-    return answered(go_on)
+    return answered(go_on, is_left=True)
+
+
+@pages.post("/tonight/back")
+def back() -> AnyResponse:
+    """Goes to another part of the night."""
+
+    def go_back(night: Night) -> tuple[AnyResponse, Night]:
+        checked(words.check(night), night)
+        parts = desk().nights.parts(request.cookies.get(COOKIE))
+        return redirect("/", 303), parts.get(request.form.get("part", ""), night)
+
+    return answered(go_back, is_left=True)
 
 
 @pages.post("/tonight/lines")
 def typed() -> Response:
     """The commands of what the form says now."""
-    return jsonify(lines(offered(), posted()))
+    return jsonify(lines(offered(files.TONIGHT), posted()))
 
 
 @pages.post("/tonight/<name>")
@@ -106,6 +114,6 @@ def file(name: str) -> AnyResponse:
 
     def make(night: Night) -> tuple[AnyResponse, Night]:
         checked(words.check(night), night)
-        return written(checked(command_of(wanted, night), night).output, wanted, "night"), night
+        return written(text_of(wanted, night), wanted, "night"), night
 
     return answered(make)

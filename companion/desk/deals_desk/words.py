@@ -8,6 +8,7 @@ from . import fields
 
 DEALS = "deals"
 TRICKS = "deals-tricks"
+HINTS = "--hints=always"
 # Beyond this many characters a field is cut, since no option takes more.
 LONGEST = 4096
 
@@ -23,6 +24,10 @@ class Command:
     def line(self) -> str:
         """The line to be typed into a shell."""
         return " |\n    ".join(shlex.join(step) for step in self.steps)
+
+    def hinted(self) -> "Command":
+        """The same, where the last program says what helps if it refuses something."""
+        return Command((*self.steps[:-1], (*self.steps[-1], HINTS)))
 
     @property
     def needs_tricks(self) -> bool:
@@ -98,8 +103,10 @@ MOST_SOLVED = "10000000"
 
 
 def with_tricks(form: Form, look: Iterable[str]) -> Command:
-    """The same with the tricks of each board, which a solver counts."""
-    return Command((*boards(form, ("--format=pbn",)).steps, (TRICKS,), make(form, *look, "--tricks")))
+    """The same with the tricks of each board, which a solver counts. It reads PBN, so labels are given after it."""
+    unlabelled = {**form, **dict.fromkeys(fields.LABELS, "")}
+    shown = (DEALS, "show", *words_of(form, fields.LABELS), *look)
+    return Command((*boards(unlabelled, ("--format=pbn",)).steps, (TRICKS, "--add"), shown))
 
 
 def count(form: Form, style: str) -> Command:
@@ -116,16 +123,22 @@ def found(form: Form, look: Iterable[str]) -> Command:
 
 
 def check(form: Form) -> Command:
-    """What tells at once whether the words of `make` are refused: it tries one deal."""
+    """What tells at once whether the words of `make` are refused: it tries one deal, in a format that has all letters. A
+    report is in place of a note that one deal gives too few boards."""
     tried = {**form, "candidates": "1", "boards": form.get("boards", "")}
-    return Command(((*make(tried), "--hints=always"),))
+    return Command((make(tried, "--format=hands", "--report"),)).hinted()
 
 
 def check_count(form: Form) -> Command:
-    return Command(((DEALS, "count", *words_of({**form, "candidates": "1"}, fields.COUNT), "--hints=always"),))
+    return Command(((DEALS, "count", *words_of({**form, "candidates": "1"}, fields.COUNT)),)).hinted()
 
 
 def rarity(where: str, candidates: int) -> Command:
     """How many of the first deals of a seed meet a condition."""
     words = [word("--where", where)] if where else []
     return Command(((DEALS, "count", "--seed=1", word("--candidates", str(candidates)), *words, "--format=csv"),))
+
+
+def check_rules(form: Form) -> Command:
+    """What tells at once whether contracts are refused: it reads no board."""
+    return Command(((TRICKS, *rules(form), "--numbers"),))
