@@ -2,7 +2,7 @@
 
 maintainer='Guzmerany maintainers <maintainers@users.noreply.guzmerany.example>'
 
-# The licences, as Debian asks for them.
+# The licences, as Debian asks for them. A file beside it has those of what else is in the package.
 write_copyright() {
     cat <<END
 Format: https://www.debian.org/doc/packaging-manuals/copyright-format/1.0/
@@ -12,6 +12,9 @@ Files: *
 Copyright: $(sed -n 's/^Copyright (c) //p' "$top/LICENSE-MIT")
 License: Expat or Apache-2.0
 
+END
+    [ $# = 0 ] || { cat -- "$1" && echo; }
+    cat <<END
 License: Expat
 $(tail -n +5 "$top/LICENSE-MIT" | sed 's/^$/./; s/^/ /')
 

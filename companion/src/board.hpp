@@ -12,8 +12,9 @@ enum class Form { pbn, json };
 
 struct Board {
     Form form = Form::pbn;
-    // The bytes as they were read. Without a deal they are a file's first lines.
+    // The bytes as they were read. Without a deal they are a file's first lines, or the last ones with a fault.
     std::string text;
+    bool is_faulty = false;
     std::optional<ddTableDeal> cards;
     // The solver's numbers; none where they aren't known.
     std::optional<int> dealer, vulnerable;

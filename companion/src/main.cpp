@@ -28,10 +28,11 @@
 
 namespace {
 
-// What is written of a board; none where a rule isn't met.
+// What is written of a board; none where a rule isn't met. Who reads boards with tricks has to see the fault that ended
+// them.
 std::optional<std::string> judged(const Options &options, const Board &board, int thread) {
     if (!board.cards)
-        return board.text;
+        return board.is_faulty && !options.has_tricks ? "" : board.text;
     Solver solver(*board.cards, thread);
     for (const Rule &rule : options.rules)
         if (!meets(rule, solver))

@@ -6,6 +6,8 @@
 namespace {
 
 constexpr const char *BLANKS = " \t\r\n";
+// A board's number that is longer isn't told.
+constexpr size_t MOST_DIGITS = 13;
 const std::set<std::string> TAGS_OF_TRICKS = {"DoubleDummyTricks", "OptimumScore", "ParContract", "OptimumResultTable"};
 
 // Whether the first bytes of a text are blanks alone.
@@ -53,8 +55,9 @@ std::optional<Board> PbnReader::next() {
 }
 
 void PbnReader::read_more() {
+    std::optional<std::string> line;
     try {
-        const auto line = input.next();
+        line = input.next();
         if (line)
             read_line(*line);
         else
@@ -62,7 +65,18 @@ void PbnReader::read_more() {
         is_ended = !line;
     } catch (Failure &found) {
         failure = std::move(found);
+        put_fault(line.value_or(""));
     }
+}
+
+// What there is of a game with a fault, up to the end of its line.
+void PbnReader::put_fault(const std::string &line) {
+    if (names.empty() || wanted != Wanted::text)
+        return;
+    Board last;
+    last.text = (has_boards ? "" : head) + board.text + line.substr(std::min(kept, line.size()));
+    last.is_faulty = true;
+    ready.push_back(std::move(last));
 }
 
 void PbnReader::read_line(const std::string &line) {
@@ -101,17 +115,28 @@ void PbnReader::read_tags(const std::string &line) {
 // the input was cut.
 size_t PbnReader::read_tag(const std::string &line, size_t at) {
     const Tag tag = tag_at(line, at);
-    if (tag.is_whole)
+    if (tag.is_whole) {
         take(tag, line);
-    else if (tag.name == "Deal")
-        throw line_failure(input.number(), "the deal can't be read");
-    else if (has_boards && line.back() != '\n')
+    } else if (tag.name == "Deal") {
+        begin_game(tag, line);
+        throw deal_failure();
+    } else if (has_boards && line.back() != '\n') {
         throw line_failure(input.number(), "the board is cut off");
+    }
     return tag.end;
+}
+
+// A deal that can't be read, with the number of its board, if the game has told one.
+Failure PbnReader::deal_failure() const {
+    const bool has_number = !number.empty() && number.find_first_not_of("0123456789") == std::string::npos;
+    const std::string whose = has_number && number.size() <= MOST_DIGITS ? " of board " + number : "";
+    return line_failure(input.number(), "the deal" + whose + " can't be read");
 }
 
 void PbnReader::take(const Tag &tag, const std::string &line) {
     begin_game(tag, line);
+    if (tag.name == "Board")
+        number = tag.value;
     if (tag.name == "Dealer")
         board.dealer = read_dealer(tag.value);
     if (tag.name == "Vulnerable")
@@ -127,7 +152,7 @@ void PbnReader::take(const Tag &tag, const std::string &line) {
 void PbnReader::take_deal(const Tag &tag) {
     board.cards = read_deal(tag.value);
     if (!board.cards)
-        throw line_failure(input.number(), "the deal can't be read");
+        throw deal_failure();
     board.add_at = board.text.size() + tag.end - kept;
     had_deal = true;
 }
@@ -178,6 +203,7 @@ void PbnReader::end_game() {
         hand_on();
     board = Board{};
     names.clear();
+    number.clear();
     had_deal = false;
 }
 

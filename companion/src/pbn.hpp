@@ -30,11 +30,13 @@ private:
     static Tag tag_at(const std::string &line, size_t at);
 
     void read_more();
+    void put_fault(const std::string &line);
     void read_line(const std::string &line);
     void read_tags(const std::string &line);
     size_t read_tag(const std::string &line, size_t at);
     void take(const Tag &tag, const std::string &line);
     void take_deal(const Tag &tag);
+    Failure deal_failure() const;
     void begin_game(const Tag &tag, const std::string &line);
     void keep(const std::string &line, size_t end);
     void hand_on();
@@ -50,9 +52,10 @@ private:
     bool is_ended = false;
     // The file's first lines, until a board comes.
     std::string head;
-    // The game that is being read, and how much of the line is in its text.
+    // The game that is being read, its number as it is told, and how much of the line is in its text.
     Board board;
     std::set<std::string> names;
+    std::string number;
     bool had_deal = false;
     size_t kept = 0;
     // The line in which a comment began that goes on; 0 outside of comments.

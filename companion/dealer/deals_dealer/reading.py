@@ -1,5 +1,6 @@
 """Reads a script by its grammar (`script.lark`). A name stands for what was defined before it."""
 
+import itertools
 import pathlib
 from typing import Any, Optional, cast
 
@@ -13,6 +14,8 @@ from .tree import (
 GRAMMAR = (pathlib.Path(__file__).parent / "script.lark").read_text(encoding="utf-8")
 PARSER = lark.Lark(GRAMMAR, parser="lalr", propagate_positions=True, maybe_placeholders=True)
 
+# The actions of the grammar that `deals` has something for.
+ACTIONS = tuple(dict.fromkeys(rule.alias for rule in PARSER.rules if rule.origin.name == "action" and rule.alias != "printes"))
 SIGNS = {"or": "or", "and": "and", "added": "+", "taken": "-", "times": "*", "divided": "/", "modulo": "%"}
 LETTERS = dict(zip("SHDC", SUITS))
 VULNERABLE = {"none": "None", "ns": "NS", "ew": "EW", "all": "All"}
@@ -185,16 +188,42 @@ def told(error: lark.UnexpectedInput) -> Refusal:
     return Refusal(at, f"{str(token)!r} isn't expected here")
 
 
+def parsed(error: lark.UnexpectedInput) -> list[Any]:
+    """The statements before the place where the grammar stops, as far as they are known."""
+    stopped = getattr(error, "interactive_parser", None)
+    stack = stopped.parser_state.value_stack if stopped else []
+    has_some = bool(stack) and isinstance(stack[0], Tree) and str(stack[0].data).startswith("__start")
+    return list(stack[0].children) if has_some else []
+
+
+def first_token(node: Any) -> Any:
+    """What a statement begins with, where that is a name or a number."""
+    first = node
+    while isinstance(first, Tree) and first.children:
+        first = first.children[0]
+    return first if isinstance(first, Token) and place(first) == place(node) else None
+
+
+def look_for_actions(items: list[Any]) -> None:
+    """Refuses a name that nothing has, where an action is awaited. To the grammar it begins a condition."""
+    known: set[str] = set()
+    for item, after in itertools.pairwise(items):
+        if item.data == "definition":
+            known.add(str(item.children[0]))
+        token = first_token(after) if item.data == "actions" and item.children[-1] is None else None
+        if after.data == "condition" and token is not None and token.type == "NAME" and str(token) not in known:
+            raise Refusal(place(token), f"unknown action {token}; these are known: {', '.join(ACTIONS)}")
+
+
 def read(text: str) -> Script:
     """What a script says; a `Refusal` where it can't be read."""
     try:
         tree = PARSER.parse(text)
     except lark.UnexpectedInput as error:
+        look_for_actions(parsed(error))
         raise told(error) from None
+    look_for_actions(tree.children)
     reader = Reader()
     for item in tree.children:
         reader.item(cast("Tree[Token]", item))
     return reader.script
-
-
-
