@@ -19,7 +19,7 @@ MAN = PAGES / "deals.1"
 # The seconds that a shell has for an answer.
 PATIENCE = 60
 # An option in a help, with its text, which goes on in the lines below that begin at the same column.
-OPTION = re.compile(r"^ +(?:(-\w), )?(--[a-z-]+)(?: <\w+>)? {2,}(.*(?:\n {20,}.*)*)$", re.M)
+OPTION = re.compile(r"^ +(?:(-\w), )?(--[a-z-]+)( <\w+>)? {2,}(.*(?:\n {20,}.*)*)$", re.M)
 LONG = re.compile(r"(?<![\w-])--[a-z][a-z-]*")
 
 
@@ -39,19 +39,19 @@ def commands():
 
 
 def listed_options(command):
-    """The letter, the name and the text of each option of a command; of the program's own without a command."""
+    """The letter, the name, the value and the text of each option of a command; of the program's own without one."""
     words = [] if command is None else [command]
     listed, _, _ = told(*words, "--help").partition("\nExample")
-    return [(short, long, " ".join(text.split())) for short, long, text in OPTION.findall(listed)]
+    return [(short, long, value, " ".join(text.split())) for short, long, value, text in OPTION.findall(listed)]
 
 
 def options(command):
     """Each option of a command by its long name, with what help says of it; the program's own without a command."""
-    return {long: text for _, long, text in listed_options(command)}
+    return {long: text for _, long, _, text in listed_options(command)}
 
 
 def shorts(command):
-    return {short for short, _, _ in listed_options(command) if short}
+    return {short for short, *_ in listed_options(command) if short}
 
 
 def values(text):

@@ -75,6 +75,8 @@ def check_made(folder):
     yield "the package's scripts can be run", all(listed[name][0] == b"-rwxr-xr-x" for name in scripts)
     _, out, _ = told(["dpkg-deb", "-f", first[0], "Version"])
     yield "the package's version", b"deals " + out == told([harness.PROGRAM, "--version"])[1]
+    _, out, _ = told(["dpkg-deb", "-f", first[0], "Suggests"])
+    yield "what the package suggests", out == b"parallel\n"
 
 
 # A link of a page to another file.

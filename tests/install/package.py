@@ -4,6 +4,8 @@ With `all` the Debian package is tried in a clean Debian too, which is fetched: 
 
 import pathlib
 import re
+import shutil
+import subprocess
 import tempfile
 
 import commands
@@ -42,19 +44,6 @@ def check_man(_):
     yield "man, no option that isn't there", set(commands.LONG.findall(text)) <= known
     head = commands.MAN.read_text(encoding="utf-8").splitlines()[0]
     yield "man, the version", f'"{commands.told("--version").strip()}"' in head
-
-
-# A row of the table of options that hints of refused words go through: the option and its letter.
-HINTED = re.compile(r'^    known! \{ "(--[a-z-]+)" "(-\w)?"', re.M)
-
-
-def check_hinted(_):
-    """Hints of refused words know the options that help lists, with their letters."""
-    source = harness.TOP / "crates" / "word_hints" / "src" / "options.rt"
-    hinted = dict(HINTED.findall(source.read_text(encoding="utf-8")))
-    listed = {long: short for name in names() for short, long, _ in commands.listed_options(name)}
-    listed = {long: short for long, short in listed.items() if long not in ("--help", "--version")}
-    yield "the options that hints know", hinted == listed
 
 
 def check_man_form(_):
@@ -137,7 +126,45 @@ def check_zsh(_):
     shell.close()
 
 
-QUICK = [check_man, check_hinted, check_man_form, check_bash, check_fish, check_zsh, *installs.QUICK]
+def linked_crates():
+    """The crates of the toolchain that those of `deals` use."""
+    lines = [line.partition(":") for line in (harness.TOP / "crates.txt").read_text().splitlines() if not line.startswith("test_")]
+    own = {name for name, _, _ in lines}
+    return {used for _, _, uses in lines for used in uses.split()} - own
+
+
+def paragraphs(text):
+    """The paragraphs of a file of copyrights that speak of files, by the files."""
+    parts = [part for part in text.split("\n\n") if part.startswith("Files: ")]
+    return {part.splitlines()[0].removeprefix("Files: ").removesuffix("/*"): part for part in parts}
+
+
+def permission(text):
+    """The text of the licence named Expat that a file has, in one line."""
+    return " ".join(text.partition("Permission is hereby")[2].replace("\n .\n", "\n\n").split())
+
+
+def check_copyright(_):
+    """Each crate of the toolchain that is linked has its notice, by its licence files, if the toolchain is there."""
+    line = f"top='{harness.TOP}'; . '{harness.TOP}/package/debian.bash'; write_copyright '{harness.TOP}/package/crates.copyright'"
+    written = subprocess.run(["bash", "-ec", line], capture_output=True, text=True, check=True).stdout
+    parts = paragraphs(written)
+    yield "copyright, the crates", set(parts) == {"*", *linked_crates()}
+    expat = permission(re.search(r"^License: Expat\n(?: .*\n)+", written, re.M)[0])
+    found = shutil.which("rt")
+    kit = pathlib.Path(found).resolve().parent.parent / "rattle" if found else None
+    for name in sorted(linked_crates() if kit and kit.is_dir() else []):
+        texts = {file.name: file.read_text(encoding="utf-8") for file in (kit / name).glob("LICENSE*")}
+        text = texts.get("LICENSE-MIT") or texts["LICENSE"]
+        holders = re.findall(r"^Copyright \(c\) (.*)$", text, re.M)
+        has_holders = all(holder in parts[name] for holder in holders) if holders else "doesn't name" in parts[name]
+        yield f"copyright, whom {name} names", has_holders
+        yield f"copyright, the licence of {name}", permission(text) == expat
+        has_apache = "LICENSE-APACHE" in texts or "MIT or Apache" in (kit / name / "README.md").read_text(encoding="utf-8")
+        yield f"copyright, the licences of {name}", ("Apache-2.0" in parts[name]) == has_apache
+
+
+QUICK = [check_copyright, check_man, check_man_form, check_bash, check_fish, check_zsh, *installs.QUICK]
 
 
 def packaged():

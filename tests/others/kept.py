@@ -176,11 +176,11 @@ def refused_words():
 def refused_boards():
     """Input that isn't what it should be, after two boards: they are written, and the line is told."""
     first, second = GAMES[0].decode(), LINES[2].decode()
-    no_deal = "the deal can't be read"
+    no_deal, no_deal_of_one = "the deal can't be read", "the deal of board 1 can't be read"
     for name, text, line, why in [
-        ("a NUL in a hand", re.sub(r'"N:.', '"N:\0', first), 5, no_deal),
-        ("North hidden", re.sub(r'"N:\S+', '"N:-', first), 5, no_deal),
-        ("a deal that is cut", first[: first.index("[Deal ") + 30], 5, no_deal),
+        ("a NUL in a hand", re.sub(r'"N:.', '"N:\0', first), 5, no_deal_of_one),
+        ("North hidden", re.sub(r'"N:\S+', '"N:-', first), 5, no_deal_of_one),
+        ("a deal that is cut", first[: first.index("[Deal ") + 30], 5, no_deal_of_one),
         ("a tag that is cut", first[: first.index("[Vul") + 9], 4, "the board is cut off"),
         ("a board without its deal", first[: first.index("[Deal ")], 4, "the board is cut off"),
         ("an open comment", first[:-1] + "{ x\n\n" + first, 6, "the comment isn't closed"),

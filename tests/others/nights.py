@@ -61,11 +61,12 @@ class Night:
         there = self.folder / "night"
         return {file.name: file.read_bytes() for file in there.iterdir()} if there.is_dir() else {}
 
-    def is_right(self):
-        """Whether all files are those of the seed that is kept."""
+    def is_right(self, event=WORDS[1]):
+        """Whether all files are those of the seed that is kept. PBN has an event of ASCII alone."""
         files = self.files()
-        make = ["make", "--seed", files["seed"].decode().strip(), "--boards", "4", "--event=Club night"]
-        pbn = harness.deals(*make).stdout
+        boards = ["make", "--seed", files["seed"].decode().strip(), "--boards", "4"]
+        make = [*boards, f"--event={event}"]
+        pbn = harness.deals(*(make if event.isascii() else boards)).stdout
         tricks = subprocess.run([companion.build()], input=pbn, capture_output=True, check=True).stdout
         page = harness.deals(*make, "--format", "sheet", "--tricks", given=tricks).stdout
         slips = harness.deals(*make, "--format", "slips").stdout
@@ -87,16 +88,40 @@ def made():
         yield "another night in its folder", status == 2 and night.files() == first and "another folder" in said
         status, _ = night.run("x", "Club night", "other")
         yield "words that can't be read", status == 2 and not (night.folder / "other").exists()
-        status, _ = night.run("4", 'a "quoted" event', "other")
+        status, _ = night.run("4", 101 * "x", "other")
         yield "a label that is refused", status == 2 and not (night.folder / "other").exists()
         status, _ = night.run("4")
         yield "too few words", status == 2
+        status, said = night.run("3", "Club night", "28")
+        yield "a first board without a folder", status == 2 and "play-off 28" in said and not (night.folder / "28").exists()
         status, said = night.run("3", "Club night", "more", "28")
         more = (night.folder / "more" / "night.pbn").read_text()
         yield "more boards", status == 0 and [f'[Board "{board}"]' in more for board in (27, 28, 30, 31)] == [False, True, True, False]
         yield "of another seed", "a new seed for new boards" in said and (night.folder / "more" / "seed").read_bytes() != first["seed"]
         status, said = night.run("3", "Club night", "more", "31")
         yield "others in their folder", status == 2 and "3 boards from 28 on, Club night" in said
+
+
+def letters():
+    """An event of any letters is on the pages, and night.pbn has none; it stays the same night."""
+    for event in ("Bridgeclub Zürich", "Łódź"):
+        with harness.scratch() as folder:
+            night = Night(folder)
+            status, said = night.run("4", event, "night")
+            is_right = night.is_right(event) and event.encode() in night.files()["night.html"]
+            yield f"{event}, made", status == 0 and is_right and said.count("night.pbn is without the event") == 1
+            first = night.files()
+            status, said = night.run("4", event, "night")
+            yield f"{event}, again", status == 0 and night.files() == first and "stays as it is" in said
+            status, said = night.run("4", "Club night", "night")
+            yield f"{event}, another night", status == 2 and night.files() == first
+    with harness.scratch() as folder:
+        night = Night(folder)
+        status, _ = night.run("4", 101 * "ü", "night")
+        yield "too many letters", status == 2 and not night.files()
+        for at in (1, 2):
+            status, _ = night.run("4", "Łódź", "night", at=at, how="fails")
+            yield f"letters, fails at call {at}", status == 5 and not night.files()
 
 
 def stopped():
@@ -126,5 +151,5 @@ def without():
 
 def nights():
     os.umask(0o022)
-    for part in (made, stopped, without):
+    for part in (made, letters, stopped, without):
         yield from report.judged(part())

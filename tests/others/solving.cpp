@@ -1,4 +1,4 @@
-// How fast libdds tells whether four spades makes by North or South, asked in several ways: for docs/PERFORMANCE.md, by
+// How fast libdds tells whether four spades makes by North or South, asked in several ways, by
 // tests/others/speed.
 //
 // solving WAY < DEALS: the deals that make, and the boards for a second of processor time.

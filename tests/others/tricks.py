@@ -36,8 +36,8 @@ SOLID = "N:AKQJ.AKQ.AKQ.AKQ T98.T98.T98.T987 765.J765.J76.J65 432.432.5432.432"
 GOOD = EXAMPLES[0][0]
 
 
-def ask(text, **more):
-    return subprocess.run([PROGRAM], input=text, capture_output=True, text=True, timeout=120, check=False, **more)
+def ask(text, *words, **more):
+    return subprocess.run([PROGRAM, *words], input=text, capture_output=True, text=True, timeout=120, check=False, **more)
 
 
 def game(deal, dealer=None, vulnerable=None):
@@ -168,6 +168,30 @@ def refusals():
     yield "help", run.returncode == 0 and run.stdout.startswith("usage: ") and max(map(len, run.stdout.split("\n"))) <= 120
 
 
+def passed_on():
+    """With --add the deal that can't be read is passed on as it is, so that who reads the boards refuses it too."""
+    first, second = (f'[Board "{board}"]\n{game(EXAMPLES[board][0], "N", "None")}' for board in (1, 2))
+    added = ask("% PBN 2.1\n" + first, "--add").stdout
+    cards = EXAMPLES[2][0][2:].split(" ")
+    for name, text, told in [
+        ("a card twice", second.replace(cards[1], cards[0]), " of board 2"),
+        ("a deal without its end", second.replace('"]\n\n', "\n\n"), " of board 2"),
+        ("no number", second.replace(cards[1], cards[0]).replace('"2"', '"?"'), ""),
+        ("a long number", second.replace(cards[1], cards[0]).replace('"2"', f'"{20 * "2"}"'), ""),
+        ("more on its line", second.replace(cards[1], cards[0]).replace('"]\n\n', '"] ; x\n\n'), " of board 2"),
+    ]:
+        run = ask("% PBN 2.1\n" + first + text + first, "--add")
+        said = (1, f"deals-tricks: line 10: the deal{told} can't be read\n", added + text[:-1])
+        yield f"{name}, passed on", (run.returncode, run.stderr, run.stdout) == said
+        shown = harness.deals("show", "--format", "sheet", given=run.stdout.encode())
+        yield f"{name}, refused by show", shown.returncode == 7
+    run = ask(second.replace(cards[1], cards[0]) + first, "--add")
+    yield "the first deal, passed on", (run.returncode, run.stdout) == (1, second.replace(cards[1], cards[0])[:-1])
+    for words in ([], ["--tricks", "S-N>=0"], ["--numbers", "--add"]):
+        run = ask(second.replace(cards[1], cards[0]), *words)
+        yield f"{words}, not passed on", (run.returncode, run.stdout) == (1, "")
+
+
 def streams():
     """A line comes while more is awaited."""
     with subprocess.Popen([PROGRAM], stdin=subprocess.PIPE, stdout=subprocess.PIPE, text=True) as process:
@@ -216,7 +240,7 @@ def build():
 def tricks():
     """The companion program without rules."""
     build()
-    for part in (tables, sheets, pars, texts, refusals, streams, boards):
+    for part in (tables, sheets, pars, texts, refusals, passed_on, streams, boards):
         yield from report.judged(part())
     with tempfile.TemporaryDirectory() as folder:
         yield from report.judged(package(folder))

@@ -52,12 +52,12 @@ NO_HANDS = [
     ("AKQ32", DOTS),
     ("A....", DOTS),
     ("AA.A", DOTS),
-    ("AA...", "the ace of spades stands there twice"),
-    ("AKA...", "the ace of spades stands there twice"),
-    ("..KQK.", "the king of diamonds stands there twice"),
-    ("...22", "the two of clubs stands there twice"),
-    ("...3422", "the two of clubs stands there twice"),
-    ("AKQJT98765432A...", "the ace of spades stands there twice"),
+    ("AA...", "the ace of spades is there twice"),
+    ("AKA...", "the ace of spades is there twice"),
+    ("..KQK.", "the king of diamonds is there twice"),
+    ("...22", "the two of clubs is there twice"),
+    ("...3422", "the two of clubs is there twice"),
+    ("AKQJT98765432A...", "the ace of spades is there twice"),
     ("ak...", LOWER_CASE),
     ("a...", LOWER_CASE),
     ("A.K.Q.t", LOWER_CASE),
@@ -118,7 +118,7 @@ def faults_of(text, held):
     if text.count(".") != 3:
         return {DOTS}
     counts = collections.Counter(cards_of(text))
-    twice = {f"{name_of(card)} stands there twice" for card, count in counts.items() if count > 1}
+    twice = {f"{name_of(card)} is there twice" for card, count in counts.items() if count > 1}
     if twice:
         return twice
     if counts.total() > 13:

@@ -19,6 +19,11 @@ SECONDS = 60
 RANDOM = [(random_texts.sentence, 10_000), (random_texts.pieces, 5_000), (random_texts.characters, 1_000)]
 RANDOM += [(random_texts.large, 200), (random_texts.doubled, 200)]
 BESIDE = 1_000
+# What one deal is tried with, and the most processor time for a text with as many parts as a condition may have.
+WORDS_OF_ONE = ["make", "--seed", "1", "--candidates", "1"]
+MOST_SECONDS = 0.05
+# How often a text is tried, since a machine with other guests counts their time too.
+TRIES = 20
 TIMES = 10 if report.has("many") else 1
 NEVER = "note: no deal meets this condition"
 MIXED = 'note: "and" binds first: A and B or C is (A and B) or C; brackets would say so\n'
@@ -179,3 +184,20 @@ def beside():
     dice = random.Random(2026)
     rows = [random_texts.beside(dice) for _ in range(BESIDE * TIMES)]
     yield from report.asked(lambda row: safely(fault_of_beside, *row), rows, repr)
+
+
+def seconds_of(text):
+    """The processor seconds in which the program answers a text and tries one deal."""
+    process = subprocess.Popen([harness.PROGRAM, *WORDS_OF_ONE, f"--where={text}"], stdout=subprocess.DEVNULL, stderr=subprocess.DEVNULL)
+    _, _, used = os.wait4(process.pid, 0)
+    process.returncode = 0
+    return used.ru_utime + used.ru_stime
+
+
+def large_ones():
+    """Texts that make large trees are answered at once."""
+    dice = random.Random(2026)
+    for make in (random_texts.large, random_texts.doubled):
+        for text in [make(dice) for _ in range(30)]:
+            is_quick = any(seconds_of(text) <= MOST_SECONDS for _ in range(TRIES))
+            yield text, None if is_quick else f"took more than {MOST_SECONDS} seconds, {TRIES} times"
