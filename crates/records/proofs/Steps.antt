@@ -30,14 +30,14 @@ not_none a b = ne_eqb (a + b + 5) 0 (λ e. omega (arith, e))
 past_tag : (t : Reading) (name value : List ℕ) (next : Reading → Spelled) → t.line ≡ after_tag name value → ends_line t next ≡ next (after_line t)
 past_tag t name value next is = rw (is, not_none (length name) (length value)) refl
 
-pub other_line : (s t : Reading) (name value : List ℕ) (next : Reading → Spelled) → kind_of name ≡ None → t ≡ after_line (with_place (after_tag name value) s)
-    → takes_tag (kind_of name) (with_place (after_tag name value) s) (λ u. ends_line u next) ≡ next t
-other_line s t name value next is left = rw (is, left) (past_tag (with_place (after_tag name value) s) name value next refl)
+pub other_line : (s t : Reading) (kind : Option Kind) (name value : List ℕ) (next : Reading → Spelled) → kind ≡ None → t ≡ after_line (with_place (after_tag name value) s)
+    → takes_tag kind (with_place (after_tag name value) s) (λ u. ends_line u next) ≡ next t
+other_line s t kind name value next is left = rw (is, left) (past_tag (with_place (after_tag name value) s) name value next refl)
 
-pub line_with : (kind : Kind) (s u t : Reading) (name value : List ℕ) (next : Reading → Spelled) → kind_of name ≡ Some kind → has kind s.game ≡ false
+pub line_with : (kind : Kind) (s u t : Reading) (told : Option Kind) (name value : List ℕ) (next : Reading → Spelled) → told ≡ Some kind → has kind s.game ≡ false
     → u ≡ record s { game = with_tag kind value (s.lines + 1) s.game } → t ≡ after_line (with_place (after_tag name value) u)
-    → takes_tag (kind_of name) (with_place (after_tag name value) s) (λ v. ends_line v next) ≡ next t
-line_with kind s u t name value next is free more left =
+    → takes_tag told (with_place (after_tag name value) s) (λ v. ends_line v next) ≡ next t
+line_with kind s u t told name value next is free more left =
     rw (is, free, left, more) (past_tag (with_last_tag kind (with_place (after_tag name value) s)) name value next refl)
 
 -- ---- the end of a text

@@ -152,11 +152,13 @@ tag_read s (b ∷ bs) value rest start tag =
 
 -- ---- what calls return
 
-pub tag_passed : (s : Scanner) (t : Reading) (name value : List ℕ) → IsStart s.reading.line → s.after_cr ≡ false → IsTag name value
-    → ((next : Reading → Spelled) → takes_tag (kind_of name) (with_place (after_tag name value) s.reading) next ≡ next t)
+pub tag_passed : (s : Scanner) (t : Reading) (kind : Option Kind) (name value : List ℕ) → IsStart s.reading.line → s.after_cr ≡ false → IsTag name value → kind ≡ kind_of name
+    → ((next : Reading → Spelled) → takes_tag kind (with_place (after_tag name value) s.reading) next ≡ next t)
     → (rest : List ℕ) → spells_from s (tag_text name value ++ rest) ≡ spells_from (record { reading = t; after_cr = s.after_cr }) rest
-tag_passed s t name value start plain tag takes rest =
-    rw plain (tag_read s.reading name value rest start tag ∙ takes (λ u. spells_from (plainly u) rest))
+tag_passed s t kind name value start plain tag is takes rest =
+    rw plain (tag_read s.reading name value rest start tag
+    ∙ ap (λ k. takes_tag k (with_place (after_tag name value) s.reading) (λ u. spells_from (plainly u) rest)) (sym is)
+    ∙ takes (λ u. spells_from (plainly u) rest))
 
 -- the end of the line comes next
 then_lf : (kind : Option Kind) (s : Reading) (rest : List ℕ)
@@ -164,12 +166,13 @@ then_lf : (kind : Option Kind) (s : Reading) (rest : List ℕ)
 unfolding spells_from
 then_lf kind s rest = refl
 
-pub line_passed : (s : Scanner) (t : Reading) (name value : List ℕ) → IsStart s.reading.line → s.after_cr ≡ false → IsTag name value
-    → ((next : Reading → Spelled) → takes_tag (kind_of name) (with_place (after_tag name value) s.reading) (λ u. ends_line u next) ≡ next t)
+pub line_passed : (s : Scanner) (t : Reading) (kind : Option Kind) (name value : List ℕ) → IsStart s.reading.line → s.after_cr ≡ false → IsTag name value → kind ≡ kind_of name
+    → ((next : Reading → Spelled) → takes_tag kind (with_place (after_tag name value) s.reading) (λ u. ends_line u next) ≡ next t)
     → (rest : List ℕ) → spells_from s (tag_text name value ++ 10 ∷ rest) ≡ spells_from (record { reading = t; after_cr = s.after_cr }) rest
-line_passed s t name value start plain tag takes rest =
+line_passed s t kind name value start plain tag is takes rest =
     rw plain (tag_read s.reading name value (10 ∷ rest) start tag
-    ∙ then_lf (kind_of name) (with_place (after_tag name value) s.reading) rest
+    ∙ ap (λ k. takes_tag k (with_place (after_tag name value) s.reading) (λ u. spells_from (plainly u) (10 ∷ rest))) (sym is)
+    ∙ then_lf kind (with_place (after_tag name value) s.reading) rest
     ∙ takes (λ u. spells_from (plainly u) rest))
 
 -- ---- what a text begins with
@@ -181,7 +184,11 @@ stripped text part r cases = strip_prefix_is Decides-eqb text part (Some r) case
 pub halves : (n : ℕ) (text front back : List ℕ) → front ≡ take n text → back ≡ drop n text → text ≡ front ++ back
 halves n text front back e f = rw (e, f) (sym (take-append-drop n text))
 
-pub told_tag : (text after_bracket name after_name after_space value after_value rest : List ℕ) → text ≡ 91 ∷ after_bracket → after_bracket ≡ name ++ after_name
-    → after_name ≡ 32 ∷ 34 ∷ after_space → after_space ≡ value ++ after_value → after_value ≡ 34 ∷ 93 ∷ rest → text ≡ tag_text name value ++ rest
-told_tag text after_bracket name after_name after_space value after_value rest e f g h i =
-    e ∙ ap (λ l. 91 ∷ l) (f ∙ ap (λ l. name ++ l) (g ∙ ap (λ l. 32 ∷ 34 ∷ l) (h ∙ ap (λ l. value ++ l) i))) ∙ sym (tag_bytes name value rest)
+pub told_tag : (text name after_space value after_value rest : List ℕ) → text ≡ 91 ∷ (name ++ 32 ∷ 34 ∷ after_space) → after_space ≡ value ++ after_value
+    → after_value ≡ 34 ∷ 93 ∷ rest → text ≡ tag_text name value ++ rest
+told_tag text name after_space value after_value rest e f g =
+    e ∙ ap (λ l. 91 ∷ (name ++ 32 ∷ 34 ∷ l)) (f ∙ ap (λ l. value ++ l) g) ∙ sym (tag_bytes name value rest)
+
+pub opened : (text after_bracket name after_name after_space : List ℕ) → text ≡ 91 ∷ after_bracket → after_bracket ≡ name ++ after_name → after_name ≡ 32 ∷ 34 ∷ after_space
+    → text ≡ 91 ∷ (name ++ 32 ∷ 34 ∷ after_space)
+opened text after_bracket name after_name after_space e f g = e ∙ ap (λ l. 91 ∷ l) (f ∙ ap (λ l. name ++ l) g)

@@ -1,12 +1,13 @@
 //! A game: what its tags say of a board.
 
 ghost use Rattle.std.specs.Prelude.{◌≡◌, ◌+◌, ◌-◌, ◌<◌, ◌≤◌, ◌^◌, [], ℕ, IfErr, IfOk, None, Ok};
-ghost use Rattle.std.specs.Prelude.{Err, true, unwrap_or};
+ghost use Rattle.std.specs.Prelude.{Err, Some, true, unwrap_or};
 ghost use Rattle.records.specs.Games.{board_of, first_fault, game_says, has, heading_of};
 ghost use Rattle.records.specs.Games.{no_game, number_of, tricks_of};
 ghost use Rattle.records.specs.Games.{with_deal, with_dealer, with_number, with_tag};
 ghost use Rattle.records.specs.Games.{with_vulnerable};
 ghost use Rattle.boards.specs.Headings.{no_heading};
+ghost use Rattle.records.specs.Values.{label_in, short_in};
 ghost use Rattle.records.specs.internal.Endings.{told_if};
 
 use crate::deal_value::deal_in;
@@ -81,6 +82,22 @@ fn forget(label: &mut Option<Option<Caption>>)
     if label.is_some() {
         *label = None;
     }
+}
+
+/// Reads a label. It isn't inlined: it is much to write, and most games have none.
+#[inline(never)]
+fn read_label(label: &mut Option<Option<Caption>>, value: &[u8])
+    ensures { label.new ≡ Some (label_in value.now) }
+{
+    *label = Some(label_in(value));
+}
+
+/// Reads what may tell of tricks. It isn't inlined, as few games have that.
+#[inline(never)]
+fn read_short(short: &mut Option<Short>, value: &[u8])
+    ensures { short.new ≡ Some (short_in value.now) }
+{
+    *short = Some(short_in(value));
 }
 
 /// Whether there are no labels.
@@ -183,6 +200,8 @@ impl Game {
         self.fault = self.first_fault(bad, line, RecordFault::NotAVulnerability);
     }
 
+    /// Adds a deal. It isn't inlined, so that other tags need none of its room.
+    #[inline(never)]
     fn add_deal(&mut self, value: &[u8], line: u64)
         ensures { self.new ≡ with_deal value.now line self.old }
     {
@@ -198,16 +217,16 @@ impl Game {
         ensures most { unwrap_or self.old.number 0 ≤ 2 ^ 40 → unwrap_or self.new.number 0 ≤ 2 ^ 40 }
     {
         match kind {
-            Kind::Event => self.event = Some(label_in(value)),
-            Kind::Site => self.site = Some(label_in(value)),
+            Kind::Event => read_label(&mut self.event, value),
+            Kind::Site => read_label(&mut self.site, value),
             Kind::Date => self.date = Some(date_in(value)),
             Kind::Board => self.add_number(value, line),
             Kind::Dealer => self.add_dealer(value, line),
             Kind::Vulnerable => self.add_vulnerable(value, line),
             Kind::Deal => self.add_deal(value, line),
-            Kind::Tricks => self.tricks = Some(short_in(value)),
-            Kind::Score => self.score = Some(short_in(value)),
-            Kind::Contract => self.contract = Some(short_in(value)),
+            Kind::Tricks => read_short(&mut self.tricks, value),
+            Kind::Score => read_short(&mut self.score, value),
+            Kind::Contract => read_short(&mut self.contract, value),
         }
     }
 

@@ -126,17 +126,17 @@ impl Reading {
 
     /// Takes a tag at the beginning of a line, unless the game ends before it. Returns whether it
     /// did.
-    pub(crate) fn pass_tag(&mut self, name: &[u8], value: &[u8]) -> bool
+    pub(crate) fn pass_tag(&mut self, kind: Option<Kind>, name: &[u8], value: &[u8]) -> bool
         requires room { InRoom self.old (2 ^ 62) }
         requires start { IsStart self.old.line }
         requires fits { length name.now + length value.now + 5 ≤ 4096 }
         ensures passed { result ≡ true → (next : Reading → Spelled)
-            → takes_tag (kind_of name.now) (with_place (after_tag name.now value.now) self.old) next
+            → takes_tag kind (with_place (after_tag name.now value.now) self.old) next
             ≡ next self.new }
         ensures kept { result ≡ false → self.new ≡ self.old }
         ensures room { (n : ℕ) → InRoom self.old n → InRoom self.new n }
     {
-        let Some(kind) = kind_of(name) else {
+        let Some(kind) = kind else {
             self.line.take_tag(name, value);
             return true;
         };
@@ -150,17 +150,17 @@ impl Reading {
 
     /// Takes a whole line that is a tag, unless the game ends before it. Returns whether it did.
     ///
-    /// Nothing is kept of the line, since it ends.
-    pub(crate) fn pass_line(&mut self, name: &[u8], value: &[u8]) -> bool
+    /// Nothing is kept of the line, its name neither, since it ends.
+    pub(crate) fn pass_line(&mut self, kind: Option<Kind>, value: &[u8]) -> bool
         requires room { InRoom self.old (2 ^ 62) }
         requires start { IsStart self.old.line }
-        ensures passed { result ≡ true → (next : Reading → Spelled)
-            → takes_tag (kind_of name.now) (with_place (after_tag name.now value.now) self.old)
+        ensures passed { result ≡ true → (name : List ℕ) (next : Reading → Spelled)
+            → takes_tag kind (with_place (after_tag name value.now) self.old)
             (λ t. ends_line t next) ≡ next self.new }
         ensures kept { result ≡ false → self.new ≡ self.old }
         ensures room { (n : ℕ) → InRoom self.old n → InRoom self.new (n + 1) }
     {
-        let Some(kind) = kind_of(name) else {
+        let Some(kind) = kind else {
             self.leave_tag();
             return true;
         };

@@ -3,6 +3,7 @@
 ghost use Rattle.std.specs.Prelude.{◌≡◌, ◌≢◌, ◌+◌, ◌<◌, ◌^◌, ◌∷◌, [], ℕ, List, IfErr, IfOk, None};
 ghost use Rattle.std.specs.Prelude.{OnOk, ◌++◌, ◌≤◌, IfSome, false, length, true};
 ghost use Rattle.picking.specs.NumberTexts.{starts_with_lf};
+ghost use Rattle.records.specs.Kinds.{kind_of};
 ghost use Rattle.records.specs.Scans.{IsWithin, spells_from};
 ghost use Rattle.records.specs.Texts.{InRoom};
 ghost use Rattle.records.specs.Texts.{after, list_of, refused_with, spelled};
@@ -12,7 +13,7 @@ ghost use Rattle.records.specs.internal.TagTexts.{IsStart, IsTag, Reads, tag_tex
 use crate::fault::RefusedRecord;
 use crate::game::Told;
 use crate::reading::Reading;
-use crate::tag::{SIGNS, tag_at};
+use crate::tag::{SIGNS, Tag, tag_at};
 
 /// Reads a text byte by byte. It keeps what was read of the game, and whether a CR came last.
 #[derive(Drop)]
@@ -100,51 +101,54 @@ impl Scanner {
 
     /// Takes a tag at the beginning of a line, unless a game ends before it. Returns whether it
     /// did.
-    fn pass_tag(&mut self, name: &[u8], value: &[u8]) -> bool
+    fn pass_tag(&mut self, tag: &Tag<'_>) -> bool
         requires room { IsWithin self.old (2 ^ 60) }
         requires start { IsStart self.old.reading.line × (self.old.after_cr ≡ false) }
-        requires tag { IsTag name.now value.now }
+        requires tag { IsTag tag.now.name.now tag.now.value.now }
+        requires kind { tag.now.kind ≡ kind_of tag.now.name.now }
         ensures passed { result ≡ true → (rest : List ℕ)
-            → spells_from self.old (tag_text name.now value.now ++ rest)
+            → spells_from self.old (tag_text tag.now.name.now tag.now.value.now ++ rest)
             ≡ spells_from self.new rest }
         ensures kept { result ≡ false → self.new ≡ self.old }
         ensures room { (n : ℕ) → IsWithin self.old n → IsWithin self.new (n + 1) }
     {
-        self.reading.pass_tag(name, value)
+        self.reading.pass_tag(tag.kind, tag.name, tag.value)
     }
 
     /// Takes a line that is a tag, unless a game ends before it. Returns whether it did.
-    fn pass_line(&mut self, name: &[u8], value: &[u8]) -> bool
+    fn pass_line(&mut self, tag: &Tag<'_>) -> bool
         requires room { IsWithin self.old (2 ^ 60) }
         requires start { IsStart self.old.reading.line × (self.old.after_cr ≡ false) }
-        requires tag { IsTag name.now value.now }
+        requires tag { IsTag tag.now.name.now tag.now.value.now }
+        requires kind { tag.now.kind ≡ kind_of tag.now.name.now }
         ensures passed { result ≡ true → (rest : List ℕ)
-            → spells_from self.old (tag_text name.now value.now ++ (10 ∷ rest))
+            → spells_from self.old (tag_text tag.now.name.now tag.now.value.now ++ (10 ∷ rest))
             ≡ spells_from self.new rest }
         ensures kept { result ≡ false → self.new ≡ self.old }
         ensures room { (n : ℕ) → IsWithin self.old n → IsWithin self.new (n + 1) }
     {
-        self.reading.pass_line(name, value)
+        self.reading.pass_line(tag.kind, tag.value)
     }
 
     /// Takes a tag, with which a line begins here, and the end of the line if it comes next, unless
-    /// a game ends before it. `rest` is what comes after the tag. Returns how many bytes were
-    /// taken.
-    fn pass_this(&mut self, name: &[u8], value: &[u8], rest: &[u8]) -> usize
+    /// a game ends before it. Returns how many bytes were taken.
+    fn pass_this(&mut self, tag: &Tag<'_>) -> usize
         requires room { IsWithin self.old (2 ^ 60) }
         requires start { IsStart self.old.reading.line × (self.old.after_cr ≡ false) }
-        requires tag { IsTag name.now value.now }
-        ensures { Reads self.old self.new (tag_text name.now value.now ++ rest.now) result None }
+        requires tag { IsTag tag.now.name.now tag.now.value.now }
+        requires kind { tag.now.kind ≡ kind_of tag.now.name.now }
+        ensures { Reads self.old self.new
+            (tag_text tag.now.name.now tag.now.value.now ++ tag.now.rest.now) result None }
     {
-        let count = name.len() + value.len() + SIGNS;
-        match rest.strip_prefix(b"\n") {
+        let count = tag.name.len() + tag.value.len() + SIGNS;
+        match tag.rest.strip_prefix(b"\n") {
             Some(_) => {
-                if self.pass_line(name, value) {
+                if self.pass_line(tag) {
                     return count + 1;
                 }
             }
             None => {
-                if self.pass_tag(name, value) {
+                if self.pass_tag(tag) {
                     return count;
                 }
             }
@@ -162,7 +166,7 @@ impl Scanner {
             return 0;
         }
         match tag_at(bytes) {
-            Some(tag) => self.pass_this(tag.name, tag.value, tag.rest),
+            Some(tag) => self.pass_this(&tag),
             None => 0,
         }
     }

@@ -1,22 +1,37 @@
 //! A tag as most programs write it, at the beginning of a line: `[`, its name, a space, and its
 //! value between quotes, `]`.
 
-ghost use Rattle.std.specs.Prelude.{◌≡◌, ◌≤◌, ◌++◌, IfSome, length, take, true};
+ghost use Rattle.std.specs.Prelude.{◌≡◌, ◌<◌, ◌≤◌, ◌++◌, IfSome, Some, length, take, true};
 ghost use Rattle.std.specs.List.{list_all};
+ghost use Rattle.records.specs.Kinds.{kind_of};
 ghost use Rattle.records.specs.Places.{is_name_byte};
-ghost use Rattle.records.specs.internal.TagTexts.{IsTag, is_plain, tag_text};
+ghost use Rattle.records.specs.internal.TagTexts.{IsTag, Opens, is_plain, tag_text};
 
+use crate::kind::{Kind, kind_of};
 use crate::line::{MOST_BYTES, is_name_byte};
 
 /// How many bytes a tag has beside its name and its value.
 pub(crate) const SIGNS: usize = 5;
 
-/// A tag: its name, its value, and what comes after it.
+/// The bytes of a value that tells a deal: a seat, a colon, and four hands of sixteen bytes with
+/// spaces between them.
+const DEAL: usize = 69;
+
+/// A tag: its name, the kind that the name has, its value, and what comes after it.
 #[derive(Clone, Copy)]
 pub(crate) struct Tag<'a> {
     pub(crate) name: &'a [u8],
+    pub(crate) kind: Option<Kind>,
     pub(crate) value: &'a [u8],
     pub(crate) rest: &'a [u8],
+}
+
+/// How a tag begins: its name, the kind that the name has, and what comes after the first quote.
+#[derive(Clone, Copy)]
+pub struct Opening<'a> {
+    pub name: &'a [u8],
+    pub kind: Option<Kind>,
+    pub after: &'a [u8],
 }
 
 /// Which bytes stand for themselves in a value: all but a quote, a backslash, LF and CR.
@@ -60,8 +75,80 @@ fn name_length(text: &[u8]) -> usize
     text.len()
 }
 
-/// How many bytes that stand for themselves the text begins with.
-fn value_length(text: &[u8]) -> usize
+/// The opening that a text begins with, if it has this name, which is of this kind.
+fn opening_of<'a>(text: &'a [u8], name: &'a [u8], kind: Kind) -> Option<Opening<'a>>
+    requires some { 0 < length name.now }
+    requires named { list_all is_name_byte name.now ≡ true }
+    requires kind { kind_of name.now ≡ Some kind }
+    ensures { IfSome result (λ o. Opens text.now o) }
+{
+    let after = text.strip_prefix(b"[")?;
+    let after = after.strip_prefix(name)?;
+    let after = after.strip_prefix(b" \"")?;
+    Some(Opening {
+        name,
+        kind: Some(kind),
+        after,
+    })
+}
+
+/// The opening that a text begins with, if it is of a tag that most games have: to compare a name
+/// takes less time than to find its end.
+fn usual_opening(text: &[u8]) -> Option<Opening<'_>>
+    ensures { IfSome result (λ o. Opens text.now o) }
+{
+    if let Some(board) = opening_of(text, b"Board", Kind::Board) {
+        return Some(board);
+    }
+    if let Some(deal) = opening_of(text, b"Deal", Kind::Deal) {
+        return Some(deal);
+    }
+    if let Some(dealer) = opening_of(text, b"Dealer", Kind::Dealer) {
+        return Some(dealer);
+    }
+    opening_of(text, b"Vulnerable", Kind::Vulnerable)
+}
+
+/// The opening that a text begins with, whatever its name.
+fn any_opening(text: &[u8]) -> Option<Opening<'_>>
+    ensures { IfSome result (λ o. Opens text.now o) }
+{
+    let after = text.strip_prefix(b"[")?;
+    let (name, after) = after.split_at(name_length(after));
+    let after = after.strip_prefix(b" \"")?;
+    if name.is_empty() {
+        return None;
+    }
+    Some(Opening {
+        name,
+        kind: kind_of(name),
+        after,
+    })
+}
+
+/// The opening that a text begins with, if it has this form.
+fn opening_at(text: &[u8]) -> Option<Opening<'_>>
+    ensures { IfSome result (λ o. Opens text.now o) }
+{
+    match usual_opening(text) {
+        Some(opening) => Some(opening),
+        None => any_opening(text),
+    }
+}
+
+/// Whether all bytes stand for themselves. None of them ends the loop, so that it takes less time.
+fn are_plain(part: &[u8]) -> bool
+    ensures { result ≡ list_all is_plain part.now }
+{
+    let mut plain = true;
+    for byte in part {
+        plain = plain & is_plain(*byte);
+    }
+    plain
+}
+
+/// How many bytes that stand for themselves the text begins with, byte by byte.
+fn plain_bytes(text: &[u8]) -> usize
     ensures range { result ≤ length text.now }
     ensures plain { list_all is_plain (take result text.now) ≡ true }
 {
@@ -73,19 +160,35 @@ fn value_length(text: &[u8]) -> usize
     text.len()
 }
 
+/// How many bytes that stand for themselves the text begins with. Most long values tell a deal, so
+/// the length of one is tried first.
+fn value_length(text: &[u8]) -> usize
+    ensures range { result ≤ length text.now }
+    ensures plain { list_all is_plain (take result text.now) ≡ true }
+{
+    if text.len() > DEAL && text[DEAL] == b'"' && are_plain(&text[..DEAL]) {
+        return DEAL;
+    }
+    plain_bytes(text)
+}
+
 /// The tag that a text begins with, if it has this form, and fits a line.
 pub(crate) fn tag_at(text: &[u8]) -> Option<Tag<'_>>
     ensures tag { IfSome result (λ tag. IsTag tag.name.now tag.value.now) }
+    ensures kind { IfSome result (λ tag. tag.kind ≡ kind_of tag.name.now) }
     ensures text { IfSome result (λ tag.
         text.now ≡ tag_text tag.name.now tag.value.now ++ tag.rest.now) }
 {
-    let after = text.strip_prefix(b"[")?;
-    let (name, after) = after.split_at(name_length(after));
-    let after = after.strip_prefix(b" \"")?;
-    let (value, after) = after.split_at(value_length(after));
+    let opening = opening_at(text)?;
+    let (value, after) = opening.after.split_at(value_length(opening.after));
     let rest = after.strip_prefix(b"\"]")?;
-    if name.is_empty() || name.len() + value.len() + SIGNS > MOST_BYTES {
+    if opening.name.len() + value.len() + SIGNS > MOST_BYTES {
         return None;
     }
-    Some(Tag { name, value, rest })
+    Some(Tag {
+        name: opening.name,
+        kind: opening.kind,
+        value,
+        rest,
+    })
 }

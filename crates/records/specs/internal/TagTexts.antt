@@ -3,12 +3,14 @@ use Rattle.std.specs.Prelude.{◌≡◌, ◌<◌, ◌≤◌, ℕ, ◌+◌, ◌==
 use Rattle.std.specs.Prelude.{List, [], ◌∷◌, ◌++◌, Option, drop, length}
 use Rattle.std.specs.List.{list_all}
 use Rattle.records.specs.declared.game.Told.{Told}
+use Rattle.records.specs.Kinds.{kind_of}
 use Rattle.records.specs.Places.{Place, is_name_byte}
 use Rattle.records.specs.Scans.{IsWithin, spells_from}
 use Rattle.records.specs.Texts.{after, list_of}
 use Rattle.records.specs.declared.line.Part.TheVariants.{Open}
 use Rattle.records.specs.declared.reading.Reading.{Reading}
 use Rattle.records.specs.declared.scanner.Scanner.{Scanner}
+use Rattle.records.specs.declared.tag.Opening.{Opening}
 
 -- a byte that stands for itself in a value
 abbrev pub is_plain : ℕ → Bool
@@ -23,6 +25,13 @@ pub record IsTag (name value : List ℕ) : Type 0 where
   pub named : list_all is_name_byte name ≡ true
   pub plain : list_all is_plain value ≡ true
   pub fits : length name + length value + 5 ≤ 4096
+
+-- a tag begins with this name, which has this kind, and this comes after the first quote
+pub record Opens (text : List ℕ) (o : Opening) : Type 0 where
+  pub some : 0 < length o.name.now
+  pub named : list_all is_name_byte o.name.now ≡ true
+  pub kind_is : o.kind ≡ kind_of o.name.now
+  pub bytes : text ≡ 91 ∷ (o.name.now ++ 32 ∷ 34 ∷ o.after.now)
 
 -- nothing was read of the line, and no comment goes on
 pub record IsStart (p : Place) : Type 0 where
