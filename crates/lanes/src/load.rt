@@ -5,7 +5,7 @@
 use std::sync::atomic::{AtomicU64, Ordering};
 
 /// For how many waits with a sleep the machine counts as busy at first.
-const FEWEST_SLEEPS: u64 = 2048;
+const FEWEST_SLEEPS: u64 = 128;
 
 /// The most such waits. With so many little is lost by the yields between.
 const MOST_SLEEPS: u64 = 16_384;
