@@ -54,22 +54,33 @@ def joined(deals):
     yield "shards picked", None if right else "aren't what make writes"
 
 
-def search_of(first, seconds=SECONDS):
-    """The process of the search from this candidate on, once there is one; it is looked for at least once."""
-    wanted = f"\0find\0--first\0{first}\0".encode()
+def running(is_it, seconds=SECONDS):
+    """The process of the program whose words, each after a NUL, are those, once there is one; it is looked for at least
+    once."""
     end = time.monotonic() + seconds
     is_first = True
     while is_first or time.monotonic() < end:
         is_first = False
         for entry in pathlib.Path("/proc").iterdir():
             try:
-                if entry.name.isdigit() and wanted in (entry / "cmdline").read_bytes():
+                if entry.name.isdigit() and is_it((entry / "cmdline").read_bytes()):
                     if (entry / "exe").resolve() == harness.PROGRAM.resolve():
                         return int(entry.name)
             except OSError:
                 continue
         time.sleep(0.005)
     return None
+
+
+def search_of(first, seconds=SECONDS):
+    """The process of the search from this candidate on, once there is one."""
+    wanted = f"\0find\0--first\0{first}\0".encode()
+    return running(lambda words: wanted in words, seconds)
+
+
+def is_search(words):
+    """Whether these are the words of a search, and not of a look at one candidate."""
+    return b"\0find\0--first\0" in words and b"\0--candidates\x001\0" not in words
 
 
 def start(folder, log, *more):
@@ -93,7 +104,8 @@ def resumed(deals):
         settings = {"env": {**os.environ, "DEALS": str(harness.PROGRAM)}, "stderr": subprocess.PIPE}
         for stop, sign in ((os.kill, signal.SIGTERM), (os.killpg, signal.SIGKILL)):
             process = subprocess.Popen(words, start_new_session=True, **settings)
-            time.sleep(0.2)
+            running(is_search)
+            time.sleep(0.1)
             busy = subprocess.run(words, **settings)
             stop(process.pid, sign)
             process.communicate(timeout=SECONDS)

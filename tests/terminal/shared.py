@@ -13,6 +13,8 @@ from board_formats import FORMATS
 # Boards that come slowly, so that counts are drawn between them, and for how many seconds at least.
 RARE = ["--seed", "9", "--where", "hcp(north)>=30"]
 SECONDS = 2.5
+# How many runs that take so long are looked at, at most, each with twice the boards of the one before.
+LONG_RUNS = 5
 # A line of counts, which is cut where the screen ends.
 COUNTS = re.compile(r"(\d+%  )?[\d,]+ (of [\d,]+ )?candidates  [\d,]+ boards? .*")
 # What ends the line of counts.
@@ -34,40 +36,45 @@ def pieces_of(terminal, process):
     yield text
 
 
-def lasting(words):
-    """The words with as many boards as take so long, and what they write into a pipe."""
-    boards, seconds = 6, 0
-    while seconds < SECONDS:
-        boards *= 2
-        limited = [*words, "--boards", str(boards)]
-        began = time.monotonic()
-        text = subprocess.run([harness.PROGRAM, *limited], stdout=subprocess.PIPE, check=True).stdout
-        seconds = time.monotonic() - began
-    return limited, text
-
-
-def complaint_of(words):
-    """What is wrong with a row of the screen, or None."""
-    words, text = lasting(words)
+def look(words, text):
+    """What is wrong with a row of the screen, or None, and whether a board was seen while counts were drawn. The run
+    writes this text into a pipe."""
     wanted = [line.rstrip(" ") for line in text.decode().split("\n")]
     ours, theirs = pty.openpty()
     process = subprocess.Popen([harness.PROGRAM, *words], stdin=subprocess.DEVNULL, stdout=theirs, stderr=theirs)
     os.close(theirs)
-    seen, behind_counts = screen.Screen(), 0
+    seen, is_behind_counts = screen.Screen(), False
     for piece in pieces_of(ours, process):
         seen.feed(piece)
         lines = seen.lines()
         if piece.endswith(DRAWN):
-            behind_counts += len(lines) > 2
+            is_behind_counts = is_behind_counts or len(lines) > 2
             if not COUNTS.fullmatch(lines.pop()):
-                return f"no line of counts, but {seen.lines()[-1]!r}"
+                return f"no line of counts, but {seen.lines()[-1]!r}", is_behind_counts
             lines.append("")
         if lines[:-1] != wanted[: len(lines) - 1] or lines[-1]:
-            return f"the rows {lines[-6:]}"
+            return f"the rows {lines[-6:]}", is_behind_counts
     os.close(ours)
-    if process.wait() or lines != wanted:
-        return f"at the end the rows {lines[-6:]}"
-    return None if behind_counts else "no board was seen while counts were drawn"
+    is_right = process.wait() == 0 and lines == wanted
+    return None if is_right else f"at the end the rows {lines[-6:]}", is_behind_counts
+
+
+def complaint_of(words):
+    """What is wrong with a row of the screen, or None. A run that ends before counts are drawn is followed by one with
+    twice the boards, since a machine may be slow in one and fast in the next."""
+    boards, lasting = 6, 0
+    while lasting < LONG_RUNS:
+        boards *= 2
+        limited = [*words, "--boards", str(boards)]
+        began = time.monotonic()
+        text = subprocess.run([harness.PROGRAM, *limited], stdout=subprocess.PIPE, check=True).stdout
+        if time.monotonic() - began < SECONDS:
+            continue
+        lasting += 1
+        complaint, is_seen = look(limited, text)
+        if complaint or is_seen:
+            return complaint
+    return "no board was seen while counts were drawn"
 
 
 def every():

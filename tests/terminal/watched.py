@@ -299,7 +299,7 @@ def check_terminal():
     none_sooner = all(seconds > 1 + at / 4 - CLOCKS for at, seconds in enumerate(times))
     yield "a terminal, four times a second at most", len(times) > 4 and none_sooner
     yield "a terminal, the form of the line", all(LINE.fullmatch(line) for line in lines)
-    long = [*RARE[:4], "30000000", *RARE[5:], "--report"]
+    long = [*RARE[:4], "30000000", *RARE[5:], "--report", "--workers", "1"]
     status, drawn, out = on_a_terminal(long, never_enough)
     text = b"".join(piece for _, piece in drawn)
     wiped, _, said = text.rpartition(b"\r\x1b[K")
