@@ -12,9 +12,7 @@ use crate::dotted::{put_deal, seat_letter};
 use crate::names::vulnerable_name;
 use crate::results::{put_given, put_par};
 use boards::{Board, Show, SuitLetters, TextBuffer, Tricks};
-
-/// Candidates have numbers below it.
-const END_OF_CANDIDATES: u64 = 1 << 40;
+use cards::MAX_CANDIDATES;
 
 /// Writes the board's line into the empty buffer.
 #[tactic(auto, unfolding(crate::specs::Json::json_line))]
@@ -48,7 +46,7 @@ fn put_candidate(line: &mut TextBuffer, candidate: u64)
     ensures text { line.new ≡ line.old ++ number_member candidate }
     ensures most { length line.new ≤ length line.old + 30 }
 {
-    if candidate < END_OF_CANDIDATES {
+    if candidate < MAX_CANDIDATES {
         line.put(b",\"number\":");
         line.put_number(candidate);
     }

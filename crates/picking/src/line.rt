@@ -6,14 +6,12 @@ ghost use Rattle.picking.specs.Scans.{line_from};
 ghost use Rattle.picking.specs.internal.Lines.{start_of_line};
 ghost use Rattle.plans.specs.declared.refusal.LineFault.TheVariants.{NotANumber};
 
+use cards::MAX_CANDIDATES;
 use plans::LineFault;
 use std::marker::Model;
 
 /// The most digits that a number has.
 const MOST_DIGITS: u8 = 13;
-
-/// Numbers are below it.
-const END_OF_NUMBERS: u64 = 1 << 40;
 
 /// What a line has had so far.
 #[derive(Clone, Copy)]
@@ -110,7 +108,7 @@ impl Line {
         if self.part == Part::Blank {
             return Ok(None);
         }
-        if self.value < END_OF_NUMBERS {
+        if self.value < MAX_CANDIDATES {
             Ok(Some(self.value))
         } else {
             Err(LineFault::NotBelow)

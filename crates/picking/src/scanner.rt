@@ -7,11 +7,12 @@ ghost use Rattle.picking.specs.Scans.{HasScanned, after, line_from, list_of, sai
 ghost use Rattle.picking.specs.internal.Lines.{start_of_line};
 
 use crate::line::Line;
+use cards::MAX_CANDIDATES;
 use plans::{LineFault, RefusedLine};
 use std::marker::Model;
 
 /// The most numbers that are read.
-const MOST_NUMBERS: u64 = 1 << 40;
+const MOST_NUMBERS: u64 = MAX_CANDIDATES;
 
 /// Reads a text of numbers byte by byte: it keeps what the line has had so far, and how many lines
 /// and numbers there were.

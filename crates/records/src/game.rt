@@ -18,10 +18,10 @@ use crate::values::{
 };
 use boards::{Board, Date, Tricks, Vul, dealer, vulnerable};
 use captions::{Caption, Captions};
-use cards::{Deal, DealsByNumber, Fixed, Seat};
+use cards::{Deal, DealsByNumber, Fixed, MAX_CANDIDATES, Seat};
 
 /// No candidate has this number.
-const NO_CANDIDATE: u64 = 1 << 40;
+const NO_CANDIDATE: u64 = MAX_CANDIDATES;
 
 /// A board, the labels of its game, and what that tells of its tricks.
 #[derive(Drop)]

@@ -7,11 +7,11 @@ ghost use Rattle.records.specs.Values.{is_unescaped, label_in, number_in, short_
 use arrayvec::ArrayVec;
 use boards::{Date, Vul};
 use captions::Caption;
-use cards::Seat;
+use cards::{MAX_CANDIDATES, Seat};
 use std::marker::Model;
 
 /// The greatest number of a board.
-const MOST_NUMBER: u64 = 1 << 40;
+const MOST_NUMBER: u64 = MAX_CANDIDATES;
 
 /// The number of a board that is written in decimal, or 0 if it isn't one.
 pub(crate) fn number_in(value: &[u8]) -> u64

@@ -8,11 +8,12 @@ use crate::kept::Kept;
 use crate::line_style::LineStyle;
 use crate::subject::Subject;
 use boards::{Board, Notation, Style};
+use cards::MAX_CANDIDATES;
 use sinks::{Sink, SinkFault};
 use std::alloc::{AllocError, Global};
 
 /// How many deals are counted at most: no plan has more candidates.
-const MAX_DEALS: u64 = 1 << 40;
+const MAX_DEALS: u64 = MAX_CANDIDATES;
 
 /// Counts the deals of boards by their answers. As a notation it writes no board: its footer is the
 /// table.

@@ -11,7 +11,7 @@ use crate::line::{Line, LineEnd, read_text};
 use crate::teller::{put_board, put_end, refused, without_cr};
 use crate::word::{number_in, split_word};
 use boards::{Board, Notation, Tricks};
-use cards::DealsByNumber;
+use cards::{DealsByNumber, MAX_CANDIDATES};
 use notations::AnyPrinter;
 use picking::{MOST_BYTES, PickFault, Source};
 use plans::{LineFault, Plan, board_after};
@@ -21,7 +21,7 @@ use sinks::{Sink, put_all};
 const MOST_LINES: u64 = MOST_BYTES + 1;
 
 /// The most boards that are picked.
-const MOST_BOARDS: u64 = 1 << 40;
+const MOST_BOARDS: u64 = MAX_CANDIDATES;
 
 /// A board, and what its line tells of it.
 #[derive(Drop)]
