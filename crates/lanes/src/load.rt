@@ -1,14 +1,21 @@
 //! What the ends of a lane know of the machine's load: whether it is quiet, so that a yield takes
-//! next to no time, or busy. Long yields, which `pause.rt` tells, start a number of waits for which
-//! it counts as busy. If there are long yields again soon after them, twice as many follow.
+//! next to no time, or busy. It counts as busy for the first waits, of which a short run has no
+//! others. Long yields, which `pause.rt` tells, start a number of waits for which it does again. If
+//! there are long yields soon after them, four times as many follow.
 
 use std::sync::atomic::{AtomicU64, Ordering};
 
-/// For how many waits with a sleep the machine counts as busy at first.
-const FEWEST_SLEEPS: u64 = 128;
+/// For how many waits the machine counts as busy while nothing is known of it.
+const FIRST_WAITS: u64 = 1024;
+
+/// For how many waits it does after the first long yields.
+const FEWEST_WAITS: u64 = 512;
 
 /// The most such waits. With so many little is lost by the yields between.
-const MOST_SLEEPS: u64 = 16_384;
+const MOST_WAITS: u64 = 16_384;
+
+/// How many times as many follow each time.
+const GROWTH: u64 = 4;
 
 /// For how many times as many waits a long yield counts as soon after the last ones.
 const TIMES_SOON: u64 = 4;
@@ -17,8 +24,8 @@ const TIMES_SOON: u64 = 4;
 /// written while yields are short.
 #[derive(Drop)]
 pub(crate) struct Load {
-    // For how many waits with a sleep the machine counts as busy from now on.
-    sleeps: AtomicU64,
+    // For how many waits the machine counts as busy from now on.
+    waits: AtomicU64,
     // For how many it did the last time, or 0 once that is long ago.
     length: AtomicU64,
     // After how many waits more that is so.
@@ -29,7 +36,7 @@ impl Load {
     /// That of a machine of which nothing is known.
     pub(crate) fn new() -> Load {
         Load {
-            sleeps: AtomicU64::new(0),
+            waits: AtomicU64::new(FIRST_WAITS),
             length: AtomicU64::new(0),
             soon: AtomicU64::new(0),
         }
@@ -37,16 +44,19 @@ impl Load {
 
     /// Whether the machine counts as busy, so that an end is not to yield.
     pub(crate) fn is_high(&self) -> bool {
-        self.sleeps.load(Ordering::SeqCst) > 0
+        self.waits.load(Ordering::SeqCst) > 0
     }
 
     /// Notes that yields are long.
     pub(crate) fn note_long(&self) {
         let last = self.length.load(Ordering::SeqCst);
-        let length = last.saturating_mul(2).max(FEWEST_SLEEPS).min(MOST_SLEEPS);
+        let length = last
+            .saturating_mul(GROWTH)
+            .max(FEWEST_WAITS)
+            .min(MOST_WAITS);
         self.length.store(length, Ordering::SeqCst);
         self.soon.store(length * TIMES_SOON, Ordering::SeqCst);
-        self.sleeps.store(length, Ordering::SeqCst);
+        self.waits.store(length, Ordering::SeqCst);
     }
 
     /// Notes a wait with yields of which nothing shows that they were long.
@@ -62,11 +72,11 @@ impl Load {
         }
     }
 
-    /// Notes a wait with a sleep.
-    pub(crate) fn note_sleep(&self) {
-        let sleeps = self.sleeps.load(Ordering::SeqCst);
-        if sleeps > 0 {
-            self.sleeps.store(sleeps - 1, Ordering::SeqCst);
+    /// Notes a wait without a yield.
+    pub(crate) fn note_wait(&self) {
+        let waits = self.waits.load(Ordering::SeqCst);
+        if waits > 0 {
+            self.waits.store(waits - 1, Ordering::SeqCst);
         }
     }
 }

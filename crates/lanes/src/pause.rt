@@ -8,7 +8,9 @@
 //! Two long yields with few others between them show that the machine is busy (`load.rt`). From
 //! then on an end doesn't yield: it spins, and then sleeps until the other end wakes it. To be
 //! woken takes as long as dozens of candidates even if a core is free. So an end that had to sleep
-//! spins half as long the next time, and one that hadn't twice as long.
+//! spins half as long the next time, and one that hadn't twice as long. But two ends that spin for
+//! less time than it takes to be woken send each other to sleep for ever, on a quiet machine too:
+//! so now and then an end spins as long as it ever does.
 
 ghost use Rattle.std.specs.Prelude.{◌≡◌, ◌<◌, true};
 
@@ -32,7 +34,7 @@ const SPINS_A_VERDICT: usize = 2;
 /// while the other does.
 const PARTS_OF_A_LANE: usize = 2;
 
-/// How many spins without progress an end waits before it yields: some dozens of microseconds.
+/// How many spins without progress an end waits before it yields: some microseconds.
 const PATIENCE: usize = 640;
 
 /// A yield took long if the other end waited meanwhile for so many spins. That is less than its
@@ -48,14 +50,19 @@ const YIELDS_IN_VAIN: u32 = 8192;
 /// The fewest spins without progress before an end of a busy machine sleeps.
 const LEAST_PATIENCE: usize = 64;
 
-/// The most: about a millisecond.
+/// The most: longer than it takes to be woken on a quiet machine.
 const MOST_PATIENCE: usize = 16_384;
+
+/// After so many waits with a sleep an end spins that long once.
+const SLEEPS_BETWEEN: u32 = 16;
 
 /// What an end of a lane keeps from one wait to the next.
 #[derive(Clone, Copy, Drop)]
 pub(crate) struct Habit {
     // How many spins without progress it waits before it sleeps, while the machine is busy.
     patience: usize,
+    // After how many waits with a sleep it spins as long as it ever does.
+    sleeps_left: u32,
     // After how many yields more the last long one shows nothing.
     yields_left: u32,
 }
@@ -65,18 +72,31 @@ impl Habit {
     pub(crate) fn new() -> Habit {
         Habit {
             patience: MOST_PATIENCE,
+            sleeps_left: SLEEPS_BETWEEN,
             yields_left: 0,
+        }
+    }
+
+    /// How many spins without progress the end waits the next time before it sleeps.
+    fn patience(self) -> usize {
+        if self.sleeps_left == 0 {
+            MOST_PATIENCE
+        } else {
+            self.patience
         }
     }
 
     /// The habit after a wait in which the end slept, or didn't.
     fn after(self, slept: bool) -> Habit {
-        let patience = if slept {
-            (self.patience / 2).max(LEAST_PATIENCE)
-        } else {
-            self.patience.saturating_mul(2).min(MOST_PATIENCE)
-        };
-        Habit { patience, ..self }
+        if !slept {
+            let patience = self.patience.saturating_mul(2).min(MOST_PATIENCE);
+            return Habit { patience, ..self };
+        }
+        Habit {
+            patience: (self.patience / 2).max(LEAST_PATIENCE),
+            sleeps_left: self.sleeps_left.checked_sub(1).unwrap_or(SLEEPS_BETWEEN),
+            ..self
+        }
     }
 }
 
@@ -113,7 +133,7 @@ impl Pause {
     pub(crate) fn new(side: Side, capacity: usize, pace: Pace, habit: Habit, load: &Load) -> Pause {
         let (enough, patience) = match pace {
             Pace::Sleeps => (1, 0),
-            Pace::Spins if load.is_high() => (capacity / PARTS_OF_A_LANE, habit.patience),
+            Pace::Spins if load.is_high() => (capacity / PARTS_OF_A_LANE, habit.patience()),
             Pace::Spins => (capacity / PARTS_OF_A_LANE, PATIENCE),
         };
         Pause {
@@ -196,13 +216,12 @@ impl Pause {
     /// Ends the wait. Returns what its end keeps for the next one.
     pub(crate) fn end(&self, signals: &Signals) -> Habit {
         match self.stage {
-            Stage::Spins => {}
             Stage::Yields => signals.load.note_short(),
             Stage::Listens => {
                 signals.bell(self.side).stop_listening();
-                signals.load.note_sleep();
+                signals.load.note_wait();
             }
-            Stage::Slept => signals.load.note_sleep(),
+            Stage::Spins | Stage::Slept => signals.load.note_wait(),
         }
         self.habit.after(matches!(self.stage, Stage::Slept))
     }
