@@ -1,12 +1,11 @@
 -- A hand of a Deal tag's value, byte by byte.
-use Rattle.std.proofs.Common.{◌≡◌, ◌∙◌, ◌<◌, ◌≤◌, ℕ, ◌+◌, ◌*◌, ◌/◌, ◌%◌, ◌^◌, ◌==◌, Bool, true, false, List, [], ◌∷◌, length, get_or, set, ◌++◌, add-one, drop, drop-cons, ap, arith, refl, sym, bit_and, max, min}
+use Rattle.std.proofs.Common.{◌≡◌, ◌∙◌, ◌<◌, ◌≤◌, ℕ, ◌+◌, ◌-◌, ◌*◌, ◌/◌, ◌%◌, ◌^◌, ◌==◌, Bool, true, false, List, [], ◌∷◌, length, get_or, set, ◌++◌, add-one, drop, drop-cons, ap, arith, refl, sym, max}
 use Rattle.std.specs.Prelude.{nat_lt, Option, None, Some, if◌then◌else◌}
 use Rattle.std.specs.Int.{bit_at, w64}
 use Rattle.std.specs.Int.RustNames.{bit_or}
 use Rattle.std.proofs.lemmas.Bool.{and_right, eqb-false, eqb-true, lt-ltb, ne_eqb}
 use Rattle.std.proofs.lemmas.Bool.Decides.{nat_tests}
-use Rattle.std.proofs.lemmas.Nat.{one_shl}
-use Rattle.std.proofs.lemmas.Nat.Bits.{bit_at-lt, bit_at-zero, bit_at_and, bit_at_or, bit_at-pow_same, bit_at_set_other, bit_at_set_same}
+use Rattle.std.proofs.lemmas.Nat.Bits.{bit_at-lt, bit_at-zero, bit_at_or, bit_at_set_other, bit_at_set_same}
 use Rattle.std.proofs.lemmas.List.{drop_all, ext_get_or, get_or-set_other, get_or-set_same, length-set}
 use Rattle.std.proofs.Common.{eq-eqb, take}
 use Rattle.std.proofs.lemmas.List.{append-nil, drop-drop, length-drop, take-append-drop, take_all}
@@ -14,7 +13,8 @@ use Rattle.cards.specs.declared.seat.Seat.{Seat}
 use Rattle.cards.specs.Given.{AreFree, is_among, with_cards}
 use Rattle.cards.proofs.GivenCards.{with_cards_length, with_cards_read}
 use Rattle.records.specs.DealValues.{gives, none_given, rank_in, seat_in, separator}
-use Rattle.records.specs.internal.Hands.{IsHand, Steps}
+use Rattle.records.specs.internal.Hands.{IsHand, Steps, how_many}
+use Rattle.records.proofs.HowMany.{at_most_both, every_card}
 
 -- ---- a dot
 
@@ -37,18 +37,7 @@ not_separator b p below = ne_eqb b (separator p) (λ e. let is : rank_in b ≡ 1
 abbrev card_bit : ℕ → ℕ
 card_bit c = 1 * 2 ^ c % 2 ^ 64
 
-module _ (cards c : ℕ) (below : c < 52) (apart : bit_and cards (card_bit c) ≡ 0) where
-  set_there : bit_at (card_bit c) c ≡ 1
-  set_there = ap (λ m. bit_at m c) (one_shl c 64 (omega (arith, below))) ∙ bit_at-pow_same c
-
-  was_clear : bit_at cards c ≡ 0
-  was_clear =
-      let both : min (bit_at cards c) (bit_at (card_bit c) c) ≡ 0 = sym (bit_at_and cards (card_bit c) c) ∙ ap (λ m. bit_at m c) apart ∙ bit_at-zero c in
-      min_one (bit_at cards c) (bit_at-lt cards c) (ap (min (bit_at cards c)) (sym set_there) ∙ both)
-    where
-      min_one : (a : ℕ) → a < 2 → min a 1 ≡ 0 → a ≡ 0
-      min_one a few e = grind (arith, nat_tests)
-
+module _ (cards c : ℕ) (below : c < 52) (was_clear : bit_at cards c ≡ 0) where
   module _ (seat : Seat) (seats : List (Option Seat)) (count : length seats ≡ 52) (free : AreFree (bit_or cards (card_bit c)) seats) where
     clear : get_or (with_cards cards seat seats) c None ≡ None
     clear = with_cards_read cards seat seats c below ∙ rw was_clear (free c (bit_at_set_same w64 cards c (omega (arith, below))))
@@ -73,16 +62,16 @@ module _ (cards c : ℕ) (below : c < 52) (apart : bit_and cards (card_bit c) �
       max_one : (a : ℕ) → a < 2 → max 1 a ≡ 1
       max_one a few = grind (arith, nat_tests)
 
-pub letter_step : (suit cards b : ℕ) → suit ≤ 3 → rank_in b < 13 → bit_and cards (card_bit (13 * suit + rank_in b)) ≡ 0
+pub letter_step : (suit cards b : ℕ) → suit ≤ 3 → rank_in b < 13 → bit_at cards (13 * suit + rank_in b) ≡ 0
     → Steps suit cards (b ∷ []) suit (bit_or cards (card_bit (13 * suit + rank_in b)))
-letter_step suit cards b few rank apart first p seats rest whole low count free =
+letter_step suit cards b few rank was_clear first p seats rest whole low count free =
     let c : ℕ = 13 * suit + rank_in b in
     let below : c < 52 = omega (arith, few, rank) in
     let this_suit : (p + suit) % 4 ≡ suit = omega (arith, whole, few) in
     let this_hand : (p + suit) / 4 ≡ p / 4 = omega (arith, whole, few) in
-    let none = clear cards c below apart (seat_in first p) seats count free in
-    let more = one_more cards c below apart (seat_in first p) seats count free in (
-      still_free cards c below apart seats free,
+    let none = clear cards c below was_clear (seat_in first p) seats count free in
+    let more = one_more cards c below was_clear (seat_in first p) seats count free in (
+      still_free cards c below was_clear seats free,
       rw (and_right (nat_lt (p + suit) 15) _ (not_separator b (p + suit) rank), lt-ltb (rank_in b) 13 rank, this_suit, this_hand, none, more) refl,
     )
 
@@ -130,18 +119,31 @@ hand_split hands h count few space =
     let later : drop 16 (drop (17 * h) hands) ≡ 32 ∷ drop (17 * (h + 1)) hands = drop-drop 16 (17 * h) hands ∙ cons ∙ ap (λ n. 32 ∷ drop n hands) next in
     sym (take-append-drop 16 (drop (17 * h) hands)) ∙ ap (λ l. take 16 (drop (17 * h) hands) ++ l) later
 
-pub next_hand : (first : Seat) (hands : List ℕ) (h n : ℕ) (old new : List (Option Seat)) → length hands ≡ 67 → h < 3 → n ≡ 16 → get_or hands (17 * h + 16) 0 ≡ 32
-    → ((rest : List ℕ) → gives first (4 * h) old (take n (drop (17 * h) hands) ++ rest) ≡ gives first (4 * h + 3) new rest) → gives first 0 none_given hands ≡ gives first (4 * h) old (drop (17 * h) hands)
-    → gives first 0 none_given hands ≡ gives first (4 * (h + 1)) new (drop (17 * (h + 1)) hands)
-next_hand first hands h n old new count few sixteen space hand before =
-    before ∙ ap (gives first (4 * h) old) (hand_split hands h count few space)
-    ∙ ap (λ k. gives first (4 * h) old (take k (drop (17 * h) hands) ++ 32 ∷ drop (17 * (h + 1)) hands)) (sym sixteen)
-    ∙ hand (32 ∷ drop (17 * (h + 1)) hands) ∙ space_step first h new (drop (17 * (h + 1)) hands) few
+-- what the first hands give, if none of them has a card twice, nor one that another has
+pub record GivenUpTo (first : Seat) (hands : List ℕ) (h : ℕ) (given : List (Option Seat)) (all : ℕ) : Type 0 where
+  pub most : how_many all ≤ 13 * h
+  pub read : how_many all ≡ 13 * h → gives first 0 none_given hands ≡ gives first (4 * h) given (drop (17 * h) hands)
 
-pub last_hand : (first : Seat) (hands : List ℕ) (h n : ℕ) (old new : List (Option Seat)) → length hands ≡ 67 → h ≡ 3 → n ≡ 16
-    → ((rest : List ℕ) → gives first 12 old (take n (drop 51 hands) ++ rest) ≡ gives first 15 new rest) → gives first 0 none_given hands ≡ gives first (4 * h) old (drop (17 * h) hands)
-    → gives first 0 none_given hands ≡ Some new
-last_hand first hands h n old new count three sixteen hand before =
-    let at_three : gives first 0 none_given hands ≡ gives first 12 old (drop 51 hands) = before ∙ ap (λ k. gives first (4 * k) old (drop (17 * k) hands)) three in
-    let all : take n (drop 51 hands) ++ [] ≡ drop 51 hands = append-nil (take n (drop 51 hands)) ∙ take_all n (drop 51 hands) (omega (arith, sixteen, count, length-drop 51 hands)) in
-    at_three ∙ ap (gives first 12 old) (sym all) ∙ hand []
+pub next_hand : (first : Seat) (hands : List ℕ) (h n : ℕ) (old new : List (Option Seat)) (all cards : ℕ) → length hands ≡ 67 → h < 3 → n ≡ 16 → get_or hands (17 * h + 16) 0 ≡ 32 → how_many cards ≤ 13
+    → (how_many cards ≡ 13 → (rest : List ℕ) → gives first (4 * h) old (take n (drop (17 * h) hands) ++ rest) ≡ gives first (4 * h + 3) new rest)
+    → GivenUpTo first hands h old all → GivenUpTo first hands (h + 1) new (bit_or all cards)
+next_hand first hands h n old new all cards count few sixteen space most hand before =
+    let together = at_most_both all cards in
+    record {
+      most = omega (arith, together, most, before.most);
+      read = λ whole.
+          before.read (omega (arith, whole, together, most, before.most)) ∙ ap (gives first (4 * h) old) (hand_split hands h count few space)
+          ∙ ap (λ k. gives first (4 * h) old (take k (drop (17 * h) hands) ++ 32 ∷ drop (17 * (h + 1)) hands)) (sym sixteen)
+          ∙ hand (omega (arith, whole, together, most, before.most)) (32 ∷ drop (17 * (h + 1)) hands) ∙ space_step first h new (drop (17 * (h + 1)) hands) few;
+    }
+
+pub last_hand : (first : Seat) (hands : List ℕ) (h n : ℕ) (old new : List (Option Seat)) (all cards : ℕ) → length hands ≡ 67 → h ≡ 3 → n ≡ 16 → how_many cards ≤ 13
+    → (how_many cards ≡ 13 → (rest : List ℕ) → gives first 12 old (take n (drop 51 hands) ++ rest) ≡ gives first 15 new rest)
+    → GivenUpTo first hands h old all → bit_or all cards ≡ 2 ^ 52 - 1 → gives first 0 none_given hands ≡ Some new
+last_hand first hands h n old new all cards count three sixteen most hand before whole =
+    let fifty_two : how_many (bit_or all cards) ≡ 52 = ap how_many whole ∙ every_card in
+    let together = at_most_both all cards in
+    let at_three : gives first 0 none_given hands ≡ gives first 12 old (drop 51 hands) =
+    before.read (omega (arith, three, fifty_two, together, most, before.most)) ∙ ap (λ k. gives first (4 * k) old (drop (17 * k) hands)) three in
+    let rest : take n (drop 51 hands) ++ [] ≡ drop 51 hands = append-nil (take n (drop 51 hands)) ∙ take_all n (drop 51 hands) (omega (arith, sixteen, count, length-drop 51 hands)) in
+    at_three ∙ ap (gives first 12 old) (sym rest) ∙ hand (omega (arith, three, fifty_two, together, most, before.most)) []

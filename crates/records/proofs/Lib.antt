@@ -18,3 +18,4 @@ pub mod HandBytes
 pub mod HandSums
 pub mod PlainBytes
 pub mod NameBytes
+pub mod HowMany

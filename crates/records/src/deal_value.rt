@@ -1,9 +1,9 @@
 //! The deal that a Deal tag tells.
 
 ghost use Rattle.std.specs.Prelude.{◌≡◌, ◌*◌, ◌+◌, ◌≤◌, ◌^◌, ◌++◌, ℕ, IfSome, List, Some, length};
-ghost use Rattle.std.specs.Prelude.{true};
 ghost use Rattle.records.specs.DealValues.{deal_in, gives};
 ghost use Rattle.records.specs.DealValues.{none_given, rank_in, seat_in, separator, whole};
+ghost use Rattle.records.specs.internal.Hands.{how_many};
 
 use crate::hand_value::{RANKS, cards_in, rank_in};
 use crate::values::dealer_in;
@@ -17,6 +17,12 @@ const HAND: usize = 16;
 
 /// The bytes of four such hands, with spaces between them.
 const WHOLE: usize = 67;
+
+/// What is between two of them.
+const BETWEEN: u8 = b' ';
+
+/// All cards, bit c for card c.
+const PACK: u64 = (1 << 52) - 1;
 
 /// What is after a part of a deal.
 fn separator(part: usize) -> u8
@@ -61,22 +67,27 @@ fn given_by_bytes(first: Seat, hands: &[u8]) -> Option<Given>
     if part == LAST_PART { Some(given) } else { None }
 }
 
-/// Gives the seat of this hand the cards that the text tells. Returns whether it could.
-fn give_hand(given: &mut Given, first: Seat, hand: usize, text: &[u8]) -> bool
+/// Gives the seat of this hand the cards that the text tells, and returns them; none if somebody
+/// has one of them. Only if they are thirteen are they sure to be the hand.
+fn give_hand(given: &mut Given, first: Seat, hand: usize, text: &[u8]) -> u64
     requires hand { hand ≤ 3 }
-    requires few { length text.now ≤ 2 ^ 50 }
-    ensures { result ≡ true → (rest : List ℕ)
+    requires whole { length text.now ≡ 16 }
+    ensures most { how_many result ≤ 13 }
+    ensures gives { how_many result ≡ 13 → (rest : List ℕ)
         → gives first (4 * hand) given.old (text.now ++ rest)
         ≡ gives first (4 * hand + 3) given.new rest }
 {
-    match cards_in(text) {
-        Some(cards) => given.give_all(cards, seat_in(first, 4 * hand)),
-        None => false,
+    let cards = cards_in(text);
+    if given.give_all(cards, seat_in(first, 4 * hand)) {
+        cards
+    } else {
+        0
     }
 }
 
 /// What the hands give, from that of the first seat on, if they are whole: then each has sixteen
-/// bytes, and can be read without a look for its end.
+/// bytes, and can be read without a look for its end. Their 52 letters have to tell all 52 cards,
+/// so none is told twice, and no letter is tested for that.
 fn given_by_hands(first: Seat, hands: &[u8]) -> Option<Given>
     ensures { IfSome result (λ given. gives first 0 none_given hands.now ≡ Some given) }
 {
@@ -84,19 +95,16 @@ fn given_by_hands(first: Seat, hands: &[u8]) -> Option<Given>
         return None;
     }
     let mut given = Given::none();
+    let mut all = 0;
     for hand in 0..3 {
         let from = (HAND + 1) * hand;
-        if !give_hand(&mut given, first, hand, &hands[from..from + HAND])
-            || hands[from + HAND] != b' '
-        {
+        all |= give_hand(&mut given, first, hand, &hands[from..from + HAND]);
+        if hands[from + HAND] != BETWEEN {
             return None;
         }
     }
-    if give_hand(&mut given, first, 3, &hands[WHOLE - HAND..]) {
-        Some(given)
-    } else {
-        None
-    }
+    all |= give_hand(&mut given, first, 3, &hands[WHOLE - HAND..]);
+    if all == PACK { Some(given) } else { None }
 }
 
 /// What the hands give, from that of the first seat on.

@@ -1,8 +1,8 @@
 //! A hand of a Deal tag's value.
 
-ghost use Rattle.std.specs.Prelude.{◌≡◌, ◌<◌, ◌≤◌, ◌^◌, IfSome, length};
+ghost use Rattle.std.specs.Prelude.{◌≡◌, ◌<◌, ◌≤◌, ◌^◌, length};
 ghost use Rattle.records.specs.DealValues.{rank_in};
-ghost use Rattle.records.specs.internal.Hands.{IsHand, bit_in, move_after};
+ghost use Rattle.records.specs.internal.Hands.{IsHand, bit_in, how_many, move_after};
 
 /// How many ranks there are.
 pub(crate) const RANKS: usize = 13;
@@ -74,29 +74,23 @@ fn move_after(byte: u8) -> usize
     usize::from(MOVE_AFTER[usize::from(byte)])
 }
 
-/// The cards of a hand, bit c for card c, or `None` unless the text is the letters of four suits
-/// with dots between them, each card once.
+/// The cards that sixteen bytes tell, bit c for card c; none unless the bytes are the letters of
+/// four suits with dots between them. Thirteen cards are those of the hand; there are fewer if it
+/// has one twice, which counts once.
 ///
 /// A dot is taken as a letter is, with no card, so that nothing depends on where the dots are.
-pub(crate) fn cards_in(text: &[u8]) -> Option<u64>
-    requires { length text.now ≤ 2 ^ 50 }
-    ensures cards { IfSome result (λ cards. cards < 2 ^ 52) }
-    ensures hand { IfSome result (λ cards. IsHand cards text.now) }
+pub(crate) fn cards_in(text: &[u8]) -> u64
+    requires { length text.now ≡ 16 }
+    ensures cards { result < 2 ^ 52 }
+    ensures most { how_many result ≤ 13 }
+    ensures hand { how_many result ≡ 13 → IsHand result text.now }
 {
     let mut place = 0;
     let mut cards = 0;
     for byte in text {
         // The places of a hand are below 64; the remainder costs nothing.
-        let card = bit_in(*byte) << (place % 64);
-        if cards & card != 0 {
-            return None;
-        }
-        cards |= card;
+        cards |= bit_in(*byte) << (place % 64);
         place += move_after(*byte);
     }
-    if place == 3 * RANKS {
-        Some(cards)
-    } else {
-        None
-    }
+    if place == 3 * RANKS { cards } else { 0 }
 }

@@ -17,7 +17,7 @@ use crate::scanner::Scanner;
 use picking::{MOST_BYTES, Source, SourceFault};
 
 /// How many bytes are read at once.
-const PIECE: usize = 8192;
+const PIECE: usize = 32768;
 
 /// No input gives a byte so often.
 const MOST_READS: u64 = MOST_BYTES + 1;

@@ -2,7 +2,9 @@
 use Rattle.std.specs.Prelude.{◌≡◌, ◌≤◌, ℕ, ◌+◌, ◌%◌, ◌^◌, ◌==◌, List, ◌++◌, Option, length}
 use Rattle.std.specs.Prelude.{if◌then◌else◌, nat_lt}
 use Rattle.cards.specs.declared.seat.Seat.{Seat}
-use Rattle.cards.specs.Given.{AreFree, with_cards}
+use Rattle.std.specs.List.{count_by}
+use Rattle.cards.specs.Given.{AreFree, is_among, with_cards}
+use Rattle.cards.specs.Shuffle.{pack}
 use Rattle.records.specs.DealValues.{gives, rank_in, seat_in}
 
 -- in part p these bytes lead from a suit and the hand's cards to others, if nobody else has these
@@ -22,6 +24,10 @@ bit_in byte = if nat_lt (rank_in byte) 13 then 2 ^ rank_in byte else 0
 -- far that no hand ends there
 abbrev pub move_after : ℕ → ℕ
 move_after byte = if byte == 46 then 13 else (if nat_lt (rank_in byte) 13 then 0 else 64)
+
+-- how many of the 52 cards these are
+abbrev pub how_many : ℕ → ℕ
+how_many cards = count_by (is_among cards) pack
 
 -- the text gives these cards
 abbrev pub IsHand : ℕ → List ℕ → Type 0
