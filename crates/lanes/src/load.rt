@@ -6,7 +6,7 @@
 use std::sync::atomic::{AtomicU64, Ordering};
 
 /// For how many waits the machine counts as busy while nothing is known of it.
-const FIRST_WAITS: u64 = 1024;
+const FIRST_WAITS: u64 = 4096;
 
 /// For how many waits it does after the first long yields.
 const FEWEST_WAITS: u64 = 512;
