@@ -231,7 +231,7 @@ abbrev pub style_in : List Row → Style
 style_in rows = unwrap_or (choice_in styles (codes "format") rows) Table
 
 -- `pick` deals the candidates whose numbers it reads; the others search, and `count` has a table,
--- `find` numbers alone
+-- `find` numbers alone: both have long lanes
 abbrev pub made_by : Text → Search → List Row → Wish
 made_by name s rows =
     if bytes_eq name (codes "pick")
@@ -240,7 +240,7 @@ made_by name s rows =
     else if bytes_eq name (codes "count")
     then count (with_long_lanes s) (questions_in rows) (style_in rows) (notices_in rows)
     else if bytes_eq name (codes "find")
-    then make s numbers_look false (notices_in rows)
+    then make (with_long_lanes s) numbers_look false (notices_in rows)
     else make s (look_in rows) (is_set (codes "tricks") rows) (notices_in rows)
 
 -- by the subcommand's name and what its options were given

@@ -141,7 +141,8 @@ date: The date, as 2024.05.01 [default: no line]",
 suit this computer [default: 1]
 
 lane: How far a worker may search ahead, 1 to 4096 deals
-[default: 64, and 4096 in count and with --workers auto]",
+[default: 64, and 4096 in find and count and with
+--workers auto]",
     ),
     (
         "What is said",

@@ -131,7 +131,7 @@ pub fn example_of_show()
 
 /// `deals find --seed 7 --candidates 1000 --first 5 --where 'hcp(north)>=15' --progress never
 /// --hints always` asks for the numbers of those of a thousand candidates, from number 5 on, that
-/// meet the condition. A board of `find` has no number of its own.
+/// meet the condition, over long lanes. A board of `find` has no number of its own.
 pub fn example_of_find()
     ensures asked { asked
         (codes "deals" ∷ codes "find" ∷ codes "--seed" ∷ codes "7"
@@ -141,6 +141,7 @@ pub fn example_of_find()
         ≡ Some (make (record (plain_search 7) {
           candidates = Some 1000;
           first = 5;
+          lane = Some 4096;
           where_text = Some (codes "hcp(north)>=15");
         }) numbers_look false (record plain_notices { progress = Never; hints = Always })) }
     ensures refused { kinds_for

@@ -299,6 +299,7 @@ fn request_by<'a>(name: &str, search: Search<'a>, matches: &ArgMatches<'a>) -> R
         };
     }
     if name == "find" {
+        let search = search.with_long_lanes();
         return Request::Find { search, notices };
     }
     Request::Make {

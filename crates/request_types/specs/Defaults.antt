@@ -22,8 +22,8 @@ usual_lane Auto = 4096
 abbrev pub lane_of : Search → ℕ
 lane_of s = unwrap_or s.lane (usual_lane s.workers)
 
--- what the words of a `count` ask for: it writes nothing before its end, so that a worker may be
--- far ahead of what was counted
+-- what the words of a `find` and of a `count` ask for: they write little or nothing before their
+-- end, so that a worker may be far ahead of what was written
 abbrev pub with_long_lanes : Search → Search
 with_long_lanes s = record s { lane = Some (unwrap_or s.lane 4096) }
 

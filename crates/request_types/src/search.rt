@@ -87,7 +87,7 @@ impl<'a> Search<'a> {
     }
 
     /// Returns the same search with lanes of 4,096 verdicts, unless their capacity is given: that
-    /// of a `count`, which writes nothing before its end.
+    /// of a `find` or a `count`, which write little or nothing before their end.
     pub fn with_long_lanes(self) -> Search<'a>
         ensures { search_of result ≡ with_long_lanes (search_of self.entry) }
     {
