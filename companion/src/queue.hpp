@@ -22,7 +22,7 @@ public:
     // What is written of a board, by one of the threads; none where the board isn't kept.
     using Judge = std::function<std::optional<std::string>(const Board &, int thread)>;
 
-    // Ends after so many boards that are kept.
+    // Ends after this many boards that are kept.
     Queue(Judge judge, size_t most);
 
     // Waits while there are many. False if the run has ended.
