@@ -37,7 +37,7 @@ def small_stacks():
     """The size of the stack in KiB, the words, the status and the text."""
     yield 128, ["stream", "--seed", "0", "--count", "3"], 0, model.values(0, 3)
     yield 128, ["pick", "--seed", "7"], 0, model.games(7, 0)
-    yield 256, ["show"], 0, model.games(7, 0)
+    yield 320, ["show"], 0, model.games(7, 0)
     yield 192, ["make", "--seed", "7", "--candidates", "20"], 0, model.games(7, 20)
     strong = lambda d: model.points(d[0]) >= 15 and model.is_balanced(d[0])  # noqa: E731
     for workers in (1, 3, 16):
