@@ -53,8 +53,10 @@ const LEAST_PATIENCE: usize = 64;
 /// The most: longer than it takes to be woken on a quiet machine.
 const MOST_PATIENCE: usize = 16_384;
 
-/// After so many waits with a sleep an end spins that long once.
-const SLEEPS_BETWEEN: u32 = 16;
+/// After so many waits with a sleep an end spins that long once: the fewest, and the most.
+const FEWEST_SLEEPS: u32 = 2;
+
+const MOST_SLEEPS: u32 = 64;
 
 /// What an end of a lane keeps from one wait to the next.
 #[derive(Clone, Copy, Drop)]
@@ -63,6 +65,8 @@ pub(crate) struct Habit {
     patience: usize,
     // After how many waits with a sleep it spins as long as it ever does.
     sleeps_left: u32,
+    // After how many it does so again, if that was in vain.
+    sleeps_between: u32,
     // After how many yields more the last long one shows nothing.
     yields_left: u32,
 }
@@ -72,7 +76,8 @@ impl Habit {
     pub(crate) fn new() -> Habit {
         Habit {
             patience: MOST_PATIENCE,
-            sleeps_left: SLEEPS_BETWEEN,
+            sleeps_left: FEWEST_SLEEPS,
+            sleeps_between: FEWEST_SLEEPS,
             yields_left: 0,
         }
     }
@@ -88,13 +93,30 @@ impl Habit {
 
     /// The habit after a wait in which the end slept, or didn't.
     fn after(self, slept: bool) -> Habit {
+        let tried = self.sleeps_left == 0;
         if !slept {
-            let patience = self.patience.saturating_mul(2).min(MOST_PATIENCE);
-            return Habit { patience, ..self };
+            return Habit {
+                patience: self.patience.saturating_mul(2).min(MOST_PATIENCE),
+                sleeps_between: if tried {
+                    FEWEST_SLEEPS
+                } else {
+                    self.sleeps_between
+                },
+                ..self
+            };
+        }
+        let patience = (self.patience / 2).max(LEAST_PATIENCE);
+        if !tried {
+            return Habit {
+                patience,
+                sleeps_left: self.sleeps_left.saturating_sub(1),
+                ..self
+            };
         }
         Habit {
-            patience: (self.patience / 2).max(LEAST_PATIENCE),
-            sleeps_left: self.sleeps_left.checked_sub(1).unwrap_or(SLEEPS_BETWEEN),
+            patience,
+            sleeps_left: self.sleeps_between,
+            sleeps_between: self.sleeps_between.saturating_mul(2).min(MOST_SLEEPS),
             ..self
         }
     }
