@@ -7,7 +7,7 @@ use Rattle.std.proofs.lemmas.Str.Ascii.{All-from_ascii}
 use Rattle.std.proofs.lemmas.List.Elements.{All-head, All-tail}
 use Rattle.std.proofs.lemmas.List.Sums.{sum_by-cons, sum_by-append}
 use Rattle.cards.specs.declared.suit.Suit.{Suit}
-use Rattle.cards.specs.declared.suit.Suit.TheVariants.{Spades, Hearts, Diamonds, Clubs}
+use Rattle.cards.specs.declared.suit.Suit.TheVariants.{Spades}
 use Rattle.boards.specs.Letters.{or_dash, suit_letters}
 use Rattle.boards.proofs.Letters.{suit_letters-ascii}
 use Rattle.notations.specs.Columns.{begins_character, columns}

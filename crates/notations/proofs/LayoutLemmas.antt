@@ -4,7 +4,7 @@ use Rattle.boards.specs.declared.board.Board.{Board}
 use Rattle.boards.specs.Headings.{HeadingView}
 use Rattle.boards.specs.Layouts.{EndsAlike, ends_with}
 use Rattle.boards.specs.declared.format.Format.{Format}
-use Rattle.boards.specs.declared.format.Format.TheVariants.{Pbn, Hands, Lin, Html, Sheet, Slips, Json, Numbers}
+use Rattle.boards.specs.declared.format.Format.TheVariants.{Pbn}
 use Rattle.boards.specs.declared.show.Show.{Show}
 use Rattle.boards.specs.declared.show.Seats.{Seats}
 use Rattle.boards.specs.declared.show.Seats.TheVariants.{All, Dealer, North, East, South, West, NorthSouth, EastWest}

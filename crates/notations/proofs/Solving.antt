@@ -9,7 +9,7 @@ use Rattle.boards.specs.declared.format.Format.{Format}
 use Rattle.boards.specs.declared.show.Show.{Show}
 use Rattle.boards.specs.TricksLines.{IsTold, TricksView, nothing_known}
 use Rattle.boards.specs.declared.show.Seats.{Seats}
-use Rattle.boards.specs.declared.show.Seats.TheVariants.{All, Dealer, North, East, South, West, NorthSouth, EastWest}
+use Rattle.boards.specs.declared.show.Seats.TheVariants.{All}
 use Rattle.notations.specs.Formats.{beside_seats, board_text, layout_showing, layout_solved}
 use Rattle.notations.proofs.LayoutLemmas.{showing_board, showing_footer, showing_header}
 

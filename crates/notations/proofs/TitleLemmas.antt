@@ -1,7 +1,6 @@
 -- How much room titles take.
-use Rattle.std.proofs.Common.{◌≡◌, ◌≤◌, ◌+◌, ◌*◌, ◌++◌, ℕ, List, length, codes, arith, subst, sym}
+use Rattle.std.proofs.Common.{◌≡◌, ◌≤◌, ◌+◌, ◌++◌, ℕ, List, length, codes, arith, subst, sym}
 use Rattle.std.proofs.lemmas.List.{length-append}
-use Rattle.captions.specs.Room.{room}
 use Rattle.captions.proofs.Rooms.{narrow_bytes, room-append, wide_bytes}
 use Rattle.notations.specs.internal.Titles.{AddsAtMost, IsWithin}
 

@@ -5,8 +5,7 @@ use Rattle.boards.specs.declared.board.Board.{Board}
 use Rattle.boards.specs.Layouts.{EndsAlike, Layout, SolvedLayout, ends_with}
 use Rattle.pbn_text.specs.Games.{HeadingView, header, pbn}
 use Rattle.boards.specs.declared.format.Format.{Format}
-use Rattle.boards.specs.declared.format.Format.TheVariants.{Pbn, Hands, Lin, Html, Sheet, Slips, Json}
-use Rattle.boards.specs.declared.format.Format.TheVariants.{Numbers}
+use Rattle.boards.specs.declared.format.Format.TheVariants.{Pbn, Hands, Lin, Html, Sheet, Slips, Json, Numbers}
 use Rattle.boards.specs.declared.show.Seats.{Seats}
 use Rattle.boards.specs.declared.show.Seats.TheVariants.{All}
 use Rattle.boards.specs.declared.show.Show.{Show}
@@ -120,13 +119,7 @@ layout_solved format show heading expects = record {
 -- no footer depends on how many candidates were tried
 pub ends_alike : (format : Format) (heading : HeadingView) → EndsAlike (layout_of format heading)
 ends_alike Pbn heading boards m n = refl
-ends_alike Hands heading boards m n = refl
-ends_alike Lin heading boards m n = refl
-ends_alike Html heading boards m n = refl
-ends_alike Sheet heading boards m n = refl
-ends_alike Slips heading boards m n = refl
-ends_alike Json heading boards m n = refl
-ends_alike Numbers heading boards m n = refl
+ends_alike _ heading boards m n = refl
 
 -- ---- a printer
 

@@ -13,19 +13,13 @@ use captions::Captions;
 use pbn_text::Printer;
 use std::alloc::{AllocError, Global};
 
-/// What a board is written with: the letters of suits, unless the format has none. A printer of
-/// games has a text of its own, which keeps the lines that the games share; it writes all hands and
-/// no tricks.
+/// What a board is written with. A printer of games has a text of its own, which keeps the lines
+/// that the games share; it writes all hands and no tricks. All else is written with the letters of
+/// suits, but for numbers of candidates, which have none.
 #[derive(Drop)]
 pub(crate) enum Pen {
     Games(Printer),
-    Pbn(SuitLetters),
-    Hands(SuitLetters),
-    Lin(SuitLetters),
-    Html(SuitLetters),
-    Sheet(SuitLetters),
-    Slips(SuitLetters),
-    Json(SuitLetters),
+    Letters(Format, SuitLetters),
     Numbers,
 }
 
@@ -45,14 +39,8 @@ impl Pen {
     {
         match format {
             Format::Pbn if is_plain => Ok(Pen::Games(Printer::new(alloc, &captions.labels())?)),
-            Format::Pbn => Ok(Pen::Pbn(SuitLetters::new(alloc)?)),
-            Format::Hands => Ok(Pen::Hands(SuitLetters::new(alloc)?)),
-            Format::Lin => Ok(Pen::Lin(SuitLetters::new(alloc)?)),
-            Format::Html => Ok(Pen::Html(SuitLetters::new(alloc)?)),
-            Format::Sheet => Ok(Pen::Sheet(SuitLetters::new(alloc)?)),
-            Format::Slips => Ok(Pen::Slips(SuitLetters::new(alloc)?)),
-            Format::Json => Ok(Pen::Json(SuitLetters::new(alloc)?)),
             Format::Numbers => Ok(Pen::Numbers),
+            _ => Ok(Pen::Letters(format, SuitLetters::new(alloc)?)),
         }
     }
 
@@ -76,13 +64,9 @@ impl Pen {
     {
         match self {
             Pen::Games(printer) => printer.print(board),
-            Pen::Pbn(letters) => pbn::put_game(text, letters, heading, show, tricks, board),
-            Pen::Hands(letters) => hands::put_record(text, letters, show, tricks, board),
-            Pen::Lin(letters) => lin::put_line(text, letters, show, board),
-            Pen::Html(letters) => page::put_board(text, letters, show, tricks, board),
-            Pen::Sheet(letters) => sheet::put_section(text, letters, show, tricks, board),
-            Pen::Slips(letters) => slips::put_slips(text, letters, show, board),
-            Pen::Json(letters) => json::put_line(text, letters, show, tricks, board),
+            Pen::Letters(format, letters) => {
+                put_board(text, *format, letters, heading, show, tricks, board)
+            }
             Pen::Numbers => numbers::put_line(text, board),
         }
     }
@@ -97,15 +81,51 @@ impl Pen {
         buffer.as_bytes()
     }
 
+    /// Returns the format that boards are written in.
+    fn format(&self) -> Format
+        ensures { result ≡ format_of self.now }
+    {
+        match self {
+            Pen::Games(_) => Format::Pbn,
+            Pen::Letters(format, _) => *format,
+            Pen::Numbers => Format::Numbers,
+        }
+    }
+
     /// Returns what comes after the boards.
     #[tactic(auto, unfolding(crate::specs::Pages::footer_text))]
     pub(crate) fn footer(&self) -> &'static [u8]
         ensures { result.now ≡ footer_of (format_of self.now) }
     {
-        match self {
-            Pen::Html(_) | Pen::Sheet(_) | Pen::Slips(_) => page::FOOTER,
-            Pen::Games(_) | Pen::Pbn(_) | Pen::Hands(_) | Pen::Lin(_) => b"",
-            Pen::Json(_) | Pen::Numbers => b"",
+        match self.format() {
+            Format::Html | Format::Sheet | Format::Slips => page::FOOTER,
+            Format::Pbn | Format::Hands | Format::Lin | Format::Json | Format::Numbers => b"",
         }
+    }
+}
+
+/// Writes the board into the empty buffer, in the format.
+fn put_board(
+    text: &mut TextBuffer,
+    format: Format,
+    letters: &SuitLetters,
+    heading: &Captions,
+    show: Show,
+    tricks: Option<&Tricks>,
+    board: &Board,
+)
+    requires { text.old ≡ [] }
+    ensures { text.new ≡ board_text format show heading.now
+        (or_nothing (option_copied tricks.entry)) board.now }
+{
+    match format {
+        Format::Pbn => pbn::put_game(text, letters, heading, show, tricks, board),
+        Format::Hands => hands::put_record(text, letters, show, tricks, board),
+        Format::Lin => lin::put_line(text, letters, show, board),
+        Format::Html => page::put_board(text, letters, show, tricks, board),
+        Format::Sheet => sheet::put_section(text, letters, show, tricks, board),
+        Format::Slips => slips::put_slips(text, letters, show, board),
+        Format::Json => json::put_line(text, letters, show, tricks, board),
+        Format::Numbers => numbers::put_line(text, board),
     }
 }

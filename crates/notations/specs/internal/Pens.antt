@@ -5,8 +5,7 @@ use Rattle.boards.specs.Headings.{HeadingView}
 use Rattle.notations.specs.declared.pen.Pen.{Pen}
 use Rattle.notations.specs.declared.pen.Pen.TheVariants as pen
 use Rattle.boards.specs.declared.format.Format.{Format}
-use Rattle.boards.specs.declared.format.Format.TheVariants.{Pbn, Hands, Lin, Html, Sheet, Slips, Json}
-use Rattle.boards.specs.declared.format.Format.TheVariants.{Numbers}
+use Rattle.boards.specs.declared.format.Format.TheVariants.{Pbn, Numbers}
 use Rattle.boards.specs.declared.show.Show.{Show}
 use Rattle.boards.specs.declared.show.Seats.TheVariants.{All}
 use Rattle.notations.specs.Formats.{TableView, footer_of}
@@ -14,13 +13,7 @@ use Rattle.boards.specs.TricksLines.{TricksView, nothing_known}
 
 abbrev pub format_of : Pen → Format
 format_of (pen.Games printer) = Pbn
-format_of (pen.Pbn letters) = Pbn
-format_of (pen.Hands letters) = Hands
-format_of (pen.Lin letters) = Lin
-format_of (pen.Html letters) = Html
-format_of (pen.Sheet letters) = Sheet
-format_of (pen.Slips letters) = Slips
-format_of (pen.Json letters) = Json
+format_of (pen.Letters format letters) = format
 format_of pen.Numbers = Numbers
 
 -- what was printed last: a printer of games has it, and for the others it is in the buffer

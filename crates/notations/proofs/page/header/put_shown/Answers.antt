@@ -1,4 +1,3 @@
-use Rattle.std.proofs.Common.{◌++◌, codes}
 use Rattle.notations.specs.internal.Titles.{AddsAtMost}
 use Rattle.notations.proofs.TitleLemmas.{comma_added, nothing_added, text_added}
 use Rattle.notations.proofs.page.header.put_shown.Goals.{then-len-gt0, else-len-gt0}
