@@ -8,13 +8,17 @@ A table of places/ has a line `WHERE | TEXT` for each: where and why the text is
 it, and behind a `;` what could stand there. A second reader (second/grammar.py) says the same.
 
 A table of notes/ has a line `NOTE | CONDITION` for each: a piece of the note that is shown on a terminal; `any` for any
-note that no deal meets the condition, `none` for none of these, and `silent` for no note at all. How texts are escaped is said in lib/tables.py.
+note that no deal meets the condition, `none` for none of these, and `silent` for no note at all.
+
+How texts are escaped is said in lib/tables.py. In what is said `\\{measures}` stands for the words of all measures, and
+`\\{"measures"}` for these in quotes.
 """
 
 import pathlib
 import re
 
 import grammar
+import language
 import report
 import tables
 from texts import fault_of_note, fault_of_suggestion, fault_of_text, safely, told
@@ -24,6 +28,12 @@ HERE = pathlib.Path(__file__).resolve().parent
 LEAST = {"mistakes": 330, "places": 90, "notes": 80}
 
 
+def spelled_out(said):
+    """What is said, with the words of all measures in it."""
+    quoted = ", ".join(f'"{word}"' for word in language.MEASURES)
+    return said.replace('\\{"measures"}', quoted).replace("\\{measures}", ", ".join(language.MEASURES))
+
+
 def mistakes():
     """Each table's name, with each condition and what is said of it."""
     for file in sorted((HERE / "mistakes").glob("*.txt")):
@@ -31,13 +41,13 @@ def mistakes():
         _, *rows = re.split(r"^\$ ", text, flags=re.M)
         for row in rows:
             condition, said = row.split("\n", 1)
-            yield file.stem, tables.unescaped(condition), said.rstrip("\n") + "\n"
+            yield file.stem, tables.unescaped(condition), spelled_out(said).rstrip("\n") + "\n"
 
 
 def rows_of(folder):
     """The rows of a folder's tables, each with its table's name and its text first."""
     for file in sorted((HERE / folder).glob("*.txt")):
-        yield from ((f"{folder}/{file.stem}", text, left) for left, text in tables.lines(file))
+        yield from ((f"{folder}/{file.stem}", text, spelled_out(left)) for left, text in tables.lines(file))
 
 
 def fault_of_mistake(condition, said):

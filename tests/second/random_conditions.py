@@ -1,11 +1,23 @@
 """Random conditions of the whole language, mostly true of some deals and not of all."""
 
+import random
+
 import language
+
+
+def typical(measure, suits):
+    """What a measure of a hand comes to on average, of these suits: by ten shuffled packs, rounded up."""
+    dice = random.Random(1)
+    packs = [dice.sample(range(52), 52) for _ in range(10)]
+    hands = [sorted(pack[i : i + 13]) for pack in packs for i in range(0, 52, 13)]
+    return -(-sum(measure(hand, suits) for hand in hands) // len(hands))
+
 
 RELATIONS = list(language.RELATIONS)
 # What each value of a hand, and of a suit, is about.
-HANDS = {"hcp": 10, "controls": 4, "losers": 7, "longest": 5, "second": 4, "shortest": 2}
-SUITS = {"hcp": 3, "controls": 1, "losers": 2, "len": 3}
+HANDS = {word: typical(measure, range(4)) for word, measure in language.MEASURES.items()}
+HANDS |= {"longest": 5, "second": 4, "shortest": 2}
+SUITS = {word: typical(measure, [0]) for word, measure in language.MEASURES.items()} | {"len": 3}
 HONOURS = ["a", "k", "akq", "qjt", "akqjt", "aj"]
 DEEPEST = 4
 

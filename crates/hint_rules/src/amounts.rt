@@ -2,7 +2,7 @@
 
 use crate::parts::Parts;
 use crate::tables::counted::COUNTED;
-use crate::words::{is, is_measure, is_number, is_one_of, is_relation, number};
+use crate::words::{is, is_count, is_number, is_one_of, is_relation, measure_word, number};
 
 /// What comes after a value, in the language's own form.
 #[derive(Clone, Copy)]
@@ -39,7 +39,7 @@ fn unsigned_at<'t>(parts: &Parts<'t>, i: usize) -> Option<Amount<'t>> {
         Some(Amount { low, high, ..found })
     } else if is(sign, "-") {
         one(parts, b"<=", i, i.saturating_add(1))
-    } else if is(sign, "+") && !is_number(high) && !is_measure(high) {
+    } else if is(sign, "+") && !is_number(high) && !is_count(high) {
         one(parts, b">=", i, i.saturating_add(1))
     } else {
         one(parts, b"==", i, i)
@@ -70,12 +70,14 @@ pub(crate) fn ordered<'t>(first: &'t [u8], second: &'t [u8]) -> (&'t [u8], &'t [
 /// The word that counts what the amount from the part on is said of, and what comes after its
 /// seat; nothing, if it is said of nothing that a word counts.
 pub(crate) fn counted_at(parts: &Parts, i: usize) -> (&'static str, &'static str) {
-    if let Some(amount) = amount_at(parts, i) {
-        for (word, after, names) in COUNTED {
-            if is_one_of(parts.at(amount.end), names) {
-                return (word, after);
-            }
+    let Some(amount) = amount_at(parts, i) else {
+        return ("", "");
+    };
+    let part = parts.at(amount.end);
+    for (word, after, names) in COUNTED {
+        if is_one_of(part, names) {
+            return (word, after);
         }
     }
-    ("", "")
+    (measure_word(part).unwrap_or(""), "")
 }

@@ -21,6 +21,7 @@
 //! | `%wN` | the word of the call that has the fault |
 //! | `%eN` | what comes after the word `%bN` and a seat; `%e0` of the call |
 //! | `%hN` | the brackets after the name `%bN`; `%h0` of the call |
+//! | `%l0` | the words of all measures, each with a comma and a blank after it |
 
 use crate::amounts::{Amount, amount_at, counted_at, ordered};
 use crate::hint::Said;
@@ -29,7 +30,7 @@ use crate::parts::Parts;
 use crate::rule::{fits, without_zeros};
 use crate::samples::{comparison, sample};
 use crate::words::{is, is_one_of, is_seat, number};
-use cond_lang::{CondError, parse};
+use cond_lang::{CondError, Token, WORDS, parse};
 use itoa::Buffer;
 use std::alloc::{AllocError, Global};
 
@@ -202,6 +203,7 @@ fn put(out: &mut Vec<u8>, parts: &Parts, kind: u8, n: usize) -> Result<bool, All
         return put_value(out, parts, back);
     }
     let done = match kind {
+        b'l' => put_measures(out),
         b'e' if n == 0 => put_after_seat(out, parts, parts.call()),
         b'e' => put_after_seat(out, parts, parts.at(back)),
         b'x' if is_one_of(parts.at(next), ENDS) => {
@@ -240,6 +242,16 @@ fn text_of<'t>(parts: &'t Parts, kind: u8, back: usize, next: usize) -> &'t [u8]
         b's' => counted_at(parts, next).1.as_bytes(),
         _ => b"",
     }
+}
+
+/// Appends the words of all measures, each with a comma and a blank after it.
+fn put_measures(out: &mut Vec<u8>) -> Result<(), AllocError> {
+    for (word, token) in WORDS.iter() {
+        if matches!(token, Token::Measure(_)) {
+            put_all(out, &[word.as_bytes(), b", "])?;
+        }
+    }
+    Ok(())
 }
 
 /// Appends what comes after the word and a seat. A suit is that of the brackets of any or every.

@@ -10,7 +10,7 @@
 //! | `Can:K`, `Cannot:K` | a token of the kind K (`KINDS`) may come at the fault, or could not |
 //! | `In:T`, `NotIn:T` | the fault is in the brackets of one of the words T, or of none of them |
 //! | `InCall`, `NotInCall` | it is in the brackets of a word that takes a seat, or of none |
-//! | `InMeasure` | it is in the brackets of a word that counts something |
+//! | `InCount` | it is in the brackets of a word that counts something |
 //! | `T`, `Except:T` | one of the texts T, or none of them |
 //! | `Named:T` | the part with the fault is one of them, in letters of any size |
 //! | `Begins:T` | it begins with one of them |
@@ -29,23 +29,26 @@
 //! | `Ranks` | ranks, whether or not one occurs twice |
 //! | `Capital` | a word that has letters that aren't small |
 //! | `CapitalWord`, `CapitalRanks` | one that is known, or ranks, once they are |
-//! | `Measure`, `NoValue` | a word that counts something; neither that nor a number |
+//! | `Count`, `NoValue` | a word that counts something; neither that nor a number |
 //! | `Value`, `Call` | the last part of a value, or the bracket that ends one |
 //! | `Bracketed`, `Chained` | the last part of a value after a bracket, or after a comparison |
 //! | `Suffix:S` | the sign S right after a part and apart from the next |
 //! | `Amount`, `Counted` | an amount, as `15-17`, or one with a word that says of what |
 //!
 //! No text means no part: `|and|or` is the end, or one of these. A name in capitals stands for a
-//! list of texts (`lists`).
+//! list of texts (`lists`); `MEASURES`, which may be one of several texts, for the language's own.
 
 use crate::amounts::{amount_at, counted_at};
 use crate::lists::listed;
 use crate::parts::Parts;
 use crate::words::{
-    are_ranks, is, is_call, is_measure, is_name, is_number, is_relation, is_seat, is_suit, is_word,
-    number, token_of,
+    are_ranks, is, is_call, is_count, is_name, is_number, is_relation, is_seat, is_suit, is_word,
+    measure_word, number, token_of,
 };
 use cond_lang::{Class, Kind};
+
+/// The text of a pattern that stands for the words of all measures.
+const MEASURES: &str = "MEASURES";
 
 /// What a word of a pattern wants, but for a text that stands there.
 #[derive(Clone, Copy)]
@@ -56,7 +59,7 @@ enum Want {
     NotIn,
     InCall,
     NotInCall,
-    InMeasure,
+    InCount,
     Except,
     Named,
     Begins,
@@ -83,7 +86,7 @@ enum Want {
     Capital,
     CapitalWord,
     CapitalRanks,
-    Measure,
+    Count,
     NoValue,
     Value,
     Call,
@@ -101,7 +104,7 @@ static WANTS: [(&str, Want); 42] = [
     ("NotIn", Want::NotIn),
     ("InCall", Want::InCall),
     ("NotInCall", Want::NotInCall),
-    ("InMeasure", Want::InMeasure),
+    ("InCount", Want::InCount),
     ("Except", Want::Except),
     ("Named", Want::Named),
     ("Begins", Want::Begins),
@@ -128,7 +131,7 @@ static WANTS: [(&str, Want); 42] = [
     ("Capital", Want::Capital),
     ("CapitalWord", Want::CapitalWord),
     ("CapitalRanks", Want::CapitalRanks),
-    ("Measure", Want::Measure),
+    ("Count", Want::Count),
     ("NoValue", Want::NoValue),
     ("Value", Want::Value),
     ("Call", Want::Call),
@@ -194,7 +197,7 @@ fn is_wanted(parts: &Parts, i: usize, word: &str) -> bool {
 fn is_among(part: &[u8], texts: &str) -> bool {
     let (texts, sign) = listed(texts);
     for text in texts.split(sign) {
-        if is(part, text) {
+        if is(part, text) || text == MEASURES && measure_word(part).is_some() {
             return true;
         }
     }
@@ -232,7 +235,7 @@ fn is_met(parts: &Parts, i: usize, want: Want, texts: &str) -> bool {
         Want::NotIn => !is_among(parts.call(), texts),
         Want::InCall => is_call(parts.call()),
         Want::NotInCall => !is_call(parts.call()),
-        Want::InMeasure => is_measure(parts.call()),
+        Want::InCount => is_count(parts.call()),
         Want::Except => !is_among(part, texts),
         Want::Named => is_among(parts.word.as_slice(), texts),
         Want::Begins => begins_with(part, texts),
@@ -253,8 +256,8 @@ fn is_met(parts: &Parts, i: usize, want: Want, texts: &str) -> bool {
         Want::Defined => parts.ends_definition(i),
         Want::InPlainBody => parts.is_in_plain_body(),
         Want::Ranks => is_word(part) && are_ranks(part),
-        Want::Measure => is_measure(part),
-        Want::NoValue => !is_number(part) && !is_measure(part),
+        Want::Count => is_count(part),
+        Want::NoValue => !is_number(part) && !is_count(part),
         _ => is_met_beside(parts, i, want, texts),
     }
 }

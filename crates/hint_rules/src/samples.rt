@@ -1,7 +1,7 @@
 //! A comparison for each kind of value that a person could use as it is.
 
 use crate::parts::Parts;
-use crate::words::{are_ranks, is, is_measure, is_number, is_suit};
+use crate::words::{are_ranks, is, is_count, is_number, is_suit};
 
 /// For each word that counts a comparison for a hand, for one suit, for hands and for suits.
 static SAMPLES: [(&str, &str); 7] = [
@@ -31,10 +31,10 @@ pub(crate) fn comparison(parts: &Parts, last: usize) -> &'static str {
     let mut ranks = 0;
     for i in parts.value_start(last)..last.saturating_add(1) {
         let part = parts.at(i);
-        if is_measure(part) && !word.is_empty() {
+        if is_count(part) && !word.is_empty() {
             has_several = true;
             is_mixed = is_mixed || part != word;
-        } else if is_measure(part) {
+        } else if is_count(part) {
             word = part;
         }
         has_suit = has_suit || is_suit(part);

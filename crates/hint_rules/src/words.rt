@@ -27,8 +27,18 @@ pub(crate) fn token_of(part: &[u8]) -> Option<Token> {
     None
 }
 
+/// The part as the word of a measure, of which a hand and a suit have a total.
+pub(crate) fn measure_word(part: &[u8]) -> Option<&'static str> {
+    for (word, token) in WORDS.iter() {
+        if matches!(token, Token::Measure(_)) && is(part, word) {
+            return Some(*word);
+        }
+    }
+    None
+}
+
 /// Whether the part is a word that begins a value.
-pub(crate) fn is_measure(part: &[u8]) -> bool {
+pub(crate) fn is_count(part: &[u8]) -> bool {
     matches!(
         token_of(part),
         Some(
@@ -44,7 +54,7 @@ pub(crate) fn is_measure(part: &[u8]) -> bool {
 
 /// Whether the part is a word after which a seat is in brackets.
 pub(crate) fn is_call(part: &[u8]) -> bool {
-    is_measure(part) || is_one_of(part, "balanced shape pattern stops")
+    is_count(part) || is_one_of(part, "balanced shape pattern stops")
 }
 
 pub(crate) fn is_seat(part: &[u8]) -> bool {
@@ -84,7 +94,7 @@ pub(crate) fn are_ranks(word: &[u8]) -> bool {
 
 /// Whether the part may come in a value, outside of brackets.
 pub(crate) fn is_in_value(part: &[u8]) -> bool {
-    is(part, "+") || is(part, "*") || is_number(part) || is_measure(part)
+    is(part, "+") || is(part, "*") || is_number(part) || is_count(part)
 }
 
 /// The number that the digits write, up to 9,999.

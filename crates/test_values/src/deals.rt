@@ -2,7 +2,7 @@
 
 use crate::support::{deal_of, same};
 use crate::written::{IN_ORDER, WORKED, seats_of};
-use cards::{Candidates, Card, Deal, MAX_CANDIDATES, Measure, Packed, Places, Seat, Suit, laws};
+use cards::{Candidates, Card, Deal, MAX_CANDIDATES, Packed, Places, Seat, Suit, laws};
 use lcg48::{Lcg48, Steps, Stride};
 use std::process::Abort;
 
@@ -20,7 +20,7 @@ const ALMOST_IN_ORDER: &[u8] =
     b"AKQJT98765432... .AKQJT9876543.2. .2.AKQJT9876543. ...AKQJT98765432";
 
 #[test]
-fn cards_seats_and_measures(rt: HostRuntime) {
+fn cards_and_seats(rt: HostRuntime) {
     let card = Card::new(51).expect(&rt, "card 51");
     same(
         &rt,
@@ -33,8 +33,6 @@ fn cards_seats_and_measures(rt: HostRuntime) {
         (Seat::North.next(), Seat::West.next()),
         (Seat::East, Seat::North),
     );
-    let measures = [Measure::Hcp, Measure::Controls, Measure::Losers];
-    same(&rt, measures.map(|measure| measure.place()), [0, 1, 2]);
 }
 
 #[test]

@@ -63,6 +63,7 @@ const COUNTED: [Counted; 4] = [
 
 const SEATS: [Seat; 4] = [Seat::North, Seat::East, Seat::South, Seat::West];
 
+/// The measures that are counted here.
 const MEASURES: [Measure; 3] = [Measure::Hcp, Measure::Controls, Measure::Losers];
 
 #[test]
@@ -83,12 +84,6 @@ fn forty_points(rt: HostRuntime) {
         let [north, east, south, west] = SEATS.map(|seat| u32::from(deal.hand(seat).points()));
         same(&rt, north + east + south + west, 40);
     }
-}
-
-#[test]
-fn weights_of_measures(rt: HostRuntime) {
-    let weights = MEASURES.map(|measure| measure.weights());
-    same(&rt, weights, [Some([4, 3, 2, 1]), Some([2, 1, 0, 0]), None]);
 }
 
 /// The hand has what is counted.

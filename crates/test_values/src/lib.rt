@@ -15,6 +15,8 @@ mod language;
 #[cfg(test)]
 mod lines_of_tricks;
 #[cfg(test)]
+mod measures;
+#[cfg(test)]
 mod mistakes;
 #[cfg(test)]
 mod numbers;

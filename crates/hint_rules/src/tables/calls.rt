@@ -7,7 +7,7 @@ pub(crate) const RULES: &str = "
     Can:Open Cannot:Not ^ => say whose, as in %b1(%u0%e1
 
     Can:Seat ^ Suit , Seat => the seat comes first: \"%w0(%n2,%n0)\"
-    Can:Seat InMeasure ^ Suit => the seat comes first, as in %w0(north,%n0)
+    Can:Seat InCount ^ Suit => the seat comes first, as in %w0(north,%n0)
     Can:Seat ^ Word => the seats are north, east, south and west
     Can:Seat ^ => say whose, as in %w0(north%e0
 
@@ -23,11 +23,11 @@ pub(crate) const RULES: &str = "
     Can:Comma Cannot:Close In:len|stops ^ ) => name a suit too, as in %w0(%b1%e0
     Can:Comma Cannot:Close In:cards ^ ) => name ranks too, as in cards(%b1%e0
     Can:Comma Cannot:Close ^ ) => name four lengths too, as in %w0(%b1%e0
-    Can:Close Cannot:And InMeasure Seat ^ + Seat => write \"%w0(%b1)+%w0(%n1)\"
+    Can:Close Cannot:And InCount Seat ^ + Seat => write \"%w0(%b1)+%w0(%n1)\"
     Can:Close Cannot:And In:balanced Seat ^ + Seat => write \"balanced(%b1) and balanced(%n1)\"
-    InMeasure Seat , Suit ^ Relation Number ) => \
+    InCount Seat , Suit ^ Relation Number ) => \
         with the bracket before the comparison write: %w0(%b3,%b1)%n0%n1
-    InMeasure ( Seat ^ Relation Number ) => \
+    InCount ( Seat ^ Relation Number ) => \
         with the bracket before the comparison write: %w0(%b1)%n0%n1
     Can:Close Cannot:And ^ ==|!=|<|<=|>|>=|in|+|and|or => a \")\" is missing before this
     Can:Close Cannot:And In:cards Ranks ^ 10 => for the ten write \"t\"

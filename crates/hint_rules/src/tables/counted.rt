@@ -1,6 +1,7 @@
 //! What a person says that a hand has.
 
-/// The word that counts it, what comes after the seat, and how a person calls it.
+/// The word that counts it, what comes after the seat, and what a person calls it, unless that is
+/// the word of a measure.
 pub(crate) static COUNTED: &[(&str, &str, &str)] = &[
     ("len", ",spades", "spade spades"),
     ("len", ",hearts", "heart hearts"),
@@ -10,7 +11,5 @@ pub(crate) static COUNTED: &[(&str, &str, &str)] = &[
     ("cards", ",k", "king kings"),
     ("cards", ",q", "queen queens"),
     ("cards", ",j", "jack jacks"),
-    ("hcp", "", "point points pts hcp"),
-    ("controls", "", "controls"),
-    ("losers", "", "losers"),
+    ("hcp", "", "point points pts"),
 ];

@@ -2,7 +2,7 @@
 
 pub(crate) const RULES: &str = "
     In:shape|pattern ^ * => for any length write \"x\"
-    Measure ^ * Number => write the number first, as in %n1*%b1(north)
+    Count ^ * Number => write the number first, as in %n1*%b1(north)
     ) ^ * Number => write the number first, as in %n1*hcp(north)
     * ^ Nothing => name what is counted so many times, as in %b2*hcp(north)
     * ^ ( => give each value its number, as in 2*hcp(north)+2*hcp(south)

@@ -26,14 +26,14 @@ pub(crate) const RULES: &str = "
     Can:Relation Number ^ Suit in Seat => with the seat in brackets write: len(%n2,%n0)==%b1
     Can:Relation not Number ^ Suit => for a suit's length write len, as in len(north,%n0)!=%b1
     Can:Relation Number ^ Suit => for a suit's length write len, as in len(north,%n0)>=%b1
-    Can:Relation Call ^ and Measure ( Seat ) Relation Number => \
+    Can:Relation Call ^ and Count ( Seat ) Relation Number => \
         together that is %v1+%n1(%n3)%n5%n6; for each write: %v1%n5%n6 and %n1(%n3)%n5%n6
-    Can:Relation Call ^ and Measure ( Seat , Suit ) Relation Number => \
+    Can:Relation Call ^ and Count ( Seat , Suit ) Relation Number => \
         together that is %v1+%n1(%n3,%n5)%n7%n8; for each write: %v1%n7%n8 and %n1(%n3,%n5)%n7%n8
-    Can:Relation Call ^ or Measure ( Seat ) Relation Number => \
+    Can:Relation Call ^ or Count ( Seat ) Relation Number => \
         to compare each write: %v1%n5%n6 or %n1(%n3)%n5%n6
-    Can:Relation Number ^ Measure ( Seat ) Amount => write \"%b1*%n0(%n2)\"
-    Can:Relation Number ^ Measure ( Seat ) + => write \"%b1*%n0(%n2)\"
+    Can:Relation Number ^ Count ( Seat ) Amount => write \"%b1*%n0(%n2)\"
+    Can:Relation Number ^ Count ( Seat ) + => write \"%b1*%n0(%n2)\"
     Can:Relation STARTS Number ^ => say of what, as in hcp(north)>=%b1
     Can:Relation Value ^ => compare it, as in %v1%c1
 

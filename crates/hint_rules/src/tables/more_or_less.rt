@@ -5,15 +5,15 @@ pub(crate) const RULES: &str = "
     in|==|>=|> Number ^ + NoValue => for %b1 or more write: %v3>=%b1
     ^ = Number + NoValue => for %n1 or more write: %v1>=%n1
     Value ^ Number + NoValue => for %n0 or more write: %v1>=%n0
-    STARTS Number Suffix:+ Measure ( Seat ) ^ ENDS => for %b6 or more write: %b4(%b2)>=%b6
-    STARTS Number Suffix:+ Measure ( Seat , Any ) ^ ENDS => for %b8 or more write: %b6(%b4,%b2)>=%b8
+    STARTS Number Suffix:+ Count ( Seat ) ^ ENDS => for %b6 or more write: %b4(%b2)>=%b6
+    STARTS Number Suffix:+ Count ( Seat , Any ) ^ ENDS => for %b8 or more write: %b6(%b4,%b2)>=%b8
     in Number - ^ Nothing => \
         a range has two ends, as in hcp(north) in 12-15; for %b2 or less write: %v4<=%b2
     in|==|<=|< Number - ^ NoValue => for %b2 or less write: %v4<=%b2
     in|==|<=|< Number ^ - NoValue => for %b1 or less write: %v3<=%b1
     ^ = Number - NoValue => for %n1 or less write: %v1<=%n1
     Value ^ Number - NoValue => for %n0 or less write: %v1<=%n0
-    STARTS Number ^ Suffix:- Measure ( Seat ) ENDS => for %b1 or less write: %n1(%n3)<=%b1
+    STARTS Number ^ Suffix:- Count ( Seat ) ENDS => for %b1 or less write: %n1(%n3)<=%b1
 
     in Number ^ ENDS => for one number write: %v3==%b1
     Call ^ Number => for one number write: %v1==%n0

@@ -13,10 +13,10 @@ pub(crate) const RULES: &str = "
     ^ between Number Any Number => for a range write: %v1 in %r3
     IN Number ^ to|bis Number => for a range write: %t2%v3 in %f1
     Number ^ to|bis Number => for a range write: %v2 in %f1
-    STARTS Number ^ - Number Measure ( Any ) => for a range write: %n2(%n4) in %f1
-    STARTS Number ^ - Number Measure ( Any , Any ) => for a range write: %n2(%n4,%n6) in %f1
-    Measure ^ Number - Number => with a seat in brackets write: %b1(%u0%e1%a0
-    Measure ^ = Number - Number => with a seat in brackets write: %b1(%u0%e1%a0
-    Measure ^ Number +|- NoValue => with a seat in brackets write: %b1(%u0%e1%a0
-    Measure ^ = Number +|- NoValue => with a seat in brackets write: %b1(%u0%e1%a0
+    STARTS Number ^ - Number Count ( Any ) => for a range write: %n2(%n4) in %f1
+    STARTS Number ^ - Number Count ( Any , Any ) => for a range write: %n2(%n4,%n6) in %f1
+    Count ^ Number - Number => with a seat in brackets write: %b1(%u0%e1%a0
+    Count ^ = Number - Number => with a seat in brackets write: %b1(%u0%e1%a0
+    Count ^ Number +|- NoValue => with a seat in brackets write: %b1(%u0%e1%a0
+    Count ^ = Number +|- NoValue => with a seat in brackets write: %b1(%u0%e1%a0
 ";

@@ -1,25 +1,25 @@
 //! Sides and players in the place of a seat, and two seats in the place of one.
 
 pub(crate) const RULES: &str = "
-    In:hcp|controls|losers ( ^ Named:ns|northsouth ) => \
+    In:MEASURES ( ^ Named:ns|northsouth ) => \
         for both together write \"%w0(north)+%w0(south)\", for either put your test in any ns (..)
-    In:hcp|controls|losers ( ^ Named:ew|eastwest ) => \
+    In:MEASURES ( ^ Named:ew|eastwest ) => \
         for both together write \"%w0(east)+%w0(west)\", for either put your test in any ew (..)
-    In:hcp|controls|losers ( ^ Named:n -|/|+|& s|S ) => \
+    In:MEASURES ( ^ Named:n -|/|+|& s|S ) => \
         for both together write \"%w0(north)+%w0(south)\", for each a test of its own
-    In:hcp|controls|losers ( ^ Named:e -|/|+|& w|W ) => \
+    In:MEASURES ( ^ Named:e -|/|+|& w|W ) => \
         for both together write \"%w0(east)+%w0(west)\", for each a test of its own
-    In:hcp|controls|losers ( Seat ^ -|/|&|and Seat ) => \
+    In:MEASURES ( Seat ^ -|/|&|and Seat ) => \
         for both together write \"%w0(%b1)+%w0(%n1)\", for each a test of its own
-    In:hcp|controls|losers ( Seat ^ Seat ) => \
+    In:MEASURES ( Seat ^ Seat ) => \
         for both together write \"%w0(%b1)+%w0(%n0)\", for each a test of its own
-    In:hcp|controls|losers|len ( ^ Named:ns|northsouth , SUITS ) => \
+    In:MEASURES|len ( ^ Named:ns|northsouth , SUITS ) => \
         for both together write \"%w0(north,%n2)+%w0(south,%n2)\", for either put \
         your test in any ns (..)
-    In:hcp|controls|losers|len ( ^ Named:ew|eastwest , SUITS ) => \
+    In:MEASURES|len ( ^ Named:ew|eastwest , SUITS ) => \
         for both together write \"%w0(east,%n2)+%w0(west,%n2)\", for either put \
         your test in any ew (..)
-    In:hcp|controls|losers|len ( Seat ^ -|/|&|and|+ Seat , SUITS ) => \
+    In:MEASURES|len ( Seat ^ -|/|&|and|+ Seat , SUITS ) => \
         for both together write \"%w0(%b1,%n3)+%w0(%n1,%n3)\", for each a test of its own
     In:cards ( ^ Named:ns|northsouth , Ranks ) => \
         for both together write \"cards(north,%n2)+cards(south,%n2)\", for either put \
@@ -40,7 +40,7 @@ pub(crate) const RULES: &str = "
     In:balanced ( Seat ^ -|/|&|and Seat ) => for both hands write: balanced(%b1) and balanced(%n1)
     In:balanced ( Seat ^ or Seat ) => \
         with one seat in each test write: balanced(%b1) or balanced(%n1)
-    InMeasure ( Seat ^ or Seat ) Amount => \
+    InCount ( Seat ^ or Seat ) Amount => \
         with one seat in each test write: %w0(%b1)%a3 or %w0(%n1)%a3
 
     InCall ( ^ Named:ns|ew|northsouth|eastwest => \

@@ -22,7 +22,7 @@ pub(crate) const RULES: &str = "
         for both ways round write: shape(%b2,x-x-%n3-%n5) or shape(%b2,x-x-%n5-%n3)
     In:len Seat , ^ minors ) EQUAL Number - Number => \
         for both ways round write: shape(%b2,x-x-%n3-%n5) or shape(%b2,x-x-%n5-%n3)
-    Can:End NotInCall Call ^ , Measure => ask one thing here, and the other by --by
-    Nothing ^ Named:average|avg|mean Measure => \
+    Can:End NotInCall Call ^ , Count => ask one thing here, and the other by --by
+    Nothing ^ Named:average|avg|mean Count => \
         leave \"%n0\" out: deals count --of has the mean below its table
 ";

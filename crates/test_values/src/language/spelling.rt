@@ -1,7 +1,7 @@
 //! Trees as text: each variant by its name, with its fields in brackets.
 
-use cards::{Honours, Measure, Seat, Suit};
-use cond_lang::{Count, Item, Op, Tree, Value};
+use cards::{Honours, Seat, Suit};
+use cond_lang::{Count, Item, Op, Tree, Value, measure_word};
 use std::alloc::{AllocError, Global};
 
 /// The tree as text.
@@ -45,12 +45,12 @@ pub fn tree_text(alloc: Global, tree: &Tree) -> Result<String, AllocError> {
 fn count_text(alloc: Global, count: &Count) -> Result<String, AllocError> {
     match count {
         Count::Total(measure, seat) => {
-            call(alloc, "Total", &[measure_text(*measure), seat_text(*seat)])
+            call(alloc, "Total", &[measure_word(*measure), seat_text(*seat)])
         }
         Count::SuitTotal(measure, seat, suit) => call(
             alloc,
             "SuitTotal",
-            &[measure_text(*measure), seat_text(*seat), suit_text(*suit)],
+            &[measure_word(*measure), seat_text(*seat), suit_text(*suit)],
         ),
         Count::Cards(seat, ranks) => of_seat(alloc, "Cards", *seat, ranks_text(alloc, *ranks)?),
         Count::SuitCards(seat, suit, ranks) => {
@@ -194,13 +194,5 @@ fn op_text(op: Op) -> &'static str {
         Op::AtMost => "AtMost",
         Op::More => "More",
         Op::AtLeast => "AtLeast",
-    }
-}
-
-fn measure_text(measure: Measure) -> &'static str {
-    match measure {
-        Measure::Hcp => "Hcp",
-        Measure::Controls => "Controls",
-        Measure::Losers => "Losers",
     }
 }

@@ -7,7 +7,7 @@ use super::*;
 const TREES: [(&str, &str); 49] = [
     (
         "2*hcp(north)>=60",
-        "Compare { left: Times(2, Total(Hcp, North)), op: AtLeast, right: Number(60) }",
+        "Compare { left: Times(2, Total(hcp, North)), op: AtLeast, right: Number(60) }",
     ),
     (
         "1+0*cards(east,clubs,a)+3 in 4-5",
@@ -19,7 +19,7 @@ const TREES: [(&str, &str); 49] = [
     ),
     (
         "15<=hcp(north)",
-        "Compare { left: Number(15), op: AtMost, right: Total(Hcp, North) }",
+        "Compare { left: Number(15), op: AtMost, right: Total(hcp, North) }",
     ),
     (
         "0==0 or 1==1 and 2==2",
@@ -69,8 +69,8 @@ const TREES: [(&str, &str); 49] = [
     ),
     (
         "hcp(north,spades)!=hcp(east,hearts)",
-        "Compare { left: SuitTotal(Hcp, North, Spades), op: NotEqual, \
-        right: SuitTotal(Hcp, East, Hearts) }",
+        "Compare { left: SuitTotal(hcp, North, Spades), op: NotEqual, \
+        right: SuitTotal(hcp, East, Hearts) }",
     ),
     (
         "len(south,diamonds)<0015",
@@ -88,12 +88,12 @@ const TREES: [(&str, &str); 49] = [
     ),
     (
         "controls(north)+hcp(north)>=4",
-        "Compare { left: Sum(Total(Controls, North), Total(Hcp, North)), op: AtLeast, \
+        "Compare { left: Sum(Total(controls, North), Total(hcp, North)), op: AtLeast, \
         right: Number(4) }",
     ),
     (
         "3==controls(east,hearts)",
-        "Compare { left: Number(3), op: Equal, right: SuitTotal(Controls, East, Hearts) }",
+        "Compare { left: Number(3), op: Equal, right: SuitTotal(controls, East, Hearts) }",
     ),
     ("1+2 in 3-4", "Within(Sum(Number(1), Number(2)), 3, 4)"),
     (
@@ -105,7 +105,7 @@ const TREES: [(&str, &str); 49] = [
         "0 in 1-2 or 3 in 4-5 and 6 in 7-8",
         "AnyOf(Within(Number(0), 1, 2), AllOf(Within(Number(3), 4, 5), Within(Number(6), 7, 8)))",
     ),
-    ("(losers(east) in 5-7)", "Within(Total(Losers, East), 5, 7)"),
+    ("(losers(east) in 5-7)", "Within(Total(losers, East), 5, 7)"),
     (
         "15in10-20and 3==3",
         "AllOf(Within(Number(15), 10, 20), \
@@ -134,7 +134,7 @@ const TREES: [(&str, &str); 49] = [
     ),
     (
         "not (hcp(north)+len(south,clubs)+3>=15 or shape(east,4-4-3-2)) and pattern(west,4-3-3-3)",
-        "AllOf(Negation(AnyOf(Compare { left: Sum(Sum(Total(Hcp, North), Length(South, Clubs)), \
+        "AllOf(Negation(AnyOf(Compare { left: Sum(Sum(Total(hcp, North), Length(South, Clubs)), \
         Number(3)), op: AtLeast, right: Number(15) }, Shape(East, [4, 4, 3, 2]))), \
         Pattern(West, [4, 3, 3, 3]))",
     ),
@@ -187,11 +187,11 @@ const TREES: [(&str, &str); 49] = [
     ),
     (
         "hcp(north)\r\n==\r\n10",
-        "Compare { left: Total(Hcp, North), op: Equal, right: Number(10) }",
+        "Compare { left: Total(hcp, North), op: Equal, right: Number(10) }",
     ),
     (
         "\r10\r==\rhcp(north)\r",
-        "Compare { left: Number(10), op: Equal, right: Total(Hcp, North) }",
+        "Compare { left: Number(10), op: Equal, right: Total(hcp, North) }",
     ),
 ];
 
