@@ -12,6 +12,8 @@ says the same into a pipe, and `--hints never` nothing more on a terminal.
 
 A row of refused/ has words that are refused with status 2, or 3 for their condition, and below them what a person is
 told on a terminal: the lines that begin with `  tip: ` and `  hint: `.
+
+In a row `\\{formats}` stands for the names of all formats, and `\\{other formats}` for these but PBN.
 """
 
 import os
@@ -21,14 +23,22 @@ import re
 import subprocess
 
 HERE = pathlib.Path(__file__).resolve().parent
+import board_formats
 import harness
 import report
+
+
+def spelled_out(text):
+    """The rows of a table, with the names of all formats in them."""
+    _, *others, last = board_formats.FORMATS
+    text = text.replace(r"\{formats}", ", ".join(board_formats.FORMATS))
+    return text.replace(r"\{other formats}", f"{', '.join(others)} or {last}")
 
 
 def rows(folder):
     """Each table of a folder by its name, with the words and the other lines of each row."""
     for file in sorted((HERE / folder).glob("*.txt")):
-        _, *each = re.split(r"^\$ ", file.read_text(), flags=re.M)
+        _, *each = re.split(r"^\$ ", spelled_out(file.read_text()), flags=re.M)
         for row in each:
             words, *lines = row.split("\n")
             yield file.stem, words, [line for line in lines if line and not line.startswith("#")]

@@ -64,7 +64,10 @@ ELSEWHERE = [
 
 # Words, and how their refusal begins.
 REFUSED = [
-    ("--format text", "error: invalid value 'text' for '--format <FORMAT>'\n  [possible values: pbn, hands, lin, html, sheet, slips, json]\n"),
+    (
+        "--format text",
+        f"error: invalid value 'text' for '--format <FORMAT>'\n  [possible values: {', '.join(FORMATS)}]\n",
+    ),
     ("--format PBN", "error: invalid value 'PBN' for '--format <FORMAT>'\n"),
     ("--dealer north", "error: invalid value 'north' for '--dealer <SEAT>'\n  [possible values: N, E, S, W]\n"),
     (
