@@ -59,6 +59,12 @@ impl Load {
         self.waits.store(length, Ordering::SeqCst);
     }
 
+    /// Notes that yields are short.
+    pub(crate) fn note_quiet(&self) {
+        self.waits.store(0, Ordering::SeqCst);
+        self.length.store(0, Ordering::SeqCst);
+    }
+
     /// Notes a wait with yields of which nothing shows that they were long.
     pub(crate) fn note_short(&self) {
         if self.length.load(Ordering::SeqCst) == 0 {

@@ -10,7 +10,9 @@
 //! woken takes as long as dozens of candidates even if a core is free. So an end that had to sleep
 //! spins half as long the next time, and one that hadn't twice as long. But two ends that spin for
 //! less time than it takes to be woken send each other to sleep for ever, on a quiet machine too:
-//! so now and then an end spins as long as it ever does.
+//! so after some waits with a sleep an end spins as long as it ever does. And where the machine is
+//! a virtual one, whose host is busy, to be woken takes far longer than to yield: so after more
+//! such waits an end yields in one, and goes on so if that shows that the machine isn't busy.
 
 ghost use Rattle.std.specs.Prelude.{◌≡◌, ◌<◌, true};
 
@@ -42,7 +44,7 @@ const PATIENCE: usize = 640;
 const LONG_YIELD: u64 = 384;
 
 /// A long yield shows nothing once so many others came after it.
-const YIELDS_BETWEEN: u32 = 64;
+const YIELDS_BETWEEN: u32 = 8;
 
 /// After so many yields in one wait, which take some milliseconds, its end sleeps.
 const YIELDS_IN_VAIN: u32 = 8192;
@@ -54,19 +56,68 @@ const LEAST_PATIENCE: usize = 64;
 const MOST_PATIENCE: usize = 16_384;
 
 /// After so many waits with a sleep an end spins that long once: the fewest, and the most.
-const FEWEST_SLEEPS: u32 = 2;
+const FEWEST_BEFORE_SPINS: u32 = 2;
 
-const MOST_SLEEPS: u32 = 64;
+const MOST_BEFORE_SPINS: u32 = 64;
+
+/// After so many it yields in one wait, in place of sleeping: the fewest, and the most.
+const FEWEST_BEFORE_YIELDS: u32 = 64;
+
+const MOST_BEFORE_YIELDS: u32 = 16_384;
+
+/// So many yields in that wait show that the machine isn't busy: else the other end would have had
+/// its turn during the first ones.
+const SHORT_YIELDS: u32 = 16;
+
+/// When an end that sleeps tries something else: after a number of waits with a sleep, and after
+/// twice as many if that was in vain.
+#[derive(Clone, Copy, Drop)]
+struct Trial {
+    // After how many waits with a sleep it is due.
+    left: u32,
+    // After how many the next one is, if this one is in vain.
+    between: u32,
+}
+
+impl Trial {
+    /// One that is due after so many waits with a sleep.
+    fn after(sleeps: u32) -> Trial {
+        Trial {
+            left: sleeps,
+            between: sleeps,
+        }
+    }
+
+    fn is_due(self) -> bool {
+        self.left == 0
+    }
+
+    /// One wait with a sleep later.
+    fn sooner(self) -> Trial {
+        Trial {
+            left: self.left.saturating_sub(1),
+            ..self
+        }
+    }
+
+    /// After one that was in vain.
+    fn again(self, most: u32) -> Trial {
+        Trial {
+            left: self.between,
+            between: self.between.saturating_mul(2).min(most),
+        }
+    }
+}
 
 /// What an end of a lane keeps from one wait to the next.
 #[derive(Clone, Copy, Drop)]
 pub(crate) struct Habit {
     // How many spins without progress it waits before it sleeps, while the machine is busy.
     patience: usize,
-    // After how many waits with a sleep it spins as long as it ever does.
-    sleeps_left: u32,
-    // After how many it does so again, if that was in vain.
-    sleeps_between: u32,
+    // When it spins as long as it ever does.
+    spins: Trial,
+    // When it yields.
+    yields: Trial,
     // After how many yields more the last long one shows nothing.
     yields_left: u32,
 }
@@ -76,49 +127,61 @@ impl Habit {
     pub(crate) fn new() -> Habit {
         Habit {
             patience: MOST_PATIENCE,
-            sleeps_left: FEWEST_SLEEPS,
-            sleeps_between: FEWEST_SLEEPS,
+            spins: Trial::after(FEWEST_BEFORE_SPINS),
+            yields: Trial::after(FEWEST_BEFORE_YIELDS),
             yields_left: 0,
         }
     }
 
     /// How many spins without progress the end waits the next time before it sleeps.
     fn patience(self) -> usize {
-        if self.sleeps_left == 0 {
+        if self.spins.is_due() {
             MOST_PATIENCE
         } else {
             self.patience
         }
     }
 
-    /// The habit after a wait in which the end slept, or didn't.
-    fn after(self, slept: bool) -> Habit {
-        let tried = self.sleeps_left == 0;
-        if !slept {
-            return Habit {
-                patience: self.patience.saturating_mul(2).min(MOST_PATIENCE),
-                sleeps_between: if tried {
-                    FEWEST_SLEEPS
-                } else {
-                    self.sleeps_between
-                },
-                ..self
-            };
-        }
-        let patience = (self.patience / 2).max(LEAST_PATIENCE);
-        if !tried {
-            return Habit {
-                patience,
-                sleeps_left: self.sleeps_left.saturating_sub(1),
-                ..self
-            };
-        }
+    /// The habit after a wait in which the end slept.
+    fn after_sleep(self) -> Habit {
+        let spins = if self.spins.is_due() {
+            self.spins.again(MOST_BEFORE_SPINS)
+        } else {
+            self.spins.sooner()
+        };
         Habit {
-            patience,
-            sleeps_left: self.sleeps_between,
-            sleeps_between: self.sleeps_between.saturating_mul(2).min(MOST_SLEEPS),
+            patience: (self.patience / 2).max(LEAST_PATIENCE),
+            spins,
+            yields: self.yields.sooner(),
             ..self
         }
+    }
+
+    /// The habit after a wait in which spins, or yields of a machine that isn't busy, were enough.
+    fn after_spins(self) -> Habit {
+        let spins = if self.spins.is_due() {
+            Trial {
+                between: FEWEST_BEFORE_SPINS,
+                ..self.spins
+            }
+        } else {
+            self.spins
+        };
+        Habit {
+            patience: self.patience.saturating_mul(2).min(MOST_PATIENCE),
+            spins,
+            ..self
+        }
+    }
+
+    /// The habit after a wait in which the end yielded to find out whether the machine is busy.
+    fn after_yields(self, is_busy: bool) -> Habit {
+        let yields = if is_busy {
+            self.yields.again(MOST_BEFORE_YIELDS)
+        } else {
+            Trial::after(FEWEST_BEFORE_YIELDS)
+        };
+        Habit { yields, ..self }
     }
 }
 
@@ -146,6 +209,8 @@ pub(crate) struct Pause {
     seen: usize,
     patience: usize,
     yields: u32,
+    /// Whether it yields although the machine counts as busy.
+    tries: bool,
     stage: Stage,
     habit: Habit,
 }
@@ -153,9 +218,12 @@ pub(crate) struct Pause {
 impl Pause {
     /// The pauses at a ring of this capacity, of the end on this side.
     pub(crate) fn new(side: Side, capacity: usize, pace: Pace, habit: Habit, load: &Load) -> Pause {
+        let is_busy = load.is_high();
+        let tries = is_busy && habit.yields.is_due();
         let (enough, patience) = match pace {
             Pace::Sleeps => (1, 0),
-            Pace::Spins if load.is_high() => (capacity / PARTS_OF_A_LANE, habit.patience()),
+            Pace::Spins if tries => (capacity / PARTS_OF_A_LANE, 0),
+            Pace::Spins if is_busy => (capacity / PARTS_OF_A_LANE, habit.patience()),
             Pace::Spins => (capacity / PARTS_OF_A_LANE, PATIENCE),
         };
         Pause {
@@ -169,6 +237,7 @@ impl Pause {
             seen: 0,
             patience,
             yields: 0,
+            tries,
             stage: Stage::Spins,
             habit,
         }
@@ -196,7 +265,7 @@ impl Pause {
     /// Lets other threads run, or says that the end listens for its bell.
     fn yield_or_listen(&mut self, signals: &Signals) -> Stage {
         let sleeps = matches!(self.pace, Pace::Sleeps) || self.yields >= YIELDS_IN_VAIN;
-        if sleeps || signals.load.is_high() {
+        if sleeps || (signals.load.is_high() && !self.tries) {
             signals.bell(self.side).listen();
             return Stage::Listens;
         }
@@ -204,6 +273,9 @@ impl Pause {
         thread::yield_now();
         let meanwhile = signals.spins(self.side.other()).wrapping_sub(before);
         self.yields = self.yields.saturating_add(1);
+        if self.tries && self.yields == SHORT_YIELDS {
+            signals.load.note_quiet();
+        }
         self.note_yield(&signals.load, meanwhile >= LONG_YIELD);
         Stage::Yields
     }
@@ -245,6 +317,10 @@ impl Pause {
             }
             Stage::Spins | Stage::Slept => signals.load.note_wait(),
         }
-        self.habit.after(matches!(self.stage, Stage::Slept))
+        match self.stage {
+            Stage::Slept => self.habit.after_sleep(),
+            _ if self.tries => self.habit.after_yields(signals.load.is_high()),
+            _ => self.habit.after_spins(),
+        }
     }
 }
