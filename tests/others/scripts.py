@@ -180,12 +180,13 @@ def random_scripts():
 
 
 def words():
-    """The words that aren't names are those of the language, as the docs list them."""
+    """The words that aren't names are those of the language, as the docs list them, and so does the second reader."""
     sys.path.append(str(TRANSLATOR.parent))
     from deals_dealer import names
 
     listed = set(page.words())
-    yield "words of the language", None if names.WORDS == listed else f"{sorted(names.WORDS ^ listed)}"
+    for who, known in (("the language", names.WORDS), ("the second reader", set(language.WORDS))):
+        yield f"words of {who}", None if known == listed else f"{sorted(known ^ listed)}"
 
 
 def table():
