@@ -10,7 +10,7 @@
 
 namespace {
 
-// A board that takes long holds up the writing of so many others, and not their solving.
+// How many others a board that takes long holds up: their writing, and not their solving.
 constexpr size_t MOST_BOARDS = 4096, MOST_BYTES = 16 << 20;
 constexpr int FREEZE_TRIES = 100;
 constexpr std::chrono::milliseconds FREEZE_WAIT{10};

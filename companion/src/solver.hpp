@@ -1,5 +1,5 @@
-// What libdds says of one board. It is asked only for what is needed: whether a declarer takes so many tricks costs a
-// small part of how many.
+// What libdds says of one board. It is asked only for what is needed: whether a declarer takes ten tricks costs a small
+// part of how many.
 
 #pragma once
 
@@ -16,7 +16,7 @@
 constexpr std::array<int, DDS_HANDS> DECLARERS = {0, 2, 1, 3};
 constexpr std::array<int, DDS_STRAINS> STRAINS = {4, 0, 1, 2, 3};
 
-// How many threads may ask at once, at most so many.
+// How many of these threads may ask at once.
 int begin_solving(int threads);
 
 // A board on one of the solver's threads, and what is known of it. Throws Failure.
