@@ -61,7 +61,7 @@ const FEWEST_BEFORE_SPINS: u32 = 2;
 const MOST_BEFORE_SPINS: u32 = 64;
 
 /// After so many it yields in one wait, in place of sleeping: the fewest, and the most.
-const FEWEST_BEFORE_YIELDS: u32 = 64;
+const FEWEST_BEFORE_YIELDS: u32 = 1024;
 
 const MOST_BEFORE_YIELDS: u32 = 16_384;
 
