@@ -3,8 +3,7 @@ use Rattle.std.proofs.Common.{◌≡◌, ◌∙◌, Bool, true, false, List, [],
 use Rattle.std.specs.Prelude.{IsSome, Box}
 use Rattle.std.specs.Borrow.{Bor}
 use Rattle.std.specs.Box.{box_value}
-use Rattle.std.specs.Option.{option_map_or}
-use Rattle.std.specs.Str.{bytes_eq}
+use Rattle.std.specs.Option.{option_and_then, option_map_or}
 use Rattle.clap.specs.Faults.{fault_of, is_simple_and_free}
 use Rattle.clap.specs.Kinds.{HasKind, Kinds, or_else}
 use Rattle.clap.specs.Simple.{App, HasMatchesOf, argument_words, built, subcommand_of, subcommand_rows, subcommand_rows_of}
@@ -17,10 +16,13 @@ use Rattle.clap.specs.declared.parser.matches.ArgMatches.{ArgMatches}
 use Rattle.clap.specs.declared.parser.matches.ArgMatches.TheViews.{out-ArgMatches, out-SubCommand}
 use Rattle.clap.specs.declared.parser.matches.SubCommand.{SubCommand}
 use Rattle.command_line.specs.Commands.{deals}
-use Rattle.command_line.specs.CommandLine.{asked, asks_page, extra_kinds, further_kinds, has_bad_workers, has_extra, has_unknown, is_no_lesson, kinds_by, kinds_for, lacks_option, lessons_wish, made_by, missing_kinds, read_kinds, search_in, show_wish, unless_fault, wish_by, wish_in}
+use Rattle.command_line.specs.CommandLine.{asked, asks_page, called, called_in, extra_kinds, further_kinds, has_bad_workers, has_extra, has_unknown, is_no_lesson, kinds_by, kinds_for, lacks_option, lessons_kinds, lessons_wish, made_by, make_kinds, missing_kinds, read_kinds, search_in, show_kinds, show_wish, subcommand_named, unless_fault, wish_by, wish_in}
 use Rattle.request_types.specs.Requests.{Wish, conditions}
-use Rattle.command_line.specs.internal.Asking.{AsksLessons, AsksMake, AsksShow, Chosen, IsRefused}
-use Rattle.command_line.proofs.OptionValues.{Makes, Reads, each_reads, read_by}
+use Rattle.command_line.specs.declared.subcommands.Dealing.{Dealing}
+use Rattle.command_line.specs.declared.subcommands.Subcommand.{Subcommand}
+use Rattle.command_line.specs.declared.subcommands.Subcommand.TheVariants.{Conditions, Deals, Lessons, Seed, Show, Stream}
+use Rattle.command_line.specs.internal.Asking.{Asks, AsksLessons, AsksMake, AsksShow, HasValues, IsRefused}
+use Rattle.command_line.proofs.OptionValues.{Reads, each_reads, read_by}
 use Rattle.command_line.proofs.Entered.{enters}
 
 -- the words name this subcommand, and its options have their values
@@ -28,7 +30,7 @@ pub record Named (words : List Text) : Type 0 where
   pub name : Text
   pub rows : List Row
   pub named : subcommand_of deals words ≡ Some (name, rows)
-  pub reads : Reads (name, rows)
+  pub reads : Reads name rows
 
 pub named : (words : List Text) → fault_of deals words ≡ [] → Named words
 named words f =
@@ -99,142 +101,138 @@ pub record IsRead (words : List Text) : Type 0 where
   pub no_page : asks_page words ≡ false
   pub no_fault_is : fault_of deals words ≡ []
 
-by_wish : (words : List Text) (p : Text × List Row) → IsRead words → subcommand_of deals words ≡ Some p → asked words ≡ unless_fault (kinds_by p) (Some (wish_by p))
+-- the words name this subcommand, whose options were given this
+abbrev Calls : List Text → Subcommand → List Row → Type 0
+Calls words c rows = called_in words ≡ Some (c, rows)
+
+by_wish : (words : List Text) (c : Subcommand) (rows : List Row) → IsRead words → Calls words c rows → asked words ≡ unless_fault (kinds_by c rows) (Some (wish_by c rows))
 unfolding asked
-by_wish words p read is =
+by_wish words c rows read is =
     let f = read.no_fault_is in
     ap (λ (b : Bool). if b then Some conditions else unless_fault (read_kinds words) (wish_in words)) read.no_page
     ∙ ap (λ (k : Kinds). unless_fault (or_else k (further_kinds words)) (wish_in words)) f
-    ∙ ap (λ (o : Option (Text × List Row)). unless_fault (option_map_or kinds_by o []) (option_map wish_by o)) is
+    ∙ ap (λ (o : Option (Subcommand × List Row)). unless_fault (option_map_or (λ p. kinds_by p.0 p.1) o []) (option_map (λ p. wish_by p.0 p.1) o)) is
 
-by_kinds : (words : List Text) (p : Text × List Row) → IsRead words → subcommand_of deals words ≡ Some p → kinds_for words ≡ kinds_by p
+by_kinds : (words : List Text) (c : Subcommand) (rows : List Row) → IsRead words → Calls words c rows → kinds_for words ≡ kinds_by c rows
 unfolding kinds_for
-by_kinds words p read is =
+by_kinds words c rows read is =
     let f = read.no_fault_is in
     ap (λ (b : Bool). if b then [] else read_kinds words) read.no_page
-    ∙ ap (λ (k : Kinds). or_else k (further_kinds words)) f ∙ ap (λ (o : Option (Text × List Row)). option_map_or kinds_by o []) is
+    ∙ ap (λ (k : Kinds). or_else k (further_kinds words)) f ∙ ap (λ (o : Option (Subcommand × List Row)). option_map_or (λ p. kinds_by p.0 p.1) o []) is
 
-asks_make : (words : List Text) (name : Text) (rows : List Row) → Makes name → IsRead words → subcommand_of deals words ≡ Some (name, rows) → AsksMake words name rows
-asks_make words name rows makes f is = record {
-  ends = λ u n w e x. by_wish words found f is ∙ wishes ∙ ap (λ (k : Kinds). unless_fault k wish) (known u ∙ taught n ∙ counted w ∙ ending e ∙ extra x);
+asks_make : (words : List Text) (d : Dealing) (rows : List Row) → IsRead words → Calls words (Deals d) rows → AsksMake words d rows
+asks_make words d rows f is = record {
+  ends = λ u n w e x. wishes ∙ ap (λ (k : Kinds). unless_fault k wish) (known u ∙ taught n ∙ counted w ∙ ending e ∙ extra x);
   extra = λ u n w e x. record {
-    asked_is = by_wish words found f is ∙ wishes ∙ ap (λ (k : Kinds). unless_fault k wish) (known u ∙ taught n ∙ counted w ∙ ending e ∙ extra x);
-    kinds_are = by_kinds words found f is ∙ known u ∙ taught n ∙ counted w ∙ ending e ∙ extra x;
+    asked_is = wishes ∙ ap (λ (k : Kinds). unless_fault k wish) (known u ∙ taught n ∙ counted w ∙ ending e ∙ extra x);
+    kinds_are = by_kinds words (Deals d) rows f is ∙ known u ∙ taught n ∙ counted w ∙ ending e ∙ extra x;
   };
   missing = λ u n w e. record {
-    asked_is = by_wish words found f is ∙ wishes ∙ ap (λ (k : Kinds). unless_fault k wish) (known u ∙ taught n ∙ counted w ∙ ending e);
-    kinds_are = by_kinds words found f is ∙ known u ∙ taught n ∙ counted w ∙ ending e;
+    asked_is = wishes ∙ ap (λ (k : Kinds). unless_fault k wish) (known u ∙ taught n ∙ counted w ∙ ending e);
+    kinds_are = by_kinds words (Deals d) rows f is ∙ known u ∙ taught n ∙ counted w ∙ ending e;
   };
   bad_workers = λ u n w. record {
-    asked_is = by_wish words found f is ∙ wishes ∙ ap (λ (k : Kinds). unless_fault k wish) (known u ∙ taught n ∙ counted w);
-    kinds_are = by_kinds words found f is ∙ known u ∙ taught n ∙ counted w;
+    asked_is = wishes ∙ ap (λ (k : Kinds). unless_fault k wish) (known u ∙ taught n ∙ counted w);
+    kinds_are = by_kinds words (Deals d) rows f is ∙ known u ∙ taught n ∙ counted w;
   };
   no_lesson = λ u n. record {
-    asked_is = by_wish words found f is ∙ wishes ∙ ap (λ (k : Kinds). unless_fault k wish) (known u ∙ taught n);
-    kinds_are = by_kinds words found f is ∙ known u ∙ taught n;
+    asked_is = wishes ∙ ap (λ (k : Kinds). unless_fault k wish) (known u ∙ taught n);
+    kinds_are = by_kinds words (Deals d) rows f is ∙ known u ∙ taught n;
   };
   unknown = λ u. record {
-    asked_is = by_wish words found f is ∙ wishes ∙ ap (λ (k : Kinds). unless_fault k wish) (known u);
-    kinds_are = by_kinds words found f is ∙ known u;
+    asked_is = wishes ∙ ap (λ (k : Kinds). unless_fault k wish) (known u);
+    kinds_are = by_kinds words (Deals d) rows f is ∙ known u;
   };
 }
   where
-    found : Text × List Row
-    found = (name, rows)
-
     wish : Option Wish
-    wish = Some (made_by name (search_in rows) rows)
+    wish = Some (made_by d (search_in rows) rows)
 
-    wishes : unless_fault (kinds_by found) (Some (wish_by found)) ≡ unless_fault (kinds_by found) wish
-    wishes = rw (makes.0, makes.1, makes.2, makes.3, makes.4) refl
+    wishes : asked words ≡ unless_fault (make_kinds d rows) wish
+    wishes = by_wish words (Deals d) rows f is
 
     -- the kinds where each word is one of its option's values, and the lesson is one
     further : Kinds
-    further = if has_bad_workers rows then ValueValidation ∷ [] else missing_kinds name (search_in rows) rows
+    further = if has_bad_workers rows then ValueValidation ∷ [] else missing_kinds d (search_in rows) rows
 
     with_lesson : Kinds
     with_lesson = if is_no_lesson (codes "lesson") rows then InvalidValue ∷ [] else further
 
-    known : {b : Bool} → has_unknown name rows ≡ b → kinds_by found ≡ (if b then InvalidValue ∷ [] else with_lesson)
-    known {b} u = rw (makes.0, makes.1, makes.2, makes.3, makes.4) (ap (λ (x : Bool). if x then InvalidValue ∷ [] else with_lesson) u)
+    known : {b : Bool} → has_unknown (Deals d) rows ≡ b → make_kinds d rows ≡ (if b then InvalidValue ∷ [] else with_lesson)
+    known {b} u = ap (λ (x : Bool). if x then InvalidValue ∷ [] else with_lesson) u
 
     taught : {b : Bool} → is_no_lesson (codes "lesson") rows ≡ b → with_lesson ≡ (if b then InvalidValue ∷ [] else further)
     taught {b} n = ap (λ (x : Bool). if x then InvalidValue ∷ [] else further) n
 
-    counted : {b : Bool} → has_bad_workers rows ≡ b → further ≡ (if b then ValueValidation ∷ [] else missing_kinds name (search_in rows) rows)
-    counted {b} w = ap (λ (x : Bool). if x then ValueValidation ∷ [] else missing_kinds name (search_in rows) rows) w
+    counted : {b : Bool} → has_bad_workers rows ≡ b → further ≡ (if b then ValueValidation ∷ [] else missing_kinds d (search_in rows) rows)
+    counted {b} w = ap (λ (x : Bool). if x then ValueValidation ∷ [] else missing_kinds d (search_in rows) rows) w
 
-    ending : {b : Bool} → lacks_option name (search_in rows) rows ≡ b → missing_kinds name (search_in rows) rows ≡ (if b then MissingRequiredArgument ∷ [] else extra_kinds rows)
+    ending : {b : Bool} → lacks_option d (search_in rows) rows ≡ b → missing_kinds d (search_in rows) rows ≡ (if b then MissingRequiredArgument ∷ [] else extra_kinds rows)
     ending {b} e = ap (λ (x : Bool). if x then MissingRequiredArgument ∷ [] else extra_kinds rows) e
 
     extra : {b : Bool} → has_extra rows ≡ b → extra_kinds rows ≡ (if b then ArgumentConflict ∷ [] else [])
     extra {b} x = ap (λ (y : Bool). if y then ArgumentConflict ∷ [] else []) x
 
-asks_lessons : (words : List Text) (rows : List Row) → IsRead words → subcommand_of deals words ≡ Some (codes "lessons", rows) → AsksLessons words rows
+asks_lessons : (words : List Text) (rows : List Row) → IsRead words → Calls words Lessons rows → AsksLessons words rows
 asks_lessons words rows f is = record {
-  found = λ n. by_wish words found f is ∙ ap (λ (k : Kinds). unless_fault k wish) (kinds n);
+  found = λ n. by_wish words Lessons rows f is ∙ ap (λ (k : Kinds). unless_fault k wish) (kinds n);
   unknown = λ n. record {
-    asked_is = by_wish words found f is ∙ ap (λ (k : Kinds). unless_fault k wish) (kinds n);
-    kinds_are = by_kinds words found f is ∙ kinds n;
+    asked_is = by_wish words Lessons rows f is ∙ ap (λ (k : Kinds). unless_fault k wish) (kinds n);
+    kinds_are = by_kinds words Lessons rows f is ∙ kinds n;
   };
 }
   where
-    found : Text × List Row
-    found = (codes "lessons", rows)
-
     wish : Option Wish
     wish = Some (lessons_wish rows)
 
-    kinds : {b : Bool} → is_no_lesson (codes "name") rows ≡ b → kinds_by found ≡ (if b then InvalidValue ∷ [] else [])
+    kinds : {b : Bool} → is_no_lesson (codes "name") rows ≡ b → lessons_kinds rows ≡ (if b then InvalidValue ∷ [] else [])
     kinds {b} n = ap (λ (x : Bool). if x then InvalidValue ∷ [] else []) n
 
-asks_show : (words : List Text) (rows : List Row) → IsRead words → subcommand_of deals words ≡ Some (codes "show", rows) → AsksShow words rows
+asks_show : (words : List Text) (rows : List Row) → IsRead words → Calls words Show rows → AsksShow words rows
 asks_show words rows f is = record {
-  known = λ u. by_wish words found f is ∙ ap (λ (k : Kinds). unless_fault k wish) (kinds u);
+  known = λ u. by_wish words Show rows f is ∙ ap (λ (k : Kinds). unless_fault k wish) (kinds u);
   unknown = λ u. record {
-    asked_is = by_wish words found f is ∙ ap (λ (k : Kinds). unless_fault k wish) (kinds u);
-    kinds_are = by_kinds words found f is ∙ kinds u;
+    asked_is = by_wish words Show rows f is ∙ ap (λ (k : Kinds). unless_fault k wish) (kinds u);
+    kinds_are = by_kinds words Show rows f is ∙ kinds u;
   };
 }
   where
-    found : Text × List Row
-    found = (codes "show", rows)
-
     wish : Option Wish
     wish = Some (show_wish rows)
 
-    kinds : {b : Bool} → has_unknown (codes "show") rows ≡ b → kinds_by found ≡ (if b then InvalidValue ∷ [] else [])
+    kinds : {b : Bool} → has_unknown Show rows ≡ b → show_kinds rows ≡ (if b then InvalidValue ∷ [] else [])
     kinds {b} u = ap (λ (x : Bool). if x then InvalidValue ∷ [] else []) u
+
+asks_by : (words : List Text) (c : Subcommand) (rows : List Row) → IsRead words → Calls words c rows → Asks words c rows
+asks_by words (Deals d) rows f is = asks_make words d rows f is
+asks_by words Show rows f is = asks_show words rows f is
+asks_by words Conditions rows f is = by_wish words Conditions rows f is
+asks_by words Lessons rows f is = asks_lessons words rows f is
+asks_by words Seed rows f is = by_wish words Seed rows f is
+asks_by words Stream rows f is = by_wish words Stream rows f is
+
+-- the subcommand of this name, what its options were given, and what the words ask for
+pub record Chosen (words : List Text) (name : Text) (rows : List Row) : Type 0 where
+  pub subcommand : Subcommand
+  pub named : subcommand_named name ≡ Some subcommand
+  pub values : HasValues subcommand rows
+  pub asks : Asks words subcommand rows
 
 abbrev of_pair : List Text → Bor Text × Bor ArgMatches → Type 0
 of_pair words p = Chosen words p.0.now (rows_of (found_of p.1.now))
 
-never : {X : Type 0} → false ≡ true → X
-never e = absurd cc
-
-chosen_by : (words : List Text) (name : Text) (rows : List Row) → IsRead words → subcommand_of deals words ≡ Some (name, rows) → Reads (name, rows) → Chosen words name rows
-chosen_by words name rows f is (inl (makes, values)) = record {
-  values = record { stream = λ e. no_stream e; make = λ e c l d s. values };
-  stream = λ e. no_stream e;
-  conditions_too = λ e. never (sym makes.1 ∙ e);
-  lessons_too = λ e. never (sym makes.2 ∙ e);
-  seed_too = λ e. never (sym makes.3 ∙ e);
-  show_too = λ e. never (sym makes.4 ∙ e);
-  make = λ e c l d s. asks_make words name rows makes f is;
+chosen_by : (words : List Text) (name : Text) (rows : List Row) → IsRead words → subcommand_of deals words ≡ Some (name, rows) → Reads name rows → Chosen words name rows
+chosen_by words name rows f is reads = record {
+  subcommand = reads.subcommand;
+  named = reads.named;
+  values = reads.values;
+  asks = asks_by words reads.subcommand rows f calls;
 }
   where
-    no_stream : {X : Type 0} → bytes_eq name (codes "stream") ≡ true → X
-    no_stream e = never (sym makes.0 ∙ e)
-chosen_by words name rows f is (inr (inl same)) = subst (λ (n : Text). subcommand_of deals words ≡ Some (n, rows) → Chosen words n rows) (sym same)
-    (λ at. record { values = record { stream = λ e. never e; make = λ e c l d s. never (sym c) }; stream = λ e. never e; conditions_too = λ e. by_wish words (codes "conditions", rows) f at; lessons_too = λ e. never e; seed_too = λ e. never e; show_too = λ e. never e; make = λ e c l d s. never (sym c) }) is
-chosen_by words name rows f is (inr (inr (inl same))) = subst (λ (n : Text). subcommand_of deals words ≡ Some (n, rows) → Chosen words n rows) (sym same)
-    (λ at. record { values = record { stream = λ e. never e; make = λ e c l d s. never (sym l) }; stream = λ e. never e; conditions_too = λ e. never e; lessons_too = λ e. asks_lessons words rows f at; seed_too = λ e. never e; show_too = λ e. never e; make = λ e c l d s. never (sym l) }) is
-chosen_by words name rows f is (inr (inr (inr (inl same)))) = subst (λ (n : Text). subcommand_of deals words ≡ Some (n, rows) → Chosen words n rows) (sym same)
-    (λ at. record { values = record { stream = λ e. never e; make = λ e c l d s. never (sym d) }; stream = λ e. never e; conditions_too = λ e. never e; lessons_too = λ e. never e; seed_too = λ e. by_wish words (codes "seed", rows) f at; show_too = λ e. never e; make = λ e c l d s. never (sym d) }) is
-chosen_by words name rows f is (inr (inr (inr (inr (inl same))))) = subst (λ (n : Text). subcommand_of deals words ≡ Some (n, rows) → Chosen words n rows) (sym same)
-    (λ at. record { values = record { stream = λ e. never e; make = λ e c l d s. never (sym s) }; stream = λ e. never e; conditions_too = λ e. never e; lessons_too = λ e. never e; seed_too = λ e. never e; show_too = λ e. asks_show words rows f at; make = λ e c l d s. never (sym s) }) is
-chosen_by words name rows f is (inr (inr (inr (inr (inr (same, values)))))) = subst (λ (n : Text). subcommand_of deals words ≡ Some (n, rows) → Chosen words n rows) (sym same)
-    (λ at. record { values = record { stream = λ e. values; make = λ e c l d s. never (sym e) }; stream = λ e. by_wish words (codes "stream", rows) f at; conditions_too = λ e. never e; lessons_too = λ e. never e; seed_too = λ e. never e; show_too = λ e. never e; make = λ e c l d s. never (sym e) }) is
+    calls : Calls words reads.subcommand rows
+    calls =
+        ap (λ (o : Option (Text × List Row)). option_and_then called o) is
+        ∙ ap (λ (o : Option Subcommand). option_map (λ named. (named, rows)) o) reads.named
 
 from_met : (words : List Text) (sub : Option (Bor Text × Bor ArgMatches)) (p : Bor Text × Bor ArgMatches) (name : Text) (rows : List Row) → sub ≡ Some p → Met sub name rows
     → Chosen words name rows → of_pair words p
@@ -273,3 +271,8 @@ refused_kind words kind e r is = rw r.kinds_are is
 
 pub refused_asked : {X : Type 0} (words : List Text) (kind : ErrorKind) → IsRefused words kind → IsSome (asked words) → X
 refused_asked words kind r some = let bad : false ≡ true = subst (λ (o : Option Wish). IsSome o) r.asked_is some in absurd cc
+
+-- ---- the subcommand that was found by its name
+
+pub same_subcommand : {found : Option Subcommand} {named : Option Subcommand} {a b : Subcommand} → named ≡ Some a → found ≡ named → found ≡ Some b → a ≡ b
+same_subcommand {found} {named} {a} {b} is same got = let both : Some a ≡ Some b = sym is ∙ sym same ∙ got in cc

@@ -9,6 +9,12 @@ use Rattle.clap.specs.declared.builder.value_parser.ValueParser.{ValueParser}
 use Rattle.clap.specs.declared.builder.value_parser.ValueParser.TheVariants.{Unsigned}
 use Rattle.clap.proofs.ValueTestLemmas.{accepts-Accepts}
 use Rattle.command_line.specs.Commands.{count_parser, deals, option_rule, required, u32_parser}
+use Rattle.command_line.specs.CommandLine.{subcommand_named}
+use Rattle.command_line.specs.declared.subcommands.Dealing.{Dealing}
+use Rattle.command_line.specs.declared.subcommands.Dealing.TheVariants.{Count, Find, Make, Pick}
+use Rattle.command_line.specs.declared.subcommands.Subcommand.{Subcommand}
+use Rattle.command_line.specs.declared.subcommands.Subcommand.TheVariants.{Conditions, Deals, Lessons, Seed, Show, Stream}
+use Rattle.command_line.specs.internal.Asking.{HasValues}
 use Rattle.command_line.specs.internal.Readings.{Gives32, GivesUpTo, HasValue, MakeValues, MayGive32, MayGive64, StreamValues}
 use Rattle.command_line.proofs.Entered.{IsSub}
 use Rattle.command_line.proofs.Plain.{plain_of}
@@ -151,27 +157,25 @@ deal_values s plain negates seed (candidates, first, lane, boards, first_board) 
 
 -- ---- what each subcommand reads
 
--- the subcommand isn't one of those without a search
-abbrev pub Makes : Text → Type 0
-Makes name =
-    (bytes_eq name (codes "stream") ≡ false) × (bytes_eq name (codes "conditions") ≡ false) × (bytes_eq name (codes "lessons") ≡ false)
-    × (bytes_eq name (codes "seed") ≡ false) × (bytes_eq name (codes "show") ≡ false)
+-- the subcommand is one of the table, and its options have the values that are read of them
+pub record Reads (name : Text) (rows : List Row) : Type 0 where
+  pub subcommand : Subcommand
+  pub named : subcommand_named name ≡ Some subcommand
+  pub values : HasValues subcommand rows
 
--- a subcommand that deals, with the options of `make` or some of them; the page of the language; lessons; a seed that is drawn; boards
--- that are shown; or the values of a seed
-abbrev pub Reads : Text × List Row → Type 0
-Reads p =
-    (Makes p.0 × MakeValues p.1)
-    ⊎ ((p.0 ≡ codes "conditions") ⊎ ((p.0 ≡ codes "lessons") ⊎ ((p.0 ≡ codes "seed") ⊎ ((p.0 ≡ codes "show") ⊎ ((p.0 ≡ codes "stream") × StreamValues p.1)))))
-
--- so does this one where its words have no fault
+-- so it is with this one where its words have no fault
 abbrev ReadsBy : Shape → Type 0
 ReadsBy s = (word : Text) (rest : List Text) → answers_to word (label_of s) ≡ true → bytes_eq word (codes "help") ≡ false
-    → level_fault s [] nothing_held rest false [] ≡ [] → Reads (s.name, rows_after s.rules [] rest)
+    → level_fault s [] nothing_held rest false [] ≡ [] → Reads s.name (rows_after s.rules [] rest)
 
-deals_by : (s : Shape) → Makes s.name → PlainRules s.rules → s.subcommand_negates_reqs ≡ false → IsIn seed_built s.rules → Numbers s.rules
-    → ReadsBy s
-deals_by s makes plain negates seed numbers word rest answers other f = inl (makes, deal_values s plain negates seed numbers rest f)
+deals_by : (s : Shape) (dealing : Dealing) → subcommand_named s.name ≡ Some (Deals dealing) → PlainRules s.rules → s.subcommand_negates_reqs ≡ false → IsIn seed_built s.rules
+    → Numbers s.rules → ReadsBy s
+deals_by s dealing is plain negates seed numbers word rest answers other f =
+    record { subcommand = Deals dealing; named = is; values = deal_values s plain negates seed numbers rest f }
+
+-- one whose options have no numbers
+reads_no_number : (s : Shape) (subcommand : Subcommand) → subcommand_named s.name ≡ Some subcommand → ((rows : List Row) → HasValues subcommand rows) → ReadsBy s
+reads_no_number s subcommand is none word rest answers other f = record { subcommand = subcommand; named = is; values = none _ }
 
 -- clap's `help` is no subcommand of words without a fault
 no_help : (word : Text) → answers_to word (codes "help", []) ≡ true → bytes_eq word (codes "help") ≡ false → ⊥
@@ -196,31 +200,31 @@ read_by (x ∷ shapes) (first, rest) s (inr later) = read_by shapes rest s later
 -- the subcommands, and clap's `help`. `find` and `count` have no option of the first board, and `pick` none of which candidates are
 -- tried, nor of how
 make_reads : ReadsBy make_built
-make_reads = deals_by make_built (refl, refl, refl, refl, refl) (plain_of make_built.rules refl) refl (inl refl) (inl refl, inl refl, inl refl, inl refl, inl refl)
+make_reads = deals_by make_built Make refl (plain_of make_built.rules refl) refl (inl refl) (inl refl, inl refl, inl refl, inl refl, inl refl)
 
 find_reads : ReadsBy find_built
-find_reads = deals_by find_built (refl, refl, refl, refl, refl) (plain_of find_built.rules refl) refl (inl refl) (inl refl, inl refl, inl refl, inl refl, inr refl)
+find_reads = deals_by find_built Find refl (plain_of find_built.rules refl) refl (inl refl) (inl refl, inl refl, inl refl, inl refl, inr refl)
 
 count_reads : ReadsBy count_built
-count_reads = deals_by count_built (refl, refl, refl, refl, refl) (plain_of count_built.rules refl) refl (inl refl) (inl refl, inl refl, inl refl, inl refl, inr refl)
+count_reads = deals_by count_built Count refl (plain_of count_built.rules refl) refl (inl refl) (inl refl, inl refl, inl refl, inl refl, inr refl)
 
 pick_reads : ReadsBy pick_built
-pick_reads = deals_by pick_built (refl, refl, refl, refl, refl) (plain_of pick_built.rules refl) refl (inl refl) (inr refl, inr refl, inr refl, inr refl, inl refl)
+pick_reads = deals_by pick_built Pick refl (plain_of pick_built.rules refl) refl (inl refl) (inr refl, inr refl, inr refl, inr refl, inl refl)
 
 show_reads : ReadsBy show_built
-show_reads word rest answers other f = inr (inr (inr (inr (inl refl))))
+show_reads = reads_no_number show_built Show refl (λ rows. tt)
 
 conditions_reads : ReadsBy conditions_built
-conditions_reads word rest answers other f = inr (inl refl)
+conditions_reads = reads_no_number conditions_built Conditions refl (λ rows. tt)
 
 lessons_reads : ReadsBy lessons_built
-lessons_reads word rest answers other f = inr (inr (inl refl))
+lessons_reads = reads_no_number lessons_built Lessons refl (λ rows. tt)
 
 draw_reads : ReadsBy draw_built
-draw_reads word rest answers other f = inr (inr (inr (inl refl)))
+draw_reads = reads_no_number draw_built Seed refl (λ rows. tt)
 
 stream_reads : ReadsBy stream_built
-stream_reads word rest answers other f = inr (inr (inr (inr (inr (refl, stream_values rest f)))))
+stream_reads word rest answers other f = record { subcommand = Stream; named = refl; values = stream_values rest f }
 
 help_reads : ReadsBy help_built
 help_reads word rest answers other f = absurd (no_help word answers other)

@@ -1,5 +1,5 @@
 -- The command line: what the program's words ask for, by clap's own functions of the words.
-use Rattle.std.specs.Prelude.{true, ◌&&◌, ◌||◌, ◌==◌, ℕ, Bool, false, not, List, [], ◌∷◌, Option, Some, None, is_some, codes, get_or, length, nat_lt, option_map, take, unwrap_or, if◌then◌else◌}
+use Rattle.std.specs.Prelude.{true, ◌&&◌, ◌||◌, ◌==◌, ℕ, Bool, false, not, List, [], ◌∷◌, Option, Some, None, is_some, codes, get_or, length, map, nat_lt, option_map, take, unwrap_or, if◌then◌else◌}
 use Rattle.std.specs.Option.{option_and_then, option_map_or}
 use Rattle.std.specs.Str.{bytes_eq}
 use Rattle.std.specs.Str.Parse.{digits_value, without_leading_plus}
@@ -9,7 +9,12 @@ use Rattle.clap.specs.Words.{Kinds, Row, Text, all_of, fault_of, first_of, one_o
 use Rattle.clap.specs.Kinds.{or_else}
 use Rattle.clap.specs.declared.error.kind.ErrorKind.TheVariants.{ArgumentConflict, InvalidValue, ValueValidation}
 use Rattle.clap.specs.declared.error.kind.ErrorKind.TheVariants.{MissingRequiredArgument}
-use Rattle.command_line.specs.Commands.{deals}
+use Rattle.command_line.specs.Commands.{deals, subcommands}
+use Rattle.command_line.specs.declared.subcommands.Dealing.{Dealing}
+use Rattle.command_line.specs.declared.subcommands.Dealing.TheVariants.{Count, Find, Make, Pick}
+use Rattle.command_line.specs.declared.subcommands.Subcommand.{Subcommand}
+use Rattle.command_line.specs.declared.subcommands.Subcommand.TheVariants.{Conditions, Deals, Lessons, Seed, Stream}
+use Rattle.command_line.specs.declared.subcommands.Subcommand.TheVariants as sub
 use Rattle.boards.specs.declared.setting.Vul.{Vul}
 use Rattle.boards.specs.declared.setting.Vul.TheVariants.{Neither, NorthSouth, EastWest, Both}
 use Rattle.cards.specs.declared.seat.Seat.{Seat}
@@ -21,7 +26,6 @@ use Rattle.lessons.specs.Lessons.{Lesson, lesson_named}
 use Rattle.request_types.specs.Requests.{lessons, make, each_question, no_question, numbers_look, one_question, pick, plain_look, show, stream, two_questions}
 use Rattle.request_types.specs.declared.request.Notices.{Notices}
 use Rattle.boards.specs.Formats.{formats}
-use Rattle.boards.specs.declared.format.Format.{Format}
 use Rattle.boards.specs.declared.format.Format.TheVariants.{Pbn}
 use Rattle.boards.specs.declared.show.Show.{Show}
 use Rattle.boards.specs.declared.show.Seats.{Seats}
@@ -77,6 +81,13 @@ abbrev pub meant_by : {A : Type 0} → List (Text × A) → Text → Option A
 meant_by [] word = None
 meant_by (p ∷ table) word = if bytes_eq word p.0 then Some p.1 else meant_by table word
 
+-- the subcommands by their names
+abbrev pub names : List (Text × Subcommand)
+names = map (λ p. (p.1.top.name, p.0)) subcommands
+
+abbrev pub subcommand_named : Text → Option Subcommand
+subcommand_named = meant_by names
+
 -- what the word means that an option was given
 abbrev pub choice_in : {A : Type 0} → List (Text × A) → Text → List Row → Option A
 choice_in table id rows = option_and_then (meant_by table) (first_of id rows)
@@ -87,10 +98,9 @@ is_unknown table id rows =
     option_map_or (λ word. not (is_some (meant_by table word))) (first_of id rows) false
 
 -- the format of `count` is that of a table
-abbrev pub has_unknown_format : Text → List Row → Bool
-has_unknown_format name rows =
-    if bytes_eq name (codes "count") then is_unknown styles (codes "format") rows
-    else is_unknown formats (codes "format") rows
+abbrev pub has_unknown_format : Subcommand → List Row → Bool
+has_unknown_format (Deals Count) rows = is_unknown styles (codes "format") rows
+has_unknown_format _ rows = is_unknown formats (codes "format") rows
 
 -- the lesson whose name was given, if there is one
 abbrev pub lesson_in : Text → List Row → Option Lesson
@@ -101,9 +111,9 @@ abbrev pub is_no_lesson : Text → List Row → Bool
 is_no_lesson id rows =
     option_map_or (λ name. not (is_some (lesson_named name))) (first_of id rows) false
 
-abbrev pub has_unknown : Text → List Row → Bool
-has_unknown name rows =
-    has_unknown_format name rows
+abbrev pub has_unknown : Subcommand → List Row → Bool
+has_unknown named rows =
+    has_unknown_format named rows
     || (is_unknown shows (codes "show") rows
     || (is_unknown points_words (codes "points") rows
     || (is_unknown dealers (codes "dealer") rows
@@ -232,35 +242,41 @@ style_in rows = unwrap_or (choice_in styles (codes "format") rows) Table
 
 -- `pick` deals the candidates whose numbers it reads; the others search, and `count` has a table,
 -- `find` numbers alone: both have long lanes
-abbrev pub made_by : Text → Search → List Row → Wish
-made_by name s rows =
-    if bytes_eq name (codes "pick")
-    then pick s.seed s.hands (look_in rows) (is_set (codes "tricks") rows)
+abbrev pub made_by : Dealing → Search → List Row → Wish
+made_by Make s rows =
+    make s (look_in rows) (is_set (codes "tricks") rows) (notices_in rows)
+made_by Find s rows = make (with_long_lanes s) numbers_look false (notices_in rows)
+made_by Count s rows =
+    count (with_long_lanes s) (questions_in rows) (style_in rows) (notices_in rows)
+made_by Pick s rows =
+    pick s.seed s.hands (look_in rows) (is_set (codes "tricks") rows)
     (when_in (codes "hints") rows)
-    else if bytes_eq name (codes "count")
-    then count (with_long_lanes s) (questions_in rows) (style_in rows) (notices_in rows)
-    else if bytes_eq name (codes "find")
-    then make (with_long_lanes s) numbers_look false (notices_in rows)
-    else make s (look_in rows) (is_set (codes "tricks") rows) (notices_in rows)
 
--- by the subcommand's name and what its options were given
-abbrev pub wish_by : Text × List Row → Wish
-wish_by p =
-    if bytes_eq p.0 (codes "stream") then stream_wish p.1
-    else (if bytes_eq p.0 (codes "conditions") then conditions
-    else (if bytes_eq p.0 (codes "lessons") then lessons_wish p.1
-    else (if bytes_eq p.0 (codes "seed") then draw
-    else (if bytes_eq p.0 (codes "show") then show_wish p.1
-    else made_by p.0 (search_in p.1) p.1))))
+-- by the subcommand and what its options were given
+abbrev pub wish_by : Subcommand → List Row → Wish
+wish_by (Deals dealing) rows = made_by dealing (search_in rows) rows
+wish_by sub.Show rows = show_wish rows
+wish_by Conditions rows = conditions
+wish_by Lessons rows = lessons_wish rows
+wish_by Seed rows = draw
+wish_by Stream rows = stream_wish rows
 
--- the wish of the subcommand that the words name, by clap's function of the words
+-- the subcommand that the words name, by clap's function of the words, with what its options were
+-- given
+abbrev pub called : Text × List Row → Option (Subcommand × List Row)
+called p = option_map (λ named. (named, p.1)) (subcommand_named p.0)
+
+abbrev pub called_in : List Text → Option (Subcommand × List Row)
+called_in words = option_and_then called (subcommand_of deals words)
+
+-- its wish
 abbrev pub wish_in : List Text → Option Wish
-wish_in words = option_map wish_by (subcommand_of deals words)
+wish_in words = option_map (λ p. wish_by p.0 p.1) (called_in words)
 
 -- all but `pick` need a number of candidates, or a limit of boards
-abbrev pub has_no_end : Text → Search → Bool
-has_no_end name s =
-    not (bytes_eq name (codes "pick")) && (not (is_some s.candidates) && not (is_some s.boards))
+abbrev pub has_no_end : Dealing → Search → Bool
+has_no_end Pick s = false
+has_no_end _ s = not (is_some s.candidates) && not (is_some s.boards)
 
 -- there is a question for the columns of a table, and none for its rows
 abbrev pub has_by_alone : List Row → Bool
@@ -268,8 +284,8 @@ has_by_alone rows =
     is_some (first_of (codes "by") rows) && not (is_some (first_of (codes "of") rows))
 
 -- an option is missing
-abbrev pub lacks_option : Text → Search → List Row → Bool
-lacks_option name s rows = has_no_end name s || has_by_alone rows
+abbrev pub lacks_option : Dealing → Search → List Row → Bool
+lacks_option dealing s rows = has_no_end dealing s || has_by_alone rows
 
 -- there are more than eight questions, or one for columns beside several
 abbrev pub has_extra : List Row → Bool
@@ -280,36 +296,34 @@ has_extra rows =
 abbrev pub extra_kinds : List Row → Kinds
 extra_kinds rows = if has_extra rows then ArgumentConflict ∷ [] else []
 
-abbrev pub missing_kinds : Text → Search → List Row → Kinds
-missing_kinds name s rows =
-    if lacks_option name s rows then MissingRequiredArgument ∷ [] else extra_kinds rows
+abbrev pub missing_kinds : Dealing → Search → List Row → Kinds
+missing_kinds dealing s rows =
+    if lacks_option dealing s rows then MissingRequiredArgument ∷ [] else extra_kinds rows
 
 -- clap reads those words as texts: one that means nothing is refused as clap refuses a value
-abbrev pub make_kinds : Text → List Row → Kinds
-make_kinds name rows =
-    if has_unknown name rows then InvalidValue ∷ []
+abbrev pub make_kinds : Dealing → List Row → Kinds
+make_kinds dealing rows =
+    if has_unknown (Deals dealing) rows then InvalidValue ∷ []
     else (if is_no_lesson (codes "lesson") rows then InvalidValue ∷ []
     else (if has_bad_workers rows then ValueValidation ∷ []
-    else missing_kinds name (search_in rows) rows))
+    else missing_kinds dealing (search_in rows) rows))
 
 abbrev pub lessons_kinds : List Row → Kinds
 lessons_kinds rows = if is_no_lesson (codes "name") rows then InvalidValue ∷ [] else []
 
 abbrev pub show_kinds : List Row → Kinds
-show_kinds rows = if has_unknown (codes "show") rows then InvalidValue ∷ [] else []
+show_kinds rows = if has_unknown sub.Show rows then InvalidValue ∷ [] else []
 
--- by the subcommand's name and what its options were given
-abbrev pub kinds_by : Text × List Row → Kinds
-kinds_by p =
-    if bytes_eq p.0 (codes "stream") then []
-    else (if bytes_eq p.0 (codes "conditions") then []
-    else (if bytes_eq p.0 (codes "lessons") then lessons_kinds p.1
-    else (if bytes_eq p.0 (codes "seed") then []
-    else (if bytes_eq p.0 (codes "show") then show_kinds p.1 else make_kinds p.0 p.1))))
+-- by the subcommand and what its options were given
+abbrev pub kinds_by : Subcommand → List Row → Kinds
+kinds_by (Deals dealing) rows = make_kinds dealing rows
+kinds_by sub.Show rows = show_kinds rows
+kinds_by Lessons rows = lessons_kinds rows
+kinds_by _ rows = []
 
 -- the kinds of error in words that clap takes
 abbrev pub further_kinds : List Text → Kinds
-further_kinds words = option_map_or kinds_by (subcommand_of deals words) []
+further_kinds words = option_map_or (λ p. kinds_by p.0 p.1) (called_in words) []
 
 -- a wish, unless there is a fault
 abbrev pub unless_fault : Kinds → Option Wish → Option Wish

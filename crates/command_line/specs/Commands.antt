@@ -5,6 +5,9 @@ use Rattle.clap.specs.declared.builder.action.ArgAction.TheVariants.{Append, Hel
 use Rattle.clap.specs.Simple.{on_top}
 use Rattle.clap.specs.declared.builder.value_parser.ValueParser.{ValueParser}
 use Rattle.clap.specs.declared.builder.value_parser.ValueParser.TheVariants as parsed
+use Rattle.command_line.specs.declared.subcommands.Dealing.TheVariants.{Count, Find, Make, Pick}
+use Rattle.command_line.specs.declared.subcommands.Subcommand.{Subcommand}
+use Rattle.command_line.specs.declared.subcommands.Subcommand.TheVariants.{Conditions, Deals, Lessons, Seed, Show, Stream}
 
 -- an option `--id VALUE`
 abbrev pub option_rule : Text → ValueParser → Rule
@@ -170,10 +173,11 @@ deals_top = on_top (λ s. record s { has_version = true; subcommand_required = t
     (new_app (codes "deals"))
 
 -- the subcommands, in the order of the help
-abbrev pub subcommands : List App
+abbrev pub subcommands : List (Subcommand × App)
 subcommands =
-    make_app ∷ find_app ∷ count_app ∷ pick_app ∷ show_app ∷ conditions_app ∷ lessons_app
-    ∷ seed_app ∷ stream_app ∷ []
+    (Deals Make, make_app) ∷ (Deals Find, find_app) ∷ (Deals Count, count_app)
+    ∷ (Deals Pick, pick_app) ∷ (Show, show_app) ∷ (Conditions, conditions_app)
+    ∷ (Lessons, lessons_app) ∷ (Seed, seed_app) ∷ (Stream, stream_app) ∷ []
 
 abbrev pub deals : App
-deals = fold with_subcommand deals_top (map (λ a. a.top) subcommands)
+deals = fold with_subcommand deals_top (map (λ p. p.1.top) subcommands)

@@ -10,24 +10,16 @@ ghost use Rattle.command_line.specs.CommandLine.{choice_in, has_unknown, has_unk
 ghost use Rattle.command_line.specs.CommandLine.{is_unknown, meant_by};
 ghost use Rattle.command_line.specs.internal.Choices.{table_of};
 
+use crate::subcommands::{Dealing, Subcommand};
 use crate::words::text_in;
 use boards::{FORMAT_WORDS, FORMATS, Format, STYLE_WORDS, STYLES, Seats, Style, Vul};
 use cards::Seat;
 use clap::ArgMatches;
 use request_types::When;
 
-/// The words that say when something is shown.
-const TIMES: &[(&str, When)] = &[
-    ("auto", When::Auto),
-    ("always", When::Always),
-    ("never", When::Never),
-];
-
 /// An option that has one of a few words.
 pub struct Choice<T: Copy + 'static> {
     id: &'static str,
-    /// The option as clap's refusals show it.
-    shown: &'static str,
     /// Its values, as help lists them.
     values: &'static str,
     table: &'static [(&'static str, T)],
@@ -37,15 +29,25 @@ pub struct Choice<T: Copy + 'static> {
 #[derive(Clone, Copy)]
 pub struct Unknown<'a> {
     pub word: &'a str,
-    /// The option as clap's refusals show it.
-    pub option: &'static str,
+    /// The option, without its hyphens.
+    pub id: &'static str,
     /// The option's values, as help lists them.
     pub values: &'static str,
 }
 
+/// An option, its words, and what each means.
+macro_rules! choice {
+    ($id:literal $first:literal => $meaning:expr $(, $word:literal => $other:expr)*) => {
+        Choice {
+            id: $id,
+            values: concat!($first $(, ", ", $word)*),
+            table: &[($first, $meaning) $(, ($word, $other))*],
+        }
+    };
+}
+
 pub static FORMAT: Choice<Format> = Choice {
     id: "format",
-    shown: "--format <FORMAT>",
     values: FORMAT_WORDS,
     table: FORMATS,
 };
@@ -53,85 +55,38 @@ pub static FORMAT: Choice<Format> = Choice {
 /// The format of `count`.
 pub static STYLE: Choice<Style> = Choice {
     id: "format",
-    shown: "--format <FORMAT>",
     values: STYLE_WORDS,
     table: STYLES,
 };
 
-pub static SHOW: Choice<Seats> = Choice {
-    id: "show",
-    shown: "--show <WHO>",
-    values: "all, dealer, north, east, south, west, ns, ew",
-    table: &[
-        ("all", Seats::All),
-        ("dealer", Seats::Dealer),
-        ("north", Seats::North),
-        ("east", Seats::East),
-        ("south", Seats::South),
-        ("west", Seats::West),
-        ("ns", Seats::NorthSouth),
-        ("ew", Seats::EastWest),
-    ],
+pub static SHOW: Choice<Seats> = choice! { "show"
+    "all" => Seats::All,
+    "dealer" => Seats::Dealer,
+    "north" => Seats::North,
+    "east" => Seats::East,
+    "south" => Seats::South,
+    "west" => Seats::West,
+    "ns" => Seats::NorthSouth,
+    "ew" => Seats::EastWest
 };
 
-pub static POINTS: Choice<bool> = Choice {
-    id: "points",
-    shown: "--points <WHETHER>",
-    values: "show, hide",
-    table: &[("show", true), ("hide", false)],
+pub static POINTS: Choice<bool> = choice! { "points" "show" => true, "hide" => false };
+
+pub static DEALER: Choice<Seat> = choice! { "dealer"
+    "N" => Seat::North, "E" => Seat::East, "S" => Seat::South, "W" => Seat::West
 };
 
-pub static DEALER: Choice<Seat> = Choice {
-    id: "dealer",
-    shown: "--dealer <SEAT>",
-    values: "N, E, S, W",
-    table: &[
-        ("N", Seat::North),
-        ("E", Seat::East),
-        ("S", Seat::South),
-        ("W", Seat::West),
-    ],
+pub static VULNERABLE: Choice<Vul> = choice! { "vulnerable"
+    "None" => Vul::Neither, "NS" => Vul::NorthSouth, "EW" => Vul::EastWest, "All" => Vul::Both
 };
 
-pub static VULNERABLE: Choice<Vul> = Choice {
-    id: "vulnerable",
-    shown: "--vulnerable <SIDES>",
-    values: "None, NS, EW, All",
-    table: &[
-        ("None", Vul::Neither),
-        ("NS", Vul::NorthSouth),
-        ("EW", Vul::EastWest),
-        ("All", Vul::Both),
-    ],
+pub static PROGRESS: Choice<When> = choice! { "progress"
+    "auto" => When::Auto, "always" => When::Always, "never" => When::Never
 };
 
-pub static PROGRESS: Choice<When> = Choice {
-    id: "progress",
-    shown: "--progress <WHEN>",
-    values: "auto, always, never",
-    table: TIMES,
+pub static HINTS: Choice<When> = choice! { "hints"
+    "auto" => When::Auto, "always" => When::Always, "never" => When::Never
 };
-
-pub static HINTS: Choice<When> = Choice {
-    id: "hints",
-    shown: "--hints <WHEN>",
-    values: "auto, always, never",
-    table: TIMES,
-};
-
-/// Whether the option of this id has one of a few words.
-pub(crate) fn is_choice(id: &str) -> bool {
-    let ids = [
-        FORMAT.id,
-        SHOW.id,
-        POINTS.id,
-        DEALER.id,
-        VULNERABLE.id,
-        PROGRESS.id,
-        HINTS.id,
-    ];
-    ids.iter().any(|known| *known == id)
-}
 
 /// What a word means in such a table.
 pub(crate) fn look_up<T: Copy>(mut table: &[(&str, T)], word: &str) -> Option<T>
@@ -166,7 +121,7 @@ impl<T: Copy + 'static> Choice<T> {
         match text_in(matches, self.id) {
             Some(word) if look_up(self.table, word).is_none() => Some(Unknown {
                 word,
-                option: self.shown,
+                id: self.id,
                 values: self.values,
             }),
             _ => None,
@@ -175,21 +130,20 @@ impl<T: Copy + 'static> Choice<T> {
 }
 
 /// The format, if it is none of those of the subcommand.
-fn unknown_format<'a>(name: &str, matches: &ArgMatches<'a>) -> Option<Unknown<'a>>
-    ensures { is_some result ≡ has_unknown_format name.now (rows_of (found_of matches.now)) }
+fn unknown_format<'a>(subcommand: Subcommand, matches: &ArgMatches<'a>) -> Option<Unknown<'a>>
+    ensures { is_some result ≡ has_unknown_format subcommand (rows_of (found_of matches.now)) }
 {
-    if name == "count" {
-        STYLE.unknown(matches)
-    } else {
-        FORMAT.unknown(matches)
+    match subcommand {
+        Subcommand::Deals(Dealing::Count) => STYLE.unknown(matches),
+        _ => FORMAT.unknown(matches),
     }
 }
 
 /// The first word that is none of its option's values.
-pub fn unknown_in<'a>(name: &str, matches: &ArgMatches<'a>) -> Option<Unknown<'a>>
-    ensures { is_some result ≡ has_unknown name.now (rows_of (found_of matches.now)) }
+pub fn unknown_in<'a>(subcommand: Subcommand, matches: &ArgMatches<'a>) -> Option<Unknown<'a>>
+    ensures { is_some result ≡ has_unknown subcommand (rows_of (found_of matches.now)) }
 {
-    unknown_format(name, matches)
+    unknown_format(subcommand, matches)
         .or(SHOW.unknown(matches))
         .or(POINTS.unknown(matches))
         .or(DEALER.unknown(matches))

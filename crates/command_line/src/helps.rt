@@ -4,35 +4,13 @@
 //! The entries of a text are separated by empty lines. Each begins with the name of what it is
 //! about, and a colon.
 
-use crate::texts::{
-    CONDITIONS_EXAMPLES, COUNT_EXAMPLES, FIND_EXAMPLES, LESSONS_EXAMPLES, MAKE_EXAMPLES,
-    PICK_EXAMPLES, SEED_EXAMPLES, SHOW_EXAMPLES, STREAM_EXAMPLES,
-};
+use crate::texts::{SUBCOMMAND_TEXTS, SubcommandText};
 
 /// What help says of an option: the heading that it is under, and the text.
 pub(crate) type Help = (&'static str, &'static str);
 
 /// A heading, and the entries of the options that are under it.
 type Section = (&'static str, &'static str);
-
-/// What a subcommand does.
-const ABOUTS: &str = "make: Deals boards and writes them: PBN, hand records, pages, LIN, JSON
-
-find: Prints the numbers of the deals that make would write
-
-count: Counts deals: how often something comes, and how much on average
-
-pick: Writes the boards of the deals whose numbers it reads
-
-show: Writes the boards of a PBN file in another format
-
-conditions: Explains all that --where understands, with ten examples
-
-lessons: Prints the lessons that --lesson deals, and tells of one
-
-seed: Draws a seed that nobody can guess
-
-stream: Prints the random numbers of a seed, to compare with nrand48";
 
 const WHICH: &str = "Which deals";
 
@@ -283,13 +261,13 @@ count: 3";
 /// What a subcommand has of its own.
 fn own_sections(name: &str) -> &'static [Section] {
     match name {
+        "make" => &[],
+        "find" => OF_FIND,
         "count" => OF_COUNT,
         "pick" => OF_PICK,
         "show" => OF_SHOW,
-        "stream" => OF_STREAM,
         "lessons" => OF_LESSONS,
-        "find" => OF_FIND,
-        "make" => &[],
+        "stream" => OF_STREAM,
         _ => OF_OTHERS,
     }
 }
@@ -313,25 +291,19 @@ fn help_in(sections: &'static [Section], id: &str) -> Option<Help> {
     Some((heading, entry_in(entries, id)?))
 }
 
-/// What help says of a subcommand.
+/// What help says of the subcommand of this name.
+fn subcommand_text(name: &str) -> Option<&'static SubcommandText> {
+    SUBCOMMAND_TEXTS.iter().find(|text| text.name == name)
+}
+
+/// What the subcommand of this name does.
 pub(crate) fn about_of(name: &str) -> &'static str {
-    entry_in(ABOUTS, name).unwrap_or("")
+    subcommand_text(name).map_or("", |text| text.about)
 }
 
 /// The examples that help has of a subcommand.
 pub(crate) fn examples_of(name: &str) -> &'static str {
-    match name {
-        "make" => MAKE_EXAMPLES,
-        "find" => FIND_EXAMPLES,
-        "count" => COUNT_EXAMPLES,
-        "pick" => PICK_EXAMPLES,
-        "show" => SHOW_EXAMPLES,
-        "conditions" => CONDITIONS_EXAMPLES,
-        "lessons" => LESSONS_EXAMPLES,
-        "seed" => SEED_EXAMPLES,
-        "stream" => STREAM_EXAMPLES,
-        _ => "",
-    }
+    subcommand_text(name).map_or("", |text| text.examples)
 }
 
 /// A value of the option; empty if it takes none.

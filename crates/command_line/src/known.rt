@@ -1,9 +1,9 @@
 //! What is known of an option by its name, for hints below refusals.
 
-use crate::choices::is_choice;
 use crate::helps::sample_of;
-use crate::options::{Row, Subcommand, Takes, subcommands};
-use cards::{MAX_CANDIDATES, MAX_CAPACITY, MAX_WORKERS};
+use crate::options::{Row, Takes};
+use crate::subcommands::{SubcommandRow, subcommands};
+use cards::{MAX_CANDIDATES, MAX_WORKERS};
 
 /// What an option takes.
 #[derive(Clone, Copy)]
@@ -41,7 +41,7 @@ pub fn takes_option(command: &str, name: &str) -> bool {
 }
 
 /// The option, if this command takes it.
-fn known_in(sub: &Subcommand, name: &str) -> Option<KnownOption> {
+fn known_in(sub: &SubcommandRow, name: &str) -> Option<KnownOption> {
     let row = row_in(sub.rows, name)?;
     Some(KnownOption {
         id: row.id,
@@ -67,35 +67,23 @@ fn is_named(row: &Row, name: &str) -> bool {
 
 /// What the row's option takes; none if it is the flag for help, or a value without a name.
 fn taken_by(row: &Row) -> Option<Taken> {
-    match row.takes {
-        Takes::Help | Takes::Value(_) => None,
-        Takes::Nothing => Some(Taken::Nothing),
-        Takes::Text(_) | Takes::Texts(_) => Some(taken_as_text(row.id)),
-        Takes::U32(_) | Takes::U64(_) | Takes::Count(_) => Some(Taken::Number {
-            most: most_of(row),
-        }),
-    }
+    let most = match row.takes {
+        Takes::Help | Takes::Value(_) => return None,
+        Takes::Nothing => return Some(Taken::Nothing),
+        Takes::Text(_) | Takes::Texts(_) => return Some(Taken::Text),
+        Takes::Word(_) => return Some(Taken::Word),
+        Takes::Workers(_) => u64::from(MAX_WORKERS),
+        Takes::U32(_, most) => u64::from(most),
+        Takes::U64(_) | Takes::Count(_) => MAX_CANDIDATES,
+    };
+    Some(Taken::Number { most })
 }
 
-/// What an option takes that clap knows as a text.
-fn taken_as_text(id: &str) -> Taken {
-    if id == "workers" {
-        return Taken::Number {
-            most: u64::from(MAX_WORKERS),
-        };
-    }
-    if is_choice(id) || id == "lesson" {
-        Taken::Word
-    } else {
-        Taken::Text
-    }
-}
-
-/// The greatest number of an option.
-fn most_of(row: &Row) -> u64 {
-    match row.takes {
-        Takes::U32(_) if row.id == "lane" => u64::from(MAX_CAPACITY),
-        Takes::U32(_) => u64::from(u32::MAX),
-        _ => MAX_CANDIDATES,
+/// The name that help gives to the words of an option that has one of a few.
+pub(crate) fn value_name(id: &str) -> &'static str {
+    let row = subcommands().iter().find_map(|sub| row_in(sub.rows, id));
+    match row.map(|row| &row.takes) {
+        Some(Takes::Word(name)) => name,
+        _ => "WORD",
     }
 }

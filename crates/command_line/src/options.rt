@@ -1,16 +1,14 @@
-//! The commands of the program and their options, as tables, in the order of the help.
+//! The options, as tables in the order of the help, and `clap`'s rules of them.
 
 ghost use Rattle.std.specs.Prelude.{◌≡◌, IfOk, false, fold, map};
-ghost use Rattle.clap.specs.Words.{app_of, rule_of, with_rule, with_subcommand};
+ghost use Rattle.clap.specs.Words.{app_of, rule_of, with_rule};
 ghost use Rattle.clap.specs.declared.Command.TheViews.{out-Command as fields_of};
-ghost use Rattle.command_line.specs.Commands.{asking_rule, deals, deals_top, flag_rule};
-ghost use Rattle.command_line.specs.Commands.{option_rule, subcommands, value_rule};
-ghost use Rattle.command_line.specs.internal.Rows.{app_for, rule_for, taking, top_for};
+ghost use Rattle.command_line.specs.Commands.{asking_rule, flag_rule, option_rule, value_rule};
+ghost use Rattle.command_line.specs.internal.Rows.{rule_for, taking};
 
-use self::Takes::{Count, Help, Nothing, Text, Texts, U32, U64, Value};
-use crate::helps::{about_of, examples_of, help_of};
-use crate::texts::{ABOUT, PROGRAM_EXAMPLES};
-use cards::MAX_CANDIDATES;
+use self::Takes::{Count, Help, Nothing, Text, Texts, U32, U64, Value, Word, Workers};
+use crate::helps::help_of;
+use cards::{MAX_CANDIDATES, MAX_CAPACITY};
 use clap::builder::ValueParser;
 use clap::{Arg, ArgAction, Command, value_parser};
 use std::alloc::{AllocError, Global};
@@ -27,11 +25,17 @@ pub(crate) enum Takes {
     Text(&'static str),
     /// A text, and another each time that it is given again.
     Texts(&'static str),
+    /// One of a few words, which is a text to `clap`.
+    Word(&'static str),
+    /// A number of workers, or `auto`: a text to `clap`.
+    Workers(&'static str),
     /// A value on its own, without the option's name.
     Value(&'static str),
-    U32(&'static str),
-    U64(&'static str),
+    /// A number, of which this is the greatest that isn't refused.
+    U32(&'static str, u32),
     /// A number up to 2^40.
+    U64(&'static str),
+    /// A number up to 2^40, of which `clap` refuses others.
     Count(&'static str),
 }
 
@@ -90,12 +94,14 @@ fn taking<'a>(alloc: Global, takes: &Takes, id: &'static str) -> Arg<'a>
     let (parser, name) = match *takes {
         Takes::Nothing => return flag(alloc, id),
         Takes::Help => return help_flag(alloc, id),
-        Takes::Text(name) => (ValueParser::String, name),
+        Takes::Text(name) | Takes::Word(name) | Takes::Workers(name) => {
+            (ValueParser::String, name)
+        }
         Takes::Texts(name) => {
             return option(alloc, id, ValueParser::String, name).action(ArgAction::Append);
         }
         Takes::Value(name) => return value(alloc, id, name),
-        Takes::U32(name) => (value_parser!(u32), name),
+        Takes::U32(name, _) => (value_parser!(u32), name),
         Takes::U64(name) => (value_parser!(u64), name),
         Takes::Count(name) => (value_parser!(u64).range(..=MAX_VALUES), name),
     };
@@ -187,15 +193,15 @@ macro_rules! required {
     };
 }
 
-const SEED: Row = required! { 's' "seed" U32("S") };
+const SEED: Row = required! { 's' "seed" U32("S", u32::MAX) };
 
-const LESSON: Row = optional! { "lesson" Text("NAME") };
+const LESSON: Row = optional! { "lesson" Word("NAME") };
 
 const WHERE: Row = optional! { 'w' "where" Text("TEXT") };
 
 const LET: Row = optional! { "let" Text("TEXT") };
 
-const BOARDS: Row = optional! { 'n' "boards" U32("M") };
+const BOARDS: Row = optional! { 'n' "boards" U32("M", u32::MAX) };
 
 const CANDIDATES: Row = optional! { "candidates" U64("N") };
 
@@ -213,17 +219,17 @@ const OF: Row = optional! { "of" Texts("TEXT") };
 
 const BY: Row = optional! { "by" Text("TEXT") };
 
-const FORMAT: Row = optional! { 'f' "format" Text("FORMAT") };
+const FORMAT: Row = optional! { 'f' "format" Word("FORMAT") };
 
-const SHOW: Row = optional! { "show" Text("WHO") };
+const SHOW: Row = optional! { "show" Word("WHO") };
 
-const POINTS: Row = optional! { "points" Text("WHETHER") };
+const POINTS: Row = optional! { "points" Word("WHETHER") };
 
 const TRICKS: Row = optional! { "tricks" Nothing };
 
-const DEALER: Row = optional! { "dealer" Text("SEAT") };
+const DEALER: Row = optional! { "dealer" Word("SEAT") };
 
-const VULNERABLE: Row = optional! { "vulnerable" Text("SIDES") };
+const VULNERABLE: Row = optional! { "vulnerable" Word("SIDES") };
 
 const ROTATE: Row = optional! { "rotate" Nothing };
 
@@ -235,15 +241,15 @@ const SITE: Row = optional! { "site" Text("TEXT") };
 
 const DATE: Row = optional! { "date" Text("DATE") };
 
-const WORKERS: Row = optional! { "workers" Text("W") };
+const WORKERS: Row = optional! { "workers" Workers("W") };
 
-const LANE: Row = optional! { "lane" U32("C") };
+const LANE: Row = optional! { "lane" U32("C", MAX_CAPACITY) };
 
 const REPORT: Row = optional! { "report" Nothing };
 
-const PROGRESS: Row = optional! { "progress" Text("WHEN") };
+const PROGRESS: Row = optional! { "progress" Word("WHEN") };
 
-const HINTS: Row = optional! { "hints" Text("WHEN") };
+const HINTS: Row = optional! { "hints" Word("WHEN") };
 
 const NAME: Row = optional! { "name" Value("NAME") };
 
@@ -283,140 +289,3 @@ pub(crate) const ALONE: &[Row] = &[HELP];
 pub(crate) const NAMED: &[Row] = &[NAME, HELP];
 
 pub(crate) const STREAM: &[Row] = &[SEED, VALUES, HELP];
-
-/// A subcommand. What help says of it is in `helps`.
-pub(crate) struct Subcommand {
-    pub(crate) name: &'static str,
-    /// The program's name and its own, as `clap` names it in a refusal.
-    in_full: &'static str,
-    pub(crate) rows: &'static [Row],
-}
-
-/// The subcommands, in the order of the help.
-static SUBCOMMANDS: [Subcommand; 9] = [
-    Subcommand {
-        name: "make",
-        in_full: "deals make",
-        rows: MAKE,
-    },
-    Subcommand {
-        name: "find",
-        in_full: "deals find",
-        rows: FIND,
-    },
-    Subcommand {
-        name: "count",
-        in_full: "deals count",
-        rows: COUNT,
-    },
-    Subcommand {
-        name: "pick",
-        in_full: "deals pick",
-        rows: PICK,
-    },
-    Subcommand {
-        name: "show",
-        in_full: "deals show",
-        rows: SHOWN,
-    },
-    Subcommand {
-        name: "conditions",
-        in_full: "deals conditions",
-        rows: ALONE,
-    },
-    Subcommand {
-        name: "lessons",
-        in_full: "deals lessons",
-        rows: NAMED,
-    },
-    Subcommand {
-        name: "seed",
-        in_full: "deals seed",
-        rows: ALONE,
-    },
-    Subcommand {
-        name: "stream",
-        in_full: "deals stream",
-        rows: STREAM,
-    },
-];
-
-/// The subcommands: the table stands in one function alone, since a proof reads all of it.
-pub(crate) fn subcommands() -> &'static [Subcommand; 9]
-    ensures { map top_for result.now ≡ map (λ a. a.top) subcommands }
-{
-    &SUBCOMMANDS
-}
-
-/// The subcommand as `clap` has it. Its flag for help is a row, so that it is with others in the
-/// help, and not before them.
-fn command_of<'a>(alloc: Global, sub: &Subcommand) -> Result<Command<'a>, AllocError>
-    ensures app { IfOk result (λ c. app_of c ≡ app_for sub.now) }
-    ensures local { IfOk result (λ c. (fields_of c).has_globals ≡ false) }
-{
-    let command = Command::new(alloc, sub.name)
-        .disable_help_flag(true)
-        .about(about_of(sub.name))
-        .after_help(examples_of(sub.name));
-    with_rows(alloc, sub.name, command, sub.rows)
-}
-
-/// The command `make`, or `find`, `count`, `pick`, `show` or `lessons` if it has that name, as
-/// `clap` names it in a refusal.
-///
-/// # Errors
-/// `AllocError` if an allocation failed.
-pub fn named_command<'a>(alloc: Global, name: &str) -> Result<Command<'a>, AllocError> {
-    let [make, find, count, pick, show, _, lessons, ..] = subcommands();
-    let sub = match name {
-        "find" => find,
-        "count" => count,
-        "pick" => pick,
-        "show" => show,
-        "lessons" => lessons,
-        _ => make,
-    };
-    command_of(alloc, sub)?.bin_name(sub.in_full)
-}
-
-/// The program's name, without subcommands. Its texts call it so, whatever its file is called.
-///
-/// # Errors
-/// `AllocError` if an allocation failed.
-fn top<'a>(alloc: Global) -> Result<Command<'a>, AllocError>
-    ensures app { IfOk result (λ c. app_of c ≡ deals_top) }
-    ensures local { IfOk result (λ c. (fields_of c).has_globals ≡ false) }
-{
-    Command::new(alloc, "deals")
-        .version("0.3.0")
-        .about(ABOUT)
-        .after_help(PROGRAM_EXAMPLES)
-        .subcommand_required(true)
-        .bin_name("deals")
-}
-
-/// The command with each of these subcommands.
-fn with_subcommands<'a>(
-    alloc: Global,
-    command: Command<'a>,
-    subs: &[Subcommand],
-) -> Result<Command<'a>, AllocError>
-    ensures { IfOk result (λ c. app_of c
-        ≡ fold with_subcommand (app_of command.entry) (map top_for subs.entry.now)) }
-{
-    let mut command = command;
-    for sub in subs {
-        command = command.subcommand(command_of(alloc, sub)?)?;
-    }
-    Ok(command)
-}
-
-/// The program's whole command line.
-///
-/// # Errors
-/// `AllocError` if an allocation failed.
-pub fn command<'a>(alloc: Global) -> Result<Command<'a>, AllocError>
-    ensures { IfOk result (λ c. app_of c ≡ deals) }
-{
-    with_subcommands(alloc, top(alloc)?, subcommands())
-}

@@ -4,8 +4,9 @@ ghost use Rattle.std.specs.Prelude.{◌≡◌, IfOk};
 ghost use Rattle.clap.specs.Words.{kind_of};
 
 use crate::choices::Unknown;
+use crate::known::value_name;
 use crate::lesson_names::tip;
-use crate::options::named_command;
+use crate::subcommands::{Subcommand, command_alone};
 use crate::workers::why_no_number;
 use clap::Error;
 use clap::error::ErrorKind;
@@ -26,41 +27,46 @@ pub const TOO_MANY: &str = "the argument '--of <TEXT>' cannot be used more than 
 pub const COLUMNS_OF_SEVERAL: &str =
     "the argument '--by <TEXT>' cannot be used with more than one '--of <TEXT>'";
 
-/// A refusal of this kind, with this message, by the command of this name.
-fn refusal(alloc: Global, name: &str, kind: ErrorKind, message: &str) -> Result<Error, AllocError>
+/// A refusal of this kind, with this message, by this subcommand.
+fn refusal(
+    alloc: Global,
+    by: Subcommand,
+    kind: ErrorKind,
+    message: &str,
+) -> Result<Error, AllocError>
     ensures { IfOk result (λ e. kind_of e ≡ kind) }
 {
-    let mut command = named_command(alloc, name)?;
+    let mut command = command_alone(alloc, by)?;
     command.error(kind, message)
 }
 
 /// clap's refusal of words in which an option is missing.
-pub fn missing_option(alloc: Global, name: &str, missing: &str) -> Result<Error, AllocError>
+pub fn missing_option(alloc: Global, by: Subcommand, missing: &str) -> Result<Error, AllocError>
     ensures { IfOk result (λ e. kind_of e ≡ ErrorKind.MissingRequiredArgument) }
 {
-    refusal(alloc, name, ErrorKind::MissingRequiredArgument, missing)
+    refusal(alloc, by, ErrorKind::MissingRequiredArgument, missing)
 }
 
 /// clap's refusal of words in which an option doesn't go with others.
-pub fn conflicting_option(alloc: Global, name: &str, why: &str) -> Result<Error, AllocError>
+pub fn conflicting_option(alloc: Global, by: Subcommand, why: &str) -> Result<Error, AllocError>
     ensures { IfOk result (λ e. kind_of e ≡ ErrorKind.ArgumentConflict) }
 {
-    refusal(alloc, name, ErrorKind::ArgumentConflict, why)
+    refusal(alloc, by, ErrorKind::ArgumentConflict, why)
 }
 
 /// clap's refusal of a number of workers that is none.
-pub fn invalid_number(alloc: Global, name: &str, word: &str) -> Result<Error, AllocError>
+pub fn invalid_number(alloc: Global, by: Subcommand, word: &str) -> Result<Error, AllocError>
     ensures { IfOk result (λ e. kind_of e ≡ ErrorKind.ValueValidation) }
 {
     let why = why_no_number(word);
     let message = format!(in alloc; "invalid value '{word}' for '--workers <W>': {why}")?;
-    refusal(alloc, name, ErrorKind::ValueValidation, message.as_str())
+    refusal(alloc, by, ErrorKind::ValueValidation, message.as_str())
 }
 
 /// clap's refusal of a name that no lesson has.
 pub fn invalid_name(
     alloc: Global,
-    name: &str,
+    by: Subcommand,
     option: &str,
     word: &str,
 ) -> Result<Error, AllocError>
@@ -71,18 +77,21 @@ pub fn invalid_name(
     let message = format!(in alloc;
         "invalid value '{word}' for '{option}': no lesson has this name\n\n  tip: {tip}"
     )?;
-    refusal(alloc, name, ErrorKind::InvalidValue, message.as_str())
+    refusal(alloc, by, ErrorKind::InvalidValue, message.as_str())
 }
 
 /// clap's refusal of a word that is none of an option's values.
-pub fn invalid_value(alloc: Global, name: &str, unknown: &Unknown<'_>) -> Result<Error, AllocError>
+pub fn invalid_value(
+    alloc: Global,
+    by: Subcommand,
+    unknown: &Unknown<'_>,
+) -> Result<Error, AllocError>
     ensures { IfOk result (λ e. kind_of e ≡ ErrorKind.InvalidValue) }
 {
-    let word = unknown.word;
-    let option = unknown.option;
-    let values = unknown.values;
+    let Unknown { word, id, values } = *unknown;
+    let name = value_name(id);
     let message = format!(in alloc;
-        "invalid value '{word}' for '{option}'\n  [possible values: {values}]"
+        "invalid value '{word}' for '--{id} <{name}>'\n  [possible values: {values}]"
     )?;
-    refusal(alloc, name, ErrorKind::InvalidValue, message.as_str())
+    refusal(alloc, by, ErrorKind::InvalidValue, message.as_str())
 }

@@ -13,9 +13,10 @@ ghost use Rattle.command_line.specs.CommandLine.{is_set, is_turned, lacks_option
 ghost use Rattle.command_line.specs.CommandLine.{notices_in, number_in, number_or, questions_from, questions_in};
 ghost use Rattle.command_line.specs.CommandLine.{search_in, show_in, shown_look, when_in};
 ghost use Rattle.command_line.specs.Reading.{AreRead};
-ghost use Rattle.command_line.specs.internal.Asking.{AsksLessons, AsksShow, Chosen, HasValues};
-ghost use Rattle.command_line.specs.internal.Readings.{MayGive32, MayGive64, SearchValues};
-ghost use Rattle.command_line.specs.internal.Readings.{StreamValues};
+ghost use Rattle.command_line.specs.internal.Asking.{Asks, AsksLessons, AsksMake, AsksShow};
+ghost use Rattle.command_line.specs.internal.Asking.{HasValues};
+ghost use Rattle.command_line.specs.internal.Readings.{MakeValues, MayGive32, MayGive64};
+ghost use Rattle.command_line.specs.internal.Readings.{SearchValues, StreamValues};
 ghost use Rattle.lessons.specs.Lessons.{lesson_of};
 ghost use Rattle.request_types.specs.PredealtHands.{given_by};
 ghost use Rattle.request_types.specs.Requests.{look_of, questions_of, search_of, wish_of};
@@ -24,11 +25,11 @@ use crate::choices::{
     DEALER, FORMAT, HINTS, POINTS, PROGRESS, SHOW, STYLE, VULNERABLE, unknown_in,
 };
 use crate::lesson_names::{lesson_in, no_lesson_in};
-use crate::options::command;
 use crate::refusals::{
     COLUMNS_OF_SEVERAL, NO_END, NO_QUESTION, TOO_MANY, conflicting_option, invalid_name,
     invalid_number, invalid_value, missing_option,
 };
+use crate::subcommands::{Dealing, Subcommand, command, subcommand_named};
 use crate::workers::{bad_workers_in, workers_in};
 use boards::{Seats, Show};
 use clap::{ArgMatches, Error};
@@ -246,10 +247,15 @@ fn extra_of(matches: &ArgMatches) -> Option<&'static str>
 }
 
 /// Whether neither a number of candidates nor a limit of boards was given, where one is needed.
-fn has_no_end(name: &str, search: &Search<'_>) -> bool
-    ensures { result ≡ has_no_end name.now (search_of search.now) }
+fn has_no_end(dealing: Dealing, search: &Search<'_>) -> bool
+    ensures { result ≡ has_no_end dealing (search_of search.now) }
 {
-    name != "pick" && search.candidates.is_none() && search.boards.is_none()
+    match dealing {
+        Dealing::Pick => false,
+        Dealing::Make | Dealing::Find | Dealing::Count => {
+            search.candidates.is_none() && search.boards.is_none()
+        }
+    }
 }
 
 /// Whether there is a question for the columns of a table, and none for its rows.
@@ -260,11 +266,11 @@ fn has_by_alone(matches: &ArgMatches) -> bool
 }
 
 /// The options of which one is missing, as clap's refusal names them.
-fn missing_of(name: &str, search: &Search<'_>, matches: &ArgMatches) -> Option<&'static str>
+fn missing_of(dealing: Dealing, search: &Search<'_>, matches: &ArgMatches) -> Option<&'static str>
     ensures { is_some result
-        ≡ lacks_option name.now (search_of search.now) (rows_of (found_of matches.now)) }
+        ≡ lacks_option dealing (search_of search.now) (rows_of (found_of matches.now)) }
 {
-    if has_no_end(name, search) {
+    if has_no_end(dealing, search) {
         return Some(NO_END);
     }
     if has_by_alone(matches) {
@@ -273,40 +279,40 @@ fn missing_of(name: &str, search: &Search<'_>, matches: &ArgMatches) -> Option<&
     None
 }
 
-/// What the subcommand of this name asks for, one of those that deal candidates.
-fn request_by<'a>(name: &str, search: Search<'a>, matches: &ArgMatches<'a>) -> Request<'a>
+/// What a subcommand asks for that deals candidates.
+fn request_by<'a>(dealing: Dealing, search: Search<'a>, matches: &ArgMatches<'a>) -> Request<'a>
     requires { MayGive64 (codes "first-board") (rows_of (found_of matches.now)) }
     ensures { wish_of result
-        ≡ made_by name.now (search_of search.entry) (rows_of (found_of matches.now)) }
+        ≡ made_by dealing (search_of search.entry) (rows_of (found_of matches.now)) }
 {
     let notices = notices_in(matches);
-    let look = look_in(matches);
-    if name == "pick" {
-        return Request::Pick {
-            seed: search.seed,
-            hands: search.hands,
-            look,
+    match dealing {
+        Dealing::Make => Request::Make {
+            search,
+            look: look_in(matches),
             tricks: is_set(matches, "tricks"),
-            hints: notices.hints,
-        };
-    }
-    if name == "count" {
-        return Request::Count {
+            notices,
+        },
+        Dealing::Find => {
+            let search = search.with_long_lanes();
+            Request::Find { search, notices }
+        }
+        Dealing::Count => Request::Count {
             search: search.with_long_lanes(),
             questions: questions_in(matches),
             style: STYLE.given(matches).unwrap_or(Style::Table),
             notices,
-        };
-    }
-    if name == "find" {
-        let search = search.with_long_lanes();
-        return Request::Find { search, notices };
-    }
-    Request::Make {
-        search,
-        look,
-        tricks: is_set(matches, "tricks"),
-        notices,
+        },
+        Dealing::Pick => {
+            let Search { seed, hands, .. } = search;
+            Request::Pick {
+                seed,
+                hands,
+                look: look_in(matches),
+                tricks: is_set(matches, "tricks"),
+                hints: notices.hints,
+            }
+        }
     }
 }
 
@@ -331,7 +337,7 @@ pub fn read_words<'a>(alloc: Global, words: &'a [String]) -> Result<Request<'a>,
     }
     let matches = command(alloc)?.try_get_matches_from(words)?;
     let (name, inner) = matches.subcommand().unwrap();
-    request_of(alloc, name, inner)
+    request_of(alloc, subcommand_named(name).unwrap(), inner)
 }
 
 /// The refusal, or that memory ran out before its text was written.
@@ -351,7 +357,7 @@ fn lessons_request<'a>(alloc: Global, matches: &ArgMatches<'a>) -> Result<Reques
         → AreRead words result }
 {
     if let Some(word) = no_lesson_in(matches, "name") {
-        return Err(written(invalid_name(alloc, "lessons", "[NAME]", word)));
+        return Err(written(invalid_name(alloc, Subcommand::Lessons, "[NAME]", word)));
     }
     Ok(Request::Lessons(lesson_in(matches, "name")))
 }
@@ -361,8 +367,8 @@ fn show_request<'a>(alloc: Global, matches: &ArgMatches<'a>) -> Result<Request<'
     ensures { (words : List Text) → AsksShow words (rows_of (found_of matches.now))
         → AreRead words result }
 {
-    if let Some(unknown) = unknown_in("show", matches) {
-        return Err(written(invalid_value(alloc, "show", &unknown)));
+    if let Some(unknown) = unknown_in(Subcommand::Show, matches) {
+        return Err(written(invalid_value(alloc, Subcommand::Show, &unknown)));
     }
     Ok(Request::Show {
         look: shown_look(matches),
@@ -370,42 +376,53 @@ fn show_request<'a>(alloc: Global, matches: &ArgMatches<'a>) -> Result<Request<'
     })
 }
 
-/// What the words ask for that name this subcommand and give its options these values.
-fn request_of<'a>(alloc: Global, name: &str, matches: &ArgMatches<'a>) -> Result<Request<'a>, Error>
-    requires { HasValues name.now (rows_of (found_of matches.now)) }
-    ensures { (words : List Text) → Chosen words name.now (rows_of (found_of matches.now))
+/// What the words ask for that name a subcommand which deals candidates, and give its options these
+/// values.
+fn dealing_request<'a>(
+    alloc: Global,
+    dealing: Dealing,
+    matches: &ArgMatches<'a>,
+) -> Result<Request<'a>, Error>
+    requires { MakeValues (rows_of (found_of matches.now)) }
+    ensures { (words : List Text) → AsksMake words dealing (rows_of (found_of matches.now))
         → AreRead words result }
 {
-    if name == "stream" {
-        return Ok(Request::Stream(stream_request(matches)));
-    }
-    if name == "conditions" {
-        return Ok(Request::Conditions);
-    }
-    if name == "lessons" {
-        return lessons_request(alloc, matches);
-    }
-    if name == "seed" {
-        return Ok(Request::Seed);
-    }
-    if name == "show" {
-        return show_request(alloc, matches);
-    }
-    if let Some(unknown) = unknown_in(name, matches) {
-        return Err(written(invalid_value(alloc, name, &unknown)));
+    let subcommand = Subcommand::Deals(dealing);
+    if let Some(unknown) = unknown_in(subcommand, matches) {
+        return Err(written(invalid_value(alloc, subcommand, &unknown)));
     }
     if let Some(word) = no_lesson_in(matches, "lesson") {
-        return Err(written(invalid_name(alloc, name, "--lesson <NAME>", word)));
+        return Err(written(invalid_name(alloc, subcommand, "--lesson <NAME>", word)));
     }
     if let Some(word) = bad_workers_in(matches) {
-        return Err(written(invalid_number(alloc, name, word)));
+        return Err(written(invalid_number(alloc, subcommand, word)));
     }
     let search = search_in(matches);
-    if let Some(options) = missing_of(name, &search, matches) {
-        return Err(written(missing_option(alloc, name, options)));
+    if let Some(options) = missing_of(dealing, &search, matches) {
+        return Err(written(missing_option(alloc, subcommand, options)));
     }
     if let Some(why) = extra_of(matches) {
-        return Err(written(conflicting_option(alloc, name, why)));
+        return Err(written(conflicting_option(alloc, subcommand, why)));
     }
-    Ok(request_by(name, search, matches))
+    Ok(request_by(dealing, search, matches))
+}
+
+/// What the words ask for that name this subcommand and give its options these values.
+fn request_of<'a>(
+    alloc: Global,
+    subcommand: Subcommand,
+    matches: &ArgMatches<'a>,
+) -> Result<Request<'a>, Error>
+    requires { HasValues subcommand (rows_of (found_of matches.now)) }
+    ensures { (words : List Text) → Asks words subcommand (rows_of (found_of matches.now))
+        → AreRead words result }
+{
+    match subcommand {
+        Subcommand::Deals(dealing) => dealing_request(alloc, dealing, matches),
+        Subcommand::Show => show_request(alloc, matches),
+        Subcommand::Conditions => Ok(Request::Conditions),
+        Subcommand::Lessons => lessons_request(alloc, matches),
+        Subcommand::Seed => Ok(Request::Seed),
+        Subcommand::Stream => Ok(Request::Stream(stream_request(matches))),
+    }
 }

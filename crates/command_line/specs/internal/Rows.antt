@@ -3,8 +3,8 @@ use Rattle.std.specs.Prelude.{map}
 use Rattle.clap.specs.Simple.{Shape}
 use Rattle.clap.specs.Words.{App, Rule, Text}
 use Rattle.clap.specs.declared.builder.value_parser.ValueParser.TheVariants.{String}
-use Rattle.command_line.specs.declared.options.Subcommand.{Subcommand}
 use Rattle.command_line.specs.declared.options.Row.{Row}
+use Rattle.command_line.specs.declared.subcommands.SubcommandRow.{SubcommandRow}
 use Rattle.command_line.specs.declared.options.Takes.{Takes}
 use Rattle.command_line.specs.declared.options.Takes.TheVariants as kinds
 use Rattle.command_line.specs.Commands.{asking_rule, command_with, count_parser, flag_rule, option_rule, repeated, u32_parser, u64_parser, value_rule}
@@ -14,8 +14,10 @@ taking kinds.Nothing id = flag_rule id
 taking kinds.Help id = asking_rule id
 taking (kinds.Text _) id = option_rule id String
 taking (kinds.Texts _) id = repeated (option_rule id String)
+taking (kinds.Word _) id = option_rule id String
+taking (kinds.Workers _) id = option_rule id String
 taking (kinds.Value _) id = value_rule id
-taking (kinds.U32 _) id = option_rule id u32_parser
+taking (kinds.U32 _ _) id = option_rule id u32_parser
 taking (kinds.U64 _) id = option_rule id u64_parser
 taking (kinds.Count _) id = option_rule id count_parser
 
@@ -23,8 +25,8 @@ abbrev pub rule_for : Row → Rule
 rule_for row =
     record (taking row.takes row.id.now) { required = row.is_required; short = row.short }
 
-abbrev pub app_for : Subcommand → App
-app_for sub = command_with sub.name.now (map rule_for sub.rows.now)
+abbrev pub app_for : SubcommandRow → App
+app_for row = command_with row.name.now (map rule_for row.rows.now)
 
-abbrev pub top_for : Subcommand → Shape
-top_for sub = (app_for sub).top
+abbrev pub top_for : SubcommandRow → Shape
+top_for row = (app_for row).top

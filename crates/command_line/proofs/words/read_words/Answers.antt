@@ -1,7 +1,9 @@
-use Rattle.std.proofs.Common.{ap, sym, Bool, Some, map, string_bytes, if◌then◌else◌}
+use Rattle.std.proofs.Common.{ap, sym, Bool, Some, map, refl, string_bytes, subst, if◌then◌else◌}
 use Rattle.std.proofs.lemmas.Result.{err_from_is_err_and}
+use Rattle.clap.specs.Words.{found_of, rows_of}
 use Rattle.command_line.specs.CommandLine.{asked, read_kinds, unless_fault, wish_in}
-use Rattle.command_line.proofs.Asked.{chosen, err_kind, error_kind}
+use Rattle.command_line.specs.internal.Asking.{Asks, HasValues}
+use Rattle.command_line.proofs.Asked.{chosen, err_kind, error_kind, same_subcommand}
 use Rattle.request_types.specs.Requests.{conditions}
 use Rattle.command_line.proofs.words.read_words.Goals as goal
 
@@ -20,14 +22,21 @@ returns-in_err-matches c =
       error_kind _ words c.in_err-matches.field-0.0 c.in_ok-command.ensures c.in_err-matches.ensures.kinds (sym c.if-asks_page.ensures),
     )
 
+pub unwrap-requires-2 : goal.unwrap-requires-2
+unwrap-requires-2 c =
+    let at = chosen _ (map string_bytes c.args.words.now) c.in_ok-matches.matches c.subcommand.result c.unwrap.result c.in_ok-command.ensures c.in_ok-matches.ensures.matches
+    c.in_ok-matches.ensures.kinds c.subcommand.ensures.name c.subcommand.ensures.rows c.unwrap.ensures (sym c.if-asks_page.ensures) in
+    rw (c.subcommand_named.ensures, at.named) refl
+
 pub request_of-requires : goal.request_of-requires
 request_of-requires c =
     let at = chosen _ (map string_bytes c.args.words.now) c.in_ok-matches.matches c.subcommand.result c.unwrap.result c.in_ok-command.ensures c.in_ok-matches.ensures.matches
     c.in_ok-matches.ensures.kinds c.subcommand.ensures.name c.subcommand.ensures.rows c.unwrap.ensures (sym c.if-asks_page.ensures) in
-    at.values
+    subst (λ s. HasValues s (rows_of (found_of c.unwrap.result.1.now))) (same_subcommand at.named c.subcommand_named.ensures c.unwrap-2.ensures) at.values
 
 pub returns : goal.returns
 returns c =
-    c.request_of.ensures (map string_bytes c.args.words.now)
-    (chosen _ (map string_bytes c.args.words.now) c.in_ok-matches.matches c.subcommand.result c.unwrap.result c.in_ok-command.ensures c.in_ok-matches.ensures.matches
-    c.in_ok-matches.ensures.kinds c.subcommand.ensures.name c.subcommand.ensures.rows c.unwrap.ensures (sym c.if-asks_page.ensures))
+    let words = map string_bytes c.args.words.now in
+    let at = chosen _ words c.in_ok-matches.matches c.subcommand.result c.unwrap.result c.in_ok-command.ensures c.in_ok-matches.ensures.matches
+    c.in_ok-matches.ensures.kinds c.subcommand.ensures.name c.subcommand.ensures.rows c.unwrap.ensures (sym c.if-asks_page.ensures) in
+    c.request_of.ensures words (subst (λ s. Asks words s (rows_of (found_of c.unwrap.result.1.now))) (same_subcommand at.named c.subcommand_named.ensures c.unwrap-2.ensures) at.asks)
