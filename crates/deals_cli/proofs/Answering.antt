@@ -14,7 +14,7 @@ use Rattle.deals_cli.specs.Interruptions.{LeavesFrom}
 use Rattle.jobs.specs.Jobs.{IsReady, IsRefused, ReadsInput}
 use Rattle.deals_cli.specs.Served.{Serves}
 use Rattle.request_types.specs.Requests.{Wish, conditions, count, draw, lessons, make, pick, show, stream}
-use Rattle.jobs.specs.Statuses.{HasInput, IsStatusOf}
+use Rattle.jobs.specs.Statuses.{IsStatusOf, parts_of}
 use Rattle.deals_cli.specs.Wishes.{AppendsFrom}
 use Rattle.jobs.specs.declared.failure.Failure.{Failure}
 use Rattle.jobs.specs.declared.failure.Failure.TheVariants.{CommandLine, Plan, Label, Hand, Definitions, Condition, Question, Cells, Interrupted}
@@ -173,7 +173,7 @@ breaks_text words before after old new (none, may) = record {
 -- ---- the input
 
 -- a job that reads the input is one of a wish that has one
-input_read : (w : Wish) (job : Job) → IsReady w job → ReadsInput job → HasInput w
+input_read : (w : Wish) (job : Job) → IsReady w job → ReadsInput job → (parts_of w).input
 input_read (make s l tricks notices) (Boards job) ready reads = sym ready.tricks_are ∙ reads
 input_read (pick seed hands l tricks hints) job ready reads = tt
 input_read (show l hints) job ready reads = tt

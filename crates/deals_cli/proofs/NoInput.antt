@@ -17,8 +17,8 @@ use Rattle.jobs.specs.declared.failure.Failure.TheVariants.{CommandLine, Plan, L
 use Rattle.jobs.specs.Makings.{plan_of}
 use Rattle.plans.specs.Plans.{Planned}
 use Rattle.told.specs.Picked.{text_picks}
-use Rattle.jobs.specs.Statuses.{IsStatus, IsStatusWithInput}
-use Rattle.deals_cli.specs.Program.{IsStatusOfNone, MayFail, MayLeave, NeedsBytes, TellsWhy, TellsWhyFrom}
+use Rattle.jobs.specs.Statuses.{IsStatus, IsStatusWithInput, parts_of}
+use Rattle.deals_cli.specs.Program.{IsStatusOfNone, MayFail, MayLeave, TellsWhy, TellsWhyFrom}
 
 nothing_refused : (line : RefusedLine) → (said []).refused ≡ Some line → ⊥
 unfolding said
@@ -29,7 +29,7 @@ unfolding text_picks
 none_told line plan is = cc
 
 -- an input without bytes has no line that is refused
-no_line_ended : (w : Wish) (line : RefusedLine) (old new : Option (List ℕ)) → (NeedsBytes w → ⊥) → EndsFor w (Refused line) (Some []) (Some []) old new → ⊥
+no_line_ended : (w : Wish) (line : RefusedLine) (old new : Option (List ℕ)) → ((parts_of w).bytes → ⊥) → EndsFor w (Refused line) (Some []) (Some []) old new → ⊥
 no_line_ended (pick seed hands l true hints) line old new other e =
     let none : e.given ≡ [] = sym (e.consumed ∙ append-nil e.given) in
     none_told line (plan_of (no_search seed hands) l) (subst (λ (t : List ℕ). (text_picks (plan_of (no_search seed hands) l) t).refused ≡ Some line) none e.written.0)
@@ -52,20 +52,17 @@ no_record_ended (show l hints) line old new e =
 no_record_ended _ line old new e = e
 
 -- nor does it end before what such words ask for
-no_end : (w : Wish) → (NeedsBytes w → ⊥) → MayFail w EndOfInput → ⊥
+no_end : (w : Wish) → ((parts_of w).bytes → ⊥) → MayFail w EndOfInput → ⊥
 no_end w other (inl memory) = cc
-no_end (pick seed hands l tricks hints) other (inr due) = due
-no_end (make s l false notices) other (inr due) = due
 no_end (make s l true notices) other (inr due) = other refl
 no_end draw other (inr due) = other tt
 no_end conditions other (inr due) = cc
 no_end (lessons lesson) other (inr (inl due)) = cc
 no_end (lessons lesson) other (inr (inr due)) = cc
-no_end (count s q style notices) other (inr due) = due
 no_end (stream seed n) other (inr due) = cc
-no_end (show l hints) other (inr due) = due
+no_end _ other (inr due) = due
 
-no_seven : (w : Wish) (f : Failure) (old new : Option (List ℕ)) → (NeedsBytes w → ⊥) → MayFail w f → MayLeave w f (Some []) (Some []) old new → (f ≡ Input → ⊥) → status_of f ≡ 7 → ⊥
+no_seven : (w : Wish) (f : Failure) (old new : Option (List ℕ)) → ((parts_of w).bytes → ⊥) → MayFail w f → MayLeave w f (Some []) (Some []) old new → (f ≡ Input → ⊥) → status_of f ≡ 7 → ⊥
 no_seven w (CommandLine text) old new other due may sound is = cc
 no_seven w (Plan error) old new other due may sound is = cc
 no_seven w (Label label) old new other due may sound is = cc
@@ -99,7 +96,7 @@ six_of s (suc (suc (suc (suc (suc (suc (suc n)))))), below, is) other = absurd (
 
 pub six : (words : List Text) (o : Option Wish) (s : ℕ) (old new : Option (List ℕ)) (took_all : Type 0) (err_old err_new : Option (List ℕ)) → IsStatusWithInput s
     → ((w : Wish) → o ≡ Some w → (s ≡ 0 → ⊥) → TellsWhy w s old new took_all err_old err_new) → (o ≡ None → IsStatusOfNone words s)
-    → ((w : Wish) → o ≡ Some w → NeedsBytes w → ⊥) → IsStatus s
+    → ((w : Wish) → o ≡ Some w → (parts_of w).bytes → ⊥) → IsStatus s
 six words None s old new took_all err_old err_new is some none other = six_of s is (λ seven. (none refl).neither (inr (inr seven)))
 six words (Some w) s old new took_all err_old err_new is some none other = six_of s is refused
   where

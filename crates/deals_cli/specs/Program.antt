@@ -15,7 +15,7 @@ use Rattle.jobs.specs.Lines.{line_of}
 use Rattle.deals_cli.specs.Reported.{Reports, ReportsFor, wants_report}
 use Rattle.jobs.specs.Jobs.{IsReady, ReadsInput}
 use Rattle.request_types.specs.Requests.{Look, Search, Wish, draw, make}
-use Rattle.jobs.specs.Statuses.{HasInput}
+use Rattle.jobs.specs.Statuses.{parts_of}
 use Rattle.plans.specs.declared.report.Report.{Report}
 use Rattle.request_types.specs.declared.request.Notices.{Notices}
 use Rattle.jobs.specs.declared.failure.Failure.{Failure}
@@ -26,7 +26,7 @@ use Rattle.deals_cli.specs.declared.task.Task.TheVariants.{Show, Do}
 pub use Rattle.jobs.specs.Failures.{status_in}
 pub use Rattle.jobs.specs.Makings.{CanDate, CanLabel, HasLabels, HasNumbers, IsPlanned}
 pub use Rattle.jobs.specs.Makings.{Means, plan_of}
-pub use Rattle.jobs.specs.Statuses.{HasInput, HasMeaning, HasPlan, HasRun}
+pub use Rattle.jobs.specs.Statuses.{Parts, parts_of}
 pub use Rattle.deals_cli.specs.Wishes.{Appends, AppendsFrom}
 pub use Rattle.jobs.specs.Statuses.{IsStatus, IsStatusOf, IsStatusWithInput}
 
@@ -84,16 +84,11 @@ ReadsTask (Show text) = ⊥
 ReadsTask (Do job) = ReadsInput job
 
 abbrev pub WantsInput : List Text → Type 0
-WantsInput words = (w : Wish) × (asked words ≡ Some w) × HasInput w
+WantsInput words = (w : Wish) × (asked words ≡ Some w) × (parts_of w).input
 
 -- the words ask for what can't be done without bytes of the input: a seed, or boards with tricks
-abbrev pub NeedsBytes : Wish → Type 0
-NeedsBytes (make s l tricks notices) = tricks ≡ true
-NeedsBytes draw = Unit {0}
-NeedsBytes _ = ⊥
-
 abbrev pub WantsBytes : List Text → Type 0
-WantsBytes words = (w : Wish) × (asked words ≡ Some w) × NeedsBytes w
+WantsBytes words = (w : Wish) × (asked words ≡ Some w) × (parts_of w).bytes
 
 -- where all was done, or the input failed, what was written is passed on
 abbrev pub IsFlushedAfter : ℕ → Type 0 → Type 0

@@ -17,7 +17,7 @@ use Rattle.request_types.specs.Defaults.{candidates_of, workers_in}
 use Rattle.jobs.specs.Makings.{HasLabels, HasNumbers, IsPlanned, Means}
 use Rattle.request_types.specs.Requests.{Look, Questions, Search, Wish, conditions, count, draw, lessons, make, no_search, numbers_look, pick, plain_search, show, stream}
 use Rattle.jobs.specs.Jobs.{IsRefused}
-use Rattle.jobs.specs.Statuses.{HasMeaning, HasPlan, IsStatusOf}
+use Rattle.jobs.specs.Statuses.{IsStatusOf, parts_of}
 use Rattle.jobs.proofs.Statuses.{no_memory as out_of_memory, refused_meaning, refused_plan}
 use Rattle.request_types.specs.declared.request.Notices.{Notices}
 use Rattle.request_types.specs.declared.when.When.{When}
@@ -325,7 +325,7 @@ count_refused s q style notices f refused due = record {
 }
 
 -- the status of what is refused after the plan
-refused_later : (w : Wish) (f : Failure) → (status_of f ≡ 5) ⊎ (status_of f ≡ 3) → HasPlan w → (HasMeaning w → status_of f ≡ 5) → IsStatusOf w (status_of f)
+refused_later : (w : Wish) (f : Failure) → (status_of f ≡ 5) ⊎ (status_of f ≡ 3) → (parts_of w).plan → ((parts_of w).meaning → status_of f ≡ 5) → IsStatusOf w (status_of f)
 refused_later w f (inl is) plan memory = out_of_memory w (status_of f) is
 refused_later w f (inr is) plan memory =
     refused_meaning w (status_of f) is plan (λ meaning. let five : status_of f ≡ 5 = memory meaning in omega (arith, is, five))

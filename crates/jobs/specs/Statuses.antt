@@ -7,35 +7,44 @@ use Rattle.request_types.specs.Requests.{Wish, count, draw, make, no_search, num
 use Rattle.request_types.specs.Requests.{show}
 use Rattle.statistics.specs.Counting.{Subject}
 
--- the words of a wish have to be accepted, so far as they are neither a condition nor a question
-abbrev pub HasPlan : Wish → Type 0
-HasPlan (make s l tricks notices) = IsPlanned s l
-HasPlan (count s questions style notices) = IsPlanned s numbers_look
-HasPlan (pick seed hands l tricks hints) = IsPlanned (no_search seed hands) l
-HasPlan (show l hints) = HasLabels l
-HasPlan _ = Unit {0}
+-- what a wish has
+pub record Parts : Type 1 where
+  -- its words are accepted, so far as they are neither a condition nor a question
+  pub plan : Type 0
+  -- its definitions, condition and questions are accepted
+  pub meaning : Type 0
+  -- it is served by threads
+  pub run : Type 0
+  -- it reads the input
+  pub input : Type 0
+  -- it can't be done without bytes of the input
+  pub bytes : Type 0
 
--- the definitions, the condition and the questions of a wish have to be accepted
-abbrev pub HasMeaning : Wish → Type 0
-HasMeaning (make s l tricks notices) = (form : Form) × Means s form
-HasMeaning (count s questions style notices) =
-    ((form : Form) × Means s form)
-    × ((subject : Subject) × IsAsked s.let_text questions subject)
-HasMeaning _ = Unit {0}
+-- a wish without a plan, a condition, threads or input: a text is written
+abbrev pub text_alone : Parts
+text_alone = record { plan = Unit {0}; meaning = Unit {0}; run = ⊥; input = ⊥; bytes = ⊥ }
 
--- a wish that is served by threads
-abbrev pub HasRun : Wish → Type 0
-HasRun (make s l tricks notices) = Unit {0}
-HasRun (count s questions style notices) = Unit {0}
-HasRun _ = ⊥
-
--- a wish that reads the input
-abbrev pub HasInput : Wish → Type 0
-HasInput (make s l tricks notices) = tricks ≡ true
-HasInput (pick seed hands l tricks hints) = Unit {0}
-HasInput (show l hints) = Unit {0}
-HasInput draw = Unit {0}
-HasInput _ = ⊥
+abbrev pub parts_of : Wish → Parts
+parts_of (make s l tricks notices) = record {
+  plan = IsPlanned s l;
+  meaning = (form : Form) × Means s form;
+  run = Unit {0};
+  input = tricks ≡ true;
+  bytes = tricks ≡ true;
+}
+parts_of (count s questions style notices) = record text_alone {
+  plan = IsPlanned s numbers_look;
+  meaning = ((form : Form) × Means s form)
+      × ((subject : Subject) × IsAsked s.let_text questions subject);
+  run = Unit {0};
+}
+parts_of (pick seed hands l tricks hints) = record text_alone {
+  plan = IsPlanned (no_search seed hands) l;
+  input = Unit {0};
+}
+parts_of (show l hints) = record text_alone { plan = HasLabels l; input = Unit {0} }
+parts_of draw = record text_alone { input = Unit {0}; bytes = Unit {0} }
+parts_of _ = text_alone
 
 -- a status of the program, and of that with an input
 abbrev pub IsStatus : ℕ → Type 0
@@ -48,12 +57,12 @@ IsStatusWithInput n = Contains (0 ∷ 2 ∷ 3 ∷ 4 ∷ 5 ∷ 6 ∷ 7 ∷ []) n
 pub record IsStatusOf (w : Wish) (status : ℕ) : Type 0 where
   -- done, or the output, a thread, a worker or the input failed: all of the wish was accepted
   pub accepted : (status ≡ 0) ⊎ (status ≡ 4) ⊎ (status ≡ 6) ⊎ (status ≡ 7)
-      → HasPlan w × HasMeaning w
+      → (parts_of w).plan × (parts_of w).meaning
   -- the plan, a label or a hand is refused
-  pub unplanned : status ≡ 2 → HasPlan w → ⊥
+  pub unplanned : status ≡ 2 → (parts_of w).plan → ⊥
   -- definitions, the condition or a question are refused, and the plan is sound
-  pub meaningless : status ≡ 3 → HasPlan w × (HasMeaning w → ⊥)
+  pub meaningless : status ≡ 3 → (parts_of w).plan × ((parts_of w).meaning → ⊥)
   -- only a run over lanes has threads and workers
-  pub threads : status ≡ 6 → HasRun w
+  pub threads : status ≡ 6 → (parts_of w).run
   -- only what reads the input can have a line refused
-  pub input : status ≡ 7 → HasInput w
+  pub input : status ≡ 7 → (parts_of w).input
