@@ -20,7 +20,7 @@ use Rattle.command_line.specs.CommandLine.{asked, asks_page, called, called_in, 
 use Rattle.request_types.specs.Requests.{Wish, conditions}
 use Rattle.command_line.specs.declared.subcommands.Dealing.{Dealing}
 use Rattle.command_line.specs.declared.subcommands.Subcommand.{Subcommand}
-use Rattle.command_line.specs.declared.subcommands.Subcommand.TheVariants.{Conditions, Deals, Lessons, Seed, Show, Stream}
+use Rattle.command_line.specs.declared.subcommands.Subcommand.TheVariants.{Deals, Lessons, Show}
 use Rattle.command_line.specs.internal.Asking.{Asks, AsksLessons, AsksMake, AsksShow, HasValues, IsRefused}
 use Rattle.command_line.proofs.OptionValues.{Reads, each_reads, read_by}
 use Rattle.command_line.proofs.Entered.{enters}
@@ -206,10 +206,8 @@ asks_show words rows f is = record {
 asks_by : (words : List Text) (c : Subcommand) (rows : List Row) → IsRead words → Calls words c rows → Asks words c rows
 asks_by words (Deals d) rows f is = asks_make words d rows f is
 asks_by words Show rows f is = asks_show words rows f is
-asks_by words Conditions rows f is = by_wish words Conditions rows f is
 asks_by words Lessons rows f is = asks_lessons words rows f is
-asks_by words Seed rows f is = by_wish words Seed rows f is
-asks_by words Stream rows f is = by_wish words Stream rows f is
+asks_by words c rows f is = by_wish words c rows f is
 
 -- the subcommand of this name, what its options were given, and what the words ask for
 pub record Chosen (words : List Text) (name : Text) (rows : List Row) : Type 0 where

@@ -11,7 +11,7 @@ use Rattle.deals_cli.specs.Interruptions.{EndsAtRecord, EndsFor}
 use Rattle.records.specs.Games.{game_says}
 use Rattle.records.specs.Texts.{spelled}
 use Rattle.records.specs.declared.fault.RefusedRecord.{RefusedRecord}
-use Rattle.request_types.specs.Requests.{Wish, conditions, count, draw, lessons, make, no_search, pick, show, stream}
+use Rattle.request_types.specs.Requests.{Wish, draw, make, no_search, pick, show}
 use Rattle.jobs.specs.declared.failure.Failure.{Failure}
 use Rattle.jobs.specs.declared.failure.Failure.TheVariants.{CommandLine, Plan, Label, Hand, Definitions, Condition, Question, Cells, Interrupted, Line, Record, Input, EndOfInput}
 use Rattle.jobs.specs.Makings.{plan_of}
@@ -56,10 +56,6 @@ no_end : (w : Wish) → ((parts_of w).bytes → ⊥) → MayFail w EndOfInput �
 no_end w other (inl memory) = cc
 no_end (make s l true notices) other (inr due) = other refl
 no_end draw other (inr due) = other tt
-no_end conditions other (inr due) = cc
-no_end (lessons lesson) other (inr (inl due)) = cc
-no_end (lessons lesson) other (inr (inr due)) = cc
-no_end (stream seed n) other (inr due) = cc
 no_end _ other (inr due) = due
 
 no_seven : (w : Wish) (f : Failure) (old new : Option (List ℕ)) → ((parts_of w).bytes → ⊥) → MayFail w f → MayLeave w f (Some []) (Some []) old new → (f ≡ Input → ⊥) → status_of f ≡ 7 → ⊥

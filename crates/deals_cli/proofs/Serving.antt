@@ -170,7 +170,7 @@ page_written conditions before after old new ready text = record { text = text; 
 page_written _ before after old new ready text = absurd ready
 
 pub page_breaks : (w : Wish) (before after old new : Option (List ℕ)) → IsReady w Conditions → AppendsPart old new language_page → Serves w (Err (Interrupted Output)) before after old new
-page_breaks conditions before after old new ready part = record { text = tt; report = tt; status = served conditions 4 (inr refl) tt tt; untouched = λ bad. absurd cc; stands = part; due = refl }
+page_breaks conditions before after old new ready part = record { text = tt; report = tt; status = served conditions 4 (inr refl) tt tt; untouched = λ bad. absurd cc; stands = part; due = tt }
 page_breaks _ before after old new ready part = absurd ready
 
 pub values_written : (w : Wish) (r : StreamRequest) (before after old new : Option (List ℕ)) → IsReady w (Stream r) → AppendsAll old new (lines r.seed r.count) → Serves w (Ok None) before after old new
@@ -178,7 +178,7 @@ values_written (stream seed n) r before after old new (seed_is, count_is) text =
 values_written _ r before after old new ready text = absurd ready
 
 pub values_break : (w : Wish) (r : StreamRequest) (before after old new : Option (List ℕ)) → IsReady w (Stream r) → AppendsPart old new (lines r.seed r.count) → Serves w (Err (Interrupted Output)) before after old new
-values_break (stream seed n) r before after old new (seed_is, count_is) part = record { text = tt; report = tt; status = served (stream seed n) 4 (inr refl) tt tt; untouched = λ bad. absurd cc; stands = rw (seed_is, count_is) at part; due = refl }
+values_break (stream seed n) r before after old new (seed_is, count_is) part = record { text = tt; report = tt; status = served (stream seed n) 4 (inr refl) tt tt; untouched = λ bad. absurd cc; stands = rw (seed_is, count_is) at part; due = tt }
 values_break _ r before after old new ready part = absurd ready
 
 -- ---- lessons
@@ -188,7 +188,7 @@ lessons_written (lessons lesson) page before after old new ready text = record {
 lessons_written _ page before after old new ready text = absurd ready
 
 pub lessons_break : (w : Wish) (page : _) (before after old new : Option (List ℕ)) → IsReady w (Lessons page) → AppendsPart old new (string_bytes page) → Serves w (Err (Interrupted Output)) before after old new
-lessons_break (lessons lesson) page before after old new ready part = record { text = tt; report = tt; status = served (lessons lesson) 4 (inr refl) tt tt; untouched = λ bad. absurd cc; stands = rw ready at part; due = inl refl }
+lessons_break (lessons lesson) page before after old new ready part = record { text = tt; report = tt; status = served (lessons lesson) 4 (inr refl) tt tt; untouched = λ bad. absurd cc; stands = rw ready at part; due = tt }
 lessons_break _ page before after old new ready part = absurd ready
 
 -- ---- boards with tricks

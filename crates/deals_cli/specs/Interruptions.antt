@@ -1,5 +1,5 @@
 -- What is on the output of a wish that wasn't done to its end.
-use Rattle.std.specs.Prelude.{◌≡◌, ◌⊎◌, ℕ, Bool, List, [], Err, Option, Some, false, true}
+use Rattle.std.specs.Prelude.{◌≡◌, ◌⊎◌, ℕ, Bool, List, [], Err, IfSome, Option, Some, false, true}
 use Rattle.cond_lang.specs.Form.{Form}
 use Rattle.plans.specs.declared.cause.Cause.{Cause}
 use Rattle.plans.specs.declared.cause.Cause.TheVariants.{Memory}
@@ -7,7 +7,6 @@ use Rattle.picking.specs.FourBytes.{EndsBefore}
 use Rattle.picking.specs.declared.fault.PickFault.{PickFault}
 use Rattle.picking.specs.declared.fault.PickFault.TheVariants as picks
 use Rattle.sinks.specs.Appended.{AppendsPart}
-use Rattle.dealrun.specs.Values.{lines}
 use Rattle.jobs.specs.Counting.{IsAsked}
 use Rattle.records.specs.declared.fault.RefusedRecord.{RefusedRecord}
 use Rattle.records.specs.declared.shown.ShowFault.{ShowFault}
@@ -16,13 +15,11 @@ use Rattle.deals_cli.specs.Formats.{layout_in}
 use Rattle.deals_cli.specs.Picked.{PicksAs}
 use Rattle.deals_cli.specs.Shown.{ShowsUnder}
 use Rattle.jobs.specs.Makings.{AreWorkers, Means, heading_of, plan_of, title_of}
-use Rattle.request_types.specs.Requests.{Look, Questions, Search, Wish, conditions, count, draw, make}
-use Rattle.lessons.specs.Lessons.{lessons_text}
-use Rattle.request_types.specs.Requests.{lessons, no_search, numbers_look}
-use Rattle.request_types.specs.Requests.{pick, show, stream}
+use Rattle.request_types.specs.Requests.{Look, Questions, Search, Wish, count, draw, make}
+use Rattle.request_types.specs.Requests.{no_search, numbers_look, pick, show}
 pub use Rattle.deals_cli.specs.Runs.{InterruptsRun}
 use Rattle.deals_cli.specs.WithTricks.{BreaksTold, FailsTold, StopsAtLine}
-use Rattle.deals_cli.specs.Wishes.{IsDrawn, language_page, seed_text}
+use Rattle.deals_cli.specs.Wishes.{IsDrawn, seed_text, text_of}
 use Rattle.jobs.specs.declared.failure.Failure.{Failure}
 use Rattle.jobs.specs.declared.failure.Failure.TheVariants.{EndOfInput, Interrupted, Line, Record}
 use Rattle.jobs.specs.declared.failure.Failure.TheVariants.{Input}
@@ -76,9 +73,6 @@ EndsTold s l picks.Output before after old new = ⊥
 -- output of a `pick`, a `show` or a `make` with tricks may also fail where it passes on what is
 -- before a fault of its input
 abbrev pub BreaksOff : Wish → Cause → (before after old new : Option (List ℕ)) → Type 0
-BreaksOff (stream seed n) cause before after old new = AppendsPart old new (lines seed n)
-BreaksOff conditions cause before after old new = AppendsPart old new language_page
-BreaksOff (lessons l) cause before after old new = AppendsPart old new (lessons_text l)
 BreaksOff (make s l false notices) cause before after old new = InterruptsMake s l cause old new
 BreaksOff (make s l true notices) cause before after old new =
     ((form : Form) × Means s form × BreaksTold s l form cause before after old new)
@@ -92,6 +86,7 @@ BreaksOff (pick seed hands l tricks hints) cause before after old new =
     (fault : PickFault) × EndsPick (no_search seed hands) l tricks fault before after old new
 BreaksOff (show l hints) cause before after old new =
     (new ≡ old) ⊎ ((fault : ShowFault) × EndsShow l fault before after old new)
+BreaksOff w cause before after old new = IfSome (text_of w) (AppendsPart old new)
 
 -- a wish was ended by this fault of its input; of a `draw` nothing is written then, nor of a `show`
 -- whose first read failed

@@ -14,7 +14,7 @@ use Rattle.deals_cli.specs.Interruptions.{LeavesFrom}
 use Rattle.jobs.specs.Lines.{line_of}
 use Rattle.deals_cli.specs.Reported.{Reports, ReportsFor, wants_report}
 use Rattle.jobs.specs.Jobs.{IsReady, ReadsInput}
-use Rattle.request_types.specs.Requests.{Look, Search, Wish, draw, make}
+use Rattle.request_types.specs.Requests.{Look, Search, Wish, make}
 use Rattle.jobs.specs.Statuses.{parts_of}
 use Rattle.plans.specs.declared.report.Report.{Report}
 use Rattle.request_types.specs.declared.request.Notices.{Notices}

@@ -1,5 +1,5 @@
 -- What a wish asks for.
-use Rattle.std.specs.Prelude.{◌≡◌, ℕ, List, [], ◌∷◌, ◌++◌, Ok, Option, Some}
+use Rattle.std.specs.Prelude.{◌≡◌, ℕ, List, [], ◌∷◌, ◌++◌, IfSome, None, Ok, Option, Some}
 use Rattle.std.specs.Prelude.{decimal, false, length, true}
 use Rattle.std.specs.Int.{from_le_bytes}
 use Rattle.std.specs.Int.{w32}
@@ -33,12 +33,16 @@ pub record IsDrawn (bytes : List ℕ) (before after : Option (List ℕ)) : Type 
 abbrev pub seed_text : List ℕ → List ℕ
 seed_text bytes = decimal (from_le_bytes w32 bytes) ++ (10 ∷ [])
 
+-- the text of a wish for which nothing else is done
+abbrev pub text_of : Wish → Option (List ℕ)
+text_of (stream seed n) = Some (lines seed n)
+text_of conditions = Some language_page
+text_of (lessons l) = Some (lessons_text l)
+text_of _ = None
+
 -- what a wish asks for was appended; `before` and `after` are what the input had to give before
 -- and after it
 abbrev pub AppendsFrom : Wish → (before after old new : Option (List ℕ)) → Type 0
-AppendsFrom (stream seed n) before after old new = AppendsAll old new (lines seed n)
-AppendsFrom conditions before after old new = AppendsAll old new language_page
-AppendsFrom (lessons l) before after old new = AppendsAll old new (lessons_text l)
 AppendsFrom (make s l false notices) before after old new =
     (form : Form) × Means s form
     × AppendsAll old new (text_showing l.format l.show (title_of l) (plan_of s l) form)
@@ -55,6 +59,7 @@ AppendsFrom (pick seed hands l tricks hints) before after old new =
     (Ok tt) before after old new
 AppendsFrom (show l hints) before after old new =
     (boards : ℕ) × ShowsUnder l.format l.show (heading_of l) (Ok boards) before after old new
+AppendsFrom w before after old new = IfSome (text_of w) (AppendsAll old new)
 
 -- the same without an input
 abbrev pub Appends : Wish → (old new : Option (List ℕ)) → Type 0

@@ -15,7 +15,7 @@ use Rattle.jobs.specs.Failures.{definitions_failure, failure_of, is_refusal, sta
 use Rattle.jobs.specs.FirstRefusal.{AreDue, AreRefused, HasCondition, IsCountDue, IsDueFor, IsDueRead, IsFirstHand, IsFirstOf, IsMakeDue, IsPickDue, IsPlanDue, IsShowDue, IsTextDue, IsTricksDue, Meets, of_labels, of_numbers}
 use Rattle.request_types.specs.Defaults.{candidates_of, workers_in}
 use Rattle.jobs.specs.Makings.{HasLabels, HasNumbers, IsPlanned, Means}
-use Rattle.request_types.specs.Requests.{Look, Questions, Search, Wish, conditions, count, draw, lessons, make, no_search, numbers_look, pick, plain_search, show, stream}
+use Rattle.request_types.specs.Requests.{Look, Questions, Search, Wish, count, make, no_search, numbers_look, pick, plain_search, show}
 use Rattle.jobs.specs.Jobs.{IsRefused}
 use Rattle.jobs.specs.Statuses.{IsStatusOf, parts_of}
 use Rattle.jobs.proofs.Statuses.{no_memory as out_of_memory, refused_meaning, refused_plan}
@@ -172,15 +172,12 @@ run_due s l _ plan form means = (plan, (form, means))
 
 -- the output fails after all was done
 pub output_due : (w : Wish) → IsStatusOf w 0 → IsDueFor w (Interrupted cause.Output)
-output_due (stream seed n) status = refl
-output_due conditions status = refl
-output_due (lessons l) status = inl refl
 output_due (make s l false notices) status = status.accepted (inl refl)
 output_due (make s l true notices) status = status.accepted (inl refl)
-output_due draw status = tt
 output_due (count s questions style notices) status = let all = status.accepted (inl refl) in (all.0, all.1.0, all.1.1)
 output_due (pick seed hands l tricks hints) status = (status.accepted (inl refl)).0
 output_due (show l hints) status = (status.accepted (inl refl)).0
+output_due _ status = tt
 
 -- a refused plan is due for a `make` and for a `pick`
 pub make_plan_due : (s : Search) (l : Look) (f : Failure) → IsPlanDue s l f → IsMakeDue s l f

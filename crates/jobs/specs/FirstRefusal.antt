@@ -16,10 +16,10 @@ use Rattle.jobs.specs.Makings.{CanDate, CanLabel, HasLabels, HasNumbers}
 use Rattle.request_types.specs.Defaults.{candidates_of, first_board_of}
 use Rattle.jobs.specs.Makings.{IsPlanned, MayBeGiven, Means, TextMeans}
 use Rattle.request_types.specs.Defaults.{lane_of, workers_in}
-use Rattle.request_types.specs.Requests.{Look, Questions, Search, Wish, conditions, count, draw}
+use Rattle.request_types.specs.Requests.{Look, Questions, Search, Wish, count, draw}
 use Rattle.request_types.specs.Requests.{lessons}
 use Rattle.request_types.specs.Requests.{each_question, make, no_question, no_search, numbers_look, one_question}
-use Rattle.request_types.specs.Requests.{pick, plain_search, show, stream, two_questions}
+use Rattle.request_types.specs.Requests.{pick, plain_search, show, two_questions}
 use Rattle.jobs.specs.declared.failure.Failure.{Failure}
 use Rattle.jobs.specs.declared.failure.Failure.TheVariants.{Plan, Label, Hand}
 use Rattle.jobs.specs.declared.failure.Failure.TheVariants.{Cells, Condition, Definitions}
@@ -199,15 +199,23 @@ IsDrawDue Input = Unit {0}
 IsDrawDue EndOfInput = Unit {0}
 IsDrawDue _ = ⊥
 
+-- why a text isn't written: the output failed
+abbrev pub IsOutputDue : Failure → Type 0
+IsOutputDue (Interrupted Output) = Unit {0}
+IsOutputDue _ = ⊥
+
+-- the text of lessons is made first
+abbrev pub IsLessonsDue : Failure → Type 0
+IsLessonsDue (Interrupted Memory) = Unit {0}
+IsLessonsDue failure = IsOutputDue failure
+
 -- why a wish fails
 abbrev pub IsDueFor : Wish → Failure → Type 0
-IsDueFor (stream seed n) failure = failure ≡ Interrupted Output
-IsDueFor conditions failure = failure ≡ Interrupted Output
-IsDueFor (lessons l) failure =
-    (failure ≡ Interrupted Output) ⊎ (failure ≡ Interrupted Memory)
 IsDueFor (make s l false notices) failure = IsMakeDue s l failure
 IsDueFor (make s l true notices) failure = IsTricksDue s l failure
 IsDueFor draw failure = IsDrawDue failure
 IsDueFor (count s questions style notices) failure = IsCountDue s questions failure
 IsDueFor (pick seed hands l tricks hints) failure = IsPickDue (no_search seed hands) l failure
 IsDueFor (show l hints) failure = IsShowDue l failure
+IsDueFor (lessons l) failure = IsLessonsDue failure
+IsDueFor _ failure = IsOutputDue failure

@@ -3,13 +3,12 @@ use Rattle.std.specs.Prelude.{◌≡◌, true, false, List, [], ◌∷◌, None,
 use Rattle.clap.specs.Walk.{Row, Text}
 use Rattle.clap.specs.declared.error.kind.ErrorKind.{ErrorKind}
 use Rattle.clap.specs.declared.error.kind.ErrorKind.TheVariants.{ArgumentConflict, InvalidValue, MissingRequiredArgument, ValueValidation}
-use Rattle.command_line.specs.CommandLine.{asked, has_bad_workers, has_extra, has_unknown, is_no_lesson, lacks_option, kinds_for, lessons_wish, made_by, search_in, show_wish, stream_wish}
+use Rattle.command_line.specs.CommandLine.{asked, has_bad_workers, has_extra, has_unknown, is_no_lesson, kinds_for, lacks_option, lessons_wish, made_by, search_in, show_wish, wish_by}
 use Rattle.command_line.specs.declared.subcommands.Dealing.{Dealing}
 use Rattle.command_line.specs.declared.subcommands.Subcommand.{Subcommand}
-use Rattle.command_line.specs.declared.subcommands.Subcommand.TheVariants.{Conditions, Deals, Lessons, Seed, Stream}
+use Rattle.command_line.specs.declared.subcommands.Subcommand.TheVariants.{Deals, Lessons, Stream}
 use Rattle.command_line.specs.declared.subcommands.Subcommand.TheVariants as sub
 use Rattle.command_line.specs.internal.Readings.{MakeValues, StreamValues}
-use Rattle.request_types.specs.Requests.{conditions, draw}
 
 -- the words are refused with an error of this kind
 pub record IsRefused (words : List Text) (kind : ErrorKind) : Type 0 where
@@ -61,7 +60,5 @@ HasValues _ rows = Unit {0}
 abbrev pub Asks : List Text → Subcommand → List Row → Type 0
 Asks words (Deals dealing) rows = AsksMake words dealing rows
 Asks words sub.Show rows = AsksShow words rows
-Asks words Conditions rows = asked words ≡ Some conditions
 Asks words Lessons rows = AsksLessons words rows
-Asks words Seed rows = asked words ≡ Some draw
-Asks words Stream rows = asked words ≡ Some (stream_wish rows)
+Asks words named rows = asked words ≡ Some (wish_by named rows)
