@@ -1,5 +1,6 @@
 """Goes through the options of all commands, as their help lists them. Where a command lacks one that another has, by
-name or letter, and where one has no value or an empty one, a person is told what helps.
+name or letter, and where one has no value or an empty one, a person is told what helps. Each has a text, and the words
+that it may have by its text are those that it is read by.
 """
 
 import re
@@ -12,6 +13,8 @@ import words
 NEEDED = {"--seed": "7", "--candidates": "4", "--count": "3"}
 # A line for a person: a hint, or an option with what it takes.
 HELP = re.compile(r"^  (hint: |--[a-z-]+ \")", re.M)
+# What is said of a word that an option may not have.
+REFUSED = re.compile(r"error: invalid value '([^']*)' for '(--[a-z-]+) <\w+>'\n  \[possible values: ([^]]+)\]")
 
 
 def lacking(command, own, others):
@@ -48,6 +51,36 @@ def fault_of(call):
     return None if ended.returncode in (2, 3) and HELP.search(told) else f"status {ended.returncode}, told {told!r}"
 
 
+def told_of(call):
+    """What the refusal of this call says of a word: the word, the option, and the words that it may have."""
+    found = REFUSED.match(words.run(call, b"").stderr.decode())
+    return found.groups() if found else None
+
+
+def text_fault(command, rows, option, text):
+    """Why what help says of an option isn't what is read of it, or None."""
+    if not text:
+        return "help says nothing of it"
+    values = commands.values(text)
+    if not values:
+        return None
+    needed = " ".join(f"{long} {NEEDED[long]}" for _, long, *_ in rows if long in NEEDED)
+    told = told_of(f"{command} {needed} {option} nothing")
+    if told != ("nothing", option, ", ".join(values)):
+        return f"help has {values}, and a refusal {told}"
+    refused = [value for value in values if told_of(f"{command} {needed} {option} {value}")]
+    return f"{refused} refused" if refused else None
+
+
+def texts():
+    """Each option of each command, with what is wrong with its text."""
+    for command in commands.commands():
+        rows = commands.listed_options(command) if command != "help" else []
+        for _, option, _, text in rows:
+            yield f"{command} {option}", text_fault(command, rows, option, text)
+
+
 def options():
-    """Each option that a command lacks, or that lacks its value."""
+    """Each option that a command lacks, or that lacks its value, and the text of each."""
     yield from report.asked(fault_of, calls())
+    yield from texts()
