@@ -28,10 +28,8 @@ use Rattle.request_types.specs.declared.request.Notices.{Notices}
 use Rattle.boards.specs.Formats.{formats}
 use Rattle.boards.specs.declared.format.Format.TheVariants.{Pbn}
 use Rattle.boards.specs.declared.show.Show.{Show}
-use Rattle.boards.specs.declared.show.Seats.{Seats}
-use Rattle.boards.specs.declared.show.Seats.TheVariants.{All, Dealer}
-use Rattle.boards.specs.Show.{points_words}
-use Rattle.boards.specs.declared.show.Seats.TheVariants as shown
+use Rattle.boards.specs.declared.show.Seats.TheVariants.{All}
+use Rattle.boards.specs.Show.{points_words, show_words}
 use Rattle.request_types.specs.declared.workers.Workers.{Workers}
 use Rattle.request_types.specs.declared.workers.Workers.TheVariants.{Number}
 use Rattle.request_types.specs.declared.workers.Workers.TheVariants as workers
@@ -51,17 +49,11 @@ number_or default id rows = unwrap_or (number_in id rows) default
 abbrev pub is_set : Text → List Row → Bool
 is_set id rows = option_map_or (λ t. bytes_eq t (codes "true")) (first_of id rows) false
 
--- the options that have one of a few words, as `formats` of the notations, and what each word
--- means, in just this case
+-- options that have one of a few words, and what each word means, in just this case; `boards` has
+-- the words for formats, hands and points
 abbrev pub dealers : List (Text × Seat)
 dealers =
     (codes "N", North) ∷ (codes "E", East) ∷ (codes "S", South) ∷ (codes "W", West) ∷ []
-
-abbrev pub shows : List (Text × Seats)
-shows =
-    (codes "all", All) ∷ (codes "dealer", Dealer) ∷ (codes "north", shown.North)
-    ∷ (codes "east", shown.East) ∷ (codes "south", shown.South) ∷ (codes "west", shown.West)
-    ∷ (codes "ns", shown.NorthSouth) ∷ (codes "ew", shown.EastWest) ∷ []
 
 abbrev pub sides : List (Text × Vul)
 sides =
@@ -114,7 +106,7 @@ is_no_lesson id rows =
 abbrev pub has_unknown : Subcommand → List Row → Bool
 has_unknown named rows =
     has_unknown_format named rows
-    || (is_unknown shows (codes "show") rows
+    || (is_unknown show_words (codes "show") rows
     || (is_unknown points_words (codes "points") rows
     || (is_unknown dealers (codes "dealer") rows
     || (is_unknown sides (codes "vulnerable") rows
@@ -183,7 +175,7 @@ is_turned rows =
 -- the hands that are written, and whether their points are
 abbrev pub show_in : List Row → Show
 show_in rows = record {
-  seats = unwrap_or (choice_in shows (codes "show") rows) All;
+  seats = unwrap_or (choice_in show_words (codes "show") rows) All;
   points = unwrap_or (choice_in points_words (codes "points") rows) true;
 }
 

@@ -12,7 +12,9 @@ ghost use Rattle.command_line.specs.internal.Choices.{table_of};
 
 use crate::subcommands::{Dealing, Subcommand};
 use crate::words::text_in;
-use boards::{FORMAT_WORDS, FORMATS, Format, STYLE_WORDS, STYLES, Seats, Style, Vul};
+use boards::{
+    FORMAT_WORDS, FORMATS, Format, SHOW_WORDS, SHOWS, STYLE_WORDS, STYLES, Seats, Style, Vul,
+};
 use cards::Seat;
 use clap::ArgMatches;
 use request_types::When;
@@ -59,18 +61,17 @@ pub static STYLE: Choice<Style> = Choice {
     table: STYLES,
 };
 
-pub static SHOW: Choice<Seats> = choice! { "show"
-    "all" => Seats::All,
-    "dealer" => Seats::Dealer,
-    "north" => Seats::North,
-    "east" => Seats::East,
-    "south" => Seats::South,
-    "west" => Seats::West,
-    "ns" => Seats::NorthSouth,
-    "ew" => Seats::EastWest
+pub static SHOW: Choice<Seats> = Choice {
+    id: "show",
+    values: SHOW_WORDS,
+    table: SHOWS,
 };
 
-pub static POINTS: Choice<bool> = choice! { "points" "show" => true, "hide" => false };
+pub static POINTS: Choice<bool> = Choice {
+    id: "points",
+    values: "show, hide",
+    table: boards::POINTS,
+};
 
 pub static DEALER: Choice<Seat> = choice! { "dealer"
     "N" => Seat::North, "E" => Seat::East, "S" => Seat::South, "W" => Seat::West

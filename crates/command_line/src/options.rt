@@ -35,7 +35,7 @@ pub(crate) enum Takes {
     U32(&'static str, u32),
     /// A number up to 2^40.
     U64(&'static str),
-    /// A number up to 2^40, of which `clap` refuses others.
+    /// A number up to 2^40; `clap` refuses any other.
     Count(&'static str),
 }
 
