@@ -22,6 +22,7 @@ import commands
 import companion
 import harness
 import packages
+import recipes
 
 PAGES = ["README.md", "docs/INSTALL.md", "docs/GUIDE.md", "docs/CONDITIONS.md", "docs/SECRECY.md"]
 PAGES += ["docs/SCALE.md", "docs/COUNTING.md", "package/deals.1.in"]
@@ -271,4 +272,5 @@ def shown():
     yield from check_changelog()
     yield from check_pictures()
     yield from check_sources()
+    yield from recipes.check_recipes()
     yield from check_words()
