@@ -1,4 +1,4 @@
-//! The subcommands of the program, as a table in the order of the help, and `clap`'s command of them.
+//! The subcommands, as a table in the order of the help, and `clap`'s command of them.
 
 ghost use Rattle.std.specs.Prelude.{◌≡◌, IfOk, false, fold, map};
 ghost use Rattle.clap.specs.Words.{app_of, with_subcommand};
