@@ -1,5 +1,5 @@
 -- What is on the output of a wish that wasn't done to its end.
-use Rattle.std.specs.Prelude.{◌≡◌, ◌⊎◌, ℕ, Bool, List, [], Err, IfSome, Option, Some, false, true}
+use Rattle.std.specs.Prelude.{◌≡◌, ◌⊎◌, ℕ, Bool, List, [], Err, IsSomeAnd, Option, Some, false, true}
 use Rattle.cond_lang.specs.Form.{Form}
 use Rattle.plans.specs.declared.cause.Cause.{Cause}
 use Rattle.plans.specs.declared.cause.Cause.TheVariants.{Memory}
@@ -86,7 +86,7 @@ BreaksOff (pick seed hands l tricks hints) cause before after old new =
     (fault : PickFault) × EndsPick (no_search seed hands) l tricks fault before after old new
 BreaksOff (show l hints) cause before after old new =
     (new ≡ old) ⊎ ((fault : ShowFault) × EndsShow l fault before after old new)
-BreaksOff w cause before after old new = IfSome (text_of w) (AppendsPart old new)
+BreaksOff w cause before after old new = IsSomeAnd (text_of w) (AppendsPart old new)
 
 -- a wish was ended by this fault of its input; of a `draw` nothing is written then, nor of a `show`
 -- whose first read failed

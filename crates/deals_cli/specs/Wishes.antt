@@ -1,5 +1,5 @@
 -- What a wish asks for.
-use Rattle.std.specs.Prelude.{◌≡◌, ℕ, List, [], ◌∷◌, ◌++◌, IfSome, None, Ok, Option, Some}
+use Rattle.std.specs.Prelude.{◌≡◌, ℕ, List, [], ◌∷◌, ◌++◌, IsSomeAnd, None, Ok, Option, Some}
 use Rattle.std.specs.Prelude.{decimal, false, length, true}
 use Rattle.std.specs.Int.{from_le_bytes}
 use Rattle.std.specs.Int.{w32}
@@ -59,7 +59,7 @@ AppendsFrom (pick seed hands l tricks hints) before after old new =
     (Ok tt) before after old new
 AppendsFrom (show l hints) before after old new =
     (boards : ℕ) × ShowsUnder l.format l.show (heading_of l) (Ok boards) before after old new
-AppendsFrom w before after old new = IfSome (text_of w) (AppendsAll old new)
+AppendsFrom w before after old new = IsSomeAnd (text_of w) (AppendsAll old new)
 
 -- the same without an input
 abbrev pub Appends : Wish → (old new : Option (List ℕ)) → Type 0
